@@ -1,0 +1,107 @@
+ghost use Rattle.std.specs.Prelude.{◌≡◌, IfOk};
+
+use crate::{Items, Memory, Text};
+use std::alloc::Global;
+
+/// One observation of a host's service, as Riemann's protocol has it. Each field but the time may be absent.
+#[derive(Drop)]
+pub struct Event {
+    pub host: Option<Text>,
+    pub service: Option<Text>,
+    pub state: Option<Text>,
+    pub description: Option<Text>,
+    pub tags: Tags,
+    /// When it was observed, in seconds since 1970.
+    pub time: i64,
+    /// The same in microseconds, where it was told so.
+    pub time_micros: Option<i64>,
+    /// How many seconds after its time it expires.
+    pub ttl: Option<u32>,
+    pub metric: Option<i64>,
+    /// The bits of a metric that came as a binary64 number. Nothing reads them as a number.
+    pub raw_d: Option<u64>,
+    /// The bits of a metric that came as a binary32 number. Nothing reads them as a number.
+    pub raw_f: Option<u32>,
+    pub attributes: Attrs,
+}
+
+/// A list of events, in the order in which they came.
+pub type Events = Items<Event>;
+
+/// A list of tags, in the order in which they came.
+pub type Tags = Items<Text>;
+
+/// A list of attributes, in the order in which they came.
+pub type Attrs = Items<Attr>;
+
+/// A field of an event that the protocol does not name.
+#[derive(Drop)]
+pub struct Attr {
+    pub key: Text,
+    pub value: Option<Text>,
+}
+
+impl Event {
+    /// An equal event, in memory of its own.
+    pub fn copy(&self, alloc: Global) -> Result<Event, Memory>
+        ensures { IfOk result (λ event. event ≡ self.now) }
+    {
+        Ok(Event {
+            host: copy_option(alloc, &self.host)?,
+            service: copy_option(alloc, &self.service)?,
+            state: copy_option(alloc, &self.state)?,
+            description: copy_option(alloc, &self.description)?,
+            tags: copy_tags(alloc, &self.tags)?,
+            time: self.time,
+            time_micros: self.time_micros,
+            ttl: self.ttl,
+            metric: self.metric,
+            raw_d: self.raw_d,
+            raw_f: self.raw_f,
+            attributes: copy_attributes(alloc, &self.attributes)?,
+        })
+    }
+}
+
+impl Attr {
+    /// An equal attribute, in memory of its own.
+    pub fn copy(&self, alloc: Global) -> Result<Attr, Memory>
+        ensures { IfOk result (λ attribute. attribute ≡ self.now) }
+    {
+        Ok(Attr {
+            key: self.key.copy(alloc)?,
+            value: copy_option(alloc, &self.value)?,
+        })
+    }
+}
+
+fn copy_option(alloc: Global, text: &Option<Text>) -> Result<Option<Text>, Memory>
+    ensures { IfOk result (λ copied. copied ≡ text.now) }
+{
+    match text {
+        Some(text) => Ok(Some(text.copy(alloc)?)),
+        None => Ok(None),
+    }
+}
+
+fn copy_tags(alloc: Global, tags: &Tags) -> Result<Tags, Memory>
+    ensures { IfOk result (λ copied. copied ≡ tags.now) }
+{
+    let mut copied = Tags::fresh(alloc);
+    let tags = tags.as_slice();
+    for tag in tags {
+        copied.push(alloc, tag.copy(alloc)?)?;
+    }
+    Ok(copied)
+}
+
+fn copy_attributes(alloc: Global, attributes: &Attrs) -> Result<Attrs, Memory>
+    ensures { IfOk result (λ copied. copied ≡ attributes.now) }
+{
+    let mut copied = Attrs::fresh(alloc);
+    let attributes = attributes.as_slice();
+    for attribute in attributes {
+        copied.push(alloc, attribute.copy(alloc)?)?;
+    }
+    Ok(copied)
+}

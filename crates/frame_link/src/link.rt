@@ -1,0 +1,141 @@
+ghost use Rattle.std.specs.Prelude.{◌≡◌, ◌<◌, ◌^◌, ℕ, true, false, List, [], length, OnOk, OnErr};
+ghost use Rattle.framing.specs.Frames.{HasFrame, IsOversized, Represents, length_at};
+ghost use Rattle.frame_link.specs.Held.{pushed, Takes, KeepsOnPush, KeepsOnTake};
+ghost use Rattle.frame_link.specs.Sight.{Sees};
+
+use bytes::BytesMut;
+use ev_types::{Blob, Memory};
+use framing::BODY_LIMIT;
+use std::alloc::Global;
+use std::marker::Model;
+
+/// The bytes of one link that were not handed out yet as a frame's body. Contracts see them, and whether a length
+/// over the limit was met: from then on nothing more is taken in or handed out.
+#[derive(Drop)]
+pub struct FrameLink {
+    bytes: BytesMut,
+    stopped: bool,
+}
+
+/// What [`FrameLink::take`] found.
+#[derive(Drop)]
+pub enum Taken {
+    /// The body of the first frame, which is removed.
+    Whole(Blob),
+    /// No whole frame stands there.
+    NotYet,
+    /// The next frame's length in bytes, which is over [`BODY_LIMIT`].
+    TooLong { length: u32 },
+    /// A whole frame stands there, and there is no memory for its body. The frame stays.
+    Memory,
+}
+
+/// What stands at the start of a link's bytes.
+#[derive(Drop)]
+enum Look {
+    /// Too few bytes for a frame whose length is within the limit, or for a length.
+    Partial,
+    /// A length over [`BODY_LIMIT`].
+    Oversized { length: u32 },
+    /// A whole frame with a body of `length` bytes.
+    Frame { length: usize },
+}
+
+impl Model for FrameLink {
+    ghost use Rattle.std.specs.Prelude.{◌≡◌, true};
+    ghost use Rattle.framing.specs.Frames.{IsOversized};
+    ghost use Rattle.frame_link.specs.Held.{Held};
+
+    ghost Value = { Held };
+
+    ghost view = { λ link. record { bytes = link.bytes.items; stopped = link.stopped } };
+
+    ghost invariant = { λ link. link.stopped ≡ true → IsOversized link.bytes.items };
+}
+
+impl FrameLink {
+    /// A link of which nothing came. It takes no memory.
+    pub fn fresh(alloc: Global) -> FrameLink
+        ensures nothing { result.bytes ≡ [] }
+        ensures goes_on { result.stopped ≡ false }
+        ensures keeps { Represents result.bytes [] [] }
+    {
+        FrameLink {
+            bytes: BytesMut::new(alloc),
+            stopped: false,
+        }
+    }
+
+    /// Takes in the piece that came next. Where there is no memory for it, nothing changes. Once [`FrameLink::take`]
+    /// answered [`Taken::TooLong`], each piece is left out.
+    pub fn push(&mut self, _alloc: Global, piece: &[u8]) -> Result<(), Memory>
+        ensures ok { OnOk result (self.new ≡ pushed piece.now self.old) }
+        ensures err { OnErr result (self.new ≡ self.old) }
+        ensures keeps { OnOk result (KeepsOnPush piece.now self.old self.new) }
+    {
+        if !self.stopped {
+            self.bytes.extend_from_slice(piece)?;
+        }
+        Ok(())
+    }
+
+    /// How many bytes are held that are no frame handed out.
+    pub fn len(&self) -> usize
+        ensures value { result ≡ length self.now.bytes }
+        ensures bound { result < 2 ^ 63 }
+    {
+        self.bytes.len()
+    }
+
+    /// Hands out the first frame's body, if that frame is whole. A frame is a length of four big-endian bytes, at
+    /// most [`BODY_LIMIT`], and then that many bytes of body. Only a body takes memory, and where there is none for
+    /// it, nothing changes. Once the answer was [`Taken::TooLong`], it is from then on.
+    pub fn take(&mut self, alloc: Global) -> Taken
+        ensures takes { Takes self.old result self.new }
+        ensures keeps { KeepsOnTake self.old result self.new }
+        ensures stopped { self.old.stopped ≡ true → IsOversized self.old.bytes }
+    {
+        match look_at(self.bytes.as_slice()) {
+            Look::Partial => Taken::NotYet,
+            Look::Oversized { length } => {
+                self.stopped = true;
+                Taken::TooLong { length }
+            }
+            Look::Frame { length } => self.take_body(alloc, length),
+        }
+    }
+
+    /// Copies the first frame's body of `length` bytes out, and removes that frame.
+    fn take_body(&mut self, alloc: Global, length: usize) -> Taken
+        requires stands { HasFrame self.old.bytes }
+        requires size { length ≡ length_at self.old.bytes }
+        ensures takes { Takes self.old result self.new }
+        ensures keeps { KeepsOnTake self.old result self.new }
+    {
+        let Ok(body) = Blob::from_slice(alloc, &self.bytes.as_slice()[4..4 + length]) else {
+            return Taken::Memory;
+        };
+        self.bytes.advance(4 + length);
+        Taken::Whole(body)
+    }
+}
+
+/// Reads the length at the start, where four bytes stand, and compares it with what follows.
+#[tactic(auto, unfolding(framing::specs::Frames::length_at))]
+fn look_at(bytes: &[u8]) -> Look
+    ensures { Sees bytes.now result }
+{
+    let Some((head, body)) = bytes.split_first_chunk::<4>() else {
+        return Look::Partial;
+    };
+    let length = u32::from_be_bytes(*head);
+    if length > BODY_LIMIT {
+        Look::Oversized { length }
+    } else if body.len() < length as usize {
+        Look::Partial
+    } else {
+        Look::Frame {
+            length: length as usize,
+        }
+    }
+}

@@ -1,0 +1,8 @@
+use Rattle.index_log.proofs.LiveLaws.{live-write, live-reap}
+use Rattle.index_log.proofs.logs_are_live.Goals as goal
+
+pub returns-clause-writes : goal.returns-clause-writes
+returns-clause-writes c = live-write
+
+pub returns-clause-reaps : goal.returns-clause-reaps
+returns-clause-reaps c = live-reap

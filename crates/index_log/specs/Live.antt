@@ -1,0 +1,74 @@
+-- A log is what was done to an index. An event that was written is live until a later write at its place, until a
+-- reap at a moment at which it is late, and not at all where its state is "expired".
+use Rattle.std.specs.Prelude.{◌≡◌, ℕ, Bool, false, not, ◌||◌, if◌then◌else◌, List, [], ◌∷◌, ◌++◌, filter, Option, Some, None, unwrap_or, codes, pos, ◌-ℤ◌, int_lt}
+use Rattle.std.specs.Str.{bytes_eq}
+use Rattle.std.specs.List.{list_any}
+use Rattle.std.specs.Ordering.{is_lt}
+use Rattle.ev_types.specs.declared.event.Event.{Event}
+use Rattle.index_log.specs.Place.{place_cmp, same_place}
+
+pub data Logged : Type 0 where
+  Write : Event → Logged
+  Reap : ℕ → Logged
+
+-- what was done to an index, in order
+abbrev pub IndexLog : Type 0
+IndexLog = List Logged
+
+abbrev pub is_text : List ℕ → Option (List ℕ) → Bool
+is_text wanted None = false
+is_text wanted (Some text) = bytes_eq text wanted
+
+-- the event says of itself that it is over
+abbrev pub is_over : Event → Bool
+is_over event = is_text (codes "expired") event.state
+
+-- at the moment t more seconds have passed since the event's time than its ttl, or 60 where it has none
+abbrev pub is_late : ℕ → Event → Bool
+is_late t event = int_lt (pos (unwrap_or event.ttl 60)) (pos t -ℤ event.time)
+
+-- what comes later in the log ends an event
+abbrev pub ends : Event → Logged → Bool
+ends event (Write later) = same_place event later
+ends event (Reap t) = is_late t event
+
+abbrev pub is_live : Event → IndexLog → Bool
+is_live event later = not (is_over event || list_any (ends event) later)
+
+-- the live events of a log, in the order in which they were written
+abbrev pub kept : IndexLog → List Event
+kept [] = []
+kept (Write event ∷ later) = if is_live event later then event ∷ kept later else kept later
+kept (Reap t ∷ later) = kept later
+
+-- an event put in before the first event that stands behind it
+abbrev pub placed : Event → List Event → List Event
+placed event [] = event ∷ []
+placed event (first ∷ events) = if is_lt (place_cmp event first) then event ∷ (first ∷ events) else first ∷ placed event events
+
+-- events put in one after another
+abbrev pub placed_onto : List Event → List Event → List Event
+placed_onto sorted [] = sorted
+placed_onto sorted (event ∷ events) = placed_onto (placed event sorted) events
+
+-- the live events of a log, by place
+unfoldable pub live_events : IndexLog → List Event
+live_events log = placed_onto [] (kept log)
+
+-- the events at other places
+abbrev pub elsewhere : Event → List Event → List Event
+elsewhere event = filter (λ other. not (same_place other event))
+
+-- what the live events become by a write
+abbrev pub written : Event → List Event → List Event
+written event events = if is_over event then elsewhere event events else placed event (elsewhere event events)
+
+-- what the live events become by a reap
+abbrev pub reaped : ℕ → List Event → List Event
+reaped t = filter (λ event. not (is_late t event))
+
+abbrev pub WritesAreLive : Type 0
+WritesAreLive = (log : IndexLog) (event : Event) → live_events (log ++ Write event ∷ []) ≡ written event (live_events log)
+
+abbrev pub ReapsAreLive : Type 0
+ReapsAreLive = (log : IndexLog) (t : ℕ) → live_events (log ++ Reap t ∷ []) ≡ reaped t (live_events log)

@@ -1,0 +1,9 @@
+//! The events that are live, by host and service.
+#![tactic(auto)]
+
+mod index;
+
+pub use index::LiveIndex;
+
+#[cfg(test)]
+mod tests;

@@ -1,0 +1,36 @@
+-- What a store holds, as far as it tells, and what one read may answer.
+use Rattle.std.specs.Prelude.{◌≡◌, ℕ, ◌+◌, ◌<◌, ◌≤◌, true, false, List, [], ◌∷◌, length, Option, Some}
+use Rattle.std.specs.Option.{ForSome}
+use Rattle.ports.specs.Counts.{Rose, RoseBy}
+use Rattle.ports.specs.declared.store.ReadAnswer.{ReadAnswer}
+use Rattle.ports.specs.declared.store.ReadAnswer.TheVariants.{Bytes, Failed, TooLong, Memory}
+use Rattle.ports.specs.declared.store.StoreRead.{StoreRead}
+
+-- what stands under a name: None where the store does not tell, Some None where nothing does
+abbrev pub Content : Type 0
+Content = Option (Option (List ℕ))
+
+-- the store tells that these bytes stand under the name
+abbrev pub IsHeld : Content → List ℕ → Type 0
+IsHeld content bytes = content ≡ Some (Some bytes)
+
+-- bytes longer than the limit stand under the name, as far as the store tells
+abbrev pub IsOverLimit : Content → ℕ → Type 0
+IsOverLimit content limit = ForSome content (λ held. (bytes : List ℕ) × (held ≡ Some bytes) × (limit < length bytes))
+
+-- Why a read answered so. `faults` and `taken` are the store's counts of faults and of bytes taken, before and
+-- after.
+abbrev pub HasCause : Content → ℕ → ℕ → ℕ → ℕ → ℕ → ReadAnswer → Type 0
+HasCause content limit faults faults' taken taken' (Bytes blob) =
+    (length blob ≤ limit) × (ForSome content (λ held. held ≡ Some blob)) × (faults' ≡ faults)
+HasCause content limit faults faults' taken taken' Failed = Rose faults faults'
+HasCause content limit faults faults' taken taken' TooLong =
+    (IsOverLimit content limit) × (RoseBy (limit + 1) taken taken') × (faults' ≡ faults)
+HasCause content limit faults faults' taken taken' Memory = (faults' ≡ faults) × (taken' ≡ taken)
+
+-- the reads that one call adds to those made: none where memory was wanted
+abbrev pub reads_made : List ℕ → ReadAnswer → List StoreRead
+reads_made name (Bytes blob) = record { name = name; failed = false } ∷ []
+reads_made name Failed = record { name = name; failed = true } ∷ []
+reads_made name TooLong = record { name = name; failed = false } ∷ []
+reads_made name Memory = []

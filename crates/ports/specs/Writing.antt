@@ -1,0 +1,23 @@
+-- What a sink got, as far as it tells.
+use Rattle.std.specs.Prelude.{◌≡◌, ℕ, ◌⊎◌, List, ◌++◌, take, Option}
+use Rattle.std.specs.Option.{option_map}
+use Rattle.ports.specs.Counts.{Rose}
+
+-- the sink got these bytes, or only a front of them
+abbrev pub Got : Option (List ℕ) → List ℕ → Option (List ℕ) → Type 0
+Got old bytes new = new ≡ option_map (λ text. text ++ bytes) old
+
+abbrev pub GotFront : Option (List ℕ) → List ℕ → Option (List ℕ) → Type 0
+GotFront old bytes new = (n : ℕ) × Got old (take n bytes) new
+
+-- what a sink tells of itself: all that it got, and how many puts failed
+pub record SinkState : Type 0 where
+  pub text : Option (List ℕ)
+  pub faults : ℕ
+
+abbrev pub sink_state : Option (List ℕ) → ℕ → SinkState
+sink_state text faults = record { text = text; faults = faults }
+
+-- the sink got a line, or a front of it where a put failed
+abbrev pub GotLine : SinkState → List ℕ → SinkState → Type 0
+GotLine old line new = Got old.text line new.text ⊎ (GotFront old.text line new.text × Rose old.faults new.faults)

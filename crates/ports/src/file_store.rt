@@ -1,0 +1,85 @@
+ghost use Rattle.std.specs.Prelude.{◌≡◌, ◌↔◌, ◌+◌, ◌≤◌, ◌++◌, None, take, vec_len, IsTrue, IfSome, IsErrAnd, OnOk};
+ghost use Rattle.std.specs.IoError.{error_kind};
+
+use crate::store::{ReadAnswer, Store};
+use ev_types::{Blob, Text};
+use std::alloc::Global;
+use std::io::{ErrorKind, Read};
+use std::rt::Files;
+use std::{fs, io};
+
+/// The files of the machine, by their paths. It tells nothing of what they hold.
+#[derive(Drop)]
+pub struct FileStore<'a, R: Files> {
+    rt: &'a R,
+    /// How many bytes were taken from files, but for reads that wanted for memory.
+    pub taken: u64,
+    /// How many reads failed.
+    pub faults: u64,
+}
+
+impl<'a, R: Files> FileStore<'a, R> {
+    /// The files that the runtime reaches. None was read yet.
+    pub fn fresh(rt: &'a R) -> FileStore<'a, R>
+        ensures taken { result.taken ≡ 0 }
+        ensures faults { result.faults ≡ 0 }
+    {
+        FileStore {
+            rt,
+            taken: 0,
+            faults: 0,
+        }
+    }
+}
+
+impl<'a, R: Files> Store for FileStore<'a, R> {
+    ghost held = { λ _ _. None };
+
+    ghost reads = { λ _. None };
+
+    ghost taken = { λ store. store.taken };
+
+    ghost faults = { λ store. store.faults };
+
+    fn read(&mut self, alloc: Global, name: &Text, limit: u64) -> ReadAnswer {
+        let mut bytes = Vec::new(alloc);
+        let outcome = read_file(self.rt, name.as_str(), limit + 1, &mut bytes);
+        if wanted_memory(&outcome) {
+            return ReadAnswer::Memory;
+        }
+        let count = bytes.len() as u64;
+        self.taken = self.taken.saturating_add(count);
+        if outcome.is_err() {
+            self.faults = self.faults.saturating_add(1);
+            return ReadAnswer::Failed;
+        }
+        if count > limit {
+            return ReadAnswer::TooLong;
+        }
+        ReadAnswer::Bytes(Blob::from_vec(bytes))
+    }
+}
+
+/// Adds the file's bytes at the end of `bytes`, but at most so many. Where it fails, those that came stand there.
+fn read_file<R: Files>(rt: &R, path: &str, most: u64, bytes: &mut Vec<u8>) -> io::Result<()> {
+    read_front(fs::open(rt, path)?, most, bytes)?;
+    Ok(())
+}
+
+/// The same of what the reader has left, which is taken in pieces.
+fn read_front<R: Read + Drop>(reader: R, most: u64, bytes: &mut Vec<u8>) -> io::Result<()>
+    ensures { OnOk result (IfSome (R.remaining reader) (λ left. bytes.new.items ≡ bytes.old.items ++ take most left)) }
+{
+    reader.take(most).read_to_end(bytes)?;
+    Ok(())
+}
+
+/// Whether it failed for want of memory.
+fn wanted_memory(outcome: &io::Result<()>) -> bool
+    ensures { IsTrue result ↔ IsErrAnd outcome.now (λ error. error_kind error ≡ ErrorKind.OutOfMemory) }
+{
+    match outcome {
+        Ok(()) => false,
+        Err(error) => error.kind() == ErrorKind::OutOfMemory,
+    }
+}

@@ -1,0 +1,58 @@
+ghost use Rattle.std.specs.Prelude.{◌≡◌, ◌^◌, ◌<◌, ◌≤◌, ◌++◌};
+ghost use Rattle.std.specs.Option.{option_map};
+ghost use Rattle.ports.specs.Reading.{HasCause, reads_made};
+
+use ev_types::{Blob, Items, Text};
+use std::alloc::Global;
+
+/// Where files are read from.
+pub trait Store {
+    ghost use Rattle.std.specs.Prelude.{ℕ, List, Option};
+    ghost use Rattle.ports.specs.Reading.{Content};
+    ghost use Rattle.ports.specs.declared.store.StoreRead.{StoreRead};
+
+    /// What stands under a name, where the store tells it.
+    ghost held: { Self → List ℕ → Content };
+
+    /// The reads made so far that did not want for memory, in order, where the store tells them.
+    ghost reads: { Self → Option (List StoreRead) };
+
+    /// How many bytes were taken from files so far.
+    ghost taken: { Self → ℕ };
+
+    /// How many reads failed so far.
+    ghost faults: { Self → ℕ };
+
+    /// Reads all that stands under the name, if that is at most `limit` bytes.
+    fn read(&mut self, alloc: Global, name: &Text, limit: u64) -> ReadAnswer
+        requires { limit < 2 ^ 63 }
+        ensures held { held self.new ≡ held self.old }
+        ensures cause { HasCause (held self.old name.now) limit (faults self.old) (faults self.new)
+            (taken self.old) (taken self.new) result }
+        ensures reads { reads self.new ≡ option_map (λ made. made ++ reads_made name.now result) (reads self.old) }
+        ensures taken { taken self.old ≤ taken self.new }
+        ensures faults { faults self.old ≤ faults self.new };
+}
+
+/// What a read of a store answers.
+#[derive(Drop)]
+pub enum ReadAnswer {
+    /// All the bytes that stand under the name.
+    Bytes(Blob),
+    /// Nothing could be read there.
+    Failed,
+    /// More bytes than the limit stand there.
+    TooLong,
+    /// There was no memory for the bytes. The store is as before.
+    Memory,
+}
+
+/// A read that a store answered: of which name, and whether it failed.
+#[derive(Drop)]
+pub struct StoreRead {
+    pub name: Text,
+    pub failed: bool,
+}
+
+/// The reads that a store answered, in order.
+pub type Reads = Items<StoreRead>;

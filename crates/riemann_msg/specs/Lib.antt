@@ -1,0 +1,4 @@
+pub mod Varint
+pub mod Reading
+pub mod Spelling
+pub mod Short

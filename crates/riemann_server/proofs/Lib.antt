@@ -1,0 +1,5 @@
+pub mod EndingLaws
+pub mod ProgressLaws
+pub mod ReadLaws
+pub mod ReplyLaws
+pub mod Sinks

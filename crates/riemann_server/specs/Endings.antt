@@ -1,0 +1,144 @@
+-- What each status says of what was read and written.
+use Rattle.std.specs.Prelude.{◌≡◌, ◌≢◌, ℕ, ◌+◌, ◌≤◌, ◌⊎◌, true, false, List, [], ◌∷◌, ◌++◌, length, take, map, codes, Option, Some}
+use Rattle.std.specs.Option.{ForSome, option_map}
+use Rattle.framing.specs.Frames.{frames_of, partial}
+use Rattle.ports.specs.Counts.{RoseBy}
+use Rattle.ports.specs.Reading.{Content, IsOverLimit}
+use Rattle.ports.specs.Writing.{Got, GotFront, GotLine, SinkState}
+use Rattle.ports.specs.declared.store.StoreRead.{StoreRead}
+use Rattle.riemann_server.specs.declared.server.TheConstants.{CONFIG_LIMIT, FILE_LIMIT}
+use Rattle.riemann_server.specs.declared.status.Status.{Status}
+use Rattle.riemann_server.specs.declared.status.Status.TheVariants.{Done, Usage, Config, ReadFault, SinkFault, Memory, Truncated, TooLong}
+use Rattle.riemann_server.specs.Lines.{config_line, unread_line, too_long_line, left_line, memory_line}
+use Rattle.riemann_server.specs.Replies.{replies_to}
+
+-- the number of each status
+abbrev pub code_of : Status → ℕ
+code_of Done = 0
+code_of Usage = 1
+code_of Config = 2
+code_of ReadFault = 3
+code_of SinkFault = 4
+code_of Memory = 6
+code_of Truncated = 8
+code_of TooLong = 9
+
+-- the one configuration there is
+abbrev pub plain_index : List ℕ
+plain_index = codes "(streams index)"
+
+-- where a store tells its contents, bytes stand under a name, and they are so
+abbrev pub ForHeld : Content → (List ℕ → Type 0) → Type 0
+ForHeld content P = ForSome content (λ held. (bytes : List ℕ) × (held ≡ Some bytes) × P bytes)
+
+abbrev pub IsPlain : Content → Type 0
+IsPlain config = ForHeld config (λ text. text ≡ plain_index)
+
+-- What a status says of the contents of the two files, where the store tells them.
+abbrev pub Explains : Content → Content → Status → Type 0
+Explains config file Done = IsPlain config × ForHeld file (λ bytes. (length bytes ≤ FILE_LIMIT) × (partial bytes ≡ []))
+Explains config file Truncated = IsPlain config × ForHeld file (λ bytes. (length bytes ≤ FILE_LIMIT) × (partial bytes ≢ []))
+Explains config file SinkFault = IsPlain config × ForHeld file (λ bytes. length bytes ≤ FILE_LIMIT)
+Explains config file Config = ForHeld config (λ text. (length text ≤ CONFIG_LIMIT) × (text ≢ plain_index))
+Explains config file TooLong = IsOverLimit config CONFIG_LIMIT ⊎ (IsPlain config × IsOverLimit file FILE_LIMIT)
+Explains config file ReadFault = Unit {0}
+Explains config file Usage = Unit {0}
+Explains config file Memory = Unit {0}
+
+-- the last of some reads failed, and no other
+abbrev pub LastFailed : List StoreRead → Type 0
+LastFailed [] = ⊥
+LastFailed (read ∷ []) = read.failed ≡ true
+LastFailed (read ∷ (next ∷ reads)) = (read.failed ≡ false) × LastFailed (next ∷ reads)
+
+-- none of some reads failed
+abbrev pub NoneFailed : List StoreRead → Type 0
+NoneFailed [] = Unit {0}
+NoneFailed (read ∷ reads) = (read.failed ≡ false) × NoneFailed reads
+
+abbrev pub read_name : StoreRead → List ℕ
+read_name read = read.name
+
+-- the name of the last of some reads
+abbrev pub last_name : List StoreRead → List ℕ
+last_name [] = []
+last_name (read ∷ []) = read.name
+last_name (read ∷ (next ∷ reads)) = last_name (next ∷ reads)
+
+-- more bytes than the limit stand under the name, as far as the store tells, so many were taken, and the line on the
+-- error stream names the file
+pub record IsTooLong (name : List ℕ) (limit : ℕ) (content : Content) (taken taken' : ℕ) (err err' : SinkState) : Type 0 where
+  pub longer : IsOverLimit content limit
+  pub taken_more : RoseBy (limit + 1) taken taken'
+  pub says : GotLine err (too_long_line name limit) err'
+
+-- What a call read, and what that says of its status: the reads are of the first of the two names, in order, and of
+-- the second only once the configuration was accepted. The last one failed exactly where the status says so, and the
+-- line on the error stream names the file of that read, as it names the file that is too long.
+pub record Reads (old new : Option (List StoreRead)) (taken taken' : ℕ) (config file : List ℕ) (held_config held_file : Content)
+    (status : Status) (err err' : SinkState) : Type 0 where
+  pub made : List StoreRead
+  pub grew : new ≡ option_map (λ reads. reads ++ made) old
+  pub named : map read_name made ≡ take (length made) (config ∷ (file ∷ []))
+  pub order : 2 ≤ length made → IsPlain held_config
+  pub fault : status ≡ ReadFault → LastFailed made × GotLine err (unread_line (last_name made)) err'
+  pub no_fault : status ≢ ReadFault → NoneFailed made
+  pub too_long : status ≡ TooLong
+      → ((length made ≡ 1) × IsTooLong config CONFIG_LIMIT held_config taken taken' err err')
+      ⊎ ((length made ≡ 2) × IsTooLong file FILE_LIMIT held_file taken taken' err err')
+
+-- What was written of the replies: all of them where the run went to its end, and a front where it did not.
+abbrev pub Answers : Content → Status → Option (List ℕ) → Option (List ℕ) → Type 0
+Answers file Done out out' = ForHeld file (λ bytes. Got out (replies_to (frames_of bytes)) out')
+Answers file Truncated out out' = ForHeld file (λ bytes. Got out (replies_to (frames_of bytes)) out')
+Answers file SinkFault out out' = ForHeld file (λ bytes. GotFront out (replies_to (frames_of bytes)) out')
+Answers file Memory out out' = Unit {0}
+Answers file Usage out out' = Unit {0}
+Answers file Config out out' = Unit {0}
+Answers file ReadFault out out' = Unit {0}
+Answers file TooLong out out' = Unit {0}
+
+-- the statuses at which no reply was written
+abbrev pub HasNoReply : Status → Type 0
+HasNoReply Done = ⊥
+HasNoReply Truncated = ⊥
+HasNoReply SinkFault = ⊥
+HasNoReply Memory = Unit {0}
+HasNoReply Usage = Unit {0}
+HasNoReply Config = Unit {0}
+HasNoReply ReadFault = Unit {0}
+HasNoReply TooLong = Unit {0}
+
+-- What the error stream got: the line of the status, or a front of it where a write failed. The lines that name a
+-- file are said beside the reads, and the usage line beside its cause.
+abbrev pub Says : Content → Status → SinkState → SinkState → Type 0
+Says file Config err err' = GotLine err config_line err'
+Says file Memory err err' = GotLine err memory_line err'
+Says file Truncated err err' = (count : ℕ) × ForHeld file (λ bytes. count ≡ length (partial bytes)) × GotLine err (left_line count) err'
+Says file ReadFault err err' = Unit {0}
+Says file TooLong err err' = Unit {0}
+Says file Usage err err' = Unit {0}
+Says file Done err err' = Unit {0}
+Says file SinkFault err err' = Unit {0}
+
+-- the statuses that have no line
+abbrev pub HasNoLine : Status → Type 0
+HasNoLine Done = Unit {0}
+HasNoLine SinkFault = Unit {0}
+HasNoLine Truncated = ⊥
+HasNoLine Memory = ⊥
+HasNoLine Usage = ⊥
+HasNoLine Config = ⊥
+HasNoLine ReadFault = ⊥
+HasNoLine TooLong = ⊥
+
+-- the status of a run that went to its end, by the bytes of no whole frame
+abbrev pub EndsWell : List ℕ → Status → Type 0
+EndsWell rest Done = rest ≡ []
+EndsWell rest Truncated = rest ≢ []
+EndsWell rest Memory = Unit {0}
+EndsWell rest Usage = ⊥
+EndsWell rest Config = ⊥
+EndsWell rest ReadFault = ⊥
+EndsWell rest SinkFault = ⊥
+EndsWell rest TooLong = ⊥

@@ -1,0 +1,78 @@
+ghost use Rattle.std.specs.Prelude.{◌≡◌, ◌<◌, ◌^◌, ℕ, ◌+◌, List, [], ◌++◌, ◌∷◌, length, OnOk, IfOk};
+
+use crate::replies::answer;
+use ev_types::{Blob, Memory};
+use frame_link::{FrameLink, Taken};
+use live_index::LiveIndex;
+use std::alloc::Global;
+
+/// The replies so far to the messages of a stream, with the index that they are from and the bytes that are no
+/// whole frame yet.
+#[derive(Drop)]
+pub(crate) struct Answers {
+    link: FrameLink,
+    index: LiveIndex,
+    replies: Blob,
+}
+
+/// What comes after the whole frames of a stream.
+#[derive(Clone, Copy)]
+pub(crate) enum Next {
+    /// More bytes may come.
+    Waits,
+    /// A length over the limit stands next, so that nothing more is taken in.
+    Stops,
+}
+
+impl Answers {
+    ghost use Rattle.riemann_server.specs.Progress.{IsSettled, Reaches, RepresentsStream};
+
+    /// No replies yet, and nothing in the index.
+    pub(crate) fn fresh(alloc: Global) -> Answers
+        ensures { IsSettled result [] }
+    {
+        Answers {
+            link: FrameLink::fresh(alloc),
+            index: LiveIndex::fresh(alloc),
+            replies: Blob::fresh(alloc),
+        }
+    }
+
+    /// Takes in the bytes that came next, and answers the frames that are whole now.
+    pub(crate) fn hear(&mut self, alloc: Global, piece: &[u8]) -> Result<Next, Memory>
+        ensures { IfOk result (λ next. (came : List ℕ) → IsSettled self.old came
+            → Reaches self.new (came ++ piece.now) next) }
+    {
+        self.link.push(alloc, piece)?;
+        let next = self.answer_frames(alloc)?;
+        Ok(next)
+    }
+
+    fn answer_frames(&mut self, alloc: Global) -> Result<Next, Memory>
+        ensures { IfOk result (λ next. (came : List ℕ) → RepresentsStream self.old came → Reaches self.new came next) }
+    {
+        'frames: loop {
+            match self.link.take(alloc) {
+                Taken::Whole(body) => answer(
+                    alloc,
+                    body.as_slice(),
+                    &mut self.index,
+                    &mut self.replies,
+                )?,
+                Taken::NotYet => return Ok(Next::Waits),
+                Taken::TooLong { .. } => return Ok(Next::Stops),
+                Taken::Memory => return Err(Memory),
+            }
+        }
+    }
+
+    /// The replies, and how many bytes are held of no whole frame.
+    pub(crate) fn finish(self) -> (Blob, usize)
+        ensures replies { result.0 ≡ self.replies }
+        ensures left { result.1 ≡ length self.link.bytes }
+        ensures bound { result.1 < 2 ^ 63 }
+    {
+        let left = self.link.len();
+        (self.replies, left)
+    }
+}

@@ -1,0 +1,110 @@
+ghost use Rattle.std.specs.Prelude.{◌≡◌, ℕ, ◌≤◌, List, OnOk, OnErr};
+ghost use Rattle.ports.specs.Counts.{Rose};
+ghost use Rattle.ports.specs.Writing.{Got, GotFront, GotLine, sink_state};
+ghost use Rattle.riemann_server.specs.Endings.{HasNoLine};
+ghost use Rattle.riemann_server.specs.Lines.{joined, left_line, too_long_line, unread_line};
+ghost use Rattle.riemann_server.specs.Outcome.{line_of, of_source, status_of};
+
+use crate::outcome::{Outcome, Source};
+use crate::{CONFIG_LIMIT, FILE_LIMIT};
+use ev_types::Text;
+use itoa::Buffer;
+use ports::{Failed, Sink};
+
+pub(crate) const MEMORY_LINE: &str = "riemann: out of memory\n";
+
+const CONFIG_LINE: &str = "riemann: config not built yet\n";
+
+/// Writes the line of an outcome of `feed CONFIG FILE`. It takes no memory.
+pub(crate) fn report<E: Sink>(outcome: Outcome, config: &Text, file: &Text, err: &mut E)
+    ensures line { GotLine (sink_state (E.text err.old) (E.faults err.old)) (line_of config.now file.now outcome)
+        (sink_state (E.text err.new) (E.faults err.new)) }
+    ensures no_line { HasNoLine (status_of outcome) → err.new ≡ err.old }
+{
+    match outcome {
+        Outcome::Done | Outcome::SinkFault => {}
+        Outcome::Config => put_line(err, &[CONFIG_LINE]),
+        Outcome::Memory => put_line(err, &[MEMORY_LINE]),
+        Outcome::ReadFault(source) => report_unread(name_of(source, config, file), err),
+        Outcome::TooLong(source) => report_too_long(
+            name_of(source, config, file),
+            limit_of(source),
+            err,
+        ),
+        Outcome::Truncated { left } => report_left(left, err),
+    }
+}
+
+fn report_unread<E: Sink>(name: &Text, err: &mut E)
+    ensures { GotLine (sink_state (E.text err.old) (E.faults err.old)) (unread_line name.now)
+        (sink_state (E.text err.new) (E.faults err.new)) }
+{
+    put_line(err, &["riemann: cannot read ", name.as_str(), "\n"]);
+}
+
+fn report_too_long<E: Sink>(name: &Text, limit: u64, err: &mut E)
+    ensures { GotLine (sink_state (E.text err.old) (E.faults err.old)) (too_long_line name.now limit)
+        (sink_state (E.text err.new) (E.faults err.new)) }
+{
+    let mut digits = Buffer::new();
+    let limit = digits.format(limit);
+    put_line(
+        err,
+        &[
+            "riemann: ",
+            name.as_str(),
+            " is longer than ",
+            limit,
+            " bytes\n",
+        ],
+    );
+}
+
+fn report_left<E: Sink>(left: usize, err: &mut E)
+    ensures { GotLine (sink_state (E.text err.old) (E.faults err.old)) (left_line left)
+        (sink_state (E.text err.new) (E.faults err.new)) }
+{
+    let mut digits = Buffer::new();
+    let left = digits.format(left);
+    put_line(err, &["riemann: ", left, " bytes left of no whole frame\n"]);
+}
+
+fn name_of<'a>(source: Source, config: &'a Text, file: &'a Text) -> &'a Text
+    ensures { result.now ≡ of_source config.now file.now source }
+{
+    match source {
+        Source::Config => config,
+        Source::Fed => file,
+    }
+}
+
+fn limit_of(source: Source) -> u64
+    ensures { result ≡ of_source CONFIG_LIMIT FILE_LIMIT source }
+{
+    match source {
+        Source::Config => CONFIG_LIMIT,
+        Source::Fed => FILE_LIMIT,
+    }
+}
+
+/// Writes the pieces of a line. A write that fails ends it, and is let go.
+pub(crate) fn put_line<E: Sink>(err: &mut E, pieces: &[&str])
+    ensures { GotLine (sink_state (E.text err.old) (E.faults err.old)) (joined pieces.now)
+        (sink_state (E.text err.new) (E.faults err.new)) }
+{
+    let _ = put_pieces(err, pieces);
+}
+
+/// Writes the pieces one after another, up to the first write that fails.
+fn put_pieces<E: Sink>(err: &mut E, pieces: &[&str]) -> Result<(), Failed>
+    ensures all { OnOk result (Got (E.text err.old) (joined pieces.now) (E.text err.new)) }
+    ensures front { OnErr result (GotFront (E.text err.old) (joined pieces.now) (E.text err.new)) }
+    ensures fault { OnErr result (Rose (E.faults err.old) (E.faults err.new)) }
+{
+    for piece in pieces {
+        if !piece.is_empty() {
+            err.put(piece.as_bytes())?;
+        }
+    }
+    Ok(())
+}

@@ -1,0 +1,88 @@
+ghost use Rattle.std.specs.Prelude.{◌≡◌, ◌≢◌, ◌<◌, length};
+ghost use Rattle.ports.specs.Counts.{Rose};
+ghost use Rattle.ports.specs.Writing.{Got};
+
+use crate::Status;
+use crate::lines::{MEMORY_LINE, put_line};
+use crate::server::{USAGE, riemann};
+use ev_types::Text;
+use ports::{Sink, Store};
+use std::alloc::Global;
+use std::rt::Env;
+use std::{env, io};
+
+const VERSION: &str = "riemann 0.1.0\n";
+
+const HELP: &str = "usage: riemann feed CONFIG FILE
+
+commands:
+  feed CONFIG FILE  answer the messages in FILE, and write the replies to standard output
+
+options:
+  --help            write this text
+  --version         write the version
+";
+
+/// Why the words of the command line could not be had.
+pub(crate) enum WordsFault {
+    /// One of them is no text.
+    NoText,
+    Memory,
+}
+
+/// The words of the command line behind the program's name.
+pub(crate) fn words<R: Env + AllocGlobal>(rt: &R) -> Result<Vec<Text>, WordsFault> {
+    let all = env::args(rt).map_err(fault_of)?;
+    let mut words = Vec::new(rt.alloc());
+    for word in all.skip(1) {
+        words
+            .push(Text::from_string(word))
+            .map_err(|_| WordsFault::Memory)?;
+    }
+    Ok(words)
+}
+
+fn fault_of(error: io::Error) -> WordsFault {
+    if error.kind() == io::ErrorKind::OutOfMemory {
+        WordsFault::Memory
+    } else {
+        WordsFault::NoText
+    }
+}
+
+/// Answers `--help` and `--version`, and carries out any other command.
+pub(crate) fn run<S: Store, O: Sink, E: Sink>(
+    alloc: Global,
+    words: Result<Vec<Text>, WordsFault>,
+    store: &mut S,
+    out: &mut O,
+    err: &mut E,
+) -> Status {
+    match words {
+        Ok(words) => match words.as_slice() {
+            [word] if word.is(b"--help") => put_text(out, HELP),
+            [word] if word.is(b"--version") => put_text(out, VERSION),
+            words => riemann(alloc, words, store, out, err),
+        },
+        Err(WordsFault::NoText) => {
+            put_line(err, &[USAGE]);
+            Status::Usage
+        }
+        Err(WordsFault::Memory) => {
+            put_line(err, &[MEMORY_LINE]);
+            Status::Memory
+        }
+    }
+}
+
+/// Writes a text that was asked for.
+fn put_text<O: Sink>(out: &mut O, text: &str) -> Status
+    requires { 0 < length text.now }
+    ensures done { result ≡ Status.Done → Got (O.text out.old) text.now (O.text out.new) }
+    ensures fault { result ≢ Status.Done → (result ≡ Status.SinkFault) × Rose (O.faults out.old) (O.faults out.new) }
+{
+    match out.put(text.as_bytes()) {
+        Ok(()) => Status::Done,
+        Err(_) => Status::SinkFault,
+    }
+}
