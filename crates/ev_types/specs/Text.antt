@@ -1,5 +1,5 @@
-use Rattle.std.specs.Prelude.{ℕ, List}
-use Rattle.std.specs.Str.{IsValidUpTo}
+use Rattle.std.specs.Prelude.{ℕ, Bool, false, List, Option, Some, None}
+use Rattle.std.specs.Str.{IsValidUpTo, bytes_eq}
 use Rattle.ev_types.specs.declared.text.TextFault.{TextFault}
 use Rattle.ev_types.specs.declared.text.TextFault.TheVariants.{Utf8, Memory}
 
@@ -7,3 +7,8 @@ use Rattle.ev_types.specs.declared.text.TextFault.TheVariants.{Utf8, Memory}
 abbrev pub IsNoText : List ℕ → TextFault → Type 0
 IsNoText bytes (Utf8 place) = IsValidUpTo bytes place
 IsNoText bytes Memory = Unit {0}
+
+-- the text is there and has these bytes
+abbrev pub is_text : List ℕ → Option (List ℕ) → Bool
+is_text wanted None = false
+is_text wanted (Some text) = bytes_eq text wanted

@@ -1,7 +1,11 @@
-ghost use Rattle.std.specs.Prelude.{◌≡◌, IfOk};
+ghost use Rattle.std.specs.Prelude.{◌≡◌, ◌≤◌, ◌^◌, IfOk};
+ghost use Rattle.ev_types.specs.Expiry.{is_over, is_late, is_expired};
 
 use crate::{Items, Memory, Text};
 use std::alloc::Global;
+
+// After how many seconds an event without a ttl expires.
+const DEFAULT_TTL: u32 = 60;
 
 /// One observation of a host's service, as Riemann's protocol has it. Each field but the time may be absent.
 #[derive(Drop)]
@@ -60,6 +64,32 @@ impl Event {
             raw_f: self.raw_f,
             attributes: copy_attributes(alloc, &self.attributes)?,
         })
+    }
+
+    /// Whether it has expired at the moment `t`, in seconds since 1970, at most 2^40: its state is "expired", or more
+    /// seconds than its ttl, or 60 where it has none, have passed since its time.
+    pub fn is_expired(&self, t: u64) -> bool
+        requires { t ≤ 2 ^ 40 }
+        ensures { result ≡ is_expired t self.now }
+    {
+        self.is_over() || self.is_late(t)
+    }
+
+    fn is_over(&self) -> bool
+        ensures { result ≡ is_over self.now }
+    {
+        match &self.state {
+            Some(state) => state.is(b"expired"),
+            None => false,
+        }
+    }
+
+    fn is_late(&self, t: u64) -> bool
+        requires { t ≤ 2 ^ 40 }
+        ensures { result ≡ is_late t self.now }
+    {
+        let ttl = self.ttl.unwrap_or(DEFAULT_TTL);
+        i128::from(t) - i128::from(self.time) > i128::from(ttl)
     }
 }
 

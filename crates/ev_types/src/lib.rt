@@ -1,17 +1,25 @@
-//! The values that the whole server speaks of: text, bytes, lists and events.
+//! The values that the whole server speaks of: text, bytes, lists, events and the values of their fields, and what
+//! streams hand on.
 #![tactic(auto)]
 
 mod blob;
 mod event;
-mod items;
-mod memory;
+mod field;
+mod item;
+mod key;
+mod settings;
 mod text;
+mod value;
 
 pub use blob::Blob;
 pub use event::{Attr, Attrs, Event, Events, Tags};
-pub use items::Items;
-pub use memory::Memory;
+pub use field::{Field, Fields, field_is, field_number, field_text, same_field};
+pub use item::{Emission, Emissions, Item, Notice, Notices, Output, Outputs};
+pub use key::{Key, key_of, same_keys_are_equal};
+pub use list_laws::{Items, Memory};
+pub use settings::{Expiry, Fold, KeepKey, KeepKeys, Set, Sets};
 pub use text::{Text, TextFault, Texts};
+pub use value::{Value, values_are_ordered};
 
 #[cfg(test)]
 mod tests;

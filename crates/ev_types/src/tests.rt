@@ -1,5 +1,9 @@
-use crate::{Attr, Attrs, Blob, Event, Memory, Tags, Text, TextFault, Texts};
+use crate::{
+    Attr, Attrs, Blob, Event, Events, Field, Fields, Item, Key, Memory, Tags, Text, TextFault,
+    Texts, Value, field_is, field_number, field_text, key_of, same_field,
+};
 use std::alloc::Global;
+use std::collections::HashSet;
 use std::process::Abort;
 use std::test::Fail;
 
@@ -117,5 +121,308 @@ fn lists_grow_at_their_end(rt: HostRuntime) -> Result<(), Fail> {
     assert_eq!(rt; blob.as_slice(), b"abcde".as_slice());
     assert_eq!(rt; blob.len(), 5);
     assert_eq!(rt; *blob.get(2), b'c');
+    Ok(())
+}
+
+// The event that says nothing but its time.
+fn bare_event<R: AllocGlobal + Abort>(rt: &R, time: i64) -> Event {
+    Event {
+        host: None,
+        service: None,
+        state: None,
+        description: None,
+        tags: Tags::fresh(rt.alloc()),
+        time,
+        time_micros: None,
+        ttl: None,
+        metric: None,
+        raw_d: None,
+        raw_f: None,
+        attributes: Attrs::fresh(rt.alloc()),
+    }
+}
+
+// The full event, with one more attribute of a key that it has.
+fn event_of_two_racks<R: AllocGlobal + Abort>(rt: &R) -> Result<Event, Memory> {
+    let mut event = full_event(rt)?;
+    event
+        .attributes
+        .push(rt.alloc(), attribute(rt, "rack", Some("r8"))?)?;
+    event
+        .attributes
+        .push(rt.alloc(), attribute(rt, "room", Some("r9"))?)?;
+    event
+        .attributes
+        .push(rt.alloc(), attribute(rt, "room", None)?)?;
+    Ok(event)
+}
+
+fn field<R: AllocGlobal + Abort>(rt: &R, name: &str) -> Result<Field, Memory> {
+    Ok(match name.as_bytes() {
+        b"host" => Field::Host,
+        b"service" => Field::Service,
+        b"state" => Field::State,
+        b"description" => Field::Description,
+        b"time" => Field::Time,
+        b"ttl" => Field::Ttl,
+        b"metric" => Field::Metric,
+        _ => Field::Attribute(text(rt, name)?),
+    })
+}
+
+fn value<R: AllocGlobal + Abort>(
+    rt: &R,
+    number: Option<i64>,
+    chars: Option<&str>,
+) -> Result<Value, Memory> {
+    if let Some(number) = number {
+        return Ok(Value::Number(number));
+    }
+    match chars {
+        Some(chars) => Ok(Value::Text(text(rt, chars)?)),
+        None => Ok(Value::Nil),
+    }
+}
+
+// Asserts that the event holds this, and only this, in the field.
+fn assert_holds<R: AllocGlobal + Abort>(
+    rt: &R,
+    event: &Event,
+    name: &str,
+    number: Option<i64>,
+    chars: Option<&str>,
+) -> Result<(), Memory> {
+    let field = field(rt, name)?.copy(rt.alloc())?;
+    assert_eq!(rt; field_number(event, &field), number);
+    assert!(rt; is_text(field_text(event, &field), chars), "{name}");
+    assert!(rt;
+        field_is(event, &field, &value(rt, number, chars)?),
+        "{name}"
+    );
+    assert!(rt; !field_is(event, &field, &Value::Number(0)), "{name}");
+    Ok(())
+}
+
+fn is_text(found: Option<&Text>, wanted: Option<&str>) -> bool {
+    match (found, wanted) {
+        (Some(found), Some(wanted)) => found.is(wanted.as_bytes()),
+        (None, None) => true,
+        _ => false,
+    }
+}
+
+#[test]
+fn a_field_holds_its_value_or_nil(rt: HostRuntime) -> Result<(), Fail> {
+    let full = event_of_two_racks(&rt)?;
+    for (name, number, chars) in [
+        ("host", None, Some("a")),
+        ("service", None, Some("cpu")),
+        ("state", None, Some("ok")),
+        ("description", None, Some("fine")),
+        ("time", Some(-5), None),
+        ("ttl", Some(60), None),
+        ("metric", Some(i64::MIN), None),
+        ("rack", None, Some("r8")),
+        ("bare", None, None),
+        ("room", None, None),
+        ("RACK", None, None),
+    ] {
+        assert_holds(&rt, &full, name, number, chars)?;
+    }
+    let bare = bare_event(&rt, 60);
+    for name in [
+        "host",
+        "service",
+        "state",
+        "description",
+        "ttl",
+        "metric",
+        "rack",
+    ] {
+        assert_holds(&rt, &bare, name, None, None)?;
+    }
+    assert_holds(&rt, &bare, "time", Some(60), None)?;
+    Ok(())
+}
+
+#[test]
+fn a_field_is_compared_in_two_events(rt: HostRuntime) -> Result<(), Fail> {
+    let full = event_of_two_racks(&rt)?;
+    let mut other = bare_event(&rt, -5);
+    other.host = Some(text(&rt, "a")?);
+    other.service = Some(text(&rt, "CPU")?);
+    other.ttl = Some(60);
+    other.metric = Some(i64::MAX);
+    other
+        .attributes
+        .push(rt.alloc(), attribute(&rt, "rack", Some("r8"))?)?;
+    for (name, same) in [
+        ("host", true),
+        ("service", false),
+        ("state", false),
+        ("description", false),
+        ("time", true),
+        ("ttl", true),
+        ("metric", false),
+        ("rack", true),
+        ("room", true),
+        ("nowhere", true),
+    ] {
+        let field = field(&rt, name)?;
+        assert!(rt; same_field(&full, &other, &field) == same, "{name}");
+        assert!(rt; same_field(&full, &full, &field), "{name}");
+    }
+    Ok(())
+}
+
+#[test]
+fn values_are_told_apart_and_ordered(rt: HostRuntime) -> Result<(), Fail> {
+    // Each stands before the next.
+    let rows = [
+        (None, None),
+        (Some(i64::MIN), None),
+        (Some(-1), None),
+        (Some(7), None),
+        (Some(10), None),
+        (None, Some("")),
+        (None, Some("10")),
+        (None, Some("7")),
+        (None, Some("Z")),
+        (None, Some("a")),
+        (None, Some("ab")),
+        (None, Some("\u{e9}")),
+    ];
+    for (i, (number, chars)) in rows.iter().enumerate() {
+        let a = value(&rt, *number, *chars)?.copy(rt.alloc())?;
+        for (k, (number, chars)) in rows.iter().enumerate() {
+            let b = value(&rt, *number, *chars)?;
+            assert!(rt; a.cmp(&b) == i.cmp(&k), "{i} and {k}");
+            assert!(rt; (a == b) == (i == k), "{i} and {k}");
+        }
+    }
+    Ok(())
+}
+
+fn key<R: AllocGlobal + Abort>(rt: &R, event: &Event, names: &[&str]) -> Result<Key, Memory> {
+    let mut fields = Fields::fresh(rt.alloc());
+    for name in names {
+        fields.push(rt.alloc(), field(rt, name)?)?;
+    }
+    key_of(rt.alloc(), event, &fields)
+}
+
+#[test]
+fn a_key_has_a_part_for_each_field(rt: HostRuntime) -> Result<(), Fail> {
+    let event = event_of_two_racks(&rt)?;
+    let found = key(
+        &rt,
+        &event,
+        &["service", "host", "rack", "nowhere", "time", "service"],
+    )?;
+    let mut wanted = Key::fresh(rt.alloc());
+    for (number, chars) in [
+        (None, Some("cpu")),
+        (None, Some("a")),
+        (None, Some("r8")),
+        (None, None),
+        (Some(-5), None),
+        (None, Some("cpu")),
+    ] {
+        wanted.push(rt.alloc(), value(&rt, number, chars)?)?;
+    }
+    assert_eq!(rt; found.len(), 6);
+    assert!(rt; *found.get(4) == Value::Number(-5));
+    assert!(rt; found == wanted);
+    assert!(rt; Key::from_vec(found.copy(rt.alloc())?.into_vec()).as_slice() == wanted.as_slice());
+    assert_eq!(rt; key(&rt, &event, &[])?.len(), 0);
+    Ok(())
+}
+
+#[test]
+fn keys_are_told_apart_and_ordered(rt: HostRuntime) -> Result<(), Fail> {
+    let event = event_of_two_racks(&rt)?;
+    // Each stands before the next.
+    let rows: [&[&str]; 7] = [
+        &[],
+        &["nowhere"],
+        &["nowhere", "metric"],
+        &["metric"],
+        &["host"],
+        &["host", "service"],
+        &["service", "host"],
+    ];
+    for (i, names) in rows.iter().enumerate() {
+        let a = key(&rt, &event, names)?;
+        for (k, names) in rows.iter().enumerate() {
+            let b = key(&rt, &event, names)?;
+            assert!(rt; a.cmp(&b) == i.cmp(&k), "{i} and {k}");
+            assert!(rt; (a == b) == (i == k), "{i} and {k}");
+        }
+    }
+    Ok(())
+}
+
+#[test]
+fn keys_are_kept_in_a_set(rt: HostRuntime) -> Result<(), Fail> {
+    let event = full_event(&rt)?;
+    let mut keys: HashSet<Key> = HashSet::new(rt.alloc());
+    keys.insert(key(&rt, &event, &["nowhere", "time", "host"])?)?;
+    assert!(rt; keys.contains(&key(&rt, &event, &["bare", "time", "host"])?));
+    assert!(rt; !keys.contains(&key(&rt, &event, &["nowhere", "host", "time"])?));
+    Ok(())
+}
+
+#[test]
+fn a_copied_item_has_every_event(rt: HostRuntime) -> Result<(), Fail> {
+    let one = Item::One(bare_event(&rt, 3)).copy(rt.alloc())?;
+    assert!(rt; matches!(&one, Item::One(event) if event.time == 3));
+    let mut events = Events::fresh(rt.alloc());
+    events.push(rt.alloc(), bare_event(&rt, 4))?;
+    events.push(rt.alloc(), full_event(&rt)?)?;
+    match Item::Many(events).copy(rt.alloc())? {
+        Item::Many(events) => {
+            assert_eq!(rt; events.len(), 2);
+            assert_eq!(rt; events.get(0).time, 4);
+            assert!(rt; is_some_text(&events.get(1).service, "cpu"));
+        }
+        Item::One(_) => assert!(rt; false, "one event of a vector"),
+    }
+    Ok(())
+}
+
+#[test]
+fn an_event_expires_after_its_ttl(rt: HostRuntime) -> Result<(), Fail> {
+    for (time, ttl, t, expired) in [
+        (1000, None, 1059, false),
+        (1000, None, 1060, false),
+        (1000, None, 1061, true),
+        (1000, Some(0), 999, false),
+        (1000, Some(0), 1000, false),
+        (1000, Some(0), 1001, true),
+        (-3, Some(5), 0, false),
+        (-3, Some(5), 2, false),
+        (-3, Some(5), 3, true),
+        (-61, None, 0, true),
+        (0, Some(u32::MAX), 4_294_967_295, false),
+        (0, Some(u32::MAX), 4_294_967_296, true),
+        (i64::MIN, Some(u32::MAX), 0, true),
+        (i64::MIN, None, 1_099_511_627_776, true),
+        (i64::MAX, Some(0), 1_099_511_627_776, false),
+    ] {
+        let mut event = bare_event(&rt, time);
+        event.ttl = ttl;
+        assert!(rt; t <= 1_099_511_627_776);
+        assert!(rt; event.is_expired(t) == expired, "{time} at {t}");
+    }
+    for (state, expired) in [
+        ("expired", true),
+        ("Expired", false),
+        ("expired ", false),
+        ("", false),
+    ] {
+        let mut event = bare_event(&rt, 1000);
+        event.state = Some(text(&rt, state)?);
+        assert!(rt; event.is_expired(0) == expired, "{state}");
+    }
     Ok(())
 }

@@ -1,10 +1,11 @@
 -- A log is what was done to an index. An event that was written is live until a later write at its place, until a
 -- reap at a moment at which it is late, and not at all where its state is "expired".
-use Rattle.std.specs.Prelude.{◌≡◌, ℕ, Bool, false, not, ◌||◌, if◌then◌else◌, List, [], ◌∷◌, ◌++◌, filter, Option, Some, None, unwrap_or, codes, pos, ◌-ℤ◌, int_lt}
-use Rattle.std.specs.Str.{bytes_eq}
+use Rattle.std.specs.Prelude.{◌≡◌, ℕ, Bool, not, ◌||◌, if◌then◌else◌, List, [], ◌∷◌, ◌++◌, filter}
 use Rattle.std.specs.List.{list_any}
 use Rattle.std.specs.Ordering.{is_lt}
 use Rattle.ev_types.specs.declared.event.Event.{Event}
+pub use Rattle.ev_types.specs.Text.{is_text}
+pub use Rattle.ev_types.specs.Expiry.{is_over, is_late}
 use Rattle.index_log.specs.Place.{place_cmp, same_place}
 
 pub data Logged : Type 0 where
@@ -14,18 +15,6 @@ pub data Logged : Type 0 where
 -- what was done to an index, in order
 abbrev pub IndexLog : Type 0
 IndexLog = List Logged
-
-abbrev pub is_text : List ℕ → Option (List ℕ) → Bool
-is_text wanted None = false
-is_text wanted (Some text) = bytes_eq text wanted
-
--- the event says of itself that it is over
-abbrev pub is_over : Event → Bool
-is_over event = is_text (codes "expired") event.state
-
--- at the moment t more seconds have passed since the event's time than its ttl, or 60 where it has none
-abbrev pub is_late : ℕ → Event → Bool
-is_late t event = int_lt (pos (unwrap_or event.ttl 60)) (pos t -ℤ event.time)
 
 -- what comes later in the log ends an event
 abbrev pub ends : Event → Logged → Bool

@@ -1,7 +1,7 @@
-pub mod EventList
-pub mod FieldAgain
+pub mod Folds
+pub mod Joined
 pub mod Lengths
-pub mod MsgAgain
-pub mod NumberAgain
-pub mod Places
+pub mod ReadAgain
+pub mod Spelled
+pub mod TtlBits
 pub mod Utf8

@@ -1,4 +1,6 @@
-pub mod Varint
-pub mod Reading
+pub mod Ttl
+pub mod Value
+pub mod Fault
+pub mod Draft
 pub mod Spelling
-pub mod Short
+pub mod ReadBack

@@ -1,55 +1,95 @@
--- How a message is spelled: its fields in the order of their numbers, each number in its shortest form. Of an event
--- the time is written always, and of its other fields state, service, host, description and metric_sint64, where
--- they are there.
-use Rattle.std.specs.Prelude.{◌≡◌, ℕ, ◌^◌, ◌≤◌, Bool, true, false, List, [], ◌∷◌, ◌++◌, length, Option, Some, None, Result, Ok, Err}
-use Rattle.std.specs.Int.{w64, cast_unsigned}
+-- How a message is spelled: its fields by rising number, each in its shortest spelling. Of an event the time is
+-- written always, and of the other fields those that are there; tags and attributes in their order.
+use Rattle.std.specs.Prelude.{◌≡◌, ℕ, ◌+◌, ◌*◌, ◌^◌, ◌≤◌, List, ◌∷◌, ◌++◌, map, Option, Result, Ok, Err, ℤ, pos, negsuc, IfSome, All}
+use Rattle.std.specs.Int.{w64, cast_unsigned, from_bool}
 use Rattle.std.specs.List.{flat_map}
+use Rattle.std.specs.Option.{option_map, option_to_list}
+use Rattle.ev_types.specs.declared.event.Attr.{Attr}
 use Rattle.ev_types.specs.declared.event.Event.{Event}
-use Rattle.ev_types.specs.declared.memory.Memory.{Memory}
+use Rattle.ev_types.specs.Memory.{Memory}
+use Rattle.pb_wire.specs.Spelling.{Content, Varint, Eight, Bytes, Four}
+use Rattle.pb_wire.specs.ReadBack.{FieldValue, value_spelling}
 use Rattle.riemann_msg.specs.declared.msg.Msg.{Msg}
 use Rattle.riemann_msg.specs.declared.msg.QueryPart.{QueryPart}
-use Rattle.riemann_msg.specs.Varint.{varint, zigzag}
+use Rattle.riemann_msg.specs.Ttl.{IsSpellableTtl, bits_of}
 
--- some bytes were added behind the old ones
-pub record Grew (old new : List ℕ) : Type 0 where
-  pub more : List ℕ
-  pub added : new ≡ old ++ more
+abbrev pub field : ℕ → Content → FieldValue
+field number content = record { number = number; content = content }
 
--- a field by its tag, which is a number below 128, and its body
-abbrev pub number_spelling : ℕ → ℕ → List ℕ
-number_spelling tag value = tag ∷ varint value
+-- a field that is written where it is there
+abbrev pub optional : {A : Type 0} → ℕ → (A → Content) → Option A → List FieldValue
+optional number content value = option_to_list (option_map (λ x. field number (content x)) value)
 
-abbrev pub bytes_spelling : ℕ → List ℕ → List ℕ
-bytes_spelling tag bytes = tag ∷ (varint (length bytes) ++ bytes)
+-- a field that is written once for each item
+abbrev pub repeated : {A : Type 0} → ℕ → (A → Content) → List A → List FieldValue
+repeated number content items = map (λ x. field number (content x)) items
 
--- a field that is written only where it is there
-abbrev pub optional : {A : Type 0} → (A → List ℕ) → Option A → List ℕ
-optional spelling None = []
-optional spelling (Some value) = spelling value
+-- the bytes of fields, one behind the other
+abbrev pub spelled : List FieldValue → List ℕ
+spelled values = flat_map value_spelling values
 
-unfoldable pub event_spelling : Event → List ℕ
-event_spelling event = number_spelling 8 (cast_unsigned w64 event.time)
-    ++ (optional (bytes_spelling 18) event.state
-    ++ (optional (bytes_spelling 26) event.service
-    ++ (optional (bytes_spelling 34) event.host
-    ++ (optional (bytes_spelling 42) event.description
-    ++ optional (λ metric. number_spelling 104 (zigzag metric)) event.metric))))
+-- zigzag form: 0, -1, 1, -2, 2 .. are spelled as the unsigned numbers 0, 1, 2, 3, 4 ..
+abbrev pub zigzag : ℤ → ℕ
+zigzag (pos n) = 2 * n
+zigzag (negsuc n) = 2 * n + 1
 
-unfoldable pub query_spelling : QueryPart → List ℕ
-query_spelling query = optional (bytes_spelling 10) query.string
+abbrev pub int64 : ℤ → Content
+int64 number = Varint (cast_unsigned w64 number)
 
-unfoldable pub events_spelling : List Event → List ℕ
-events_spelling events = flat_map (λ event. bytes_spelling 50 (event_spelling event)) events
+abbrev pub sint64 : ℤ → Content
+sint64 number = Varint (zigzag number)
 
-abbrev pub flag_spelling : Bool → List ℕ
-flag_spelling true = 16 ∷ 1 ∷ []
-flag_spelling false = 16 ∷ 0 ∷ []
+unfoldable pub attribute_values : Attr → List FieldValue
+attribute_values attribute = field 1 (Bytes attribute.key) ∷ optional 2 Bytes attribute.value
 
+abbrev pub attribute_content : Attr → Content
+attribute_content attribute = Bytes (spelled (attribute_values attribute))
+
+-- the fields up to 5, and those from 10 on
+abbrev pub name_values : Event → List FieldValue
+name_values event = field 1 (int64 event.time) ∷ (optional 2 Bytes event.state
+    ++ (optional 3 Bytes event.service
+    ++ (optional 4 Bytes event.host
+    ++ optional 5 Bytes event.description)))
+
+abbrev pub number_values : Event → List FieldValue
+number_values event = optional 10 int64 event.time_micros
+    ++ (optional 13 sint64 event.metric
+    ++ (optional 14 Eight event.raw_d
+    ++ optional 15 Four event.raw_f))
+
+unfoldable pub event_values : Event → List FieldValue
+event_values event = name_values event
+    ++ (repeated 7 Bytes event.tags
+    ++ (optional 8 (λ ttl. Four (bits_of ttl)) event.ttl
+    ++ (repeated 9 attribute_content event.attributes
+    ++ number_values event)))
+
+abbrev pub event_content : Event → Content
+event_content event = Bytes (spelled (event_values event))
+
+unfoldable pub query_values : QueryPart → List FieldValue
+query_values query = optional 1 Bytes query.string
+
+abbrev pub query_content : QueryPart → Content
+query_content query = Bytes (spelled (query_values query))
+
+unfoldable pub message_values : Msg → List FieldValue
+message_values msg = optional 2 (λ ok. Varint (from_bool ok)) msg.ok
+    ++ (optional 3 Bytes msg.error
+    ++ (optional 5 query_content msg.query
+    ++ repeated 6 event_content msg.events))
+
+-- the bytes of a message
 unfoldable pub spelling : Msg → List ℕ
-spelling msg = optional flag_spelling msg.ok
-    ++ (optional (bytes_spelling 26) msg.error
-    ++ (optional (λ query. bytes_spelling 42 (query_spelling query)) msg.query
-    ++ events_spelling msg.events))
+spelling msg = spelled (message_values msg)
+
+-- each ttl is one that can be spelled
+abbrev pub IsSpellableEvent : Event → Type 0
+IsSpellableEvent event = IfSome event.ttl IsSpellableTtl
+
+abbrev pub IsSpellable : Msg → Type 0
+IsSpellable msg = All IsSpellableEvent msg.events
 
 -- a length that was counted, or that is more than a usize can count
 abbrev pub Counts : Result ℕ Memory → ℕ → Type 0

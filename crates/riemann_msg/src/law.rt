@@ -1,18 +1,16 @@
 //! What ties writing and reading together.
 
-ghost use Rattle.std.specs.Prelude.{◌≡◌, ◌<◌, ℕ, List, length, Some};
-ghost use Rattle.std.specs.List.{AllByRecursion};
-ghost use Rattle.std.specs.Str.{IsUtf8};
-ghost use Rattle.ev_types.specs.declared.event.Event.{Event};
-ghost use Rattle.riemann_msg.specs.Reading.{asking, telling, message_of};
-ghost use Rattle.riemann_msg.specs.Spelling.{spelling};
-ghost use Rattle.riemann_msg.specs.Short.{IsShortEvent};
+ghost use Rattle.std.specs.Prelude.{ℕ, ◌^◌, ◌≤◌};
+ghost use Rattle.riemann_msg.specs.Ttl.{IsSpellableTtl};
+ghost use Rattle.riemann_msg.specs.ReadBack.{MessagesAreReadBack};
 
-/// What is spelled in the short form is read again as it was, whenever that is: a query of less than 126 bytes, and
-/// events with no fields but those that are read, each of less than 128 bytes.
+/// What is written is read again as it was, at any moment: each message whose events have the time that their
+/// time_micros gives, where they have that field.
 pub fn written_is_read()
-    ensures query { (now : ℕ) (text : List ℕ) → IsUtf8 text → length text < 126
-        → message_of now (spelling (asking text)) ≡ Some (asking text) }
-    ensures events { (now : ℕ) (events : List Event) → AllByRecursion IsShortEvent events
-        → message_of now (spelling (telling events)) ≡ Some (telling events) }
+    ensures { MessagesAreReadBack }
+{}
+
+/// Every whole number of seconds up to 16,777,216 can be spelled as a ttl.
+pub fn small_ttls_are_spellable()
+    ensures { (seconds : ℕ) → seconds ≤ 2 ^ 24 → IsSpellableTtl seconds }
 {}

@@ -1,16 +1,20 @@
 //! How many bytes a spelling has, without spelling it.
 
-ghost use Rattle.std.specs.Prelude.{◌≡◌, ◌+◌, ◌^◌, ◌≤◌, ℕ, length, IfOk, OnErr};
-ghost use Rattle.riemann_msg.specs.Varint.{varint, zigzag};
-ghost use Rattle.riemann_msg.specs.Spelling.{Counts, optional, number_spelling, bytes_spelling, flag_spelling, event_spelling, query_spelling, events_spelling, spelling};
+ghost use Rattle.std.specs.Prelude.{◌≡◌, ◌+◌, ◌^◌, ◌≤◌, ◌<◌, ℕ, length, IfOk, OnErr};
+ghost use Rattle.std.specs.Int.{from_bool};
+ghost use Rattle.pb_wire.specs.Varint.{varint};
+ghost use Rattle.pb_wire.specs.Spelling.{Bytes, Eight, Four, Varint};
+ghost use Rattle.riemann_msg.specs.Ttl.{bits_of};
+ghost use Rattle.riemann_msg.specs.Spelling.{Counts, spelling, spelled, optional, repeated, int64, sint64, attribute_values, attribute_content, name_values, number_values, event_values, event_content, query_values, query_content};
 
 use crate::msg::{Msg, QueryPart};
-use crate::varint::{varint_len, zigzag};
-use ev_types::{Event, Memory, Text};
+use crate::zigzag::zigzag;
+use ev_types::{Attr, Event, Memory, Text};
+use pb_wire::varint_len;
 
 /// How many bytes the spelling of a message has. Where they are more than a `usize` can count, there is no memory
 /// for them.
-#[tactic(auto, using(crate::proofs::Lengths::msg_length))]
+#[tactic(auto, using(crate::proofs::Lengths::message_length))]
 pub fn msg_len(msg: &Msg) -> Result<usize, Memory>
     ensures ok { IfOk result (λ n. n ≡ length (spelling msg.now)) }
     ensures err { OnErr result (2 ^ 64 ≤ length (spelling msg.now)) }
@@ -24,75 +28,153 @@ pub fn msg_len(msg: &Msg) -> Result<usize, Memory>
 }
 
 /// How many bytes the events have, with their tags and lengths.
-#[tactic(auto, using(crate::proofs::Lengths::no_events, crate::proofs::Lengths::one_more_event, crate::proofs::Lengths::some_events))]
+#[tactic(auto, using(crate::proofs::Lengths::longer_events, crate::proofs::Lengths::fewer_events))]
 fn events_len(events: &[Event]) -> Result<usize, Memory>
-    ensures { Counts result (length (events_spelling events.now)) }
+    ensures { Counts result (length (spelled (repeated 6 event_content events.now))) }
 {
     let mut len = 0;
     for event in events {
-        len = sum(len, event_field_len(event)?)?;
+        len = sum(len, embedded_len(event_len(event)?)?)?;
     }
     Ok(len)
-}
-
-/// How many bytes the event has with its tag and its length.
-fn event_field_len(event: &Event) -> Result<usize, Memory>
-    ensures { Counts result (length (bytes_spelling 50 (event_spelling event.now))) }
-{
-    let fields = event_len(event)?;
-    bytes_len(fields)
 }
 
 /// How many bytes the fields of an event have.
 #[tactic(auto, using(crate::proofs::Lengths::event_length))]
 pub fn event_len(event: &Event) -> Result<usize, Memory>
-    ensures { Counts result (length (event_spelling event.now)) }
+    ensures { Counts result (length (spelled (event_values event.now))) }
+{
+    let names = names_len(event)?;
+    let tags = tags_len(event.tags.as_slice())?;
+    let attributes = attributes_len(event.attributes.as_slice())?;
+    let numbers = ttl_len(event.ttl) + numbers_len(event);
+    let lists = sum(tags, attributes)?;
+    sum(sum(names, lists)?, numbers)
+}
+
+/// How many bytes the time and the texts of an event have, with their tags and lengths.
+#[tactic(auto, using(crate::proofs::Lengths::names_length))]
+fn names_len(event: &Event) -> Result<usize, Memory>
+    ensures { Counts result (length (spelled (name_values event.now))) }
 {
     let time = 1 + varint_len(event.time.cast_unsigned());
     let state = text_len(&event.state)?;
     let service = text_len(&event.service)?;
     let host = text_len(&event.host)?;
     let description = text_len(&event.description)?;
-    let metric = metric_len(event.metric);
     let names = sum(sum(state, service)?, host)?;
-    let texts = sum(names, description)?;
-    sum(time + metric, texts)
+    sum(time, sum(names, description)?)
+}
+
+/// How many bytes the fields of a query have.
+#[tactic(auto, unfolding(crate::specs::Spelling::query_values))]
+pub fn query_len(query: &QueryPart) -> Result<usize, Memory>
+    ensures { Counts result (length (spelled (query_values query.now))) }
+{
+    text_len(&query.string)
 }
 
 /// How many bytes the query has with its tag and its length, where there is one.
+#[tactic(auto, using(crate::proofs::Lengths::query_length))]
 fn query_field_len(query: &Option<QueryPart>) -> Result<usize, Memory>
-    ensures { Counts result (length (optional (λ query. bytes_spelling 42 (query_spelling query)) query.now)) }
+    ensures { Counts result (length (spelled (optional 5 query_content query.now))) }
 {
     match query {
         Some(query) => {
             let fields = query_len(query)?;
-            bytes_len(fields)
+            embedded_len(fields)
         }
         None => Ok(0),
     }
 }
 
-/// How many bytes the fields of a query have.
-#[tactic(auto, unfolding(crate::specs::Spelling::query_spelling))]
-pub fn query_len(query: &QueryPart) -> Result<usize, Memory>
-    ensures { Counts result (length (query_spelling query.now)) }
+/// How many bytes the tags have, with their tags in the wire form and lengths.
+#[tactic(auto, using(crate::proofs::Lengths::longer_tags, crate::proofs::Lengths::fewer_tags))]
+fn tags_len(tags: &[Text]) -> Result<usize, Memory>
+    ensures { Counts result (length (spelled (repeated 7 Bytes tags.now))) }
 {
-    text_len(&query.string)
+    let mut len = 0;
+    for tag in tags {
+        len = sum(len, embedded_len(tag.as_bytes().len())?)?;
+    }
+    Ok(len)
 }
 
-/// How many bytes the text has with its tag and its length, where there is one.
-fn text_len(text: &Option<Text>) -> Result<usize, Memory>
-    ensures { (tag : ℕ) → Counts result (length (optional (bytes_spelling tag) text.now)) }
+/// How many bytes the attributes have, with their tags and lengths.
+#[tactic(auto, using(crate::proofs::Lengths::longer_attributes, crate::proofs::Lengths::fewer_attributes))]
+fn attributes_len(attributes: &[Attr]) -> Result<usize, Memory>
+    ensures { Counts result (length (spelled (repeated 9 attribute_content attributes.now))) }
 {
-    match text {
-        Some(text) => bytes_len(text.as_bytes().len()),
-        None => Ok(0),
+    let mut len = 0;
+    for attribute in attributes {
+        len = sum(len, embedded_len(attribute_len(attribute)?)?)?;
+    }
+    Ok(len)
+}
+
+/// How many bytes the fields of an attribute have.
+#[tactic(auto, using(crate::proofs::Lengths::attribute_length))]
+pub fn attribute_len(attribute: &Attr) -> Result<usize, Memory>
+    ensures { Counts result (length (spelled (attribute_values attribute.now))) }
+{
+    let key = embedded_len(attribute.key.as_bytes().len())?;
+    sum(key, text_len(&attribute.value)?)
+}
+
+/// How many bytes the ttl has with its tag, where there is one.
+#[tactic(auto, using(crate::proofs::Lengths::ttl_length))]
+fn ttl_len(ttl: Option<u32>) -> usize
+    ensures length { result ≡ length (spelled (optional 8 (λ ttl. Four (bits_of ttl)) ttl)) }
+    ensures few { result ≤ 5 }
+{
+    if ttl.is_some() { 5 } else { 0 }
+}
+
+/// How many bytes the time in microseconds and the metrics of an event have, with their tags.
+#[tactic(auto, using(crate::proofs::Lengths::numbers_length))]
+fn numbers_len(event: &Event) -> usize
+    ensures length { result ≡ length (spelled (number_values event.now)) }
+    ensures few { result ≤ 36 }
+{
+    let micros = micros_len(event.time_micros);
+    let metric = metric_len(event.metric);
+    micros + metric + double_len(event.raw_d) + float_len(event.raw_f)
+}
+
+/// How many bytes the bits of a double have with their tag, where there are some.
+#[tactic(auto, using(crate::proofs::Lengths::double_length))]
+fn double_len(bits: Option<u64>) -> usize
+    ensures length { result ≡ length (spelled (optional 14 Eight bits)) }
+    ensures few { result ≤ 9 }
+{
+    if bits.is_some() { 9 } else { 0 }
+}
+
+/// How many bytes the bits of a float have with their tag, where there are some.
+#[tactic(auto, using(crate::proofs::Lengths::float_length))]
+fn float_len(bits: Option<u32>) -> usize
+    ensures length { result ≡ length (spelled (optional 15 Four bits)) }
+    ensures few { result ≤ 5 }
+{
+    if bits.is_some() { 5 } else { 0 }
+}
+
+/// How many bytes the time in microseconds has with its tag, where there is one.
+#[tactic(auto, using(crate::proofs::Lengths::micros_length))]
+fn micros_len(micros: Option<i64>) -> usize
+    ensures length { result ≡ length (spelled (optional 10 int64 micros)) }
+    ensures few { result ≤ 11 }
+{
+    match micros {
+        Some(micros) => 1 + varint_len(micros.cast_unsigned()),
+        None => 0,
     }
 }
 
 /// How many bytes the metric has with its tag, where there is one.
+#[tactic(auto, using(crate::proofs::Lengths::metric_length))]
 fn metric_len(metric: Option<i64>) -> usize
-    ensures length { result ≡ length (optional (λ metric. number_spelling 104 (zigzag metric)) metric) }
+    ensures length { result ≡ length (spelled (optional 13 sint64 metric)) }
     ensures few { result ≤ 11 }
 {
     match metric {
@@ -102,14 +184,26 @@ fn metric_len(metric: Option<i64>) -> usize
 }
 
 /// How many bytes the flag has with its tag, where there is one.
+#[tactic(auto, using(crate::proofs::Lengths::flag_length))]
 fn flag_len(flag: Option<bool>) -> usize
-    ensures { result ≡ length (optional flag_spelling flag) }
+    ensures { result ≡ length (spelled (optional 2 (λ ok. Varint (from_bool ok)) flag)) }
 {
     if flag.is_some() { 2 } else { 0 }
 }
 
-/// How many bytes `len` bytes have with their tag and their length.
-fn bytes_len(len: usize) -> Result<usize, Memory>
+/// How many bytes the text has with its tag and its length, where there is one and its number is below 16.
+#[tactic(auto, using(crate::proofs::Lengths::text_length))]
+fn text_len(text: &Option<Text>) -> Result<usize, Memory>
+    ensures { (number : ℕ) → number < 16 → Counts result (length (spelled (optional number Bytes text.now))) }
+{
+    match text {
+        Some(text) => embedded_len(text.as_bytes().len()),
+        None => Ok(0),
+    }
+}
+
+/// How many bytes `len` bytes have with a tag of one byte and their length.
+fn embedded_len(len: usize) -> Result<usize, Memory>
     ensures { Counts result (1 + (length (varint len) + len)) }
 {
     sum(1 + varint_len(len as u64), len)

@@ -1,18 +1,22 @@
 //! Riemann's messages: the Protocol Buffers form of `proto.proto`, read and written.
 #![tactic(auto)]
 
+mod fault;
+mod fields;
 mod law;
 mod len;
 mod msg;
 mod read;
-mod tags;
-mod varint;
+mod ttl;
 mod write;
+mod zigzag;
 
-pub use law::written_is_read;
+pub use fault::{MsgFault, MsgWhy};
+pub use law::{small_ttls_are_spellable, written_is_read};
 pub use len::msg_len;
 pub use msg::{Msg, QueryPart};
-pub use read::{MsgFault, read_msg};
+pub use read::read_msg;
+pub use ttl::{bits_of_ttl, ttl_of_bits};
 pub use write::write_msg;
 
 #[cfg(test)]

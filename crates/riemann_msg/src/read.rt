@@ -1,214 +1,419 @@
-ghost use Rattle.std.specs.Prelude.{◌≡◌, ◌^◌, ◌<◌, ◌≤◌, length, IfOk, IfSome, if◌then◌else◌, Some, None};
-ghost use Rattle.std.specs.Str.{is_utf8};
-ghost use Rattle.riemann_msg.specs.Reading.{asking as message_asking, telling as message_telling, whole as whole_of, piece_at, text_at, number_field, text_field, event_of, event_at, events_within, query_of, message_of, Gives, Reads};
-ghost use Rattle.riemann_msg.specs.declared.read.MsgFault.TheVariants.{Memory as out_of_memory};
+//! Reading messages, field by field.
 
+ghost use Rattle.std.specs.Prelude.{◌≡◌, ℕ, ◌+◌, ◌^◌, ◌<◌, ◌≤◌, List, [], length, Option, OnOk, IfOk, IfErr, None, pos};
+ghost use Rattle.std.specs.List.{fold};
+ghost use Rattle.std.specs.Option.{option_map};
+ghost use Rattle.pb_wire.specs.Fields.{FieldAt, LiesWithin, fields_of};
+ghost use Rattle.pb_wire.specs.Spelling.{Varint, Eight, Bytes, Four};
+ghost use Rattle.riemann_msg.specs.Value.{event_of, attribute_of, time_from, message_of};
+ghost use Rattle.riemann_msg.specs.Fault.{Fault, moved, first_by, IsRefusedFor, Reads, attribute_field_fault, event_field_fault, query_field_fault, message_field_fault, attribute_fault, event_fault, first_fault};
+ghost use Rattle.riemann_msg.specs.Spelling.{field, IsSpellable};
+ghost use Rattle.riemann_msg.specs.Draft.{Puts, field_at, value_at, attribute_with, query_with, event_with, message_with, fresh_event, fresh_message, utf8_fault, four_fault, bytes_fault, part_fault};
+
+use crate::fault::{MsgFault, MsgWhy};
+use crate::fields::{
+    ATTRIBUTES, DESCRIPTION, ERROR, EVENTS, HOST, KEY, METRIC_D, METRIC_F, METRIC_SINT64, OK,
+    QUERY, SERVICE, STATE, STRING, TAGS, TIME, TIME_MICROS, TTL, VALUE,
+};
 use crate::msg::{Msg, QueryPart};
-use crate::tags::{EVENT, HOST, METRIC_SINT64, QUERY, SERVICE, STATE, STRING, TIME};
-use crate::varint::{unzigzag, varint_at};
-use ev_types::{Attrs, Event, Events, Memory, Tags, Text, TextFault};
+use crate::ttl::ttl_of_bits;
+use crate::zigzag::unzigzag;
+use ev_types::{Attr, Attrs, Event, Events, Tags, Text, TextFault};
+use pb_wire::{Body, FieldReader, Next};
 use std::alloc::Global;
-use thiserror::Error;
 
-/// Why a body was not read.
-#[derive(Clone, Copy, Debug, PartialEq, Eq, Error)]
-pub enum MsgFault {
-    /// The body is of a form that is not read yet.
-    #[error("message not built yet")]
-    Unbuilt,
-    /// Memory was wanted and none was left.
-    #[error("out of memory")]
-    Memory,
+/// A message of some kind, of which some fields were read.
+trait Draft {
+    /// The fault of a field, with places counted in the bytes.
+    ghost fault: { List ℕ → FieldAt → Option Fault };
+
+    /// The draft when one more field of the bytes was read.
+    ghost with_field: { List ℕ → Self → FieldAt → Self };
+
+    /// Reads one more field of the bytes. They begin at `base` in the whole message, from whose start the places of
+    /// faults count.
+    fn put(
+        &mut self,
+        alloc: Global,
+        bytes: &[u8],
+        base: usize,
+        number: u32,
+        body: Body,
+        place: usize,
+    ) -> Result<(), MsgFault>
+        requires fits { base + length bytes.now < 2 ^ 64 }
+        requires place { place < length bytes.now }
+        requires body { LiesWithin (length bytes.now) body }
+        ensures ok { OnOk result ((fault bytes.now (field_at number body place) ≡ None)
+            × (self.new ≡ with_field bytes.now self.old (field_at number body place))) }
+        ensures refused { IfErr result (IsRefusedFor (option_map (moved base) (fault bytes.now (field_at number body place)))) };
 }
 
-impl From<Memory> for MsgFault {
-    ghost from_gives = { λ _ fault. fault ≡ out_of_memory };
-
-    fn from(_memory: Memory) -> MsgFault {
-        MsgFault::Memory
-    }
-}
-
-/// Reads the body of a frame as a message, at the moment `now` in seconds. An event without a time gets `now`.
-#[tactic(auto, unfolding(crate::specs::Reading::message_of))]
-pub fn read_msg(alloc: Global, body: &[u8], now: u64) -> Result<Msg, MsgFault>
-    requires { now ≤ 2 ^ 40 }
-    ensures { Reads (message_of now body.now) result }
+/// Reads the fields of the bytes into the draft, up to the first fault. The bytes begin at `base` in the whole
+/// message.
+fn read_fields<D: Draft>(
+    alloc: Global,
+    bytes: &[u8],
+    base: usize,
+    draft: &mut D,
+) -> Result<(), MsgFault>
+    requires { base + length bytes.now < 2 ^ 64 }
+    ensures ok { OnOk result ((first_by (D.fault bytes.now) bytes.now ≡ None)
+        × (draft.new ≡ fold (D.with_field bytes.now) draft.old (fields_of bytes.now))) }
+    ensures refused { IfErr result (IsRefusedFor (option_map (moved base) (first_by (D.fault bytes.now) bytes.now))) }
 {
-    match body {
-        [] => Ok(telling(Events::fresh(alloc))),
-        [QUERY, query @ ..] => Ok(asking(alloc, query_of(alloc, query)?)),
-        [_, ..] => Ok(telling(events_of(alloc, now, body)?)),
-    }
-}
-
-/// A message with this query alone.
-fn asking(alloc: Global, text: Text) -> Msg
-    ensures { result ≡ message_asking text }
-{
-    Msg {
-        ok: None,
-        error: None,
-        query: Some(QueryPart { string: Some(text) }),
-        events: Events::fresh(alloc),
-    }
-}
-
-/// A message with these events alone.
-fn telling(events: Events) -> Msg
-    ensures { result ≡ message_telling events }
-{
-    Msg {
-        ok: None,
-        error: None,
-        query: None,
-        events,
-    }
-}
-
-/// The text of a query, from the bytes behind its tag.
-#[tactic(auto, unfolding(crate::specs::Reading::query_of))]
-fn query_of(alloc: Global, bytes: &[u8]) -> Result<Text, MsgFault>
-    ensures { Gives (λ text. text) result (query_of bytes.now) }
-{
-    let (query, rest) = piece_at(bytes)?;
-    let query = whole(query, rest)?;
-    let (string, rest) = text_field(alloc, STRING, query)?;
-    match string {
-        Some(text) => whole(text, rest),
-        None => Err(MsgFault::Unbuilt),
-    }
-}
-
-/// The events that the bytes are, each behind its tag and its length.
-fn events_of(alloc: Global, now: u64, bytes: &[u8]) -> Result<Events, MsgFault>
-    requires { now ≤ 2 ^ 40 }
-    ensures { Gives (λ events. events) result (events_within (length bytes.now) now bytes.now) }
-{
-    let mut events = Events::fresh(alloc);
-    let mut rest = bytes;
-    'events: while let [tag, after @ ..] = rest {
-        if *tag != EVENT {
-            return Err(MsgFault::Unbuilt);
+    let mut fields = FieldReader::over(bytes);
+    'fields: loop {
+        match fields.next() {
+            Next::End => return Ok(()),
+            Next::Refused { place, why } => {
+                return Err(MsgFault::Refused {
+                    place: base + place,
+                    why: MsgWhy::from(why),
+                });
+            }
+            Next::Field {
+                number,
+                body,
+                place,
+            } => draft.put(alloc, bytes, base, number, body, place)?,
         }
-        let (event, after) = event_at(alloc, now, after)?;
-        events.push(alloc, event)?;
-        rest = after;
-    }
-    Ok(events)
-}
-
-/// The event behind its length at the front of the bytes, and the bytes behind it.
-#[tactic(auto, unfolding(crate::specs::Reading::event_at))]
-fn event_at(alloc: Global, now: u64, bytes: &[u8]) -> Result<(Event, &[u8]), MsgFault>
-    requires { now ≤ 2 ^ 40 }
-    ensures { Gives (λ read. (read.0, read.1.now)) result (event_at now bytes.now) }
-{
-    let (piece, rest) = piece_at(bytes)?;
-    let event = event_of(alloc, now, piece)?;
-    Ok((event, rest))
-}
-
-/// The event that the bytes are.
-#[tactic(auto, unfolding(crate::specs::Reading::event_of))]
-fn event_of(alloc: Global, now: u64, bytes: &[u8]) -> Result<Event, MsgFault>
-    requires { now ≤ 2 ^ 40 }
-    ensures { Gives (λ event. event) result (event_of now bytes.now) }
-{
-    let (time, rest) = number_field(TIME, bytes)?;
-    let (state, rest) = text_field(alloc, STATE, rest)?;
-    let (service, rest) = text_field(alloc, SERVICE, rest)?;
-    let (host, rest) = text_field(alloc, HOST, rest)?;
-    let (metric, rest) = number_field(METRIC_SINT64, rest)?;
-    let event = Event {
-        host,
-        service,
-        state,
-        description: None,
-        tags: Tags::fresh(alloc),
-        time: time.unwrap_or(now) as i64,
-        time_micros: None,
-        ttl: None,
-        metric: metric.map(unzigzag),
-        raw_d: None,
-        raw_f: None,
-        attributes: Attrs::fresh(alloc),
-    };
-    whole(event, rest)
-}
-
-/// The value, where nothing follows it.
-fn whole<T: Drop>(value: T, rest: &[u8]) -> Result<T, MsgFault>
-    ensures { Gives (λ value. value) result (whole_of (value, rest.now)) }
-{
-    if rest.is_empty() {
-        Ok(value)
-    } else {
-        Err(MsgFault::Unbuilt)
     }
 }
 
-/// The number behind its tag, where the bytes begin with the tag.
-#[tactic(auto, unfolding(crate::specs::Reading::number_field))]
-fn number_field(tag: u8, bytes: &[u8]) -> Result<(Option<u64>, &[u8]), MsgFault>
-    ensures number { Gives (λ read. (read.0, read.1.now)) result (number_field tag bytes.now) }
-    ensures below { IfOk result (λ read. IfSome read.0 (λ value. value < 2 ^ 63)) }
-{
-    match bytes {
-        [first, value @ ..] if *first == tag => {
-            let (value, rest) = varint_at(value)?;
-            Ok((Some(value), rest))
-        }
-        _ => Ok((None, bytes)),
-    }
-}
-
-/// The text behind its tag, where the bytes begin with the tag.
-#[tactic(auto, unfolding(crate::specs::Reading::text_field))]
-fn text_field(alloc: Global, tag: u8, bytes: &[u8]) -> Result<(Option<Text>, &[u8]), MsgFault>
-    ensures { Gives (λ read. (read.0, read.1.now)) result (text_field tag bytes.now) }
-{
-    match bytes {
-        [first, text @ ..] if *first == tag => {
-            let (text, rest) = text_at(alloc, text)?;
-            Ok((Some(text), rest))
-        }
-        _ => Ok((None, bytes)),
-    }
-}
-
-/// The text behind its length at the front of the bytes, and the bytes behind it.
-#[tactic(auto, unfolding(crate::specs::Reading::text_at))]
-fn text_at(alloc: Global, bytes: &[u8]) -> Result<(Text, &[u8]), MsgFault>
-    ensures { Gives (λ read. (read.0, read.1.now)) result (text_at bytes.now) }
-{
-    let (piece, rest) = piece_at(bytes)?;
-    let text = text_of(alloc, piece)?;
-    Ok((text, rest))
-}
-
-/// The text that the bytes spell.
-fn text_of(alloc: Global, bytes: &[u8]) -> Result<Text, MsgFault>
-    ensures { Gives (λ text. text) result (if is_utf8 bytes.now then Some bytes.now else None) }
+/// The bytes as a text. Where they are none, the fault is at `place` in the whole message.
+fn text_of(alloc: Global, bytes: &[u8], place: usize) -> Result<Text, MsgFault>
+    ensures { Reads (utf8_fault place bytes.now) bytes.now result }
 {
     match Text::read(alloc, bytes) {
         Ok(text) => Ok(text),
-        Err(TextFault::Utf8 { .. }) => Err(MsgFault::Unbuilt),
+        Err(TextFault::Utf8 { .. }) => Err(MsgFault::Refused {
+            place,
+            why: MsgWhy::Utf8,
+        }),
         Err(TextFault::Memory) => Err(MsgFault::Memory),
     }
 }
 
-/// The bytes behind their length, which is a byte below 128, and the bytes behind those.
-#[tactic(auto, unfolding(crate::specs::Reading::piece_at))]
-fn piece_at(bytes: &[u8]) -> Result<(&[u8], &[u8]), MsgFault>
-    ensures { Gives (λ read. (read.0.now, read.1.now)) result (piece_at bytes.now) }
-{
-    let [size, bytes @ ..] = bytes else {
-        return Err(MsgFault::Unbuilt);
-    };
-    let size = usize::from(*size);
-    if size >= 128 || size > bytes.len() {
-        return Err(MsgFault::Unbuilt);
+/// The fields of an attribute.
+#[derive(Drop)]
+struct AttrDraft {
+    key: Option<Text>,
+    value: Option<Text>,
+}
+
+impl Draft for AttrDraft {
+    ghost fault = { attribute_field_fault };
+
+    ghost with_field = { λ bytes draft field. attribute_with draft (value_at bytes field) };
+
+    fn put(
+        &mut self,
+        alloc: Global,
+        bytes: &[u8],
+        base: usize,
+        number: u32,
+        body: Body,
+        place: usize,
+    ) -> Result<(), MsgFault> {
+        let Body::Bytes { start, end } = body else {
+            return Ok(());
+        };
+        let text = &bytes[start..end];
+        match number {
+            KEY => self.key = Some(text_of(alloc, text, base + place)?),
+            VALUE => self.value = Some(text_of(alloc, text, base + place)?),
+            _ => {}
+        }
+        Ok(())
     }
-    Ok(bytes.split_at(size))
+}
+
+/// Reads the bytes, which begin at `base` in the whole message, as an attribute.
+fn read_attribute(alloc: Global, bytes: &[u8], base: usize) -> Result<Attr, MsgFault>
+    requires { base + length bytes.now < 2 ^ 64 }
+    ensures { Reads (option_map (moved base) (attribute_fault bytes.now)) (attribute_of bytes.now) result }
+{
+    let mut draft = AttrDraft {
+        key: None,
+        value: None,
+    };
+    read_fields(alloc, bytes, base, &mut draft)?;
+    let AttrDraft { key, value } = draft;
+    match key {
+        Some(key) => Ok(Attr { key, value }),
+        None => Err(MsgFault::Refused {
+            place: base + bytes.len(),
+            why: MsgWhy::Key,
+        }),
+    }
+}
+
+impl Draft for QueryPart {
+    ghost fault = { query_field_fault };
+
+    ghost with_field = { λ bytes query field. query_with query (value_at bytes field) };
+
+    fn put(
+        &mut self,
+        alloc: Global,
+        bytes: &[u8],
+        base: usize,
+        number: u32,
+        body: Body,
+        place: usize,
+    ) -> Result<(), MsgFault> {
+        match (number, body) {
+            (STRING, Body::Bytes { start, end }) => {
+                self.string = Some(text_of(alloc, &bytes[start..end], base + place)?);
+            }
+            _ => {}
+        }
+        Ok(())
+    }
+}
+
+/// The fields of an event. Its time is set aside until all fields were read.
+#[derive(Drop)]
+struct EventDraft {
+    time: Option<i64>,
+    event: Event,
+}
+
+impl EventDraft {
+    fn fresh(alloc: Global) -> EventDraft
+        ensures { result ≡ fresh_event }
+    {
+        EventDraft {
+            time: None,
+            event: Event {
+                host: None,
+                service: None,
+                state: None,
+                description: None,
+                tags: Tags::fresh(alloc),
+                time: 0,
+                time_micros: None,
+                ttl: None,
+                metric: None,
+                raw_d: None,
+                raw_f: None,
+                attributes: Attrs::fresh(alloc),
+            },
+        }
+    }
+
+    /// Reads a field of the type varint.
+    fn put_varint(&mut self, number: u32, value: u64)
+        ensures { self.new ≡ event_with self.old (field number (Varint value)) }
+    {
+        match number {
+            TIME => self.time = Some(value.cast_signed()),
+            TIME_MICROS => self.event.time_micros = Some(value.cast_signed()),
+            METRIC_SINT64 => self.event.metric = Some(unzigzag(value)),
+            _ => {}
+        }
+    }
+
+    /// Reads a field of eight bytes.
+    fn put_eight(&mut self, number: u32, bits: u64)
+        ensures { self.new ≡ event_with self.old (field number (Eight bits)) }
+    {
+        if number == METRIC_D {
+            self.event.raw_d = Some(bits);
+        }
+    }
+
+    /// Reads a field of four bytes.
+    fn put_four(&mut self, number: u32, bits: u32, place: usize) -> Result<(), MsgFault>
+        ensures { Puts (four_fault number bits place) (event_with self.old (field number (Four bits))) result self.new }
+    {
+        if number == TTL {
+            let Some(ttl) = ttl_of_bits(bits) else {
+                return Err(MsgFault::Refused {
+                    place,
+                    why: MsgWhy::Ttl,
+                });
+            };
+            self.event.ttl = Some(ttl);
+        } else if number == METRIC_F {
+            self.event.raw_f = Some(bits);
+        }
+        Ok(())
+    }
+
+    /// Reads a field of bytes, which begin at `base` in the whole message. Its tag is at `place`.
+    fn put_bytes(
+        &mut self,
+        alloc: Global,
+        number: u32,
+        bytes: &[u8],
+        base: usize,
+        place: usize,
+    ) -> Result<(), MsgFault>
+        requires { base + length bytes.now < 2 ^ 64 }
+        ensures { Puts (bytes_fault number bytes.now base place) (event_with self.old (field number (Bytes bytes.now))) result self.new }
+    {
+        match number {
+            STATE => self.event.state = Some(text_of(alloc, bytes, place)?),
+            SERVICE => self.event.service = Some(text_of(alloc, bytes, place)?),
+            HOST => self.event.host = Some(text_of(alloc, bytes, place)?),
+            DESCRIPTION => self.event.description = Some(text_of(alloc, bytes, place)?),
+            TAGS => self.event.tags.push(alloc, text_of(alloc, bytes, place)?)?,
+            ATTRIBUTES => {
+                let attribute = read_attribute(alloc, bytes, base)?;
+                self.event.attributes.push(alloc, attribute)?;
+            }
+            _ => {}
+        }
+        Ok(())
+    }
+}
+
+impl Draft for EventDraft {
+    ghost fault = { event_field_fault };
+
+    ghost with_field = { λ bytes draft field. event_with draft (value_at bytes field) };
+
+    fn put(
+        &mut self,
+        alloc: Global,
+        bytes: &[u8],
+        base: usize,
+        number: u32,
+        body: Body,
+        place: usize,
+    ) -> Result<(), MsgFault> {
+        match body {
+            Body::Varint(value) => self.put_varint(number, value),
+            Body::Eight(bits) => self.put_eight(number, bits),
+            Body::Four(bits) => self.put_four(number, bits, base + place)?,
+            Body::Bytes { start, end } => {
+                let part = &bytes[start..end];
+                self.put_bytes(alloc, number, part, base + start, base + place)?;
+            }
+        }
+        Ok(())
+    }
+}
+
+/// Reads the bytes, which begin at `base` in the whole message, as an event. One without a time gets `now`.
+#[tactic(auto, unfolding(crate::specs::Fault::event_fault))]
+fn read_event(alloc: Global, now: i64, bytes: &[u8], base: usize) -> Result<Event, MsgFault>
+    requires { base + length bytes.now < 2 ^ 64 }
+    ensures { Reads (option_map (moved base) (event_fault bytes.now)) (event_of now bytes.now) result }
+{
+    let mut draft = EventDraft::fresh(alloc);
+    read_fields(alloc, bytes, base, &mut draft)?;
+    let EventDraft { time, mut event } = draft;
+    event.time = time_of(now, event.time_micros, time);
+    Ok(event)
+}
+
+/// The time of an event, in seconds: that in microseconds rounded down where it is told so, else the time that is
+/// told, else `now`.
+fn time_of(now: i64, micros: Option<i64>, time: Option<i64>) -> i64
+    ensures { result ≡ time_from now micros time }
+{
+    match micros {
+        Some(micros) => micros.div_euclid(1_000_000),
+        None => time.unwrap_or(now),
+    }
+}
+
+/// The fields of a message that is read at the second `now`.
+#[derive(Drop)]
+struct MsgDraft {
+    now: i64,
+    msg: Msg,
+}
+
+impl MsgDraft {
+    fn fresh(alloc: Global, now: u64) -> MsgDraft
+        requires { now < 2 ^ 63 }
+        ensures { result ≡ fresh_message (pos now) }
+    {
+        MsgDraft {
+            now: now as i64,
+            msg: Msg {
+                ok: None,
+                error: None,
+                query: None,
+                events: Events::fresh(alloc),
+            },
+        }
+    }
+
+    /// Reads a field of bytes, which begin at `base` in the whole message. Its tag is at `place`.
+    #[tactic(auto, unfolding(crate::specs::Fault::query_fault))]
+    fn put_bytes(
+        &mut self,
+        alloc: Global,
+        number: u32,
+        bytes: &[u8],
+        base: usize,
+        place: usize,
+    ) -> Result<(), MsgFault>
+        requires { base + length bytes.now < 2 ^ 64 }
+        ensures { Puts (part_fault number bytes.now base place) (message_with self.old (field number (Bytes bytes.now))) result self.new }
+    {
+        match number {
+            ERROR => self.msg.error = Some(text_of(alloc, bytes, place)?),
+            QUERY => {
+                let mut query = self.msg.query.take().unwrap_or(QueryPart { string: None });
+                read_fields(alloc, bytes, base, &mut query)?;
+                self.msg.query = Some(query);
+            }
+            EVENTS => {
+                let event = read_event(alloc, self.now, bytes, base)?;
+                self.msg.events.push(alloc, event)?;
+            }
+            _ => {}
+        }
+        Ok(())
+    }
+}
+
+impl Draft for MsgDraft {
+    ghost fault = { message_field_fault };
+
+    ghost with_field = { λ bytes draft field. message_with draft (value_at bytes field) };
+
+    fn put(
+        &mut self,
+        alloc: Global,
+        bytes: &[u8],
+        base: usize,
+        number: u32,
+        body: Body,
+        place: usize,
+    ) -> Result<(), MsgFault> {
+        match body {
+            Body::Varint(value) => {
+                if number == OK {
+                    self.msg.ok = Some(value != 0);
+                }
+            }
+            Body::Bytes { start, end } => {
+                let part = &bytes[start..end];
+                self.put_bytes(alloc, number, part, base + start, base + place)?;
+            }
+            _ => {}
+        }
+        Ok(())
+    }
+}
+
+/// Reads the bytes as a message, at the moment `now` in seconds. An event without a time gets `now`. `Refused` comes
+/// for the first fault in the order of the fields, and then nothing was read.
+#[tactic(auto, unfolding(crate::specs::Fault::first_fault))]
+pub fn read_msg(alloc: Global, body: &[u8], now: u64) -> Result<Msg, MsgFault>
+    requires { now < 2 ^ 63 }
+    ensures reads { Reads (first_fault body.now) (message_of now body.now) result }
+    ensures spellable { IfOk result IsSpellable }
+{
+    let mut draft = MsgDraft::fresh(alloc, now);
+    read_fields(alloc, body, 0, &mut draft)?;
+    let MsgDraft { now: _, msg } = draft;
+    Ok(msg)
 }

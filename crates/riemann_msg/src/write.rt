@@ -1,21 +1,26 @@
-ghost use Rattle.std.specs.Prelude.{◌≡◌, ℕ, List, ◌++◌, OnOk, OnErr};
-ghost use Rattle.riemann_msg.specs.Varint.{zigzag};
-ghost use Rattle.riemann_msg.specs.Spelling.{Grew, optional, number_spelling, bytes_spelling, flag_spelling, event_spelling, query_spelling, events_spelling, spelling};
+ghost use Rattle.std.specs.Prelude.{◌≡◌, ◌++◌, ◌<◌, ◌^◌, OnOk, OnErr};
+ghost use Rattle.std.specs.Int.{from_bool};
+ghost use Rattle.pb_wire.specs.Spelling.{Grew, Bytes, Eight, Four, Varint};
+ghost use Rattle.riemann_msg.specs.Ttl.{bits_of};
+ghost use Rattle.riemann_msg.specs.Spelling.{spelling, spelled, optional, repeated, int64, sint64, attribute_values, attribute_content, name_values, number_values, event_values, event_content, query_content};
 
-use crate::len::{event_len, query_len};
-use crate::msg::{Msg, QueryPart};
-use crate::tags::{
-    DESCRIPTION, ERROR, EVENT, HOST, METRIC_SINT64, OK, QUERY, SERVICE, STATE, STRING, TIME,
+use crate::fields::{
+    ATTRIBUTES, DESCRIPTION, ERROR, EVENTS, HOST, KEY, METRIC_D, METRIC_F, METRIC_SINT64, OK,
+    QUERY, SERVICE, STATE, STRING, TAGS, TIME, TIME_MICROS, TTL, VALUE,
 };
-use crate::varint::{put_varint, zigzag};
-use ev_types::{Blob, Event, Memory, Text};
+use crate::len::{attribute_len, event_len, query_len};
+use crate::msg::{Msg, QueryPart};
+use crate::ttl::bits_of_ttl;
+use crate::zigzag::zigzag;
+use ev_types::{Attr, Blob, Event, Memory, Text};
+use pb_wire::{PutBody, put_field, put_tag_and_length};
 use std::alloc::Global;
 
 /// Appends the spelling of a message. After a want of memory `out` begins with what it had.
-#[tactic(auto, unfolding(crate::specs::Spelling::spelling))]
+
 pub fn write_msg(alloc: Global, msg: &Msg, out: &mut Blob) -> Result<(), Memory>
     ensures ok { OnOk result (out.new ≡ out.old ++ spelling msg.now) }
-    ensures err { OnErr result ((more : List ℕ) × (out.new ≡ out.old ++ more)) }
+    ensures err { OnErr result (Grew out.old out.new) }
 {
     put_flag(alloc, msg.ok, out)?;
     put_text(alloc, ERROR, &msg.error, out)?;
@@ -24,99 +29,192 @@ pub fn write_msg(alloc: Global, msg: &Msg, out: &mut Blob) -> Result<(), Memory>
     Ok(())
 }
 
-/// Appends the events, each behind its tag and its length.
-#[tactic(auto, unfolding(crate::specs::Spelling::events_spelling))]
+/// Appends the flag, where there is one.
+fn put_flag(alloc: Global, flag: Option<bool>, out: &mut Blob) -> Result<(), Memory>
+    ensures ok { OnOk result (out.new ≡ out.old ++ spelled (optional 2 (λ ok. Varint (from_bool ok)) flag)) }
+    ensures err { OnErr result (Grew out.old out.new) }
+{
+    if let Some(flag) = flag {
+        put_field(alloc, out, OK, PutBody::Varint(u64::from(flag)))?;
+    }
+    Ok(())
+}
+
+/// Appends the text, where there is one.
+fn put_text(alloc: Global, number: u32, text: &Option<Text>, out: &mut Blob) -> Result<(), Memory>
+    requires positive { 0 < number }
+    requires small { number < 2 ^ 29 }
+    ensures ok { OnOk result (out.new ≡ out.old ++ spelled (optional number Bytes text.now)) }
+    ensures err { OnErr result (Grew out.old out.new) }
+{
+    if let Some(text) = text {
+        put_field(alloc, out, number, PutBody::Bytes(text.as_bytes()))?;
+    }
+    Ok(())
+}
+
+/// Appends the query, where there is one.
+#[tactic(auto, unfolding(crate::specs::Spelling::query_values))]
+fn put_query(alloc: Global, query: &Option<QueryPart>, out: &mut Blob) -> Result<(), Memory>
+    ensures ok { OnOk result (out.new ≡ out.old ++ spelled (optional 5 query_content query.now)) }
+    ensures err { OnErr result (Grew out.old out.new) }
+{
+    if let Some(query) = query {
+        put_tag_and_length(alloc, out, QUERY, query_len(query)?)?;
+        put_text(alloc, STRING, &query.string, out)?;
+    }
+    Ok(())
+}
+
+/// Appends the events.
 fn put_events(alloc: Global, events: &[Event], out: &mut Blob) -> Result<(), Memory>
-    ensures ok { OnOk result (out.new ≡ out.old ++ events_spelling events.now) }
+    ensures ok { OnOk result (out.new ≡ out.old ++ spelled (repeated 6 event_content events.now)) }
     ensures err { OnErr result (Grew out.old out.new) }
 {
     for event in events {
-        put_len(alloc, EVENT, event_len(event)?, out)?;
+        put_tag_and_length(alloc, out, EVENTS, event_len(event)?)?;
         put_event(alloc, event, out)?;
     }
     Ok(())
 }
 
 /// Appends the fields of an event.
-#[tactic(auto, unfolding(crate::specs::Spelling::event_spelling))]
 fn put_event(alloc: Global, event: &Event, out: &mut Blob) -> Result<(), Memory>
-    ensures ok { OnOk result (out.new ≡ out.old ++ event_spelling event.now) }
+    ensures ok { OnOk result (out.new ≡ out.old ++ spelled (event_values event.now)) }
     ensures err { OnErr result (Grew out.old out.new) }
 {
-    put_number(alloc, TIME, event.time.cast_unsigned(), out)?;
+    put_names(alloc, event, out)?;
+    put_tags(alloc, event.tags.as_slice(), out)?;
+    put_ttl(alloc, event.ttl, out)?;
+    put_attributes(alloc, event.attributes.as_slice(), out)?;
+    put_numbers(alloc, event, out)?;
+    Ok(())
+}
+
+/// Appends the time and the texts of an event.
+#[tactic(auto, using(crate::proofs::Spelled::names_spelled))]
+fn put_names(alloc: Global, event: &Event, out: &mut Blob) -> Result<(), Memory>
+    ensures ok { OnOk result (out.new ≡ out.old ++ spelled (name_values event.now)) }
+    ensures err { OnErr result (Grew out.old out.new) }
+{
+    put_field(
+        alloc,
+        out,
+        TIME,
+        PutBody::Varint(event.time.cast_unsigned()),
+    )?;
     put_text(alloc, STATE, &event.state, out)?;
     put_text(alloc, SERVICE, &event.service, out)?;
     put_text(alloc, HOST, &event.host, out)?;
     put_text(alloc, DESCRIPTION, &event.description, out)?;
-    put_metric(alloc, event.metric, out)?;
     Ok(())
 }
 
-/// Appends the query behind its tag and its length, where there is one.
-#[tactic(auto, unfolding(crate::specs::Spelling::query_spelling))]
-fn put_query(alloc: Global, query: &Option<QueryPart>, out: &mut Blob) -> Result<(), Memory>
-    ensures ok { OnOk result (out.new ≡ out.old
-        ++ optional (λ query. bytes_spelling 42 (query_spelling query)) query.now) }
+/// Appends the tags.
+#[tactic(auto, using(crate::proofs::Spelled::next_tag))]
+fn put_tags(alloc: Global, tags: &[Text], out: &mut Blob) -> Result<(), Memory>
+    ensures ok { OnOk result (out.new ≡ out.old ++ spelled (repeated 7 Bytes tags.now)) }
     ensures err { OnErr result (Grew out.old out.new) }
 {
-    if let Some(query) = query {
-        put_len(alloc, QUERY, query_len(query)?, out)?;
-        put_text(alloc, STRING, &query.string, out)?;
+    for tag in tags {
+        put_field(alloc, out, TAGS, PutBody::Bytes(tag.as_bytes()))?;
     }
     Ok(())
 }
 
-/// Appends the text behind its tag and its length, where there is one.
-fn put_text(alloc: Global, tag: u8, text: &Option<Text>, out: &mut Blob) -> Result<(), Memory>
-    ensures ok { OnOk result (out.new ≡ out.old ++ optional (bytes_spelling tag) text.now) }
+/// Appends the ttl, where there is one.
+fn put_ttl(alloc: Global, ttl: Option<u32>, out: &mut Blob) -> Result<(), Memory>
+    ensures ok { OnOk result (out.new ≡ out.old ++ spelled (optional 8 (λ ttl. Four (bits_of ttl)) ttl)) }
     ensures err { OnErr result (Grew out.old out.new) }
 {
-    if let Some(text) = text {
-        let bytes = text.as_bytes();
-        put_len(alloc, tag, bytes.len(), out)?;
-        out.append(alloc, bytes)?;
+    if let Some(ttl) = ttl {
+        put_field(alloc, out, TTL, PutBody::Four(bits_of_ttl(ttl)))?;
+    }
+    Ok(())
+}
+
+/// Appends the attributes.
+
+fn put_attributes(alloc: Global, attributes: &[Attr], out: &mut Blob) -> Result<(), Memory>
+    ensures ok { OnOk result (out.new ≡ out.old ++ spelled (repeated 9 attribute_content attributes.now)) }
+    ensures err { OnErr result (Grew out.old out.new) }
+{
+    for attribute in attributes {
+        put_tag_and_length(alloc, out, ATTRIBUTES, attribute_len(attribute)?)?;
+        put_attribute(alloc, attribute, out)?;
+    }
+    Ok(())
+}
+
+/// Appends the fields of an attribute.
+
+fn put_attribute(alloc: Global, attribute: &Attr, out: &mut Blob) -> Result<(), Memory>
+    ensures ok { OnOk result (out.new ≡ out.old ++ spelled (attribute_values attribute.now)) }
+    ensures err { OnErr result (Grew out.old out.new) }
+{
+    put_field(alloc, out, KEY, PutBody::Bytes(attribute.key.as_bytes()))?;
+    put_text(alloc, VALUE, &attribute.value, out)?;
+    Ok(())
+}
+
+/// Appends the time in microseconds and the metrics of an event.
+#[tactic(auto, using(crate::proofs::Spelled::numbers_spelled))]
+fn put_numbers(alloc: Global, event: &Event, out: &mut Blob) -> Result<(), Memory>
+    ensures ok { OnOk result (out.new ≡ out.old ++ spelled (number_values event.now)) }
+    ensures err { OnErr result (Grew out.old out.new) }
+{
+    put_micros(alloc, event.time_micros, out)?;
+    put_metric(alloc, event.metric, out)?;
+    put_double(alloc, event.raw_d, out)?;
+    put_float(alloc, event.raw_f, out)?;
+    Ok(())
+}
+
+/// Appends the time in microseconds, where there is one.
+fn put_micros(alloc: Global, micros: Option<i64>, out: &mut Blob) -> Result<(), Memory>
+    ensures ok { OnOk result (out.new ≡ out.old ++ spelled (optional 10 int64 micros)) }
+    ensures err { OnErr result (Grew out.old out.new) }
+{
+    if let Some(micros) = micros {
+        put_field(
+            alloc,
+            out,
+            TIME_MICROS,
+            PutBody::Varint(micros.cast_unsigned()),
+        )?;
     }
     Ok(())
 }
 
 /// Appends the metric, where there is one.
 fn put_metric(alloc: Global, metric: Option<i64>, out: &mut Blob) -> Result<(), Memory>
-    ensures ok { OnOk result (out.new ≡ out.old
-        ++ optional (λ metric. number_spelling 104 (zigzag metric)) metric) }
+    ensures ok { OnOk result (out.new ≡ out.old ++ spelled (optional 13 sint64 metric)) }
     ensures err { OnErr result (Grew out.old out.new) }
 {
     if let Some(metric) = metric {
-        put_number(alloc, METRIC_SINT64, zigzag(metric), out)?;
+        put_field(alloc, out, METRIC_SINT64, PutBody::Varint(zigzag(metric)))?;
     }
     Ok(())
 }
 
-/// Appends the flag, where there is one.
-fn put_flag(alloc: Global, flag: Option<bool>, out: &mut Blob) -> Result<(), Memory>
-    ensures ok { OnOk result (out.new ≡ out.old ++ optional flag_spelling flag) }
+/// Appends the bits of a metric that came as a double, where there are some.
+fn put_double(alloc: Global, bits: Option<u64>, out: &mut Blob) -> Result<(), Memory>
+    ensures ok { OnOk result (out.new ≡ out.old ++ spelled (optional 14 Eight bits)) }
     ensures err { OnErr result (Grew out.old out.new) }
 {
-    if let Some(flag) = flag {
-        out.append(alloc, &[OK, u8::from(flag)])?;
+    if let Some(bits) = bits {
+        put_field(alloc, out, METRIC_D, PutBody::Eight(bits))?;
     }
     Ok(())
 }
 
-/// Appends the tag and a length, which the bytes of that number are to follow.
-fn put_len(alloc: Global, tag: u8, len: usize, out: &mut Blob) -> Result<(), Memory>
-    ensures ok { OnOk result (out.new ≡ out.old ++ number_spelling tag len) }
+/// Appends the bits of a metric that came as a float, where there are some.
+fn put_float(alloc: Global, bits: Option<u32>, out: &mut Blob) -> Result<(), Memory>
+    ensures ok { OnOk result (out.new ≡ out.old ++ spelled (optional 15 Four bits)) }
     ensures err { OnErr result (Grew out.old out.new) }
 {
-    put_number(alloc, tag, len as u64, out)?;
-    Ok(())
-}
-
-/// Appends the tag and a number.
-fn put_number(alloc: Global, tag: u8, value: u64, out: &mut Blob) -> Result<(), Memory>
-    ensures ok { OnOk result (out.new ≡ out.old ++ number_spelling tag value) }
-    ensures err { OnErr result (Grew out.old out.new) }
-{
-    out.append(alloc, &[tag])?;
-    put_varint(alloc, value, out)?;
+    if let Some(bits) = bits {
+        put_field(alloc, out, METRIC_F, PutBody::Four(bits))?;
+    }
     Ok(())
 }

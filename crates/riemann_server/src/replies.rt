@@ -2,13 +2,13 @@ ghost use Rattle.std.specs.Prelude.{◌≡◌, ℕ, ◌^◌, ◌<◌, List, ◌+
 ghost use Rattle.std.specs.String.{string_bytes};
 ghost use Rattle.index_log.specs.Live.{IndexLog, Write, is_text, live_events};
 ghost use Rattle.riemann_msg.specs.Spelling.{spelling};
-ghost use Rattle.riemann_server.specs.Replies.{accepted, answer_to_query, found, framed, limited, over_limit, refused};
+ghost use Rattle.riemann_server.specs.Replies.{accepted, answer_to_query, found, framed, limited, over_limit, refusal, refused, why_text};
 ghost use Rattle.riemann_server.specs.Progress.{After};
 
 use ev_types::{Blob, Events, Memory, Text};
 use framing::BODY_LIMIT;
 use live_index::LiveIndex;
-use riemann_msg::{Msg, MsgFault, QueryPart, msg_len, read_msg, write_msg};
+use riemann_msg::{Msg, MsgFault, MsgWhy, QueryPart, msg_len, read_msg, write_msg};
 use std::alloc::{AllocError, Global};
 
 /// Enters the events of a message, and appends the reply to it.
@@ -24,7 +24,7 @@ pub(crate) fn answer(
 {
     match read_msg(alloc, body, 0) {
         Ok(msg) => answer_msg(alloc, msg, index, replies)?,
-        Err(MsgFault::Unbuilt) => refuse(alloc, "message not built yet", replies)?,
+        Err(MsgFault::Refused { place, why }) => refuse_msg(alloc, place, why, replies)?,
         Err(MsgFault::Memory) => return Err(Memory),
     }
     Ok(())
@@ -127,6 +127,37 @@ fn accept(alloc: Global, replies: &mut Blob) -> Result<(), Memory>
         events: Events::fresh(alloc),
     };
     put_frame(alloc, &msg, 2, replies)
+}
+
+/// Appends a reply that the message was refused at a place.
+#[tactic(auto, using(crate::proofs::ReplyLaws::refusal_length))]
+fn refuse_msg(alloc: Global, place: usize, why: MsgWhy, replies: &mut Blob) -> Result<(), Memory>
+    ensures { OnOk result (replies.new ≡ replies.old ++ framed (refused (refusal place why))) }
+{
+    let reason = refusal(alloc, place, why)?;
+    refuse(alloc, reason.as_str(), replies)
+}
+
+#[tactic(auto, unfolding(crate::specs::Replies::refusal))]
+fn refusal(alloc: Global, place: usize, why: MsgWhy) -> Result<String, AllocError>
+    ensures { IfOk result (λ reason. string_bytes reason ≡ refusal place why) }
+{
+    let why = why_text(why);
+    format!(in alloc; "message refused at {place}: {why}")
+}
+
+fn why_text(why: MsgWhy) -> &'static str
+    ensures { result.now ≡ why_text why }
+{
+    match why {
+        MsgWhy::Short => "short",
+        MsgWhy::Varint => "varint",
+        MsgWhy::Tag => "tag",
+        MsgWhy::Wire => "wire",
+        MsgWhy::Utf8 => "utf8",
+        MsgWhy::Key => "key",
+        MsgWhy::Ttl => "ttl",
+    }
 }
 
 /// Appends a reply that the message was refused for this reason.

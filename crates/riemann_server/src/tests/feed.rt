@@ -71,29 +71,110 @@ fn the_last_event_of_a_place_is_found(rt: HostRuntime) -> Result<(), Fail> {
 }
 
 #[test]
-fn what_is_not_built_yet_is_refused(rt: HostRuntime) -> Result<(), Fail> {
-    let message = "0000001910001a156d657373616765206e6f74206275696c7420796574";
-    let query = "0000001710001a137175657279206e6f74206275696c7420796574";
-    // An event with a ttl of half a second, which is answered, and the event that follows too.
+fn every_field_is_answered(rt: HostRuntime) -> Result<(), Fail> {
+    // A ttl of 60 seconds; two times, of which the last counts, and a long spelling of the metric.
+    let ttl = "0000000a32082201614500007042";
+    let found = "0000000e1001320a08002201614500007042";
+    check(&rt, &[ttl, QUERY], &[OK, found], "", Status::Done)?;
+    let twice = "0000000d320b086408c801220161688a00";
+    let found = "0000000c1001320808c801220161680a";
+    check(&rt, &[twice, QUERY], &[OK, found], "", Status::Done)?;
+    // Tags "x" and "y", an attribute "k" of "v", and the bits of 1.5 in both forms, in another order than theirs.
+    let all = "0000001e321c7d0000c03f71000000000000f83f4a060a016b1201763a01783a0179";
+    let found = "000000221001321e08003a01783a01794a060a016b12017671000000000000f83f7d0000c03f";
+    check(&rt, &[all, QUERY], &[OK, found], "", Status::Done)?;
+    // A number that is not known.
+    check(&rt, &["00000003980601"], &[OK], "", Status::Done)?;
+    // An event beside the query `true`.
+    let asked = "0000000d32032201612a060a0474727565";
     check(
         &rt,
-        &["000000073205450000003f"],
-        &[message],
+        &[asked],
+        &["00000009100132050800220161"],
+        "",
+        Status::Done,
+    )
+}
+
+#[test]
+fn what_clients_send_is_read(rt: HostRuntime) -> Result<(), Fail> {
+    // The metric as a whole number and as a float; no host and no service; both forms of the time.
+    let metrics = "0000000c320a220161680a7d0000a040";
+    let found = "000000101001320c0800220161680a7d0000a040";
+    check(&rt, &[metrics, QUERY], &[OK, found], "", Status::Done)?;
+    let found = "00000008100132040800680a";
+    check(
+        &rt,
+        &["000000043202680a", QUERY],
+        &[OK, found],
         "",
         Status::Done,
     )?;
+    let times = "0000000c320a080522016150c19fab03";
+    let found = "0000000e1001320a080722016150c19fab03";
+    check(&rt, &[times, QUERY], &[OK, found], "", Status::Done)?;
+    // A message of fifty events.
+    let fifty = "3203220161".repeat(rt.alloc(), 50)?;
+    let found = "00000009100132050800220161";
     check(
         &rt,
-        &["000000073205450000003f", EVENT],
-        &[message, OK],
+        &["000000fa", fifty.as_str(), QUERY],
+        &[OK, found],
         "",
         Status::Done,
-    )?;
-    // The query `false`.
+    )
+}
+
+/// The reply that refuses a message for this reason, of less than 128 bytes.
+fn refusal<R: AllocGlobal + Abort>(rt: &R, reason: &str) -> Result<String, Fail> {
+    let size = reason.len();
+    assert!(rt; size < 124);
+    let length = size + 4;
+    let reason = hex::encode(rt.alloc(), reason.as_bytes())?;
+    Ok(format!(in rt.alloc(); "000000{length:02x}10001a{size:02x}{reason}")?)
+}
+
+#[test]
+fn a_message_is_refused_at_the_place_of_its_first_fault(rt: HostRuntime) -> Result<(), Fail> {
+    for (message, reason) in [
+        ("000000073205450000003f", "message refused at 2: ttl"),
+        ("0000000732054a03120178", "message refused at 7: key"),
+        ("000000023205", "message refused at 0: short"),
+        (
+            "0000000b8080808080808080808001",
+            "message refused at 0: varint",
+        ),
+        ("000000058080808010", "message refused at 0: tag"),
+        ("0000000107", "message refused at 0: tag"),
+        ("000000010b", "message refused at 0: wire"),
+        ("0000000632ffffffff0f", "message refused at 0: short"),
+        ("000000053203220561", "message refused at 2: short"),
+        ("0000000532032201ff", "message refused at 2: utf8"),
+        ("0000000632032201610b", "message refused at 5: wire"),
+    ] {
+        let reply = refusal(&rt, reason)?;
+        // None of the events of the message is found.
+        check(
+            &rt,
+            &[message, QUERY],
+            &[reply.as_str(), OK],
+            "",
+            Status::Done,
+        )?;
+    }
+    Ok(())
+}
+
+#[test]
+fn a_query_that_is_not_built_yet_is_refused(rt: HostRuntime) -> Result<(), Fail> {
+    let query = refusal(&rt, "query not built yet")?;
+    // The query `false`, behind an event, which is entered.
+    let asked = "0000000e32032201612a070a0566616c7365";
+    let found = "00000009100132050800220161";
     check(
         &rt,
-        &["000000092a070a0566616c7365"],
-        &[query],
+        &[asked, QUERY],
+        &[query.as_str(), found],
         "",
         Status::Done,
     )

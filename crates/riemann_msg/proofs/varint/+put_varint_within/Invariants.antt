@@ -1,4 +1,0 @@
-use Rattle.riemann_msg.proofs.varint.+put_varint_within.Given as goal
-
-abbrev pub decreases-put_varint_within : goal.decreases-put_varint_within
-decreases-put_varint_within l = l.more

@@ -1,0 +1,118 @@
+-- What is known of a message when its first fields were read: words of the private functions that read. No public clause
+-- cites them.
+use Rattle.std.specs.Prelude.{◌≡◌, ℕ, ◌==◌, if◌then◌else◌, is_some, ℤ, pos, Result, Ok, Err, ◌++◌, List, [], ◌∷◌, Option, Some, None, unwrap_or}
+use Rattle.std.specs.Str.{is_utf8}
+use Rattle.std.specs.Option.{option_map, option_or, option_to_list}
+use Rattle.std.specs.List.{fold}
+use Rattle.pb_wire.specs.declared.reader.Body.{Body}
+use Rattle.pb_wire.specs.Fields.{FieldAt, fields_of}
+use Rattle.pb_wire.specs.Spelling.{content_in}
+use Rattle.pb_wire.specs.ReadBack.{FieldValue}
+use Rattle.riemann_msg.specs.declared.read.AttrDraft.{AttrDraft}
+use Rattle.riemann_msg.specs.declared.read.EventDraft.{EventDraft}
+use Rattle.riemann_msg.specs.declared.read.MsgDraft.{MsgDraft}
+use Rattle.riemann_msg.specs.declared.msg.QueryPart.{QueryPart}
+use Rattle.riemann_msg.specs.declared.fault.MsgFault.{MsgFault}
+use Rattle.riemann_msg.specs.declared.fault.MsgWhy.TheVariants.{Utf8 as why_utf8, Ttl as why_ttl}
+use Rattle.riemann_msg.specs.Ttl.{seconds_of}
+use Rattle.riemann_msg.specs.Fault.{Fault, fault_at, moved, is_among, IsRefusedFor, attribute_fault, query_fault, event_fault}
+use Rattle.riemann_msg.specs.Value.{bytes_in, eight_in, four_in, bool_in, int64_in, sint64_in, ttl_in, attribute_in, event_in, field_in}
+
+abbrev pub field_at : ℕ → Body → ℕ → FieldAt
+field_at number body place = record { number = number; body = body; place = place }
+
+abbrev pub value_at : List ℕ → FieldAt → FieldValue
+value_at bytes field = record { number = field.number; content = content_in bytes field.body }
+
+-- the draft when one more field was read
+abbrev pub attribute_with : AttrDraft → FieldValue → AttrDraft
+attribute_with draft value = record { key = option_or (field_in bytes_in 1 value) draft.key; value = option_or (field_in bytes_in 2 value) draft.value }
+
+abbrev pub query_with : QueryPart → FieldValue → QueryPart
+query_with query value = record { string = option_or (field_in bytes_in 1 value) query.string }
+
+abbrev pub event_with : EventDraft → FieldValue → EventDraft
+event_with draft value = record {
+  time = option_or (field_in int64_in 1 value) draft.time;
+  event = record {
+    time = draft.event.time;
+    state = option_or (field_in bytes_in 2 value) draft.event.state;
+    service = option_or (field_in bytes_in 3 value) draft.event.service;
+    host = option_or (field_in bytes_in 4 value) draft.event.host;
+    description = option_or (field_in bytes_in 5 value) draft.event.description;
+    tags = draft.event.tags ++ option_to_list (field_in bytes_in 7 value);
+    ttl = option_or (field_in ttl_in 8 value) draft.event.ttl;
+    attributes = draft.event.attributes ++ option_to_list (field_in attribute_in 9 value);
+    time_micros = option_or (field_in int64_in 10 value) draft.event.time_micros;
+    metric = option_or (field_in sint64_in 13 value) draft.event.metric;
+    raw_d = option_or (field_in eight_in 14 value) draft.event.raw_d;
+    raw_f = option_or (field_in four_in 15 value) draft.event.raw_f;
+  };
+}
+
+abbrev pub no_query : QueryPart
+no_query = record { string = None }
+
+-- the fields of one more query
+abbrev pub query_joined : Option QueryPart → List ℕ → Option QueryPart
+query_joined query bytes = Some (fold (λ query field. query_with query (value_at bytes field)) (unwrap_or query no_query) (fields_of bytes))
+
+abbrev pub query_after : Option QueryPart → Option (List ℕ) → Option QueryPart
+query_after query None = query
+query_after query (Some bytes) = query_joined query bytes
+
+abbrev pub message_with : MsgDraft → FieldValue → MsgDraft
+message_with draft value = record {
+  now = draft.now;
+  msg = record {
+    ok = option_or (field_in bool_in 2 value) draft.msg.ok;
+    error = option_or (field_in bytes_in 3 value) draft.msg.error;
+    query = query_after draft.msg.query (field_in bytes_in 5 value);
+    events = draft.msg.events ++ option_to_list (field_in (event_in draft.now) 6 value);
+  };
+}
+
+abbrev pub fresh_event : EventDraft
+fresh_event = record {
+  time = None;
+  event = record {
+    host = None;
+    service = None;
+    state = None;
+    description = None;
+    tags = [];
+    time = pos 0;
+    time_micros = None;
+    ttl = None;
+    metric = None;
+    raw_d = None;
+    raw_f = None;
+    attributes = [];
+  };
+}
+
+abbrev pub fresh_message : ℤ → MsgDraft
+fresh_message now = record { now = now; msg = record { ok = None; error = None; query = None; events = [] } }
+
+-- the fault of a body whose tag, and whose bytes, begin at these places of the whole message
+abbrev pub utf8_fault : ℕ → List ℕ → Option Fault
+utf8_fault place bytes = if is_utf8 bytes then None else Some (fault_at place why_utf8)
+
+abbrev pub four_fault : ℕ → ℕ → ℕ → Option Fault
+four_fault number bits place = if number == 8 then (if is_some (seconds_of bits) then None else Some (fault_at place why_ttl)) else None
+
+abbrev pub bytes_fault : ℕ → List ℕ → ℕ → ℕ → Option Fault
+bytes_fault number bytes start place =
+    if is_among number (2 ∷ 3 ∷ 4 ∷ 5 ∷ 7 ∷ []) then utf8_fault place bytes
+    else (if number == 9 then option_map (moved start) (attribute_fault bytes) else None)
+
+abbrev pub part_fault : ℕ → List ℕ → ℕ → ℕ → Option Fault
+part_fault number bytes start place =
+    if number == 3 then utf8_fault place bytes
+    else (if number == 5 then option_map (moved start) (query_fault bytes)
+    else (if number == 6 then option_map (moved start) (event_fault bytes) else None))
+
+-- a field is read into a draft where it has no fault
+abbrev pub Puts : {A U : Type 0} → Option Fault → A → Result U MsgFault → A → Type 0
+Puts fault wanted (Ok u) new = (fault ≡ None) × (new ≡ wanted)
+Puts fault wanted (Err refusal) new = IsRefusedFor fault refusal

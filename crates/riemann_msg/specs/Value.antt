@@ -1,0 +1,127 @@
+-- What a message is, by what its fields hold. Of a field that may stand once the last one counts; a field that is
+-- repeated keeps all, in order. Fields with another number, or of another type, count for nothing.
+use Rattle.std.specs.Prelude.{ℕ, ◌==◌, ◌/◌, ◌%◌, not, Bool, if◌then◌else◌, List, [], ◌∷◌, Option, Some, None, unwrap_or, ℤ, pos, negsuc}
+use Rattle.std.specs.Int.{w64, cast_signed, int_div_euclid}
+use Rattle.std.specs.List.{concat, filter_map, last_or}
+use Rattle.std.specs.Option.{option_map, option_and_then, option_or}
+use Rattle.ev_types.specs.declared.event.Attr.{Attr}
+use Rattle.ev_types.specs.declared.event.Event.{Event}
+use Rattle.pb_wire.specs.Spelling.{Content, Varint, Eight, Bytes, Four}
+use Rattle.pb_wire.specs.ReadBack.{FieldValue, values_of}
+use Rattle.riemann_msg.specs.declared.msg.Msg.{Msg}
+use Rattle.riemann_msg.specs.declared.msg.QueryPart.{QueryPart}
+use Rattle.riemann_msg.specs.Ttl.{seconds_of}
+
+-- ---- what a body holds, by its type
+
+abbrev pub varint_in : Content → Option ℕ
+varint_in (Varint value) = Some value
+varint_in (Eight value) = None
+varint_in (Bytes bytes) = None
+varint_in (Four value) = None
+
+abbrev pub eight_in : Content → Option ℕ
+eight_in (Eight value) = Some value
+eight_in (Varint value) = None
+eight_in (Bytes bytes) = None
+eight_in (Four value) = None
+
+abbrev pub bytes_in : Content → Option (List ℕ)
+bytes_in (Bytes bytes) = Some bytes
+bytes_in (Varint value) = None
+bytes_in (Eight value) = None
+bytes_in (Four value) = None
+
+abbrev pub four_in : Content → Option ℕ
+four_in (Four value) = Some value
+four_in (Varint value) = None
+four_in (Eight value) = None
+four_in (Bytes bytes) = None
+
+-- zigzag form: the unsigned numbers 0, 1, 2, 3, 4 .. stand for 0, -1, 1, -2, 2 ..
+abbrev pub unzigzag : ℕ → ℤ
+unzigzag value = if value % 2 == 0 then pos (value / 2) else negsuc (value / 2)
+
+abbrev pub bool_in : Content → Option Bool
+bool_in content = option_map (λ value. not (value == 0)) (varint_in content)
+
+abbrev pub int64_in : Content → Option ℤ
+int64_in content = option_map (cast_signed w64) (varint_in content)
+
+abbrev pub sint64_in : Content → Option ℤ
+sint64_in content = option_map unzigzag (varint_in content)
+
+abbrev pub ttl_in : Content → Option ℕ
+ttl_in content = option_and_then seconds_of (four_in content)
+
+-- ---- what the fields with a number hold
+
+abbrev pub field_in : {A : Type 0} → (Content → Option A) → ℕ → FieldValue → Option A
+field_in read number value = if value.number == number then read value.content else None
+
+abbrev pub all_in : {A : Type 0} → (Content → Option A) → ℕ → List FieldValue → List A
+all_in read number values = filter_map (field_in read number) values
+
+abbrev pub last_in : {A : Type 0} → (Content → Option A) → ℕ → List FieldValue → Option A
+last_in read number values = last_or None (all_in read number values)
+
+-- ---- attributes, events, queries, messages
+
+abbrev pub attribute_from : List FieldValue → Attr
+attribute_from values = record { key = unwrap_or (last_in bytes_in 1 values) []; value = last_in bytes_in 2 values }
+
+unfoldable pub attribute_of : List ℕ → Attr
+attribute_of bytes = attribute_from (values_of bytes)
+
+abbrev pub attribute_in : Content → Option Attr
+attribute_in content = option_map attribute_of (bytes_in content)
+
+-- the second that a time in microseconds lies in
+abbrev pub second_of : ℤ → ℤ
+second_of micros = int_div_euclid micros (pos 1000000)
+
+-- the time is that of time_micros where that is told, and else that of time, and else the moment of reading
+abbrev pub time_from : ℤ → Option ℤ → Option ℤ → ℤ
+time_from now micros time = unwrap_or (option_or (option_map second_of micros) time) now
+
+abbrev pub event_from : ℤ → List FieldValue → Event
+event_from now values = record {
+  time = time_from now (last_in int64_in 10 values) (last_in int64_in 1 values);
+  state = last_in bytes_in 2 values;
+  service = last_in bytes_in 3 values;
+  host = last_in bytes_in 4 values;
+  description = last_in bytes_in 5 values;
+  tags = all_in bytes_in 7 values;
+  ttl = last_in ttl_in 8 values;
+  attributes = all_in attribute_in 9 values;
+  time_micros = last_in int64_in 10 values;
+  metric = last_in sint64_in 13 values;
+  raw_d = last_in eight_in 14 values;
+  raw_f = last_in four_in 15 values;
+}
+
+unfoldable pub event_of : ℤ → List ℕ → Event
+event_of now bytes = event_from now (values_of bytes)
+
+abbrev pub event_in : ℤ → Content → Option Event
+event_in now content = option_map (event_of now) (bytes_in content)
+
+unfoldable pub query_of : List ℕ → QueryPart
+query_of bytes = record { string = last_in bytes_in 1 (values_of bytes) }
+
+-- several queries are read as one, whose body is their bodies one behind the other
+abbrev pub queries_joined : List (List ℕ) → Option QueryPart
+queries_joined [] = None
+queries_joined (part ∷ parts) = Some (query_of (concat (part ∷ parts)))
+
+abbrev pub message_from : ℤ → List FieldValue → Msg
+message_from now values = record {
+  ok = last_in bool_in 2 values;
+  error = last_in bytes_in 3 values;
+  query = queries_joined (all_in bytes_in 5 values);
+  events = all_in (event_in now) 6 values;
+}
+
+-- the message that the bytes are, read at the moment now in seconds
+unfoldable pub message_of : ℕ → List ℕ → Msg
+message_of now bytes = message_from (pos now) (values_of bytes)

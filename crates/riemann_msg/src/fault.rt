@@ -1,0 +1,66 @@
+ghost use Rattle.std.specs.Prelude.{◌≡◌};
+ghost use Rattle.riemann_msg.specs.declared.fault.MsgFault.TheVariants.{Memory as out_of_memory};
+
+use ev_types::Memory;
+use pb_wire::WireWhy;
+use thiserror::Error;
+
+/// Why a message was not read.
+#[derive(Clone, Copy, Debug, PartialEq, Eq, Error)]
+pub enum MsgFault {
+    /// The message is refused at `place`, counted in bytes from its start.
+    #[error("message refused at {place}: {why}")]
+    Refused { place: usize, why: MsgWhy },
+    /// Memory was wanted and none was left.
+    #[error("out of memory")]
+    Memory,
+}
+
+/// For what a message is refused.
+#[derive(Clone, Copy, Debug, PartialEq, Eq, Error)]
+pub enum MsgWhy {
+    /// The bytes end within a field.
+    #[error("short")]
+    Short,
+    /// A varint has more than ten bytes.
+    #[error("varint")]
+    Varint,
+    /// A tag is 2^32 or more, or the number in it is 0.
+    #[error("tag")]
+    Tag,
+    /// The type in a tag is none that is known.
+    #[error("wire")]
+    Wire,
+    /// A text is not UTF-8.
+    #[error("utf8")]
+    Utf8,
+    /// An attribute has no key.
+    #[error("key")]
+    Key,
+    /// A ttl is no whole number of seconds from 0 to 2^31 - 128.
+    #[error("ttl")]
+    Ttl,
+}
+
+impl From<Memory> for MsgFault {
+    ghost from_gives = { λ _ fault. fault ≡ out_of_memory };
+
+    fn from(_memory: Memory) -> MsgFault {
+        MsgFault::Memory
+    }
+}
+
+impl From<WireWhy> for MsgWhy {
+    ghost use Rattle.riemann_msg.specs.Fault.{why_of};
+
+    ghost from_gives = { λ wire why. why ≡ why_of wire };
+
+    fn from(wire: WireWhy) -> MsgWhy {
+        match wire {
+            WireWhy::Short => MsgWhy::Short,
+            WireWhy::Varint => MsgWhy::Varint,
+            WireWhy::Tag => MsgWhy::Tag,
+            WireWhy::Wire => MsgWhy::Wire,
+        }
+    }
+}
