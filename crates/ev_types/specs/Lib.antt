@@ -4,3 +4,5 @@ pub mod Value
 pub mod Field
 pub mod Key
 pub mod Expiry
+pub mod Set
+pub mod Rebirth

@@ -105,7 +105,7 @@ impl Attr {
     }
 }
 
-fn copy_option(alloc: Global, text: &Option<Text>) -> Result<Option<Text>, Memory>
+pub(crate) fn copy_option(alloc: Global, text: &Option<Text>) -> Result<Option<Text>, Memory>
     ensures { IfOk result (λ copied. copied ≡ text.now) }
 {
     match text {
@@ -114,7 +114,7 @@ fn copy_option(alloc: Global, text: &Option<Text>) -> Result<Option<Text>, Memor
     }
 }
 
-fn copy_tags(alloc: Global, tags: &Tags) -> Result<Tags, Memory>
+pub(crate) fn copy_tags(alloc: Global, tags: &Tags) -> Result<Tags, Memory>
     ensures { IfOk result (λ copied. copied ≡ tags.now) }
 {
     let mut copied = Tags::fresh(alloc);

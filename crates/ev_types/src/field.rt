@@ -112,7 +112,7 @@ fn lend_number(number: Option<i64>) -> ValueRef<'static>
 }
 
 // The value of the last attribute with this key.
-fn last_value<'a>(attributes: &'a [Attr], key: &Text) -> Option<&'a Text>
+pub(crate) fn last_value<'a>(attributes: &'a [Attr], key: &Text) -> Option<&'a Text>
     ensures { option_copied result ≡ attribute_text key.now attributes.now }
 {
     let mut earlier = attributes;

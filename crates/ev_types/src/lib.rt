@@ -3,10 +3,12 @@
 #![tactic(auto)]
 
 mod blob;
+mod change;
 mod event;
 mod field;
 mod item;
 mod key;
+mod rebirth;
 mod settings;
 mod text;
 mod value;

@@ -1,6 +1,6 @@
 use crate::{
-    Attr, Attrs, Blob, Event, Events, Field, Fields, Item, Key, Memory, Tags, Text, TextFault,
-    Texts, Value, field_is, field_number, field_text, key_of, same_field,
+    Attr, Attrs, Blob, Event, Events, Field, Fields, Item, KeepKey, KeepKeys, Key, Memory, Tags,
+    Text, TextFault, Texts, Value, field_is, field_number, field_text, key_of, same_field,
 };
 use std::alloc::Global;
 use std::collections::HashSet;
@@ -424,5 +424,107 @@ fn an_event_expires_after_its_ttl(rt: HostRuntime) -> Result<(), Fail> {
         event.state = Some(text(&rt, state)?);
         assert!(rt; event.is_expired(0) == expired, "{state}");
     }
+    Ok(())
+}
+
+#[test]
+fn a_set_field_holds_the_value(rt: HostRuntime) -> Result<(), Fail> {
+    let alloc = rt.alloc();
+    let mut event = event_of_two_racks(&rt)?;
+    event.set(alloc, &Field::Host, &Value::Text(text(&rt, "b")?))?;
+    event.set(alloc, &Field::Service, &Value::Nil)?;
+    event.set(alloc, &Field::Ttl, &Value::Number(16_777_216))?;
+    assert!(rt; is_text(event.host.as_ref(), Some("b")));
+    assert!(rt; event.service.is_none());
+    assert_eq!(rt; event.ttl, Some(16_777_216));
+    assert_eq!(rt; event.time_micros, Some(-4_999_999));
+    event.set(alloc, &Field::Time, &Value::Number(100))?;
+    assert_eq!(rt; event.time, 100);
+    assert_eq!(rt; event.time_micros, None);
+    assert_eq!(rt; event.raw_d, Some(u64::MAX));
+    event.set(alloc, &Field::Metric, &Value::Nil)?;
+    assert_eq!(rt; event.metric, None);
+    assert_eq!(rt; event.raw_d, None);
+    assert_eq!(rt; event.raw_f, None);
+    Ok(())
+}
+
+#[test]
+fn a_set_attribute_stands_last_and_once(rt: HostRuntime) -> Result<(), Fail> {
+    let alloc = rt.alloc();
+    let mut event = event_of_two_racks(&rt)?;
+    let rack = Field::Attribute(text(&rt, "rack")?);
+    event.set(alloc, &rack, &Value::Text(text(&rt, "r10")?))?;
+    let room = Field::Attribute(text(&rt, "room")?);
+    event.set(alloc, &room, &Value::Nil)?;
+    let attributes = event.attributes.as_slice();
+    assert_eq!(rt; attributes.len(), 2);
+    assert!(rt; attributes[0].key.is(b"bare"));
+    assert!(rt; attributes[1].key.is(b"rack"));
+    assert!(rt; is_text(attributes[1].value.as_ref(), Some("r10")));
+    Ok(())
+}
+
+#[test]
+fn a_tag_is_added_once(rt: HostRuntime) -> Result<(), Fail> {
+    let mut event = bare_event(&rt, 1);
+    event.tags.push(rt.alloc(), text(&rt, "y")?)?;
+    for tag in ["x", "y", "x"] {
+        event.add_tag(rt.alloc(), &text(&rt, tag)?)?;
+    }
+    assert_eq!(rt; event.tags.len(), 2);
+    assert!(rt; event.tags.get(0).is(b"y"));
+    assert!(rt; event.tags.get(1).is(b"x"));
+    Ok(())
+}
+
+fn keep_keys<R: AllocGlobal + Abort>(rt: &R, names: &[&str]) -> Result<KeepKeys, Memory> {
+    let mut keep = KeepKeys::fresh(rt.alloc());
+    for name in names {
+        let key = match name.as_bytes() {
+            b"tags" => KeepKey::Tags,
+            _ => KeepKey::Field(field(rt, name)?),
+        };
+        keep.push(rt.alloc(), key)?;
+    }
+    Ok(keep)
+}
+
+#[test]
+fn an_expired_event_keeps_what_is_named(rt: HostRuntime) -> Result<(), Fail> {
+    let event = event_of_two_racks(&rt)?;
+    let keep = keep_keys(&rt, &["host", "service"])?;
+    let plain = event.reborn(rt.alloc(), &keep, 110)?;
+    assert!(rt; is_some_text(&plain.host, "a"));
+    assert!(rt; is_some_text(&plain.service, "cpu"));
+    assert!(rt; is_some_text(&plain.state, "expired"));
+    assert_eq!(rt; plain.time, 110);
+    assert!(rt; plain.description.is_none() && plain.ttl.is_none() && plain.metric.is_none());
+    assert_eq!(rt; plain.tags.len() + plain.attributes.len(), 0);
+
+    let names = [
+        "room",
+        "rack",
+        "nowhere",
+        "rack",
+        "tags",
+        "description",
+        "ttl",
+        "metric",
+        "time",
+        "state",
+    ];
+    let full = event.reborn(rt.alloc(), &keep_keys(&rt, &names)?, 7)?;
+    assert!(rt; full.host.is_none() && full.service.is_none());
+    assert!(rt; is_some_text(&full.state, "expired"));
+    assert!(rt; is_some_text(&full.description, "fine"));
+    assert_eq!(rt; full.tags.len(), 2);
+    assert_eq!(rt; full.time, 7);
+    assert_eq!(rt; full.ttl, Some(60));
+    assert_eq!(rt; full.metric, Some(i64::MIN));
+    assert!(rt; full.time_micros.is_none() && full.raw_d.is_none() && full.raw_f.is_none());
+    assert_eq!(rt; full.attributes.len(), 1);
+    assert!(rt; full.attributes.get(0).key.is(b"rack"));
+    assert!(rt; is_some_text(&full.attributes.get(0).value, "r8"));
     Ok(())
 }

@@ -1,6 +1,9 @@
 -- What one more write or reap changes in what is live.
 use Rattle.std.proofs.Common.{◌≡◌, ℕ, Bool, true, false, not, ◌||◌, cond, List, [], ◌∷◌, ◌++◌, refl, sym, ap, ◌∙◌}
-use Rattle.std.specs.List.{filter, list_any}
+use Rattle.std.specs.Ordering.{is_lt}
+use Rattle.std.specs.List.{AllByRecursion, filter, list_any}
+use Rattle.ev_types.specs.Expiry.{is_expired, is_late}
+use Rattle.index_log.specs.Place.{place_cmp}
 use Rattle.ev_types.specs.declared.event.Event.{Event}
 use Rattle.index_log.specs.Live.{Logged, Write, Reap, ends, is_over, is_live, kept, placed, placed_onto, live_events, written, reaped}
 use Rattle.index_log.proofs.Places.{filter-placed_onto}
@@ -69,3 +72,44 @@ live-write log event = live-append log (Write event) ∙ write_step (is_over eve
 
 pub live-reap : (log : List Logged) (t : ℕ) → live_events (log ++ Reap t ∷ []) ≡ reaped t (live_events log)
 live-reap log t = live-append log (Reap t)
+
+-- ---- what is live is not over, so that it is expired exactly where it is late
+
+abbrev IsNotOver : Event → Type 0
+IsNotOver event = is_over event ≡ false
+
+cond-all : (t : Bool) (xs ys : List Event) → AllByRecursion IsNotOver xs → AllByRecursion IsNotOver ys → AllByRecursion IsNotOver (cond t xs ys)
+cond-all true xs ys h k = h
+cond-all false xs ys h k = k
+
+placed-all : (event : Event) (es : List Event) → IsNotOver event → AllByRecursion IsNotOver es → AllByRecursion IsNotOver (placed event es)
+placed-all event [] h k = (h, tt)
+placed-all event (first ∷ es) h k = cond-all (is_lt (place_cmp event first)) (event ∷ first ∷ es) (first ∷ placed event es) (h, k) (k.0, placed-all event es h k.1)
+
+placed_onto-all : (sorted es : List Event) → AllByRecursion IsNotOver sorted → AllByRecursion IsNotOver es → AllByRecursion IsNotOver (placed_onto sorted es)
+placed_onto-all sorted [] h k = h
+placed_onto-all sorted (event ∷ es) h k = placed_onto-all (placed event sorted) es (placed-all event sorted k.0 h) k.1
+
+-- of an event that is over by itself (s) or by what came (t)
+kept_first : (s t : Bool) (event : Event) (rest : List Event) → is_over event ≡ s → AllByRecursion IsNotOver rest → AllByRecursion IsNotOver (cond (not (s || t)) (event ∷ rest) rest)
+kept_first true t event rest h k = k
+kept_first false true event rest h k = k
+kept_first false false event rest h k = (h, k)
+
+kept-all : (log : List Logged) → AllByRecursion IsNotOver (kept log)
+kept-all [] = tt
+kept-all (Write event ∷ log) = kept_first (is_over event) (list_any (ends event) log) event (kept log) refl (kept-all log)
+kept-all (Reap t ∷ log) = kept-all log
+
+live-all : (log : List Logged) → AllByRecursion IsNotOver (live_events log)
+unfolding live_events
+live-all log = placed_onto-all [] (kept log) tt (kept-all log)
+
+expired-late : (t : ℕ) (es : List Event) → AllByRecursion IsNotOver es → filter (λ event. not (is_expired t event)) es ≡ reaped t es
+expired-late t [] k = refl
+expired-late t (event ∷ es) k =
+    ap (λ over. cond (not (over || is_late t event)) (event ∷ filter (λ other. not (is_expired t other)) es) (filter (λ other. not (is_expired t other)) es)) k.0
+    ∙ ap (λ rest. cond (not (is_late t event)) (event ∷ rest) rest) (expired-late t es k.1)
+
+pub live-expired : (log : List Logged) (t : ℕ) → live_events (log ++ Reap t ∷ []) ≡ filter (λ event. not (is_expired t event)) (live_events log)
+live-expired log t = live-reap log t ∙ sym (expired-late t (live_events log) (live-all log))

@@ -6,6 +6,7 @@ use Rattle.std.specs.Ordering.{is_lt}
 use Rattle.ev_types.specs.declared.event.Event.{Event}
 pub use Rattle.ev_types.specs.Text.{is_text}
 pub use Rattle.ev_types.specs.Expiry.{is_over, is_late}
+use Rattle.ev_types.specs.Expiry.{is_expired}
 use Rattle.index_log.specs.Place.{place_cmp, same_place}
 
 pub data Logged : Type 0 where
@@ -61,3 +62,7 @@ WritesAreLive = (log : IndexLog) (event : Event) → live_events (log ++ Write e
 
 abbrev pub ReapsAreLive : Type 0
 ReapsAreLive = (log : IndexLog) (t : ℕ) → live_events (log ++ Reap t ∷ []) ≡ reaped t (live_events log)
+
+-- no live event is over, so a reap ends exactly what is expired at its moment
+abbrev pub ReapsEndExpired : Type 0
+ReapsEndExpired = (log : IndexLog) (t : ℕ) → live_events (log ++ Reap t ∷ []) ≡ filter (λ event. not (is_expired t event)) (live_events log)

@@ -1,129 +1,132 @@
-ghost use Rattle.std.specs.Prelude.{◌≡◌, List, [], ◌++◌, length, OnOk, OnErr, MatchResult};
-ghost use Rattle.std.specs.List.{HoldsAt};
-ghost use Rattle.std.specs.List.Sorted.{IsPartitionPoint, IsSearchInRange};
-ghost use Rattle.index_log.specs.Live.{is_over};
-ghost use Rattle.index_log.specs.Place.{place_cmp, text_cmp};
-ghost use Rattle.live_index.specs.Index.{RepresentsWrite};
+ghost use Rattle.std.specs.Prelude.{◌≡◌, ◌^◌, ◌≤◌, [], ◌∷◌, ◌++◌, filter, length, List, IsErr, IsTrue, OnErr, OnOk};
+ghost use Rattle.ev_types.specs.declared.event.Event.{Event as StoredEvent};
+ghost use Rattle.ev_types.specs.Expiry.{is_expired};
+ghost use Rattle.index_log.specs.Live.{IndexLog, Reap, Write};
+ghost use Rattle.live_index.specs.Index.{Represents};
+ghost use Rattle.pred_eval.specs.Truth.{holds};
 
-use ev_types::{Event, Events, Memory, Text};
+use crate::sorted::SortedEvents;
+use ev_types::{Event, Events, Memory};
+use list_laws::{Ledger, Steps};
+use pred_eval::Pred;
 use std::alloc::Global;
-use std::cmp::Ordering;
 use std::marker::Model;
 
 /// An index of events, one for each host and service. Contracts see its live events, by host and then by service,
-/// absent before present.
+/// absent before present, and whether memory was wanted inside a change: then it is poisoned, and each later call
+/// that can answer `Memory` does.
 #[derive(Drop)]
 pub struct LiveIndex {
-    events: Vec<Event>,
+    events: SortedEvents,
+    poisoned: bool,
 }
 
 impl Model for LiveIndex {
-    ghost use Rattle.std.specs.Prelude.{List};
-    ghost use Rattle.std.specs.List.Sorted.{IsStrictlySortedBy};
-    ghost use Rattle.ev_types.specs.declared.event.Event.{Event};
-    ghost use Rattle.index_log.specs.Place.{place_cmp};
+    ghost use Rattle.live_index.specs.Index.{Index};
 
-    ghost Value = { List Event };
+    ghost Value = { Index };
 
-    ghost view = { λ index. index.events.items };
-
-    ghost invariant = { λ index. IsStrictlySortedBy place_cmp index.events.items };
+    ghost view = { λ index. record { events = index.events; poisoned = index.poisoned } };
 }
 
 impl LiveIndex {
     /// An index in which nothing was written. It takes no memory.
     pub fn fresh(alloc: Global) -> LiveIndex
-        ensures { result ≡ [] }
+        ensures { Represents result [] }
     {
         LiveIndex {
-            events: Vec::new(alloc),
+            events: SortedEvents::fresh(alloc),
+            poisoned: false,
         }
     }
 
     /// Writes an event in the place of the live one of its host and service. One whose state is "expired" only
-    /// ends that one. After a want of memory the index is as it was.
+    /// ends that one. After a want of memory the index is poisoned.
     pub fn write(&mut self, _alloc: Global, event: Event) -> Result<(), Memory>
-        ensures ok { OnOk result (RepresentsWrite self.old event self.new) }
-        ensures err { OnErr result (self.new ≡ self.old) }
+        ensures ok { OnOk result ((log : IndexLog) → Represents self.old log → Represents self.new (log ++ Write event ∷ [])) }
+        ensures err { OnErr result (IsTrue self.new.poisoned) }
+        ensures poisoned { IsTrue self.old.poisoned → IsErr result }
     {
-        match self.search(&event) {
-            Ok(at) => {
-                if is_over(&event) {
-                    self.events.remove(at);
-                } else {
-                    self.events[at] = event;
-                }
-            }
-            Err(at) => {
-                if !is_over(&event) {
-                    self.events.insert(at, event)?;
-                }
-            }
+        if self.poisoned {
+            return Err(Memory);
         }
+        self.poisoned = true;
+        self.events.write(event)?;
+        self.poisoned = false;
+        Ok(())
+    }
+
+    /// Removes the live events that are expired at the moment `now`, in seconds since 1970, at most 2^40, and
+    /// appends them to `out` in the order of the index. After a want of memory the index is poisoned, and `out`
+    /// begins with what it had.
+    pub fn reap<G: Ledger>(
+        &mut self,
+        alloc: Global,
+        now: u64,
+        out: &mut Events,
+        _steps: &mut Steps<G>,
+    ) -> Result<(), Memory>
+        requires { now ≤ 2 ^ 40 }
+        ensures ok { OnOk result ((log : IndexLog) → Represents self.old log → Represents self.new (log ++ Reap now ∷ [])) }
+        ensures expired { OnOk result (out.new ≡ out.old ++ filter (is_expired now) self.old.events) }
+        ensures err { OnErr result (IsTrue self.new.poisoned) }
+        ensures front { OnErr result ((more : List StoredEvent) × (out.new ≡ out.old ++ more)) }
+        ensures poisoned { IsTrue self.old.poisoned → IsErr result }
+    {
+        if self.poisoned {
+            return Err(Memory);
+        }
+        self.poisoned = true;
+        self.events.take_expired(alloc, now, out)?;
+        self.poisoned = false;
+        Ok(())
+    }
+
+    /// Appends copies of the live events that meet the predicate, in the order of the index. After a want of memory
+    /// the index is as it was, and `out` begins with what it had.
+    pub fn search<G: Ledger>(
+        &mut self,
+        alloc: Global,
+        pred: &mut Pred,
+        out: &mut Events,
+        _steps: &mut Steps<G>,
+    ) -> Result<(), Memory>
+        ensures same { self.new ≡ self.old }
+        ensures pred { pred.new ≡ pred.old }
+        ensures ok { OnOk result (out.new ≡ out.old ++ filter (holds pred.old) self.old.events) }
+        ensures front { OnErr result ((more : List StoredEvent) × (out.new ≡ out.old ++ more)) }
+        ensures poisoned { IsTrue self.old.poisoned → IsErr result }
+    {
+        if self.poisoned {
+            return Err(Memory);
+        }
+        copy_matching(alloc, self.events.as_slice(), pred, out)?;
         Ok(())
     }
 
     /// How many events are live.
     pub fn len(&self) -> usize
-        ensures { result ≡ length self.now }
+        ensures { result ≡ length self.now.events }
     {
-        self.events.len()
+        self.events.as_slice().len()
     }
+}
 
-    /// Appends copies of all live events, in their order. After a want of memory `out` begins with what it had.
-    pub fn copy_all(&self, alloc: Global, out: &mut Events) -> Result<(), Memory>
-        ensures ok { OnOk result (out.new ≡ out.old ++ self.now) }
-        ensures err { OnErr result ((more : List Event) × (out.new ≡ out.old ++ more)) }
-    {
-        let events = self.events.as_slice();
-        for event in events {
+/// Appends copies of the events that meet the predicate, in order.
+fn copy_matching(
+    alloc: Global,
+    events: &[Event],
+    pred: &mut Pred,
+    out: &mut Events,
+) -> Result<(), Memory>
+    ensures same { pred.new ≡ pred.old }
+    ensures ok { OnOk result (out.new ≡ out.old ++ filter (holds pred.old) events.now) }
+    ensures front { OnErr result ((more : List StoredEvent) × (out.new ≡ out.old ++ more)) }
+{
+    for event in events {
+        if pred.holds(alloc, event)? {
             out.push(alloc, event.copy(alloc)?)?;
         }
-        Ok(())
     }
-
-    // Where the live event of this one's place stands, or else where this one would stand.
-    fn search(&self, event: &Event) -> Result<usize, usize>
-        ensures bound { IsSearchInRange result (length self.now) }
-        ensures place { MatchResult result
-            (HoldsAt (λ other. place_cmp other event.now ≡ Ordering.Equal) self.now)
-            (IsPartitionPoint (λ other. place_cmp other event.now ≡ Ordering.Less)
-            (λ other. place_cmp other event.now ≡ Ordering.Greater) self.now) }
-    {
-        self.events
-            .binary_search_by(|other| place_cmp(other, event))
-    }
-}
-
-// The order of the index: by host, then by service.
-#[tactic(auto, unfolding(index_log::specs::Place::place_cmp))]
-fn place_cmp(a: &Event, b: &Event) -> Ordering
-    ensures { result ≡ place_cmp a.now b.now }
-{
-    match text_cmp(&a.host, &b.host) {
-        Ordering::Equal => text_cmp(&a.service, &b.service),
-        apart => apart,
-    }
-}
-
-// An absent text stands before one that is present.
-fn text_cmp(a: &Option<Text>, b: &Option<Text>) -> Ordering
-    ensures { result ≡ text_cmp a.now b.now }
-{
-    match (a, b) {
-        (None, None) => Ordering::Equal,
-        (None, Some(_)) => Ordering::Less,
-        (Some(_), None) => Ordering::Greater,
-        (Some(a), Some(b)) => a.as_bytes().cmp(b.as_bytes()),
-    }
-}
-
-// Whether the event says of itself that it is over.
-fn is_over(event: &Event) -> bool
-    ensures { result ≡ is_over event.now }
-{
-    match &event.state {
-        Some(state) => state.is(b"expired"),
-        None => false,
-    }
+    Ok(())
 }

@@ -2,6 +2,7 @@
 #![tactic(auto)]
 
 mod index;
+mod sorted;
 
 pub use index::LiveIndex;
 

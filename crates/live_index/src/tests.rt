@@ -1,5 +1,7 @@
 use super::LiveIndex;
-use ev_types::{Attr, Attrs, Event, Events, Memory, Tags, Text};
+use ev_types::{Attr, Attrs, Event, Events, Field, Memory, Tags, Text, Value};
+use list_laws::{NoLedger, Steps};
+use pred_eval::{Pred, RegexPatterns, Rule};
 use std::alloc::Global;
 use std::test::Fail;
 
@@ -41,6 +43,15 @@ fn is_at(event: &Event, place: Place) -> bool {
     is_text(&event.host, place.0) && is_text(&event.service, place.1)
 }
 
+/// Appends all live events.
+fn copy_all(alloc: Global, index: &mut LiveIndex, out: &mut Events) -> Result<(), Memory> {
+    let mut patterns = RegexPatterns { refusals: 0 };
+    let Ok(mut pred) = Pred::build(alloc, Rule::Always, &mut patterns) else {
+        return Err(Memory);
+    };
+    index.search(alloc, &mut pred, out, &mut Steps::fresh(NoLedger))
+}
+
 #[test]
 fn live_events_stand_by_host_and_then_by_service(rt: HostRuntime) -> Result<(), Fail> {
     let alloc = rt.alloc();
@@ -62,7 +73,7 @@ fn live_events_stand_by_host_and_then_by_service(rt: HostRuntime) -> Result<(), 
         index.write(alloc, event(alloc, places[i], "ok", 1)?)?;
     }
     let mut out = Events::fresh(alloc);
-    index.copy_all(alloc, &mut out)?;
+    copy_all(alloc, &mut index, &mut out)?;
     assert_eq!(rt; out.len(), places.len());
     assert_eq!(rt; index.len(), places.len());
     for (found, place) in out.as_slice().iter().zip(places) {
@@ -81,7 +92,7 @@ fn a_write_takes_the_place_of_the_one_before(rt: HostRuntime) -> Result<(), Fail
         index.write(alloc, event(alloc, place, state, metric)?)?;
     }
     let mut out = Events::fresh(alloc);
-    index.copy_all(alloc, &mut out)?;
+    copy_all(alloc, &mut index, &mut out)?;
     let events = out.as_slice();
     assert_eq!(rt; events.len(), 2);
     assert!(rt; is_at(&events[0], cpu));
@@ -144,7 +155,7 @@ fn copies_are_equal_and_stand_after_what_was_there(rt: HostRuntime) -> Result<()
     )?;
     let mut out = Events::fresh(alloc);
     out.push(alloc, event(alloc, (None, None), "first", 1)?)?;
-    index.copy_all(alloc, &mut out)?;
+    copy_all(alloc, &mut index, &mut out)?;
     let events = out.as_slice();
     assert_eq!(rt; events.len(), 2);
     assert!(rt; is_text(&events[0].state, Some("first")));
@@ -165,5 +176,50 @@ fn copies_are_equal_and_stand_after_what_was_there(rt: HostRuntime) -> Result<()
     assert_eq!(rt; copy.attributes.len(), 1);
     assert!(rt; copy.attributes.get(0).key.is(b"rack"));
     assert!(rt; is_text(&copy.attributes.get(0).value, Some("7")));
+    Ok(())
+}
+
+#[test]
+fn what_meets_the_rule_is_found(rt: HostRuntime) -> Result<(), Fail> {
+    let alloc = rt.alloc();
+    let mut index = LiveIndex::fresh(alloc);
+    for (host, state) in [("a", "ok"), ("b", "warning"), ("c", "ok")] {
+        index.write(alloc, event(alloc, (Some(host), None), state, 1)?)?;
+    }
+    let rule = Rule::Equal {
+        field: Field::State,
+        value: Value::Text(Text::from_str(alloc, "ok")?),
+    };
+    let mut patterns = RegexPatterns { refusals: 0 };
+    let mut pred = Pred::build(alloc, rule, &mut patterns)?;
+    let mut out = Events::fresh(alloc);
+    index.search(alloc, &mut pred, &mut out, &mut Steps::fresh(NoLedger))?;
+    assert_eq!(rt; out.len(), 2);
+    assert!(rt; is_at(out.get(0), (Some("a"), None)));
+    assert!(rt; is_at(out.get(1), (Some("c"), None)));
+    Ok(())
+}
+
+#[test]
+fn what_is_expired_is_taken_out(rt: HostRuntime) -> Result<(), Fail> {
+    let alloc = rt.alloc();
+    let mut index = LiveIndex::fresh(alloc);
+    let mut steps = Steps::fresh(NoLedger);
+    for (host, ttl) in [("b", Some(5)), ("a", Some(5)), ("c", None), ("d", Some(6))] {
+        let event = event(alloc, (Some(host), None), "ok", 1)?;
+        index.write(alloc, Event { ttl, ..event })?;
+    }
+    let mut out = Events::fresh(alloc);
+    index.reap(alloc, 105, &mut out, &mut steps)?;
+    assert_eq!(rt; out.len(), 0);
+    assert_eq!(rt; index.len(), 4);
+    index.reap(alloc, 106, &mut out, &mut steps)?;
+    assert_eq!(rt; out.len(), 2);
+    assert_eq!(rt; index.len(), 2);
+    assert!(rt; is_at(out.get(0), (Some("a"), None)));
+    assert!(rt; is_at(out.get(1), (Some("b"), None)));
+    index.reap(alloc, 161, &mut out, &mut steps)?;
+    assert_eq!(rt; out.len(), 4);
+    assert_eq!(rt; index.len(), 0);
     Ok(())
 }

@@ -43,7 +43,7 @@ pub enum WireWhy {
     /// The bytes end within a varint or within the body, or the body's length is greater than the bytes that are
     /// left.
     Short,
-    /// A varint has more than ten bytes.
+    /// Ten bytes of a varint all have the high bit.
     Varint,
     /// The tag is 2^32 or more, or the field's number is 0.
     Tag,

@@ -1,13 +1,8 @@
 -- Counts that never fall. One that is kept in 64 bits stays at its greatest number, where it counts as risen.
-use Rattle.std.specs.Prelude.{◌≡◌, ℕ, ◌+◌, ◌^◌, ◌-◌, ◌<◌, ◌≤◌, min}
+use Rattle.std.specs.Prelude.{◌≡◌, ℕ, ◌+◌, ◌<◌, ◌≤◌, min}
+pub use Rattle.list_laws.specs.Counts.{Rose, greatest}
 
-abbrev pub greatest : ℕ
-greatest = 2 ^ 64 - 1
-
--- the count rose, by one at least, or by as many as are named
-abbrev pub Rose : ℕ → ℕ → Type 0
-Rose old new = new < greatest → old < new
-
+-- the count rose by as many as are named
 abbrev pub RoseBy : ℕ → ℕ → ℕ → Type 0
 RoseBy by old new = new < greatest → old + by ≤ new
 

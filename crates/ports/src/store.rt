@@ -31,7 +31,8 @@ pub trait Store {
             (taken self.old) (taken self.new) result }
         ensures reads { reads self.new ≡ option_map (λ made. made ++ reads_made name.now result) (reads self.old) }
         ensures taken { taken self.old ≤ taken self.new }
-        ensures faults { faults self.old ≤ faults self.new };
+        ensures faults { faults self.old ≤ faults self.new }
+        ensures memory { result ≡ ReadAnswer.Memory → self.new ≡ self.old };
 }
 
 /// What a read of a store answers.

@@ -12,7 +12,7 @@ exponent_of bits = bits / 2 ^ 23 % 2 ^ 8
 abbrev pub fraction_of : ℕ → ℕ
 fraction_of bits = bits % 2 ^ 23
 
--- 2 ^ 150 times the number that the bits stand for, where neither sign nor exponent is 0 or special
+-- 2 ^ 150 times the number that the bits stand for, where the sign is 0 and the exponent is neither 0 nor special
 abbrev pub scaled_value : ℕ → ℕ
 scaled_value bits = (2 ^ 23 + fraction_of bits) * 2 ^ exponent_of bits
 

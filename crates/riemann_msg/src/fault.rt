@@ -22,7 +22,7 @@ pub enum MsgWhy {
     /// The bytes end within a field.
     #[error("short")]
     Short,
-    /// A varint has more than ten bytes.
+    /// Ten bytes of a varint all have the high bit.
     #[error("varint")]
     Varint,
     /// A tag is 2^32 or more, or the number in it is 0.

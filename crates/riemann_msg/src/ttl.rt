@@ -66,8 +66,8 @@ fn whole_of(significand: u32, exponent: u32) -> Option<u32>
     Some(significand >> places)
 }
 
-/// The bits of the binary32 number that a ttl is: 0 is four bytes of zero. Of a number with more than 24 digits, which
-/// no bits stand for, the digits behind these are left out.
+/// The bits of the binary32 number that a ttl is: 0 is four bytes of zero. Of a number that no bits stand for, the
+/// binary digits behind the first 24 are left out; from 2^31 on the bits are those of no ttl.
 pub fn bits_of_ttl(ttl: u32) -> u32
     ensures bits { result ≡ bits_of ttl }
     ensures spells { IsSpellableTtl ttl → IsTtl result ttl }

@@ -68,6 +68,8 @@ reads_of old new taken taken' config file held_config held_file err err' outcome
   grew = reads.grew;
   named = reads.named;
   order = reads.order;
+  config_alone = reads.config_alone;
+  both = reads.both;
   fault = fault_says old new config file held_config err err' outcome reads line;
   no_fault = reads.no_fault;
   too_long = too_long_says old new config file held_config held_file taken taken' err err' outcome reads shows line;

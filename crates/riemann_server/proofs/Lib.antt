@@ -3,3 +3,4 @@ pub mod ProgressLaws
 pub mod ReadLaws
 pub mod ReplyLaws
 pub mod Sinks
+pub mod VerdictLaws

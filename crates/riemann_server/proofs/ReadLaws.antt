@@ -8,9 +8,12 @@ use Rattle.riemann_server.specs.declared.outcome.Outcome.{Outcome}
 use Rattle.riemann_server.specs.declared.outcome.Outcome.TheVariants as outcomes
 use Rattle.riemann_server.specs.declared.outcome.Source.{Source}
 use Rattle.riemann_server.specs.declared.outcome.Source.TheVariants as sources
-use Rattle.riemann_server.specs.declared.status.Status.TheVariants.{ReadFault}
+use Rattle.riemann_server.specs.declared.status.Status.TheVariants.{Config, ReadFault}
 use Rattle.riemann_server.proofs.Sinks.{appended_twice}
-use Rattle.riemann_server.specs.Endings.{IsPlain, plain_index, LastFailed, last_name}
+use Rattle.framing.specs.Frames.{frames_of}
+use Rattle.riemann_server.proofs.VerdictLaws.{no_verdicts}
+use Rattle.riemann_server.specs.Endings.{AnswersMessages, IsPlain, plain_index, LastFailed, last_name}
+use Rattle.riemann_server.specs.Verdicts.{PatternsState}
 use Rattle.riemann_server.specs.Outcome.{ExplainsFed, FedReads, FeedReads, Runs, of_source, status_of}
 
 abbrev good : List ℕ → StoreRead
@@ -19,14 +22,14 @@ good name = record { name = name; failed = false }
 abbrev bad : List ℕ → StoreRead
 bad name = record { name = name; failed = true }
 
-pub runs_without_fault : (bytes : List ℕ) (out out' : Option (List ℕ)) (outcome : Outcome) → Runs bytes out out' outcome → status_of outcome ≢ ReadFault
-runs_without_fault bytes out out' outcomes.Done runs e = cc
-runs_without_fault bytes out out' (outcomes.Truncated left) runs e = cc
-runs_without_fault bytes out out' outcomes.SinkFault runs e = cc
-runs_without_fault bytes out out' outcomes.Config runs e = cc
-runs_without_fault bytes out out' (outcomes.ReadFault source) runs e = absurd runs
-runs_without_fault bytes out out' (outcomes.TooLong source) runs e = cc
-runs_without_fault bytes out out' outcomes.Memory runs e = cc
+pub runs_without_fault : (bytes : List ℕ) (patterns patterns' : PatternsState) (out out' : Option (List ℕ)) (outcome : Outcome) → Runs bytes patterns patterns' out out' outcome → status_of outcome ≢ ReadFault
+runs_without_fault bytes patterns patterns' out out' outcomes.Done runs e = cc
+runs_without_fault bytes patterns patterns' out out' (outcomes.Truncated left) runs e = cc
+runs_without_fault bytes patterns patterns' out out' outcomes.SinkFault runs e = cc
+runs_without_fault bytes patterns patterns' out out' outcomes.Config runs e = cc
+runs_without_fault bytes patterns patterns' out out' (outcomes.ReadFault source) runs e = absurd runs
+runs_without_fault bytes patterns patterns' out out' (outcomes.TooLong source) runs e = cc
+runs_without_fault bytes patterns patterns' out out' outcomes.Memory runs e = cc
 
 -- the fed file was read, it could not be read, or there was no memory to read it
 pub fed_read : (old new : Option (List StoreRead)) (file : List ℕ) (outcome : Outcome) → new ≡ option_map (λ reads. reads ++ good file ∷ []) old
@@ -38,6 +41,7 @@ fed_read old new file outcome grew no_fault = record {
   fault = λ e. absurd (no_fault e);
   no_fault = λ _. (refl, tt);
   too_long = λ _. refl;
+  run = λ _. refl;
 }
 
 pub fed_unread : (old new : Option (List StoreRead)) (file : List ℕ) (source : Source) → new ≡ option_map (λ reads. reads ++ bad file ∷ []) old
@@ -49,6 +53,7 @@ fed_unread old new file source grew = record {
   fault = λ _. (refl, refl);
   no_fault = λ other. absurd (other refl);
   too_long = λ _. refl;
+  run = λ ran. absurd ran;
 }
 
 pub fed_not_read : (old new : Option (List StoreRead)) (file : List ℕ) → new ≡ option_map (λ reads. reads ++ []) old → FedReads old new file outcomes.Memory
@@ -59,6 +64,7 @@ fed_not_read old new file grew = record {
   fault = λ e. absurd (cc e);
   no_fault = λ _. tt;
   too_long = λ e. absurd (cc e);
+  run = λ ran. absurd ran;
 }
 
 -- the same of the configuration, where the fed file was not come to
@@ -69,6 +75,8 @@ config_refused old new config file content grew = record {
   grew = grew;
   named = refl;
   order = λ two. absurd (omega arith);
+  config_alone = λ _. refl;
+  both = λ ran. absurd ran;
   fault = λ source e. absurd (cc e);
   no_fault = λ _. (refl, tt);
   too_long = λ source e. absurd (cc e);
@@ -81,6 +89,8 @@ config_too_long old new config file content grew = record {
   grew = grew;
   named = refl;
   order = λ two. absurd (omega arith);
+  config_alone = λ _. refl;
+  both = λ ran. absurd ran;
   fault = λ source e. absurd (cc e);
   no_fault = λ _. (refl, tt);
   too_long = λ source e. let same : sources.Config ≡ source = cc in ap (of_source 1 2) same;
@@ -93,6 +103,8 @@ config_unread old new config file content grew = record {
   grew = grew;
   named = refl;
   order = λ two. absurd (omega arith);
+  config_alone = λ _. refl;
+  both = λ ran. absurd ran;
   fault = λ source e. let same : sources.Config ≡ source = cc in (refl, ap (of_source config file) same);
   no_fault = λ other. absurd (other refl);
   too_long = λ source e. absurd (cc e);
@@ -105,6 +117,8 @@ config_not_read old new config file content grew = record {
   grew = grew;
   named = refl;
   order = λ two. absurd (omega arith);
+  config_alone = λ e. absurd (cc e);
+  both = λ ran. absurd ran;
   fault = λ source e. absurd (cc e);
   no_fault = λ _. tt;
   too_long = λ source e. absurd (cc e);
@@ -127,6 +141,15 @@ too_long_source content taken taken' outcome source explains e = (subst (Explain
 pub plain_held : (content : Content) (text : List ℕ) → ForSome content (λ held. held ≡ Some text) → text ≡ plain_index → IsPlain content
 plain_held content text tells plain = λ held told. (text, tells held told, plain)
 
+not_refused : (content : Content) (taken taken' : ℕ) (outcome : Outcome) → ExplainsFed content taken taken' outcome → status_of outcome ≡ Config → ⊥
+not_refused content taken taken' outcomes.Done explains e = cc
+not_refused content taken taken' outcomes.Config explains e = explains
+not_refused content taken taken' (outcomes.ReadFault source) explains e = cc
+not_refused content taken taken' (outcomes.TooLong source) explains e = cc
+not_refused content taken taken' (outcomes.Truncated left) explains e = cc
+not_refused content taken taken' outcomes.SinkFault explains e = cc
+not_refused content taken taken' outcomes.Memory explains e = cc
+
 -- the configuration was accepted, and then the fed file was come to
 pub both_read : (old mid new : Option (List StoreRead)) (config file : List ℕ) (held_config held_file : Content) (taken taken' : ℕ) (outcome : Outcome)
     → mid ≡ option_map (λ reads. reads ++ good config ∷ []) old → IsPlain held_config → ExplainsFed held_file taken taken' outcome
@@ -136,9 +159,15 @@ both_read old mid new config file held_config held_file taken taken' outcome fir
   grew = fed.grew ∙ (rw first (appended_twice old (good config ∷ []) fed.made));
   named = ap (λ names. config ∷ names) fed.named;
   order = λ _. plain;
+  config_alone = λ e. absurd (not_refused held_file taken taken' outcome explains e);
+  both = λ ran. ap suc (fed.run ran);
   fault = λ source e.
       let failed = fed.fault (ap status_of e) in
       (last_failed_after config fed.made failed.0, last_name_after config fed.made failed.0 ∙ (failed.1 ∙ sym (ap (of_source config file) (unread_source held_file taken taken' outcome source explains e))));
   no_fault = λ other. (refl, fed.no_fault other);
   too_long = λ source e. ap suc (fed.too_long (ap status_of e)) ∙ sym (ap (of_source 1 2) (too_long_source held_file taken taken' outcome source explains e));
 }
+
+-- memory was wanted before any message was come to
+pub nothing_answered : (bytes : List ℕ) (patterns : PatternsState) → (unanswered : List (List ℕ)) × AnswersMessages bytes unanswered patterns patterns (λ _. Unit {0})
+nothing_answered bytes patterns = (frames_of bytes, record { messages = []; are_framed = refl; verdicts = no_verdicts patterns; wrote = tt })

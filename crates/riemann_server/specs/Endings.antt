@@ -3,7 +3,7 @@ use Rattle.std.specs.Prelude.{◌≡◌, ◌≢◌, ℕ, ◌+◌, ◌≤◌, ◌
 use Rattle.std.specs.Option.{ForSome, option_map}
 use Rattle.framing.specs.Frames.{frames_of, partial}
 use Rattle.ports.specs.Counts.{RoseBy}
-use Rattle.ports.specs.Reading.{Content, IsOverLimit}
+use Rattle.ports.specs.Reading.{Content, IsHeld, IsOverLimit}
 use Rattle.ports.specs.Writing.{Got, GotFront, GotLine, SinkState}
 use Rattle.ports.specs.declared.store.StoreRead.{StoreRead}
 use Rattle.riemann_server.specs.declared.server.TheConstants.{CONFIG_LIMIT, FILE_LIMIT}
@@ -11,6 +11,7 @@ use Rattle.riemann_server.specs.declared.status.Status.{Status}
 use Rattle.riemann_server.specs.declared.status.Status.TheVariants.{Done, Usage, Config, ReadFault, SinkFault, Memory, Truncated, TooLong}
 use Rattle.riemann_server.specs.Lines.{config_line, unread_line, too_long_line, left_line, memory_line}
 use Rattle.riemann_server.specs.Replies.{replies_to}
+use Rattle.riemann_server.specs.Verdicts.{AfterVerdicts, Judged, PatternsState, body_of}
 
 -- the number of each status
 abbrev pub code_of : Status → ℕ
@@ -72,6 +73,39 @@ pub record IsTooLong (name : List ℕ) (limit : ℕ) (content : Content) (taken 
   pub taken_more : RoseBy (limit + 1) taken taken'
   pub says : GotLine err (too_long_line name limit) err'
 
+-- the statuses of a run over the file that did not want for memory
+abbrev pub HasRun : Status → Type 0
+HasRun Done = Unit {0}
+HasRun Truncated = Unit {0}
+HasRun SinkFault = Unit {0}
+HasRun Memory = ⊥
+HasRun Usage = ⊥
+HasRun Config = ⊥
+HasRun ReadFault = ⊥
+HasRun TooLong = ⊥
+
+-- those of one that wrote all that it had to
+abbrev pub HasEnded : Status → Type 0
+HasEnded Done = Unit {0}
+HasEnded Truncated = Unit {0}
+HasEnded SinkFault = ⊥
+HasEnded Memory = ⊥
+HasEnded Usage = ⊥
+HasEnded Config = ⊥
+HasEnded ReadFault = ⊥
+HasEnded TooLong = ⊥
+
+-- the statuses at which the file's messages were not come to
+abbrev pub HasNotRun : Status → Type 0
+HasNotRun Usage = Unit {0}
+HasNotRun Config = Unit {0}
+HasNotRun ReadFault = Unit {0}
+HasNotRun TooLong = Unit {0}
+HasNotRun Memory = ⊥
+HasNotRun Done = ⊥
+HasNotRun Truncated = ⊥
+HasNotRun SinkFault = ⊥
+
 -- What a call read, and what that says of its status: the reads are of the first of the two names, in order, and of
 -- the second only once the configuration was accepted. The last one failed exactly where the status says so, and the
 -- line on the error stream names the file of that read, as it names the file that is too long.
@@ -81,22 +115,33 @@ pub record Reads (old new : Option (List StoreRead)) (taken taken' : ℕ) (confi
   pub grew : new ≡ option_map (λ reads. reads ++ made) old
   pub named : map read_name made ≡ take (length made) (config ∷ (file ∷ []))
   pub order : 2 ≤ length made → IsPlain held_config
+  pub config_alone : status ≡ Config → length made ≡ 1
+  pub both : HasRun status → length made ≡ 2
   pub fault : status ≡ ReadFault → LastFailed made × GotLine err (unread_line (last_name made)) err'
   pub no_fault : status ≢ ReadFault → NoneFailed made
   pub too_long : status ≡ TooLong
       → ((length made ≡ 1) × IsTooLong config CONFIG_LIMIT held_config taken taken' err err')
       ⊎ ((length made ≡ 2) × IsTooLong file FILE_LIMIT held_file taken taken' err err')
 
--- What was written of the replies: all of them where the run went to its end, and a front where it did not.
-abbrev pub Answers : Content → Status → Option (List ℕ) → Option (List ℕ) → Type 0
-Answers file Done out out' = ForHeld file (λ bytes. Got out (replies_to (frames_of bytes)) out')
-Answers file Truncated out out' = ForHeld file (λ bytes. Got out (replies_to (frames_of bytes)) out')
-Answers file SinkFault out out' = ForHeld file (λ bytes. GotFront out (replies_to (frames_of bytes)) out')
-Answers file Memory out out' = Unit {0}
-Answers file Usage out out' = Unit {0}
-Answers file Config out out' = Unit {0}
-Answers file ReadFault out out' = Unit {0}
-Answers file TooLong out out' = Unit {0}
+-- The messages in the bytes, up to these, each with the verdict on the patterns of its query, and what was written of
+-- the replies to them.
+pub record AnswersMessages (bytes : List ℕ) (unanswered : List (List ℕ)) (patterns patterns' : PatternsState) (Wrote : List ℕ → Type 0) : Type 0 where
+  pub messages : List Judged
+  pub are_framed : map body_of messages ++ unanswered ≡ frames_of bytes
+  pub verdicts : AfterVerdicts patterns patterns' messages
+  pub wrote : Wrote (replies_to messages)
+
+-- All messages were answered, and all replies written where the run went to its end, or a front where it did not. What
+-- was said of patterns is told also where memory was wanted.
+abbrev pub Answers : Content → Status → PatternsState → PatternsState → Option (List ℕ) → Option (List ℕ) → Type 0
+Answers file Done patterns patterns' out out' = ForHeld file (λ bytes. AnswersMessages bytes [] patterns patterns' (λ replies. Got out replies out'))
+Answers file Truncated patterns patterns' out out' = ForHeld file (λ bytes. AnswersMessages bytes [] patterns patterns' (λ replies. Got out replies out'))
+Answers file SinkFault patterns patterns' out out' = ForHeld file (λ bytes. AnswersMessages bytes [] patterns patterns' (λ replies. GotFront out replies out'))
+Answers file Memory patterns patterns' out out' = (bytes : List ℕ) → IsHeld file bytes → (unanswered : List (List ℕ)) × AnswersMessages bytes unanswered patterns patterns' (λ _. Unit {0})
+Answers file Usage patterns patterns' out out' = Unit {0}
+Answers file Config patterns patterns' out out' = Unit {0}
+Answers file ReadFault patterns patterns' out out' = Unit {0}
+Answers file TooLong patterns patterns' out out' = Unit {0}
 
 -- the statuses at which no reply was written
 abbrev pub HasNoReply : Status → Type 0

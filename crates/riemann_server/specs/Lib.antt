@@ -1,4 +1,6 @@
 pub mod Words
+pub mod Bodies
+pub mod Verdicts
 pub mod Replies
 pub mod Lines
 pub mod Endings

@@ -1,7 +1,7 @@
 -- What an outcome of `feed` says, from which status and line follow.
 use Rattle.std.specs.Prelude.{◌≡◌, ◌≢◌, ℕ, ◌+◌, ◌≤◌, List, [], ◌∷◌, ◌++◌, length, take, map, Option}
 use Rattle.std.specs.Option.{option_map}
-use Rattle.framing.specs.Frames.{frames_of, partial}
+use Rattle.framing.specs.Frames.{partial}
 use Rattle.ports.specs.Counts.{RoseBy}
 use Rattle.ports.specs.Reading.{Content, IsOverLimit}
 use Rattle.ports.specs.Writing.{Got, GotFront}
@@ -14,8 +14,8 @@ use Rattle.riemann_server.specs.declared.outcome.Source.TheVariants as sources
 use Rattle.riemann_server.specs.declared.status.Status.{Status}
 use Rattle.riemann_server.specs.declared.status.Status.TheVariants.{Done, Config, ReadFault, SinkFault, Memory, Truncated, TooLong}
 use Rattle.riemann_server.specs.Lines.{config_line, unread_line, too_long_line, left_line, memory_line}
-use Rattle.riemann_server.specs.Endings.{ForHeld, IsPlain, LastFailed, NoneFailed, read_name, last_name}
-use Rattle.riemann_server.specs.Replies.{replies_to}
+use Rattle.riemann_server.specs.Endings.{AnswersMessages, ForHeld, HasRun, IsPlain, LastFailed, NoneFailed, read_name, last_name}
+use Rattle.riemann_server.specs.Verdicts.{PatternsState}
 
 abbrev pub status_of : Outcome → Status
 status_of outcomes.Done = Done
@@ -57,6 +57,8 @@ pub record FeedReads (old new : Option (List StoreRead)) (config file : List ℕ
   pub grew : new ≡ option_map (λ reads. reads ++ made) old
   pub named : map read_name made ≡ take (length made) (config ∷ (file ∷ []))
   pub order : 2 ≤ length made → IsPlain held_config
+  pub config_alone : status_of outcome ≡ Config → length made ≡ 1
+  pub both : HasRun (status_of outcome) → length made ≡ 2
   pub fault : (source : Source) → outcome ≡ outcomes.ReadFault source → LastFailed made × (last_name made ≡ of_source config file source)
   pub no_fault : status_of outcome ≢ ReadFault → NoneFailed made
   pub too_long : (source : Source) → outcome ≡ outcomes.TooLong source → length made ≡ of_source 1 2 source
@@ -79,6 +81,7 @@ pub record FedReads (old new : Option (List StoreRead)) (file : List ℕ) (outco
   pub fault : status_of outcome ≡ ReadFault → LastFailed made × (last_name made ≡ file)
   pub no_fault : status_of outcome ≢ ReadFault → NoneFailed made
   pub too_long : status_of outcome ≡ TooLong → length made ≡ 1
+  pub run : HasRun (status_of outcome) → length made ≡ 1
 
 -- what was written of the replies, and how a run ended that left this many bytes
 abbrev pub Puts : List ℕ → ℕ → Option (List ℕ) → Option (List ℕ) → Outcome → Type 0
@@ -90,12 +93,12 @@ Puts replies left out out' (outcomes.ReadFault source) = ⊥
 Puts replies left out out' (outcomes.TooLong source) = ⊥
 Puts replies left out out' outcomes.Memory = ⊥
 
--- what was written, and how a run over these bytes ended
-abbrev pub Runs : List ℕ → Option (List ℕ) → Option (List ℕ) → Outcome → Type 0
-Runs bytes out out' outcomes.Done = Got out (replies_to (frames_of bytes)) out' × (partial bytes ≡ [])
-Runs bytes out out' (outcomes.Truncated count) = Got out (replies_to (frames_of bytes)) out' × (partial bytes ≢ []) × (count ≡ length (partial bytes))
-Runs bytes out out' outcomes.SinkFault = GotFront out (replies_to (frames_of bytes)) out'
-Runs bytes out out' outcomes.Memory = Unit {0}
-Runs bytes out out' outcomes.Config = ⊥
-Runs bytes out out' (outcomes.ReadFault source) = ⊥
-Runs bytes out out' (outcomes.TooLong source) = ⊥
+-- what was written, what was said of patterns, and how a run over these bytes ended
+abbrev pub Runs : List ℕ → PatternsState → PatternsState → Option (List ℕ) → Option (List ℕ) → Outcome → Type 0
+Runs bytes patterns patterns' out out' outcomes.Done = AnswersMessages bytes [] patterns patterns' (λ replies. Got out replies out') × (partial bytes ≡ [])
+Runs bytes patterns patterns' out out' (outcomes.Truncated count) = AnswersMessages bytes [] patterns patterns' (λ replies. Got out replies out') × (partial bytes ≢ []) × (count ≡ length (partial bytes))
+Runs bytes patterns patterns' out out' outcomes.SinkFault = AnswersMessages bytes [] patterns patterns' (λ replies. GotFront out replies out')
+Runs bytes patterns patterns' out out' outcomes.Memory = (unanswered : List (List ℕ)) × AnswersMessages bytes unanswered patterns patterns' (λ _. Unit {0})
+Runs bytes patterns patterns' out out' outcomes.Config = ⊥
+Runs bytes patterns patterns' out out' (outcomes.ReadFault source) = ⊥
+Runs bytes patterns patterns' out out' (outcomes.TooLong source) = ⊥

@@ -1,6 +1,5 @@
 -- What each message is answered. A reply is a message too, in a frame of its own.
-use Rattle.std.specs.Prelude.{ℕ, true, false, nat_le, if◌then◌else◌, List, [], ◌∷◌, ◌++◌, length, map, codes, Option, Some, None, Result, Ok, Err}
-use Rattle.std.specs.List.{flat_map}
+use Rattle.std.specs.Prelude.{ℕ, true, false, nat_le, if◌then◌else◌, List, [], ◌∷◌, ◌++◌, filter, length, codes, Option, Some, None, Result, Ok, Err}
 use Rattle.std.specs.Fmt.{decimal}
 use Rattle.ev_types.specs.declared.event.Event.{Event}
 use Rattle.framing.specs.declared.TheConstants.{BODY_LIMIT}
@@ -9,10 +8,16 @@ use Rattle.riemann_msg.specs.declared.msg.Msg.{Msg}
 use Rattle.riemann_msg.specs.declared.msg.QueryPart.{QueryPart}
 use Rattle.riemann_msg.specs.declared.fault.MsgWhy.{MsgWhy}
 use Rattle.riemann_msg.specs.declared.fault.MsgWhy.TheVariants.{Short, Varint, Tag, Wire, Utf8, Key, Ttl}
-use Rattle.riemann_msg.specs.Fault.{Fault, first_fault}
-use Rattle.riemann_msg.specs.Value.{message_of}
+use Rattle.riemann_msg.specs.Fault.{Fault}
 use Rattle.riemann_msg.specs.Spelling.{spelling}
-use Rattle.index_log.specs.Live.{IndexLog, Write, live_events, is_text}
+use Rattle.index_log.specs.Live.{IndexLog, live_events}
+use Rattle.pred_eval.specs.Tree.{Tree}
+use Rattle.pred_eval.specs.Truth.{holds}
+use Rattle.query_lang.specs.declared.fault.QueryFault.{QueryFault}
+use Rattle.query_lang.specs.declared.fault.QueryFault.TheVariants.{TooLong, Refused as QueryRefused, TooDeep, Memory as NoMemory}
+use Rattle.query_lang.specs.Answer.{query_of}
+use Rattle.riemann_server.specs.Bodies.{log_of, query_text, reading_of}
+use Rattle.riemann_server.specs.Verdicts.{Judged, Refusal}
 
 -- the message was accepted, or refused for this reason, or asked for these events
 abbrev pub accepted : Msg
@@ -36,11 +41,6 @@ over_limit size = codes "reply of " ++ (decimal size ++ codes " bytes over 41943
 unfoldable pub limited : Msg → Msg
 limited msg = if nat_le (length (spelling msg)) BODY_LIMIT then msg else refused (over_limit (length (spelling msg)))
 
--- the answer to a message's query, from what the index holds after a log
-abbrev pub answer_to_query : IndexLog → Option QueryPart → Msg
-answer_to_query log None = accepted
-answer_to_query log (Some query) = if is_text (codes "true") query.string then limited (found (live_events log)) else refused (codes "query not built yet")
-
 -- the name of a cause
 abbrev pub why_text : MsgWhy → List ℕ
 why_text Short = codes "short"
@@ -52,38 +52,45 @@ why_text Key = codes "key"
 why_text Ttl = codes "ttl"
 
 -- the reason for which a message is refused for a fault
-unfoldable pub refusal : ℕ → MsgWhy → List ℕ
-refusal place why = codes "message refused at " ++ (decimal place ++ (codes ": " ++ why_text why))
+unfoldable pub message_refusal : ℕ → MsgWhy → List ℕ
+message_refusal place why = codes "message refused at " ++ (decimal place ++ (codes ": " ++ why_text why))
 
--- what a body is: its message, or the fault for which it is refused. Without a clock events have the time 0.
-abbrev pub read_as : Option Fault → Msg → Result Msg Fault
-read_as None msg = Ok msg
-read_as (Some fault) msg = Err fault
+-- the reason for which a query is refused; want of memory is no answer
+unfoldable pub query_refusal : QueryFault → List ℕ
+query_refusal (TooLong size) = codes "query of " ++ (decimal size ++ codes " bytes over 4096")
+query_refusal (QueryRefused place) = codes "query refused at " ++ decimal place
+query_refusal (TooDeep place) = codes "query too deep at " ++ decimal place
+query_refusal NoMemory = []
 
-unfoldable pub reading_of : List ℕ → Result Msg Fault
-reading_of body = read_as (first_fault body) (message_of 0 body)
+-- the reason for which a query with this pattern is refused
+unfoldable pub pattern_refusal : ℕ → List ℕ
+pattern_refusal number = codes "query pattern " ++ (decimal number ++ codes " refused")
 
--- the answer to a body, from what the index holds after a log
-abbrev pub answer_to : IndexLog → Result Msg Fault → Msg
-answer_to log (Ok msg) = answer_to_query log msg.query
-answer_to log (Err fault) = refused (refusal fault.place fault.why)
+-- the answer to a rule, from what the index holds after a log: what meets it, unless a pattern of it was refused
+abbrev pub answer_to_rule : IndexLog → Option Refusal → Tree → Msg
+answer_to_rule log None rule = limited (found (filter (holds rule) (live_events log)))
+answer_to_rule log (Some refusal) rule = refused (pattern_refusal refusal.number)
 
-unfoldable pub reply_to : IndexLog → List ℕ → List ℕ
-reply_to log body = framed (answer_to log (reading_of body))
+abbrev pub answer_to_text : IndexLog → Option Refusal → Result Tree QueryFault → Msg
+answer_to_text log refusal (Ok rule) = answer_to_rule log refusal rule
+answer_to_text log refusal (Err fault) = refused (query_refusal fault)
 
--- the events that count, of which a message that is refused has none
-abbrev pub events_of : Result Msg Fault → List Event
-events_of (Ok msg) = msg.events
-events_of (Err fault) = []
+abbrev pub answer_to_query : IndexLog → Option Refusal → Option QueryPart → Msg
+answer_to_query log refusal None = accepted
+answer_to_query log refusal (Some query) = answer_to_text log refusal (query_of (query_text query))
 
--- the writes of the events of bodies, in order
-unfoldable pub log_of : List (List ℕ) → IndexLog
-log_of bodies = flat_map (λ body. map Write (events_of (reading_of body))) bodies
+abbrev pub answer_to : IndexLog → Option Refusal → Result Msg Fault → Msg
+answer_to log refusal (Ok msg) = answer_to_query log refusal msg.query
+answer_to log refusal (Err fault) = refused (message_refusal fault.place fault.why)
 
--- The replies to bodies that come after others: each is from what the index holds after all bodies up to its own.
-abbrev pub replies_after : List (List ℕ) → List (List ℕ) → List ℕ
+unfoldable pub reply_to : IndexLog → Judged → List ℕ
+reply_to log judged = framed (answer_to log judged.refusal (reading_of judged.body))
+
+-- The replies to messages that come after others: each is from what the index holds after all bodies up to its own.
+abbrev pub replies_after : List (List ℕ) → List Judged → List ℕ
 replies_after before [] = []
-replies_after before (body ∷ bodies) = reply_to (log_of (before ++ body ∷ [])) body ++ replies_after (before ++ body ∷ []) bodies
+replies_after before (judged ∷ messages) =
+    reply_to (log_of (before ++ judged.body ∷ [])) judged ++ replies_after (before ++ judged.body ∷ []) messages
 
-abbrev pub replies_to : List (List ℕ) → List ℕ
-replies_to bodies = replies_after [] bodies
+abbrev pub replies_to : List Judged → List ℕ
+replies_to messages = replies_after [] messages

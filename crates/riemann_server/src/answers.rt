@@ -1,9 +1,10 @@
-ghost use Rattle.std.specs.Prelude.{◌≡◌, ◌<◌, ◌^◌, ℕ, ◌+◌, List, [], ◌++◌, ◌∷◌, length, OnOk, IfOk};
+ghost use Rattle.std.specs.Prelude.{◌≡◌, ◌<◌, ◌^◌, ℕ, ◌+◌, List, [], ◌++◌, ◌∷◌, length, OnErr, IfOk};
 
 use crate::replies::answer;
 use ev_types::{Blob, Memory};
 use frame_link::{FrameLink, Taken};
 use live_index::LiveIndex;
+use pred_eval::Patterns;
 use std::alloc::Global;
 
 /// The replies so far to the messages of a stream, with the index that they are from and the bytes that are no
@@ -25,11 +26,12 @@ pub(crate) enum Next {
 }
 
 impl Answers {
-    ghost use Rattle.riemann_server.specs.Progress.{IsSettled, Reaches, RepresentsStream};
+    ghost use Rattle.riemann_server.specs.Progress.{Fails, IsSettled, Reaches, RepresentsStream};
+    ghost use Rattle.riemann_server.specs.Verdicts.{PatternsState, patterns_state};
 
     /// No replies yet, and nothing in the index.
     pub(crate) fn fresh(alloc: Global) -> Answers
-        ensures { IsSettled result [] }
+        ensures { (start : PatternsState) → IsSettled result start start [] }
     {
         Answers {
             link: FrameLink::fresh(alloc),
@@ -39,17 +41,35 @@ impl Answers {
     }
 
     /// Takes in the bytes that came next, and answers the frames that are whole now.
-    pub(crate) fn hear(&mut self, alloc: Global, piece: &[u8]) -> Result<Next, Memory>
-        ensures { IfOk result (λ next. (came : List ℕ) → IsSettled self.old came
-            → Reaches self.new (came ++ piece.now) next) }
+    pub(crate) fn hear<P: Patterns>(
+        &mut self,
+        alloc: Global,
+        piece: &[u8],
+        patterns: &mut P,
+    ) -> Result<Next, Memory>
+        ensures ok { IfOk result (λ next. (start : PatternsState) (came : List ℕ)
+            → IsSettled self.old start (patterns_state (P.refusals patterns.old) (P.refused patterns.old)) came
+            → Reaches self.new start (patterns_state (P.refusals patterns.new) (P.refused patterns.new)) (came ++ piece.now) next) }
+        ensures err { OnErr result ((start : PatternsState) (came : List ℕ)
+            → IsSettled self.old start (patterns_state (P.refusals patterns.old) (P.refused patterns.old)) came
+            → Fails start (patterns_state (P.refusals patterns.new) (P.refused patterns.new)) (came ++ piece.now)) }
     {
         self.link.push(alloc, piece)?;
-        let next = self.answer_frames(alloc)?;
+        let next = self.answer_frames(alloc, patterns)?;
         Ok(next)
     }
 
-    fn answer_frames(&mut self, alloc: Global) -> Result<Next, Memory>
-        ensures { IfOk result (λ next. (came : List ℕ) → RepresentsStream self.old came → Reaches self.new came next) }
+    fn answer_frames<P: Patterns>(
+        &mut self,
+        alloc: Global,
+        patterns: &mut P,
+    ) -> Result<Next, Memory>
+        ensures ok { IfOk result (λ next. (start : PatternsState) (came : List ℕ)
+            → RepresentsStream self.old start (patterns_state (P.refusals patterns.old) (P.refused patterns.old)) came
+            → Reaches self.new start (patterns_state (P.refusals patterns.new) (P.refused patterns.new)) came next) }
+        ensures err { OnErr result ((start : PatternsState) (came : List ℕ)
+            → RepresentsStream self.old start (patterns_state (P.refusals patterns.old) (P.refused patterns.old)) came
+            → Fails start (patterns_state (P.refusals patterns.new) (P.refused patterns.new)) came) }
     {
         'frames: loop {
             match self.link.take(alloc) {
@@ -57,6 +77,7 @@ impl Answers {
                     alloc,
                     body.as_slice(),
                     &mut self.index,
+                    patterns,
                     &mut self.replies,
                 )?,
                 Taken::NotYet => return Ok(Next::Waits),

@@ -6,6 +6,7 @@ mod feed;
 mod lines;
 mod outcome;
 mod program;
+mod queries;
 mod replies;
 mod run;
 mod server;
@@ -14,6 +15,7 @@ mod status;
 mod tests;
 
 use ports::{FileStore, StreamSink};
+use pred_eval::RegexPatterns;
 pub use server::{CONFIG_LIMIT, FILE_LIMIT, riemann};
 pub use status::Status;
 use std::process::ExitCode;
@@ -22,7 +24,15 @@ fn main(rt: HostRuntime) -> ExitCode {
     let mut store = FileStore::fresh(&rt);
     let mut out = StreamSink::fresh(rt.stdout());
     let mut err = StreamSink::fresh(rt.stderr());
+    let mut patterns = RegexPatterns { refusals: 0 };
     let words = program::words(&rt);
-    let status = program::run(rt.alloc(), words, &mut store, &mut out, &mut err);
+    let status = program::run(
+        rt.alloc(),
+        words,
+        &mut store,
+        &mut out,
+        &mut err,
+        &mut patterns,
+    );
     ExitCode::from(status.code())
 }

@@ -7,6 +7,7 @@ use crate::lines::{MEMORY_LINE, put_line};
 use crate::server::{USAGE, riemann};
 use ev_types::Text;
 use ports::{Sink, Store};
+use pred_eval::Patterns;
 use std::alloc::Global;
 use std::rt::Env;
 use std::{env, io};
@@ -51,18 +52,19 @@ fn fault_of(error: io::Error) -> WordsFault {
 }
 
 /// Answers `--help` and `--version`, and carries out any other command.
-pub(crate) fn run<S: Store, O: Sink, E: Sink>(
+pub(crate) fn run<S: Store, O: Sink, E: Sink, P: Patterns>(
     alloc: Global,
     words: Result<Vec<Text>, WordsFault>,
     store: &mut S,
     out: &mut O,
     err: &mut E,
+    patterns: &mut P,
 ) -> Status {
     match words {
         Ok(words) => match words.as_slice() {
             [word] if word.is(b"--help") => put_text(out, HELP),
             [word] if word.is(b"--version") => put_text(out, VERSION),
-            words => riemann(alloc, words, store, out, err),
+            words => riemann(alloc, words, store, out, err, patterns),
         },
         Err(WordsFault::NoText) => {
             put_line(err, &[USAGE]);

@@ -1,59 +1,45 @@
-ghost use Rattle.std.specs.Prelude.{◌≡◌, ℕ, ◌^◌, ◌<◌, List, ◌++◌, ◌∷◌, [], length, map, OnOk, IfOk, codes, Some, None};
+ghost use Rattle.std.specs.Prelude.{◌≡◌, ℕ, ◌^◌, ◌<◌, ◌++◌, ◌∷◌, [], length, map, OnOk, IfOk, codes, Some, None};
 ghost use Rattle.std.specs.String.{string_bytes};
-ghost use Rattle.index_log.specs.Live.{IndexLog, Write, is_text, live_events};
+ghost use Rattle.index_log.specs.Live.{IndexLog, Write};
+ghost use Rattle.live_index.specs.Index.{Represents};
 ghost use Rattle.riemann_msg.specs.Spelling.{spelling};
-ghost use Rattle.riemann_server.specs.Replies.{accepted, answer_to_query, found, framed, limited, over_limit, refusal, refused, why_text};
-ghost use Rattle.riemann_server.specs.Progress.{After};
+ghost use Rattle.riemann_server.specs.Progress.{AnswersMessage};
+ghost use Rattle.riemann_server.specs.Replies.{accepted, framed, message_refusal, refused, why_text};
+ghost use Rattle.riemann_server.specs.Verdicts.{patterns_state};
 
+use crate::queries::answer_query;
 use ev_types::{Blob, Events, Memory, Text};
-use framing::BODY_LIMIT;
 use live_index::LiveIndex;
-use riemann_msg::{Msg, MsgFault, MsgWhy, QueryPart, msg_len, read_msg, write_msg};
+use pred_eval::Patterns;
+use riemann_msg::{Msg, MsgFault, MsgWhy, msg_len, read_msg, write_msg};
 use std::alloc::{AllocError, Global};
 
 /// Enters the events of a message, and appends the reply to it.
-
-pub(crate) fn answer(
+pub(crate) fn answer<P: Patterns>(
     alloc: Global,
     body: &[u8],
     index: &mut LiveIndex,
+    patterns: &mut P,
     replies: &mut Blob,
 ) -> Result<(), Memory>
-    ensures { OnOk result ((handed : List (List ℕ)) → After index.old replies.old handed
-        → After index.new replies.new (handed ++ body.now ∷ [])) }
+    ensures { AnswersMessage body.now index.old index.new
+        (patterns_state (P.refusals patterns.old) (P.refused patterns.old)) (patterns_state (P.refusals patterns.new) (P.refused patterns.new))
+        replies.old replies.new result }
 {
     match read_msg(alloc, body, 0) {
-        Ok(msg) => answer_msg(alloc, msg, index, replies)?,
+        Ok(msg) => {
+            enter(alloc, msg.events, index)?;
+            answer_query(alloc, &msg.query, index, patterns, replies)?;
+        }
         Err(MsgFault::Refused { place, why }) => refuse_msg(alloc, place, why, replies)?,
         Err(MsgFault::Memory) => return Err(Memory),
     }
     Ok(())
 }
 
-fn answer_msg(
-    alloc: Global,
-    msg: Msg,
-    index: &mut LiveIndex,
-    replies: &mut Blob,
-) -> Result<(), Memory>
-    ensures { OnOk result ((log : IndexLog) → index.old ≡ live_events log
-        → (index.new ≡ live_events (log ++ map Write msg.events))
-        × (replies.new ≡ replies.old ++ framed (answer_to_query (log ++ map Write msg.events) msg.query))) }
-{
-    let Msg {
-        ok: _,
-        error: _,
-        query,
-        events,
-    } = msg;
-    enter(alloc, events, index)?;
-    answer_query(alloc, &query, index, replies)?;
-    Ok(())
-}
-
 /// Writes the events into the index, in order.
 fn enter(alloc: Global, events: Events, index: &mut LiveIndex) -> Result<(), Memory>
-    ensures { OnOk result ((log : IndexLog) → index.old ≡ live_events log → index.new ≡ live_events (log ++ map Write events)) }
+    ensures { OnOk result ((log : IndexLog) → Represents index.old log → Represents index.new (log ++ map Write events)) }
 {
     for event in events.into_vec() {
         index.write(alloc, event)?;
@@ -61,63 +47,9 @@ fn enter(alloc: Global, events: Events, index: &mut LiveIndex) -> Result<(), Mem
     Ok(())
 }
 
-fn answer_query(
-    alloc: Global,
-    query: &Option<QueryPart>,
-    index: &LiveIndex,
-    replies: &mut Blob,
-) -> Result<(), Memory>
-    ensures { OnOk result ((log : IndexLog) → index.now ≡ live_events log
-        → replies.new ≡ replies.old ++ framed (answer_to_query log query.now)) }
-{
-    match query {
-        Some(query) if asks_for_all(query) => put_found(alloc, index, replies),
-        Some(_) => refuse(alloc, "query not built yet", replies),
-        None => accept(alloc, replies),
-    }
-}
-
-fn asks_for_all(query: &QueryPart) -> bool
-    ensures { result ≡ is_text (codes "true") query.now.string }
-{
-    match &query.string {
-        Some(string) => string.is(b"true"),
-        None => false,
-    }
-}
-
-/// Appends a reply with all events of the index.
-#[tactic(auto, using(crate::proofs::ReplyLaws::limited_within, crate::proofs::ReplyLaws::limited_over, crate::proofs::ReplyLaws::over_limit_length))]
-fn put_found(alloc: Global, index: &LiveIndex, replies: &mut Blob) -> Result<(), Memory>
-    ensures { OnOk result (replies.new ≡ replies.old ++ framed (limited (found index.now))) }
-{
-    let mut events = Events::fresh(alloc);
-    index.copy_all(alloc, &mut events)?;
-    let msg = Msg {
-        ok: Some(true),
-        error: None,
-        query: None,
-        events,
-    };
-    let size = msg_len(&msg)?;
-    if size <= BODY_LIMIT as usize {
-        put_frame(alloc, &msg, size, replies)
-    } else {
-        let reason = over_limit(alloc, size)?;
-        refuse(alloc, reason.as_str(), replies)
-    }
-}
-
-#[tactic(auto, unfolding(crate::specs::Replies::over_limit))]
-fn over_limit(alloc: Global, size: usize) -> Result<String, AllocError>
-    ensures { IfOk result (λ reason. string_bytes reason ≡ over_limit size) }
-{
-    format!(in alloc; "reply of {size} bytes over 4194304")
-}
-
 /// Appends a reply that the message was accepted.
 #[tactic(auto, using(crate::proofs::ReplyLaws::accepted_length))]
-fn accept(alloc: Global, replies: &mut Blob) -> Result<(), Memory>
+pub(crate) fn accept(alloc: Global, replies: &mut Blob) -> Result<(), Memory>
     ensures { OnOk result (replies.new ≡ replies.old ++ framed accepted) }
 {
     let msg = Msg {
@@ -132,15 +64,15 @@ fn accept(alloc: Global, replies: &mut Blob) -> Result<(), Memory>
 /// Appends a reply that the message was refused at a place.
 #[tactic(auto, using(crate::proofs::ReplyLaws::refusal_length))]
 fn refuse_msg(alloc: Global, place: usize, why: MsgWhy, replies: &mut Blob) -> Result<(), Memory>
-    ensures { OnOk result (replies.new ≡ replies.old ++ framed (refused (refusal place why))) }
+    ensures { OnOk result (replies.new ≡ replies.old ++ framed (refused (message_refusal place why))) }
 {
-    let reason = refusal(alloc, place, why)?;
+    let reason = message_refusal(alloc, place, why)?;
     refuse(alloc, reason.as_str(), replies)
 }
 
-#[tactic(auto, unfolding(crate::specs::Replies::refusal))]
-fn refusal(alloc: Global, place: usize, why: MsgWhy) -> Result<String, AllocError>
-    ensures { IfOk result (λ reason. string_bytes reason ≡ refusal place why) }
+#[tactic(auto, unfolding(crate::specs::Replies::message_refusal))]
+fn message_refusal(alloc: Global, place: usize, why: MsgWhy) -> Result<String, AllocError>
+    ensures { IfOk result (λ reason. string_bytes reason ≡ message_refusal place why) }
 {
     let why = why_text(why);
     format!(in alloc; "message refused at {place}: {why}")
@@ -162,7 +94,7 @@ fn why_text(why: MsgWhy) -> &'static str
 
 /// Appends a reply that the message was refused for this reason.
 #[tactic(auto, using(crate::proofs::ReplyLaws::refused_length))]
-fn refuse(alloc: Global, reason: &str, replies: &mut Blob) -> Result<(), Memory>
+pub(crate) fn refuse(alloc: Global, reason: &str, replies: &mut Blob) -> Result<(), Memory>
     requires { length reason.now < 1000 }
     ensures { OnOk result (replies.new ≡ replies.old ++ framed (refused reason.now)) }
 {
@@ -178,7 +110,12 @@ fn refuse(alloc: Global, reason: &str, replies: &mut Blob) -> Result<(), Memory>
 
 /// Appends a message whose spelling has this many bytes, in a frame.
 #[tactic(auto, unfolding(crate::specs::Replies::framed))]
-fn put_frame(alloc: Global, msg: &Msg, size: usize, replies: &mut Blob) -> Result<(), Memory>
+pub(crate) fn put_frame(
+    alloc: Global,
+    msg: &Msg,
+    size: usize,
+    replies: &mut Blob,
+) -> Result<(), Memory>
     requires size { size ≡ length (spelling msg.now) }
     requires fits { size < 2 ^ 32 }
     ensures { OnOk result (replies.new ≡ replies.old ++ framed msg.now) }

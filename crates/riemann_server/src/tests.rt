@@ -1,13 +1,15 @@
 //! The call of the program over files and streams in memory.
 
 use crate::{Status, riemann};
-use ev_types::{Blob, Text};
+use ev_types::{Blob, Text, Texts};
 use ports::{MemSink, MemStore};
+use pred_eval::ListPatterns;
 use std::process::Abort;
 use std::test::Fail;
 
 mod faults;
 mod feed;
+mod queries;
 
 /// How a call ended, and what it wrote.
 #[derive(Drop)]
@@ -16,6 +18,7 @@ struct Ended {
     store: MemStore,
     out: MemSink,
     err: MemSink,
+    patterns: ListPatterns,
 }
 
 /// The faults that a call meets: the numbers, from 0, of the calls that fail.
@@ -65,12 +68,24 @@ fn run<R: AllocGlobal>(
         1 << 20,
         Vec::from_slice(rt.alloc(), failing.err)?,
     )?;
-    let status = riemann(rt.alloc(), texts.as_slice(), &mut store, &mut out, &mut err);
+    let mut patterns = ListPatterns {
+        refusals: 0,
+        refused: Texts::fresh(rt.alloc()),
+    };
+    let status = riemann(
+        rt.alloc(),
+        texts.as_slice(),
+        &mut store,
+        &mut out,
+        &mut err,
+        &mut patterns,
+    );
     Ok(Ended {
         status,
         store,
         out,
         err,
+        patterns,
     })
 }
 

@@ -13,7 +13,7 @@ const QUERY: &str = "000000082a060a0474727565";
 const OK: &str = "000000021001";
 
 /// Feeds what the digits spell, and compares the replies, the line and the status.
-fn check<R: AllocGlobal + Abort>(
+pub(super) fn check<R: AllocGlobal + Abort>(
     rt: &R,
     parts: &[&str],
     replies: &[&str],
@@ -126,7 +126,7 @@ fn what_clients_send_is_read(rt: HostRuntime) -> Result<(), Fail> {
 }
 
 /// The reply that refuses a message for this reason, of less than 128 bytes.
-fn refusal<R: AllocGlobal + Abort>(rt: &R, reason: &str) -> Result<String, Fail> {
+pub(super) fn refusal<R: AllocGlobal + Abort>(rt: &R, reason: &str) -> Result<String, Fail> {
     let size = reason.len();
     assert!(rt; size < 124);
     let length = size + 4;
@@ -166,15 +166,15 @@ fn a_message_is_refused_at_the_place_of_its_first_fault(rt: HostRuntime) -> Resu
 }
 
 #[test]
-fn a_query_that_is_not_built_yet_is_refused(rt: HostRuntime) -> Result<(), Fail> {
-    let query = refusal(&rt, "query not built yet")?;
-    // The query `false`, behind an event, which is entered.
-    let asked = "0000000e32032201612a070a0566616c7365";
+fn events_beside_a_query_that_is_refused_are_entered(rt: HostRuntime) -> Result<(), Fail> {
+    // An event of the host "a", and the query `x`.
+    let asked = "0000000a32032201612a030a0178";
+    let refused = refusal(&rt, "query refused at 1")?;
     let found = "00000009100132050800220161";
     check(
         &rt,
         &[asked, QUERY],
-        &[query.as_str(), found],
+        &[refused.as_str(), found],
         "",
         Status::Done,
     )

@@ -1,5 +1,5 @@
 use Rattle.std.proofs.Common.{rules}
-use Rattle.riemann_server.proofs.ReadLaws.{both_read, config_not_read, config_refused, config_too_long, config_unread, plain_held}
+use Rattle.riemann_server.proofs.ReadLaws.{both_read, config_not_read, config_refused, config_too_long, config_unread, nothing_answered, plain_held}
 use Rattle.riemann_server.proofs.feed.feed.Goals as goal
 
 pub returns-then-is_plain_index-clause-reads : goal.returns-then-is_plain_index-clause-reads
@@ -17,3 +17,6 @@ returns-in-TooLong-clause-reads g c = config_too_long _ _ c.args.config.now c.ar
 
 pub returns-clause-reads : goal.returns-clause-reads
 returns-clause-reads g c = config_not_read _ _ c.args.config.now c.args.file.now _ c.in-Memory.ensures.reads
+
+pub returns-clause-answers : goal.returns-clause-answers
+returns-clause-answers g c = λ bytes held. nothing_answered bytes _

@@ -1,6 +1,6 @@
-use Rattle.std.specs.List.Sorted.{IsStrictlySortedBy}
+use Rattle.std.proofs.Common.{refl, sym, ◌∙◌}
+use Rattle.index_log.proofs.LiveLaws.{live-nil}
 use Rattle.live_index.proofs.index.LiveIndex.fresh.Goals as goal
 
-pub invariant_of-result : goal.invariant_of-result
-unfolding IsStrictlySortedBy
-invariant_of-result c = rw c.new.ensures.items tt
+pub returns : goal.returns
+returns c = record { sound = refl; live = c.fresh.ensures ∙ sym live-nil }

@@ -1,0 +1,119 @@
+ghost use Rattle.std.specs.Prelude.{◌≡◌, ◌++◌, IfOk, IsTrue, OnOk, OnErr, option_map, nat_abs};
+ghost use Rattle.ev_types.specs.Set.{fits, fits_ttl, with_set, with_tag, has_text, other_attributes, attribute_of};
+ghost use Rattle.ev_types.specs.Value.{number_of, text_of};
+
+use crate::{Attr, Attrs, Event, Field, Memory, Text, Value};
+use std::alloc::Global;
+
+impl Event {
+    /// Sets the field to the value, which has to fit it: a text or nil fits a text and an attribute, a number the
+    /// time, a number or nil the metric, and nil or a number of seconds from 0 to 16,777,216 the ttl.
+    ///
+    /// All else stays, except that the time in microseconds goes with the time, and the metric's other forms with the
+    /// metric. An attribute that is set comes last, and those of its key before it go; set to nil, it has none. After
+    /// a want of memory the event is as it was.
+    pub fn set(&mut self, alloc: Global, field: &Field, value: &Value) -> Result<(), Memory>
+        requires { IsTrue (fits field.now value.now) }
+        ensures ok { OnOk result (self.new ≡ with_set self.old field.now value.now) }
+        ensures err { OnErr result (self.new ≡ self.old) }
+    {
+        match field {
+            Field::Host => self.host = copied_text(alloc, value)?,
+            Field::Service => self.service = copied_text(alloc, value)?,
+            Field::State => self.state = copied_text(alloc, value)?,
+            Field::Description => self.description = copied_text(alloc, value)?,
+            Field::Time => {
+                self.time = number(value).unwrap_or(self.time);
+                self.time_micros = None;
+            }
+            Field::Ttl => self.ttl = seconds(value),
+            Field::Metric => {
+                self.metric = number(value);
+                self.raw_d = None;
+                self.raw_f = None;
+            }
+            Field::Attribute(key) => {
+                self.attributes = set_attribute(alloc, &self.attributes, key, value)?;
+            }
+        }
+        Ok(())
+    }
+
+    /// Adds the tag behind those that the event has, where it is none of them. After a want of memory the event is as
+    /// it was.
+    pub fn add_tag(&mut self, alloc: Global, tag: &Text) -> Result<(), Memory>
+        ensures ok { OnOk result (self.new ≡ with_tag self.old tag.now) }
+        ensures err { OnErr result (self.new ≡ self.old) }
+    {
+        if !is_one_of(tag, self.tags.as_slice()) {
+            self.tags.push(alloc, tag.copy(alloc)?)?;
+        }
+        Ok(())
+    }
+}
+
+fn is_one_of(wanted: &Text, texts: &[Text]) -> bool
+    ensures { result ≡ has_text wanted.now texts.now }
+{
+    texts.iter().any(|text| *text == *wanted)
+}
+
+fn copied_text(alloc: Global, value: &Value) -> Result<Option<Text>, Memory>
+    ensures { IfOk result (λ text. text ≡ text_of value.now) }
+{
+    match value {
+        Value::Text(text) => Ok(Some(text.copy(alloc)?)),
+        Value::Nil | Value::Number(_) => Ok(None),
+    }
+}
+
+fn number(value: &Value) -> Option<i64>
+    ensures { result ≡ number_of value.now }
+{
+    match value {
+        Value::Number(number) => Some(*number),
+        Value::Nil | Value::Text(_) => None,
+    }
+}
+
+fn seconds(value: &Value) -> Option<u32>
+    requires { IsTrue (fits_ttl value.now) }
+    ensures { result ≡ option_map nat_abs (number_of value.now) }
+{
+    match value {
+        Value::Number(number) => Some(*number as u32),
+        Value::Nil | Value::Text(_) => None,
+    }
+}
+
+// The attributes of other keys, and behind them the one that holds the value's text.
+fn set_attribute(
+    alloc: Global,
+    attributes: &Attrs,
+    key: &Text,
+    value: &Value,
+) -> Result<Attrs, Memory>
+    ensures { IfOk result (λ set. set ≡ other_attributes key.now attributes.now ++ attribute_of key.now (text_of value.now)) }
+{
+    let mut set = copied_others(alloc, attributes.as_slice(), key)?;
+    if let Value::Text(text) = value {
+        let attribute = Attr {
+            key: key.copy(alloc)?,
+            value: Some(text.copy(alloc)?),
+        };
+        set.push(alloc, attribute)?;
+    }
+    Ok(set)
+}
+
+fn copied_others(alloc: Global, attributes: &[Attr], key: &Text) -> Result<Attrs, Memory>
+    ensures { IfOk result (λ others. others ≡ other_attributes key.now attributes.now) }
+{
+    let mut others = Attrs::fresh(alloc);
+    for attribute in attributes {
+        if attribute.key != *key {
+            others.push(alloc, attribute.copy(alloc)?)?;
+        }
+    }
+    Ok(others)
+}

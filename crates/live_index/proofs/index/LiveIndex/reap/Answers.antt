@@ -1,0 +1,12 @@
+use Rattle.std.proofs.Common.{refl, sym, ap, ◌∙◌, not, filter}
+use Rattle.ev_types.specs.Expiry.{is_expired}
+use Rattle.index_log.proofs.LiveLaws.{live-expired}
+use Rattle.live_index.proofs.index.LiveIndex.reap.Goals as goal
+
+pub returns-clause-ok : goal.returns-clause-ok
+returns-clause-ok g c = λ log before. record {
+  sound = refl;
+  live = c.in_ok-take_expired.ensures.kept
+      ∙ ap (filter (λ event. not (is_expired c.args.now event))) (ap (λ index. index.events) c.self.view_is ∙ before.live)
+      ∙ sym (live-expired log c.args.now);
+}

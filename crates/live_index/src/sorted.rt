@@ -1,0 +1,158 @@
+ghost use Rattle.std.specs.Prelude.{◌≡◌, ◌^◌, ◌≤◌, List, [], ◌++◌, filter, length, not, IfOk, OnOk, OnErr, MatchResult};
+ghost use Rattle.ev_types.specs.declared.event.Event.{Event as StoredEvent};
+ghost use Rattle.ev_types.specs.Expiry.{is_expired};
+ghost use Rattle.std.specs.List.{HoldsAt};
+ghost use Rattle.std.specs.List.Sorted.{IsPartitionPoint, IsSearchInRange};
+ghost use Rattle.index_log.specs.Live.{is_over};
+ghost use Rattle.index_log.specs.Place.{place_cmp, text_cmp};
+ghost use Rattle.live_index.specs.Index.{RepresentsWrite};
+
+use ev_types::{Event, Events, Memory, Text};
+use std::alloc::Global;
+use std::cmp::Ordering;
+use std::marker::Model;
+use std::mem;
+
+/// Events in strictly rising order of place: by host and then by service, absent before present.
+#[derive(Drop)]
+pub(crate) struct SortedEvents {
+    events: Vec<Event>,
+}
+
+impl Model for SortedEvents {
+    ghost use Rattle.std.specs.Prelude.{List};
+    ghost use Rattle.std.specs.List.Sorted.{IsStrictlySortedBy};
+    ghost use Rattle.ev_types.specs.declared.event.Event.{Event};
+    ghost use Rattle.index_log.specs.Place.{place_cmp};
+
+    ghost Value = { List Event };
+
+    ghost view = { λ index. index.events.items };
+
+    ghost invariant = { λ index. IsStrictlySortedBy place_cmp index.events.items };
+}
+
+impl SortedEvents {
+    pub(crate) fn fresh(alloc: Global) -> SortedEvents
+        ensures { result ≡ [] }
+    {
+        SortedEvents {
+            events: Vec::new(alloc),
+        }
+    }
+
+    /// Puts an event in the place of the one of its host and service. One whose state is "expired" only ends that
+    /// one.
+    pub(crate) fn write(&mut self, event: Event) -> Result<(), Memory>
+        ensures ok { OnOk result (RepresentsWrite self.old event self.new) }
+        ensures err { OnErr result (self.new ≡ self.old) }
+    {
+        match self.place_of(&event) {
+            Ok(at) => {
+                if is_over(&event) {
+                    self.events.remove(at);
+                } else {
+                    self.events[at] = event;
+                }
+            }
+            Err(at) => {
+                if !is_over(&event) {
+                    self.events.insert(at, event)?;
+                }
+            }
+        }
+        Ok(())
+    }
+
+    /// Takes out the events that are expired at the moment `now`, at most 2^40, and appends them to `expired`. After
+    /// a want of memory some of the others are lost.
+    pub(crate) fn take_expired(
+        &mut self,
+        alloc: Global,
+        now: u64,
+        expired: &mut Events,
+    ) -> Result<(), Memory>
+        requires { now ≤ 2 ^ 40 }
+        ensures kept { OnOk result (self.new ≡ filter (λ event. not (is_expired now event)) self.old) }
+        ensures gone { OnOk result (expired.new ≡ expired.old ++ filter (is_expired now) self.old) }
+        ensures front { OnErr result ((more : List StoredEvent) × (expired.new ≡ expired.old ++ more)) }
+    {
+        let events = mem::replace(&mut self.events, Vec::new(alloc));
+        self.events = part_expired(alloc, events, now, expired)?;
+        Ok(())
+    }
+
+    pub(crate) fn as_slice(&self) -> &[Event]
+        ensures { result.now ≡ self.now }
+    {
+        self.events.as_slice()
+    }
+
+    // Where the live event of this one's place stands, or else where this one would stand.
+    fn place_of(&self, event: &Event) -> Result<usize, usize>
+        ensures bound { IsSearchInRange result (length self.now) }
+        ensures place { MatchResult result
+            (HoldsAt (λ other. place_cmp other event.now ≡ Ordering.Equal) self.now)
+            (IsPartitionPoint (λ other. place_cmp other event.now ≡ Ordering.Less)
+            (λ other. place_cmp other event.now ≡ Ordering.Greater) self.now) }
+    {
+        self.events
+            .binary_search_by(|other| place_cmp(other, event))
+    }
+}
+
+/// Appends the events that are expired to `expired`, and gives the others.
+fn part_expired(
+    alloc: Global,
+    events: Vec<Event>,
+    now: u64,
+    expired: &mut Events,
+) -> Result<Vec<Event>, Memory>
+    requires { now ≤ 2 ^ 40 }
+    ensures kept { IfOk result (λ kept. kept.items ≡ filter (λ event. not (is_expired now event)) events.items) }
+    ensures gone { OnOk result (expired.new ≡ expired.old ++ filter (is_expired now) events.items) }
+    ensures front { OnErr result ((more : List StoredEvent) × (expired.new ≡ expired.old ++ more)) }
+{
+    let mut kept = Vec::new(alloc);
+    for event in events {
+        if event.is_expired(now) {
+            expired.push(alloc, event)?;
+        } else {
+            kept.push(event)?;
+        }
+    }
+    Ok(kept)
+}
+
+// The order of the index: by host, then by service.
+#[tactic(auto, unfolding(index_log::specs::Place::place_cmp))]
+fn place_cmp(a: &Event, b: &Event) -> Ordering
+    ensures { result ≡ place_cmp a.now b.now }
+{
+    match text_cmp(&a.host, &b.host) {
+        Ordering::Equal => text_cmp(&a.service, &b.service),
+        apart => apart,
+    }
+}
+
+// An absent text stands before one that is present.
+fn text_cmp(a: &Option<Text>, b: &Option<Text>) -> Ordering
+    ensures { result ≡ text_cmp a.now b.now }
+{
+    match (a, b) {
+        (None, None) => Ordering::Equal,
+        (None, Some(_)) => Ordering::Less,
+        (Some(_), None) => Ordering::Greater,
+        (Some(a), Some(b)) => a.as_bytes().cmp(b.as_bytes()),
+    }
+}
+
+// Whether the event says of itself that it is over.
+fn is_over(event: &Event) -> bool
+    ensures { result ≡ is_over event.now }
+{
+    match &event.state {
+        Some(state) => state.is(b"expired"),
+        None => false,
+    }
+}

@@ -1,0 +1,4 @@
+pub mod WildLaws
+pub mod TreeLaws
+pub mod SearchLaws
+pub mod BuildLaws

@@ -1,0 +1,12 @@
+use Rattle.std.proofs.Common.{◌≡◌, take}
+use Rattle.pred_eval.specs.Building.{texts_of}
+use Rattle.pred_eval.specs.Search.{AreReadFrom}
+use Rattle.pred_eval.proofs.patterns.build_all.Given as goal
+
+abbrev pub invariant-loop-text : goal.invariant-loop-text
+invariant-loop-text g l = record {
+  built : AreReadFrom (take l.text-index (texts_of l.texts)) l.built.items;
+  number : l.number ≡ l.text-index;
+  counted : g.P.Patterns.refusals l.patterns ≡ g.P.Patterns.refusals l.fn.patterns;
+  told : g.P.Patterns.refused l.patterns ≡ g.P.Patterns.refused l.fn.patterns;
+}

@@ -1,0 +1,14 @@
+use Rattle.std.proofs.Common.{◌≡◌, ◌++◌, OnOk, sym, subst}
+use Rattle.pred_eval.specs.Building.{texts_of}
+use Rattle.pred_eval.proofs.TreeLaws.{searches_of_all, searches_of_any, one_more_appended}
+use Rattle.pred_eval.proofs.pred.+collect.Goals as goal
+
+pub append_texts-returns-in-All : goal.append_texts-returns-in-All
+append_texts-returns-in-All t c =
+    subst (λ found. OnOk c.append_all.result (texts_of c.append_all.new.texts.items ≡ texts_of c.args.texts.now.items ++ found))
+    (sym (searches_of_all c.args.rule.now c.in-All.rules c.in-All.is)) c.append_all.ensures
+
+pub append_texts-returns-in-Any : goal.append_texts-returns-in-Any
+append_texts-returns-in-Any t c =
+    subst (λ found. OnOk c.append_all-in-Any.result (texts_of c.append_all-in-Any.new.texts.items ≡ texts_of c.args.texts.now.items ++ found))
+    (sym (searches_of_any c.args.rule.now c.in-Any.rules c.in-Any.is)) c.append_all-in-Any.ensures

@@ -1,0 +1,44 @@
+-- What the building of regular expressions answers, counts and tells.
+use Rattle.std.specs.Prelude.{◌≡◌, ℕ, ◌<◌, List, [], ◌∷◌, length, map, slice_index_or, Result, Ok, Err}
+use denote.Ref.{Bor}
+use Rattle.list_laws.specs.Counts.{Rose}
+use Rattle.pred_eval.specs.declared.patterns.PatternAnswer.{PatternAnswer}
+use Rattle.pred_eval.specs.declared.patterns.PatternAnswer.TheVariants.{Built, Refused, Memory}
+use Rattle.pred_eval.specs.declared.patterns.BuildFault.{BuildFault}
+use Rattle.pred_eval.specs.declared.patterns.BuildFault.TheVariants.{Pattern, Memory as out_of_memory}
+use Rattle.pred_eval.specs.Search.{IsReadFrom}
+
+-- what was built is what the text spells
+abbrev pub IsAnswerTo : List ℕ → PatternAnswer → Type 0
+IsAnswerTo pattern (Built regex) = IsReadFrom pattern regex
+IsAnswerTo pattern Refused = Unit {0}
+IsAnswerTo pattern Memory = Unit {0}
+
+-- only a refusal is counted
+abbrev pub IsCounted : ℕ → ℕ → PatternAnswer → Type 0
+IsCounted old new (Built regex) = new ≡ old
+IsCounted old new Refused = Rose old new
+IsCounted old new Memory = new ≡ old
+
+-- the texts that one answer adds to those refused
+abbrev pub refused_by : List ℕ → PatternAnswer → List (List ℕ)
+refused_by pattern (Built regex) = []
+refused_by pattern Refused = pattern ∷ []
+refused_by pattern Memory = []
+
+-- texts that are lent
+abbrev pub texts_of : List (Bor (List ℕ)) → List (List ℕ)
+texts_of = map (λ text. text.now)
+
+-- Why patterns with these texts were not all built: one of them, by its number from 0, was refused, and counted.
+-- Nothing else is counted.
+abbrev pub HasCause : {T : Type 0} → List (List ℕ) → ℕ → ℕ → Result T BuildFault → Type 0
+HasCause texts old new (Ok built) = new ≡ old
+HasCause texts old new (Err (Pattern number)) = (number < length texts) × Rose old new
+HasCause texts old new (Err out_of_memory) = new ≡ old
+
+-- the texts that the building of these adds to those refused: that of the number which it names
+abbrev pub refused_of : {T : Type 0} → List (List ℕ) → Result T BuildFault → List (List ℕ)
+refused_of texts (Ok built) = []
+refused_of texts (Err (Pattern number)) = slice_index_or texts number [] ∷ []
+refused_of texts (Err out_of_memory) = []

@@ -1,0 +1,6 @@
+pub mod Tree
+pub mod TreeCode
+pub mod Wild
+pub mod Search
+pub mod Truth
+pub mod Building

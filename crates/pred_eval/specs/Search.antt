@@ -1,0 +1,29 @@
+-- Where a regular expression is found in a text, and from which text a built one was read.
+use Rattle.std.specs.Prelude.{◌≡◌, ℕ, Bool, false, List, [], ◌∷◌, Option, Some, None, is_some, chars}
+use Rattle.regex_syntax.specs.Brackets.{Nested}
+use Rattle.regex_syntax.specs.Grammar.{Names, read}
+use Rattle.regex.specs.Patterns.{Re, find_str, default_config}
+use Rattle.regex.specs.Strings.{regex_source, regex_config, IsReadFromSource}
+use Rattle.regex.specs.declared.string.regex.Regex.{Regex}
+
+-- some part of the text matches what was read; nothing was read where the pattern's text is none
+abbrev pub is_found : Option (Nested Re × Names) → List ℕ → Bool
+is_found None text = false
+is_found (Some (re, names)) text = is_some (find_str re.value text 0)
+
+-- the regular expression that the first text spells is found in the second
+abbrev pub finds : List ℕ → List ℕ → Bool
+finds pattern text = is_found (read default_config (chars pattern)) text
+
+-- the regular expression is the one that this text spells, under the default options
+pub record IsReadFrom (pattern : List ℕ) (regex : Regex) : Type 0 where
+  pub source : regex_source regex ≡ pattern
+  pub config : regex_config regex ≡ default_config
+  pub read : IsReadFromSource regex
+
+-- the regular expressions are those of the texts, one for each
+abbrev pub AreReadFrom : List (List ℕ) → List Regex → Type 0
+AreReadFrom [] [] = Unit {0}
+AreReadFrom [] (regex ∷ regexes) = ⊥
+AreReadFrom (pattern ∷ patterns) [] = ⊥
+AreReadFrom (pattern ∷ patterns) (regex ∷ regexes) = IsReadFrom pattern regex × AreReadFrom patterns regexes

@@ -1,0 +1,17 @@
+//! Rules about events, and whether an event meets one.
+#![tactic(auto)]
+
+mod patterns;
+mod pred;
+mod rule;
+mod truth;
+mod wild;
+
+pub use patterns::{BuildFault, ListPatterns, PatternAnswer, Patterns, RegexPatterns, build_all};
+pub use pred::{Pred, append_texts};
+pub use rule::{Ordering, Rule, Rules};
+pub use truth::{pattern_count, rule_holds};
+pub use wild::{is_wild, wild_texts_are_joined};
+
+#[cfg(test)]
+mod tests;

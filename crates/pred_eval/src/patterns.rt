@@ -1,0 +1,146 @@
+ghost use Rattle.std.specs.Prelude.{◌≡◌, ℕ, ◌<◌, ◌≤◌, ◌^◌, List, ◌++◌, length, None, Some, IfOk};
+ghost use Rattle.std.specs.Option.{option_map};
+ghost use Rattle.pred_eval.specs.Building.{IsAnswerTo, IsCounted, refused_by, texts_of, HasCause, refused_of};
+ghost use Rattle.pred_eval.specs.Search.{AreReadFrom};
+ghost use Rattle.pred_eval.specs.declared.patterns.BuildFault.TheVariants.{Memory as out_of_memory};
+
+use ev_types::{Memory, Text, Texts};
+use regex::{Error, Regex};
+use std::alloc::{AllocFailed, Global};
+use thiserror::Error;
+
+/// What became of a pattern's text.
+#[derive(Drop)]
+pub enum PatternAnswer {
+    /// The regular expression that the text spells.
+    Built(Regex),
+    /// The text spells no regular expression, or one that is too big.
+    Refused,
+    Memory,
+}
+
+/// Where regular expressions are built.
+pub trait Patterns {
+    ghost use Rattle.std.specs.Prelude.{ℕ, List, Option};
+
+    /// How many texts were refused.
+    ghost refusals: { Self → ℕ };
+
+    /// The texts that were refused, where they are told.
+    ghost refused: { Self → Option (List (List ℕ)) };
+
+    /// Builds the regular expression that the text spells. Only a refusal is counted and told.
+    fn build(&mut self, alloc: Global, pattern: &Text) -> PatternAnswer
+        ensures built { IsAnswerTo pattern.now result }
+        ensures counted { IsCounted (refusals self.old) (refusals self.new) result }
+        ensures told { refused self.new ≡ option_map (λ texts. texts ++ refused_by pattern.now result) (refused self.old) }
+        ensures refusals { refusals self.old ≤ refusals self.new };
+}
+
+/// Builds by the crate `regex`. It counts refusals, up to the greatest number, and tells no text.
+#[derive(Drop)]
+pub struct RegexPatterns {
+    pub refusals: u64,
+}
+
+impl Patterns for RegexPatterns {
+    ghost refusals = { λ patterns. patterns.refusals };
+
+    ghost refused = { λ _. None };
+
+    fn build(&mut self, alloc: Global, pattern: &Text) -> PatternAnswer {
+        let answer = read_regex(alloc, pattern);
+        if let PatternAnswer::Refused = answer {
+            self.refusals = self.refusals.saturating_add(1);
+        }
+        answer
+    }
+}
+
+/// Builds by the crate `regex`. It counts refusals, up to the greatest number, and keeps the texts that were refused.
+#[derive(Drop)]
+pub struct ListPatterns {
+    pub refusals: u64,
+    pub refused: Texts,
+}
+
+impl Patterns for ListPatterns {
+    ghost refusals = { λ patterns. patterns.refusals };
+
+    ghost refused = { λ patterns. Some patterns.refused };
+
+    fn build(&mut self, alloc: Global, pattern: &Text) -> PatternAnswer {
+        let answer = read_regex(alloc, pattern);
+        if let PatternAnswer::Refused = answer {
+            let Ok(text) = pattern.copy(alloc) else {
+                return PatternAnswer::Memory;
+            };
+            let Ok(()) = self.refused.push(alloc, text) else {
+                return PatternAnswer::Memory;
+            };
+            self.refusals = self.refusals.saturating_add(1);
+        }
+        answer
+    }
+}
+
+fn read_regex(alloc: Global, pattern: &Text) -> PatternAnswer
+    ensures { IsAnswerTo pattern.now result }
+{
+    match Regex::new(alloc, pattern.as_str()) {
+        Ok(regex) => PatternAnswer::Built(regex),
+        Err(Error::OutOfMemory) => PatternAnswer::Memory,
+        Err(_) => PatternAnswer::Refused,
+    }
+}
+
+/// Why patterns were not all built.
+#[derive(Debug, Drop, Error)]
+pub enum BuildFault {
+    /// The pattern of this number was refused. They are numbered from 0, in the order of the text.
+    #[error("pattern {number} was refused")]
+    Pattern { number: u32 },
+    #[error("out of memory")]
+    Memory,
+}
+
+impl From<Memory> for BuildFault {
+    ghost from_gives = { λ _ fault. fault ≡ out_of_memory };
+
+    fn from(_memory: Memory) -> BuildFault {
+        BuildFault::Memory
+    }
+}
+
+impl<T: Drop> From<AllocFailed<T>> for BuildFault {
+    ghost from_gives = { λ _ fault. fault ≡ out_of_memory };
+
+    fn from(_error: AllocFailed<T>) -> BuildFault {
+        BuildFault::Memory
+    }
+}
+
+/// Builds the regular expressions of the texts, in their order, up to the first that is refused.
+pub fn build_all<P: Patterns>(
+    alloc: Global,
+    texts: &[&Text],
+    patterns: &mut P,
+) -> Result<Vec<Regex>, BuildFault>
+    requires { length texts.now < 2 ^ 32 }
+    ensures built { IfOk result (λ regexes. AreReadFrom (texts_of texts.now) regexes.items) }
+    ensures cause { HasCause (texts_of texts.now) (P.refusals patterns.old) (P.refusals patterns.new) result }
+    ensures told { P.refused patterns.new ≡ option_map (λ told. told ++ refused_of (texts_of texts.now) result) (P.refused patterns.old) }
+    ensures refusals { P.refusals patterns.old ≤ P.refusals patterns.new }
+{
+    let mut built = Vec::new(alloc);
+    let mut number: u32 = 0;
+    for text in texts {
+        match patterns.build(alloc, text) {
+            PatternAnswer::Built(regex) => built.push(regex)?,
+            PatternAnswer::Refused => return Err(BuildFault::Pattern { number }),
+            PatternAnswer::Memory => return Err(BuildFault::Memory),
+        }
+        number += 1;
+    }
+    Ok(built)
+}

@@ -1,0 +1,119 @@
+ghost use Rattle.std.specs.Prelude.{◌≡◌, ◌<◌, ◌≤◌, ◌^◌, [], ◌++◌, length, OnOk, IfOk, IsOk};
+ghost use Rattle.std.specs.Option.{option_map};
+ghost use Rattle.pred_eval.specs.Tree.{tree_of, trees_in};
+ghost use Rattle.pred_eval.specs.Truth.{holds, searches, searches_of};
+ghost use Rattle.pred_eval.specs.Search.{AreReadFrom};
+ghost use Rattle.pred_eval.specs.Building.{texts_of, HasCause, refused_of};
+
+use crate::patterns::build_all;
+use crate::truth::rule_holds;
+use crate::{BuildFault, Patterns, Rule, Rules};
+use ev_types::{Event, Memory, Text};
+use regex::Regex;
+use std::alloc::Global;
+use std::marker::Model;
+
+/// A rule whose regular expressions are built. Contracts see the plain tree of the rule.
+#[derive(Drop)]
+pub struct Pred {
+    rule: Rule,
+    patterns: Vec<Regex>,
+}
+
+impl Model for Pred {
+    ghost use Rattle.pred_eval.specs.Tree.{Tree, tree_of};
+    ghost use Rattle.pred_eval.specs.Truth.{searches};
+    ghost use Rattle.pred_eval.specs.Search.{AreReadFrom};
+    ghost use Rattle.pred_eval.specs.TreeCode.{tree_code};
+    ghost use Rattle.std.specs.Coded.{codes};
+
+    ghost Value = { Tree };
+
+    ghost coded = { tree_code (Prim.hlevel codes) };
+
+    ghost view = { λ pred. tree_of pred.rule };
+
+    ghost invariant = { λ pred. AreReadFrom (searches (tree_of pred.rule)) pred.patterns.items };
+}
+
+impl Pred {
+    /// Builds the regular expressions of the rule, of which there are fewer than 2^32.
+    pub fn build<P: Patterns>(
+        alloc: Global,
+        rule: Rule,
+        patterns: &mut P,
+    ) -> Result<Pred, BuildFault>
+        requires { length (searches (tree_of rule)) < 2 ^ 32 }
+        ensures rule { IfOk result (λ pred. pred ≡ tree_of rule) }
+        ensures cause { HasCause (searches (tree_of rule)) (P.refusals patterns.old) (P.refusals patterns.new) result }
+        ensures told { P.refused patterns.new ≡
+            option_map (λ texts. texts ++ refused_of (searches (tree_of rule)) result) (P.refused patterns.old) }
+        ensures refusals { P.refusals patterns.old ≤ P.refusals patterns.new }
+    {
+        let patterns = build_patterns(alloc, &rule, patterns)?;
+        Ok(Pred { rule, patterns })
+    }
+
+    /// Whether the event meets the rule. Where the rule has no regular expression it takes no memory.
+    pub fn holds(&mut self, alloc: Global, event: &Event) -> Result<bool, Memory>
+        ensures truth { IfOk result (λ met. met ≡ holds self.old event.now) }
+        ensures memory { searches self.old ≡ [] → IsOk result }
+        ensures same { self.new ≡ self.old }
+    {
+        rule_holds(alloc, &self.rule, self.patterns.as_slice(), event)
+    }
+}
+
+/// Appends the texts of the rule's regular expressions, in the order in which they are written.
+#[cycle(collect)]
+pub fn append_texts<'a>(
+    alloc: Global,
+    rule: &'a Rule,
+    texts: &mut Vec<&'a Text>,
+) -> Result<(), Memory>
+    ensures { OnOk result (texts_of texts.new.items ≡ texts_of texts.old.items ++ searches (tree_of rule.now)) }
+{
+    match rule {
+        Rule::Not(rule) => append_texts(alloc, rule, texts),
+        Rule::All(rules) => append_all(alloc, rules, texts),
+        Rule::Any(rules) => append_all(alloc, rules, texts),
+        Rule::Search { field: _, pattern } => {
+            texts.push(pattern)?;
+            Ok(())
+        }
+        Rule::Always
+        | Rule::Never
+        | Rule::Tagged(_)
+        | Rule::Equal { .. }
+        | Rule::Order { .. }
+        | Rule::Wild { .. } => Ok(()),
+    }
+}
+
+#[cycle(collect)]
+fn append_all<'a>(alloc: Global, rules: &'a Rules, texts: &mut Vec<&'a Text>) -> Result<(), Memory>
+    ensures { OnOk result (texts_of texts.new.items ≡ texts_of texts.old.items ++ searches_of (trees_in rules.now.items)) }
+{
+    for rule in rules {
+        append_texts(alloc, rule, texts)?;
+    }
+    Ok(())
+}
+
+// The rule's regular expressions, in the order in which they are written.
+fn build_patterns<P: Patterns>(
+    alloc: Global,
+    rule: &Rule,
+    patterns: &mut P,
+) -> Result<Vec<Regex>, BuildFault>
+    requires { length (searches (tree_of rule.now)) < 2 ^ 32 }
+    ensures built { IfOk result (λ regexes. AreReadFrom (searches (tree_of rule.now)) regexes.items) }
+    ensures cause { HasCause (searches (tree_of rule.now)) (P.refusals patterns.old) (P.refusals patterns.new) result }
+    ensures told { P.refused patterns.new ≡
+        option_map (λ texts. texts ++ refused_of (searches (tree_of rule.now)) result) (P.refused patterns.old) }
+    ensures refusals { P.refusals patterns.old ≤ P.refusals patterns.new }
+{
+    let mut texts = Vec::new(alloc);
+    append_texts(alloc, rule, &mut texts)?;
+    build_all(alloc, texts.as_slice(), patterns)
+}

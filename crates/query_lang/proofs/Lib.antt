@@ -1,0 +1,11 @@
+pub mod ScanLaws
+pub mod Rules
+pub mod ParserLaws
+pub mod CountLaws
+pub mod ReadLaws
+pub mod AnswerLaws
+pub mod AnsweredLaws
+pub mod SpellingLaws
+pub mod ReadBackLaws
+pub mod GoodTokens
+pub mod Written

@@ -1,0 +1,9 @@
+pub mod Tokens
+pub mod Answers
+pub mod Grammar
+pub mod Queries
+pub mod Parsing
+pub mod Reading
+pub mod Answer
+pub mod Spelling
+pub mod ReadBack
