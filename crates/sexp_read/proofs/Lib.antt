@@ -1,0 +1,13 @@
+pub mod Ascii
+pub mod Numbers
+pub mod QuotedLaws
+pub mod QuotedText
+pub mod Pieces
+pub mod Forms
+pub mod Lexing
+pub mod ReadingLaws
+pub mod Progress
+pub mod Answering
+pub mod Spellings
+pub mod Whole
+pub mod FrontLaws

@@ -1,0 +1,62 @@
+ghost use Rattle.std.specs.Prelude.{◌≡◌};
+ghost use Rattle.sexp_read.specs.declared.fault.SexpFault.TheVariants.{Memory as out_of_memory};
+
+use ev_types::Memory;
+use std::alloc::AllocFailed;
+use thiserror::Error;
+
+/// Why a text was not read.
+#[derive(Clone, Copy, Debug, PartialEq, Eq, Error)]
+pub enum SexpFault {
+    /// The text is refused at `place`, counted in bytes from its start.
+    #[error("text refused at {place}: {why}")]
+    Refused { place: usize, why: SexpWhy },
+    /// Memory was wanted and none was left.
+    #[error("out of memory")]
+    Memory,
+}
+
+/// For what a text is refused.
+#[derive(Clone, Copy, Debug, PartialEq, Eq, Error)]
+pub enum SexpWhy {
+    /// The text has more than 1,048,576 bytes.
+    #[error("long")]
+    Long,
+    /// The text is not UTF-8 from the place on.
+    #[error("utf8")]
+    Utf8,
+    /// A bracket, string or pattern that begins at the place is unclosed at the end of the text.
+    #[error("open")]
+    Open,
+    /// A closing bracket without an opening one of its kind before it.
+    #[error("close")]
+    Close,
+    /// A run of bytes that is no number, keyword or symbol, or a `#` without a quote behind it.
+    #[error("token")]
+    Token,
+    /// A run of bytes that begins as a number and is none of 64 signed bits.
+    #[error("number")]
+    Number,
+    /// A backslash in a string, before a byte with which it is no escape.
+    #[error("escape")]
+    Escape,
+    /// More than 64 brackets are open at once.
+    #[error("deep")]
+    Deep,
+}
+
+impl From<Memory> for SexpFault {
+    ghost from_gives = { λ _ fault. fault ≡ out_of_memory };
+
+    fn from(_memory: Memory) -> SexpFault {
+        SexpFault::Memory
+    }
+}
+
+impl<T: Drop> From<AllocFailed<T>> for SexpFault {
+    ghost from_gives = { λ _ fault. fault ≡ out_of_memory };
+
+    fn from(_failed: AllocFailed<T>) -> SexpFault {
+        SexpFault::Memory
+    }
+}

@@ -1,0 +1,13 @@
+//! What the definitions of tokens and forms owe, apart from how a text is read.
+
+ghost use Rattle.sexp_read.specs.Fronts.{FaultsAreFirst, ClosedAreForms, FormsAreClosed, FormsAreOne};
+
+/// The fault of the brackets comes at the first token with which the tokens so far begin no forms, however they go on,
+/// or with which one bracket too many is open. Tokens without such a fault are those of forms exactly where they leave
+/// no bracket open, and then of no other forms.
+pub fn faults_are_first()
+    ensures first { FaultsAreFirst }
+    ensures closed { ClosedAreForms }
+    ensures open { FormsAreClosed }
+    ensures one { FormsAreOne }
+{}

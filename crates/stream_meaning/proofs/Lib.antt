@@ -1,0 +1,11 @@
+pub mod TickLaws
+pub mod SaidLaws
+pub mod ForkLaws
+pub mod MomentLaws
+pub mod VectorLaws
+pub mod WindowLaws
+pub mod MetLaws
+pub mod StayLaws
+pub mod RootLaws
+pub mod PlanDueLaws
+pub mod ArrivalMoments

@@ -1,0 +1,208 @@
+-- The deadline of a whole plan, from those of its streams.
+use Rattle.std.proofs.Common.{◌≡◌, ℕ, ◌+◌, ◌<◌, ◌==◌, min, Bool, true, false, ◌||◌, List, [], ◌∷◌, ◌++◌, map, Option, Some, None, refl, sym, ap, subst, ◌∙◌, arith}
+use mathlib.Core.Bool.{true≢false}
+use Rattle.std.specs.Prelude.{IfSome}
+use Rattle.std.specs.List.{list_any}
+use Rattle.std.proofs.lemmas.Bool.Decides.{nat_tests}
+use Rattle.stream_plan.specs.Tree.{KindTree, Index, StreamTree, StreamTrees, stream, none, also}
+use Rattle.stream_meaning.specs.History.{History, ◌▸◌, Tick, moment_of}
+use Rattle.stream_meaning.specs.Emission.{Branch, Children, Otherwise, Fork, Emission, emissions}
+use Rattle.stream_meaning.specs.Branches.{handed, child_history, branches}
+use Rattle.stream_meaning.specs.Outputs.{Happening, emits_if_any, marked, Talk, at_tick, at_emissions, talk_of, happens, all_happens}
+use Rattle.stream_meaning.specs.Deadlines.{next_deadline, earlier, earliest, deadline_of, stream_deadline, plan_deadline}
+use Rattle.stream_meaning.specs.DeadlineLaws.{is_any, emits, is_at}
+use Rattle.stream_meaning.specs.DueLaws.{happens_any, HasStreamRanges, HasRanges, PlanDeadlinesAreMet, PlanDeadlinesStay}
+use Rattle.stream_meaning.proofs.MomentLaws.{branch_moments}
+use Rattle.stream_meaning.proofs.MetLaws.{deadlines_met}
+use Rattle.stream_meaning.proofs.StayLaws.{deadlines_stay, deadlines_ahead}
+use Rattle.stream_meaning.proofs.RootLaws.{any-append, any-marked, no_emissions, plan_tick_rooted}
+
+-- a deadline that lies ahead of a moment, where there is one
+abbrev IsAhead : ℕ → Option ℕ → Type 0
+IsAhead now deadline = IfSome deadline (λ moment. now < moment)
+
+abbrev AreAhead : ℕ → List (Option ℕ) → Type 0
+AreAhead now [] = Unit {0}
+AreAhead now (deadline ∷ more) = IsAhead now deadline × AreAhead now more
+
+ahead-earlier : (now : ℕ) (a b : Option ℕ) → IsAhead now a → IsAhead now b → IsAhead now (earlier a b)
+ahead-earlier now None b p q = q
+ahead-earlier now (Some a) None p q = p
+ahead-earlier now (Some a) (Some b) p q = omega arith
+
+ahead-earliest : (now : ℕ) (deadlines : List (Option ℕ)) → AreAhead now deadlines → IsAhead now (earliest deadlines)
+ahead-earliest now [] p = tt
+ahead-earliest now (first ∷ more) p = ahead-earlier now first (earliest more) p.0 (ahead-earliest now more p.1)
+
+-- of two that lie ahead, the lesser is the next moment where one of them is
+at-min : (now a b : ℕ) → now < a → now < b → (now + 1 == min a b) ≡ (now + 1 == a) || (now + 1 == b)
+at-min now a b p q = grind (arith, nat_tests)
+
+or_nothing : (t : Bool) → t ≡ t || false
+or_nothing true = refl
+or_nothing false = refl
+
+at-earlier : (now : ℕ) (a b : Option ℕ) → IsAhead now a → IsAhead now b → is_at (now + 1) (earlier a b) ≡ is_at (now + 1) a || is_at (now + 1) b
+at-earlier now None b p q = refl
+at-earlier now (Some a) None p q = or_nothing (now + 1 == a)
+at-earlier now (Some a) (Some b) p q = at-min now a b p q
+
+at-earliest : (now : ℕ) (deadlines : List (Option ℕ)) → AreAhead now deadlines → is_at (now + 1) (earliest deadlines) ≡ list_any (is_at (now + 1)) deadlines
+at-earliest now [] p = refl
+at-earliest now (first ∷ more) p =
+    at-earlier now first (earliest more) p.0 (ahead-earliest now more p.1) ∙ ap (λ t. is_at (now + 1) first || t) (at-earliest now more p.1)
+
+-- ---- what is below a stream
+
+abbrev Below : Type 0
+Below = History → List Happening
+
+abbrev LiesAhead : (History → Option ℕ) → Type 0
+LiesAhead deadline = (h : History) → IsAhead (moment_of h) (deadline h)
+
+abbrev IsMet : Below → (History → Option ℕ) → Type 0
+IsMet below deadline = (h : History) → happens_any (below (h ▸ Tick)) ≡ is_at (moment_of h + 1) (deadline h)
+
+abbrev Stays : Below → (History → Option ℕ) → Type 0
+Stays below deadline = (h : History) → happens_any (below (h ▸ Tick)) ≡ false → deadline (h ▸ Tick) ≡ deadline h
+
+branch-ahead : (c o : History → Option ℕ) → LiesAhead c → LiesAhead o → (branch : Branch) → LiesAhead (deadline_of c o branch)
+branch-ahead c o p q Children = p
+branch-ahead c o p q Otherwise = q
+branch-ahead c o p q (Fork key) = p
+
+branch-met : (tc te : Below) (c o : History → Option ℕ) → IsMet tc c → IsMet te o → (branch : Branch) → IsMet (talk_of tc te branch) (deadline_of c o branch)
+branch-met tc te c o p q Children = p
+branch-met tc te c o p q Otherwise = q
+branch-met tc te c o p q (Fork key) = p
+
+branch-stays : (tc te : Below) (c o : History → Option ℕ) → Stays tc c → Stays te o → (branch : Branch) → Stays (talk_of tc te branch) (deadline_of c o branch)
+branch-stays tc te c o p q Children = p
+branch-stays tc te c o p q Otherwise = q
+branch-stays tc te c o p q (Fork key) = p
+
+or_false : (s t : Bool) → s || t ≡ false → (s ≡ false) × (t ≡ false)
+or_false true t e = absurd (true≢false e)
+or_false false t e = (refl, e)
+
+-- over all branches, each with its own history, whose moments are these
+module _ (talk : Talk) (deadline : Branch → History → Option ℕ) (received : Branch → History) (now : ℕ) (same : (branch : Branch) → moment_of (received branch) ≡ now) where
+  branches-ahead : ((branch : Branch) → LiesAhead (deadline branch)) → (bs : List Branch) → AreAhead now (map (λ branch. deadline branch (received branch)) bs)
+  branches-ahead p [] = tt
+  branches-ahead p (branch ∷ bs) = (subst (λ (m : ℕ). IsAhead m (deadline branch (received branch))) (same branch) (p branch (received branch)), branches-ahead p bs)
+
+  branches-met : ((branch : Branch) → IsMet (talk branch) (deadline branch)) → (bs : List Branch) →
+      happens_any (at_tick Tick talk received bs) ≡ list_any (is_at (now + 1)) (map (λ branch. deadline branch (received branch)) bs)
+  branches-met p [] = refl
+  branches-met p (branch ∷ bs) =
+      any-append (marked branch (talk branch (received branch ▸ Tick))) (at_tick Tick talk received bs)
+      ∙ ap (λ t. t || happens_any (at_tick Tick talk received bs)) (any-marked branch (talk branch (received branch ▸ Tick)) ∙ p branch (received branch)
+      ∙ ap (λ m. is_at (m + 1) (deadline branch (received branch))) (same branch))
+      ∙ ap (λ t. is_at (now + 1) (deadline branch (received branch)) || t) (branches-met p bs)
+
+  branches-stay : ((branch : Branch) → Stays (talk branch) (deadline branch)) → (bs : List Branch) → happens_any (at_tick Tick talk received bs) ≡ false →
+      map (λ branch. deadline branch (received branch ▸ Tick)) bs ≡ map (λ branch. deadline branch (received branch)) bs
+  branches-stay p [] e = refl
+  branches-stay p (branch ∷ bs) e =
+      let parts = or_false (happens_any (marked branch (talk branch (received branch ▸ Tick)))) (happens_any (at_tick Tick talk received bs))
+      (sym (any-append (marked branch (talk branch (received branch ▸ Tick))) (at_tick Tick talk received bs)) ∙ e) in
+      ap (λ first. first ∷ map (λ branch. deadline branch (received branch ▸ Tick)) bs) (p branch (received branch) (sym (any-marked branch (talk branch (received branch ▸ Tick))) ∙ parts.0))
+      ∙ ap (λ more. deadline branch (received branch) ∷ more) (branches-stay p bs parts.1)
+
+-- ---- what a stream does at a tick
+
+or_assoc_nothing : (es : List Emission) (below after : List Happening) → (is_any es ≡ false → after ≡ []) → happens_any (emits_if_any es ++ below ++ after) ≡ is_any es || happens_any below
+or_assoc_nothing [] below after f = any-append below after ∙ ap (λ l. happens_any below || happens_any l) (f refl) ∙ sym (or_nothing (happens_any below))
+or_assoc_nothing (emission ∷ more) below after f = refl
+
+stream_happens : (kind : KindTree) (children otherwise : StreamTrees) (h : History) →
+    happens_any (happens (stream kind children otherwise) (h ▸ Tick))
+    ≡ emits kind (h ▸ Tick) || happens_any (at_tick Tick (talk_of (all_happens children) (all_happens otherwise)) (λ branch. child_history kind branch h) (branches kind h))
+stream_happens kind children otherwise h =
+    let talk = talk_of (all_happens children) (all_happens otherwise) in
+    let received = λ (branch : Branch). child_history kind branch h in
+    let es = emissions kind (h ▸ Tick) in
+    or_assoc_nothing es (at_tick Tick talk received (branches kind h)) (at_emissions talk (λ branch. received branch ▸ Tick) es) (no_emissions talk (λ branch. received branch ▸ Tick) es)
+
+nothing_if : (es : List Emission) → is_any es ≡ false → es ≡ []
+nothing_if [] e = refl
+nothing_if (emission ∷ more) e = absurd (true≢false e)
+
+quiet_branch : (kind : KindTree) (branch : Branch) (h : History) → emits kind (h ▸ Tick) ≡ false → child_history kind branch (h ▸ Tick) ≡ child_history kind branch h ▸ Tick
+quiet_branch kind branch h e = ap (λ es. handed branch es (child_history kind branch h ▸ Tick)) (nothing_if (emissions kind (h ▸ Tick)) e)
+
+map-same : (f g : Branch → Option ℕ) → ((branch : Branch) → f branch ≡ g branch) → (bs : List Branch) → map f bs ≡ map g bs
+map-same f g e [] = refl
+map-same f g e (branch ∷ bs) = ap (λ d. d ∷ map f bs) (e branch) ∙ ap (λ more. g branch ∷ more) (map-same f g e bs)
+
+same_branches : (kind : KindTree) (h : History) → branches kind (h ▸ Tick) ≡ branches kind h
+same_branches Index h = refl
+same_branches kind h = refl
+
+mutual
+  pub stream_ahead : (s : StreamTree) (h : History) → HasStreamRanges s → IsAhead (moment_of h) (stream_deadline s h)
+  stream_ahead (stream kind children otherwise) h ranges =
+      let deadline = deadline_of (plan_deadline children) (plan_deadline otherwise) in
+      let received = λ (branch : Branch). child_history kind branch h in
+      ahead-earlier (moment_of h) (next_deadline kind h) (earliest (map (λ branch. deadline branch (received branch)) (branches kind h)))
+      (deadlines_ahead kind h ranges.0)
+      (ahead-earliest (moment_of h) (map (λ branch. deadline branch (received branch)) (branches kind h))
+      (branches-ahead (talk_of (all_happens children) (all_happens otherwise)) deadline received (moment_of h) (λ branch. (branch_moments kind branch h).ends)
+      (branch-ahead (plan_deadline children) (plan_deadline otherwise) (λ g. plan_ahead children g ranges.1) (λ g. plan_ahead otherwise g ranges.2)) (branches kind h)))
+
+  pub plan_ahead : (plan : StreamTrees) (h : History) → HasRanges plan → IsAhead (moment_of h) (plan_deadline plan h)
+  plan_ahead none h ranges = tt
+  plan_ahead (also first more) h ranges = ahead-earlier (moment_of h) (stream_deadline first h) (plan_deadline more h) (stream_ahead first h ranges.0) (plan_ahead more h ranges.1)
+
+mutual
+  stream_met : (s : StreamTree) (h : History) → HasStreamRanges s → happens_any (happens s (h ▸ Tick)) ≡ is_at (moment_of h + 1) (stream_deadline s h)
+  stream_met (stream kind children otherwise) h ranges =
+      let talk = talk_of (all_happens children) (all_happens otherwise) in
+      let deadline = deadline_of (plan_deadline children) (plan_deadline otherwise) in
+      let received = λ (branch : Branch). child_history kind branch h in
+      let now = moment_of h in
+      let same = λ (branch : Branch). (branch_moments kind branch h).ends in
+      let deadlines = map (λ branch. deadline branch (received branch)) (branches kind h) in
+      let ahead : AreAhead now deadlines = branches-ahead talk deadline received now same
+      (branch-ahead (plan_deadline children) (plan_deadline otherwise) (λ g. plan_ahead children g ranges.1) (λ g. plan_ahead otherwise g ranges.2)) (branches kind h) in
+      stream_happens kind children otherwise h
+      ∙ ap (λ t. t || happens_any (at_tick Tick talk received (branches kind h))) (deadlines_met kind h ranges.0)
+      ∙ ap (λ t. is_at (now + 1) (next_deadline kind h) || t)
+      (branches-met talk deadline received now same
+      (branch-met (all_happens children) (all_happens otherwise) (plan_deadline children) (plan_deadline otherwise) (λ g. all_met children g ranges.1) (λ g. all_met otherwise g ranges.2)) (branches kind h)
+      ∙ sym (at-earliest now deadlines ahead))
+      ∙ sym (at-earlier now (next_deadline kind h) (earliest deadlines) (deadlines_ahead kind h ranges.0) (ahead-earliest now deadlines ahead))
+
+  all_met : (plan : StreamTrees) (h : History) → HasRanges plan → happens_any (all_happens plan (h ▸ Tick)) ≡ is_at (moment_of h + 1) (plan_deadline plan h)
+  all_met none h ranges = refl
+  all_met (also first more) h ranges =
+      any-append (happens first (h ▸ Tick)) (all_happens more (h ▸ Tick))
+      ∙ ap (λ t. t || happens_any (all_happens more (h ▸ Tick))) (stream_met first h ranges.0)
+      ∙ ap (λ t. is_at (moment_of h + 1) (stream_deadline first h) || t) (all_met more h ranges.1)
+      ∙ sym (at-earlier (moment_of h) (stream_deadline first h) (plan_deadline more h) (stream_ahead first h ranges.0) (plan_ahead more h ranges.1))
+
+mutual
+  stream_stays : (s : StreamTree) (h : History) → HasStreamRanges s → happens_any (happens s (h ▸ Tick)) ≡ false → stream_deadline s (h ▸ Tick) ≡ stream_deadline s h
+  stream_stays (stream kind children otherwise) h ranges silent =
+      let talk = talk_of (all_happens children) (all_happens otherwise) in
+      let deadline = deadline_of (plan_deadline children) (plan_deadline otherwise) in
+      let received = λ (branch : Branch). child_history kind branch h in
+      let parts = or_false (emits kind (h ▸ Tick)) (happens_any (at_tick Tick talk received (branches kind h))) (sym (stream_happens kind children otherwise h) ∙ silent) in
+      ap (λ own. earlier own (earliest (map (λ branch. deadline branch (child_history kind branch (h ▸ Tick))) (branches kind (h ▸ Tick))))) (deadlines_stay kind h ranges.0 parts.0)
+      ∙ ap (λ bs. earlier (next_deadline kind h) (earliest (map (λ branch. deadline branch (child_history kind branch (h ▸ Tick))) bs))) (same_branches kind h)
+      ∙ ap (λ ds. earlier (next_deadline kind h) (earliest ds))
+      (map-same (λ branch. deadline branch (child_history kind branch (h ▸ Tick))) (λ branch. deadline branch (received branch ▸ Tick)) (λ branch. ap (deadline branch) (quiet_branch kind branch h parts.0)) (branches kind h)
+      ∙ branches-stay talk deadline received (moment_of h) (λ branch. (branch_moments kind branch h).ends)
+      (branch-stays (all_happens children) (all_happens otherwise) (plan_deadline children) (plan_deadline otherwise) (λ g. all_stays children g ranges.1) (λ g. all_stays otherwise g ranges.2)) (branches kind h) parts.1)
+
+  all_stays : (plan : StreamTrees) (h : History) → HasRanges plan → happens_any (all_happens plan (h ▸ Tick)) ≡ false → plan_deadline plan (h ▸ Tick) ≡ plan_deadline plan h
+  all_stays none h ranges silent = refl
+  all_stays (also first more) h ranges silent =
+      let parts = or_false (happens_any (happens first (h ▸ Tick))) (happens_any (all_happens more (h ▸ Tick))) (sym (any-append (happens first (h ▸ Tick)) (all_happens more (h ▸ Tick))) ∙ silent) in
+      ap (λ d. earlier d (plan_deadline more (h ▸ Tick))) (stream_stays first h ranges.0 parts.0) ∙ ap (earlier (stream_deadline first h)) (all_stays more h ranges.1 parts.1)
+
+pub plan_met : PlanDeadlinesAreMet
+plan_met plan h ranges = sym (plan_tick_rooted plan h) ∙ all_met plan h ranges
+
+pub plan_stays : PlanDeadlinesStay
+plan_stays plan h ranges silent = all_stays plan h ranges (plan_tick_rooted plan h ∙ silent)

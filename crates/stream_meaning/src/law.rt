@@ -1,0 +1,78 @@
+ghost use Rattle.stream_meaning.specs.ArrivalLaws.{ArrivalsComeInOrder, ArrivalsAreMoments};
+ghost use Rattle.stream_meaning.specs.DeadlineLaws.{DeadlinesLieAhead, DeadlinesAreMet, DeadlinesStay, DeadlinesAreFirst};
+ghost use Rattle.stream_meaning.specs.DueLaws.{TicksHappenByEmissions, PlanDeadlinesLieAhead, PlanDeadlinesAreMet, PlanDeadlinesStay};
+ghost use Rattle.stream_meaning.specs.Laws.{
+  TicksEmitNothing,
+  TicksAreHandedOn,
+  TicksMakeNoFork,
+  TicksAreQuiet,
+  OutputsAreSaid,
+  OutputsGrow,
+  ForkKeysAreApart,
+  ForksHaveTheirEvents,
+  UnseenForksHaveTicks,
+  MomentsAreCounted,
+  WindowsAreMultiples,
+  BranchesKeepMoments,
+  VectorsAreNotEmpty,
+};
+
+/// Where nothing has come but ticks, no stream passes anything on, so what is below it has the same ticks, and there is
+/// no fork.
+pub fn ticks_alone_are_quiet()
+    ensures emissions { TicksEmitNothing }
+    ensures histories { TicksAreHandedOn }
+    ensures forks { TicksMakeNoFork }
+    ensures plans { TicksAreQuiet }
+{}
+
+/// What a stream says at the last entry of its history: what it says by itself; then, at a tick, what is below it says at
+/// the tick, branch by branch; then what is below it says at each emission, in order.
+pub fn outputs_are_said_in_order()
+    ensures entry { OutputsAreSaid }
+    ensures history { OutputsGrow }
+{}
+
+/// A fork's history has all ticks and the events of its key. No key has two forks, and one that has not come yet has
+/// ticks alone.
+pub fn forks_have_their_events()
+    ensures apart { ForkKeysAreApart }
+    ensures events { ForksHaveTheirEvents }
+    ensures unseen { UnseenForksHaveTicks }
+{}
+
+/// A moment is a second for each tick behind the first one, in every branch alike; a window begins where the seconds
+/// passed are a multiple of its length.
+pub fn windows_follow_moments()
+    ensures moments { MomentsAreCounted }
+    ensures branches { BranchesKeepMoments }
+    ensures windows { WindowsAreMultiples }
+{}
+
+/// No stream passes on a vector of no events, but for what passes a vector on as it came.
+pub fn vectors_are_not_empty()
+    ensures { VectorsAreNotEmpty }
+{}
+
+/// Where only ticks follow, a stream passes something on next at its deadline, and never where it has none.
+pub fn deadlines_are_first()
+    ensures ahead { DeadlinesLieAhead }
+    ensures met { DeadlinesAreMet }
+    ensures stay { DeadlinesStay }
+    ensures first { DeadlinesAreFirst }
+{}
+
+/// Where only ticks follow, some stream of a plan passes something on next at the plan's deadline, the least of those of
+/// its streams in all forks. A fork is due exactly where some stream in it passes something on.
+pub fn deadlines_of_plans_are_first()
+    ensures due { TicksHappenByEmissions }
+    ensures ahead { PlanDeadlinesLieAhead }
+    ensures met { PlanDeadlinesAreMet }
+    ensures stay { PlanDeadlinesStay }
+{}
+
+/// Arrivals come one after another; a moment is a second for each that has passed, whatever is posted or comes again.
+pub fn arrivals_come_in_order()
+    ensures order { ArrivalsComeInOrder }
+    ensures moments { ArrivalsAreMoments }
+{}

@@ -1,0 +1,5 @@
+pub mod Trees
+pub mod Searching
+pub mod SoundLaws
+pub mod PatternLaws
+pub mod PathLaws

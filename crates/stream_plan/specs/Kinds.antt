@@ -1,0 +1,121 @@
+-- What a stream of a kind takes, what it passes on, which streams may follow it, and the ranges of its numbers.
+use Rattle.std.specs.Prelude.{ℕ, ℤ, pos, Bool, true, false, ◌&&◌, nat_le, int_le, List}
+use Rattle.std.specs.List.{list_all}
+use Rattle.ev_types.specs.declared.field.Field.{Field}
+use Rattle.ev_types.specs.declared.field.Field.TheVariants as F
+use Rattle.ev_types.specs.declared.settings.Set.{Set}
+use Rattle.ev_types.specs.declared.value.Value.{Value}
+use Rattle.ev_types.specs.declared.value.Value.TheVariants.{Nil, Number, Text}
+use Rattle.stream_plan.specs.declared.kinds.Flow.{Flow}
+use Rattle.stream_plan.specs.declared.kinds.Flow.TheVariants.{Nothing, Event, Vector}
+use Rattle.stream_plan.specs.Tree.{KindTree, Index, Notice, Sdo, Where, With, Default, Runs, Throttle, Rollup, Batch, Stable, FixedEvent, MovingEvent, FixedTime, MovingTime, Coalesce, Smap}
+
+-- ---- what comes and what is passed on
+
+-- a stream that takes either takes events and vectors
+abbrev pub either : Flow → Bool
+either Nothing = false
+either Event = true
+either Vector = true
+
+abbrev pub only_events : Flow → Bool
+only_events Nothing = false
+only_events Event = true
+only_events Vector = false
+
+abbrev pub only_vectors : Flow → Bool
+only_vectors Nothing = false
+only_vectors Event = false
+only_vectors Vector = true
+
+abbrev pub takes : KindTree → Flow → Bool
+takes (Notice name) = either
+takes Sdo = either
+takes (Smap fold) = only_vectors
+takes _ = only_events
+
+-- what a stream of the kind passes on of what comes
+abbrev pub passes_on : KindTree → Flow → Flow
+passes_on Index flow = Nothing
+passes_on (Notice name) flow = Nothing
+passes_on Sdo flow = flow
+passes_on (Rollup count secs) flow = Vector
+passes_on (Batch count secs) flow = Vector
+passes_on (FixedEvent count) flow = Vector
+passes_on (MovingEvent count) flow = Vector
+passes_on (FixedTime secs) flow = Vector
+passes_on (MovingTime secs) flow = Vector
+passes_on (Coalesce secs) flow = Vector
+passes_on _ flow = Event
+
+-- ---- which streams may follow
+
+abbrev pub may_have_children : KindTree → Bool
+may_have_children Index = false
+may_have_children (Notice name) = false
+may_have_children _ = true
+
+abbrev pub may_have_otherwise : KindTree → Bool
+may_have_otherwise (Where rule) = true
+may_have_otherwise _ = false
+
+-- ---- ranges
+
+abbrev pub is_count : ℕ → Bool
+is_count count = nat_le 1 count && nat_le count 1000000
+
+abbrev pub is_secs : ℕ → Bool
+is_secs secs = nat_le 1 secs && nat_le secs 604800
+
+abbrev pub is_ttl : ℤ → Bool
+is_ttl ttl = int_le (pos 0) ttl && int_le ttl (pos 16777216)
+
+-- the value fits the field in a set: a text or nothing, a number for the time, a ttl or nothing, a number or nothing
+abbrev pub is_text_or_nil : Value → Bool
+is_text_or_nil Nil = true
+is_text_or_nil (Number n) = false
+is_text_or_nil (Text t) = true
+
+abbrev pub is_number : Value → Bool
+is_number Nil = false
+is_number (Number n) = true
+is_number (Text t) = false
+
+abbrev pub is_ttl_or_nil : Value → Bool
+is_ttl_or_nil Nil = true
+is_ttl_or_nil (Number n) = is_ttl n
+is_ttl_or_nil (Text t) = false
+
+abbrev pub is_number_or_nil : Value → Bool
+is_number_or_nil Nil = true
+is_number_or_nil (Number n) = true
+is_number_or_nil (Text t) = false
+
+abbrev pub fits : Field → Value → Bool
+fits F.Host = is_text_or_nil
+fits F.Service = is_text_or_nil
+fits F.State = is_text_or_nil
+fits F.Description = is_text_or_nil
+fits (F.Attribute key) = is_text_or_nil
+fits F.Time = is_number
+fits F.Ttl = is_ttl_or_nil
+fits F.Metric = is_number_or_nil
+
+abbrev pub all_fit : List Set → Bool
+all_fit = list_all (λ set. fits set.field set.value)
+
+-- the numbers and the sets of the kind are in their ranges
+abbrev pub is_in_range : KindTree → Bool
+is_in_range (With sets) = all_fit sets
+is_in_range (Default sets) = all_fit sets
+is_in_range (Runs count field) = is_count count
+is_in_range (Throttle count secs) = is_count count && is_secs secs
+is_in_range (Rollup count secs) = is_count count && is_secs secs
+is_in_range (Batch count secs) = is_count count && is_secs secs
+is_in_range (Stable secs field) = is_secs secs
+is_in_range (FixedEvent count) = is_count count
+is_in_range (MovingEvent count) = is_count count
+is_in_range (FixedTime secs) = is_secs secs
+is_in_range (MovingTime secs) = is_secs secs
+is_in_range (Coalesce secs) = is_secs secs
+is_in_range _ = true

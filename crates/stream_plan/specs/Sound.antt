@@ -1,0 +1,28 @@
+-- A plan without faults, cause by cause.
+use Rattle.std.specs.Prelude.{◌≡◌, ◌↔◌, ◌≤◌, true, false, length, None}
+use Rattle.std.specs.List.{AllByRecursion}
+use Rattle.stream_plan.specs.Faults.{Placed, preorder_of, has_wrong_streams, kind_of, first_fault}
+use Rattle.stream_plan.specs.Kinds.{takes, is_in_range}
+use Rattle.stream_plan.specs.Tree.{StreamTrees}
+
+abbrev pub StandsShallow : Placed → Type 0
+StandsShallow s = length s.path ≤ 64
+
+abbrev pub HasStreamsThatMayFollow : Placed → Type 0
+HasStreamsThatMayFollow s = has_wrong_streams s.tree ≡ false
+
+abbrev pub IsInRange : Placed → Type 0
+IsInRange s = is_in_range (kind_of s.tree) ≡ true
+
+abbrev pub TakesWhatComes : Placed → Type 0
+TakesWhatComes s = takes (kind_of s.tree) s.flow ≡ true
+
+pub record IsSound (streams : StreamTrees) : Type 0 where
+  pub few : length (preorder_of streams) ≤ 4096
+  pub shallow : AllByRecursion StandsShallow (preorder_of streams)
+  pub followed : AllByRecursion HasStreamsThatMayFollow (preorder_of streams)
+  pub in_range : AllByRecursion IsInRange (preorder_of streams)
+  pub taken : AllByRecursion TakesWhatComes (preorder_of streams)
+
+abbrev pub SoundPlansHaveNoFault : Type 0
+SoundPlansHaveNoFault = (streams : StreamTrees) → (first_fault streams ≡ None) ↔ IsSound streams

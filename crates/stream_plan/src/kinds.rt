@@ -1,0 +1,131 @@
+//! What each kind of stream takes and passes on, which streams may follow it, and the ranges of its numbers.
+
+ghost use Rattle.std.specs.Prelude.{◌≡◌};
+ghost use Rattle.stream_plan.specs.Tree.{kind_tree};
+ghost use Rattle.stream_plan.specs.Kinds.{takes, passes_on, may_have_children, may_have_otherwise, is_in_range, is_count, is_secs, is_ttl, fits, all_fit};
+
+use crate::Kind;
+use ev_types::{Field, Sets, Value};
+
+/// The greatest count of a stream. The least is 1.
+pub const MAX_COUNT: u32 = 1_000_000;
+
+/// The most seconds of a stream, a week. The fewest are 1.
+pub const MAX_SECS: u32 = 604_800;
+
+/// The greatest ttl that a field is set to, in seconds. The least is 0.
+pub const MAX_TTL: i64 = 16_777_216;
+
+/// What comes to a stream.
+#[derive(Clone, Copy, Debug, PartialEq, Eq)]
+pub(crate) enum Flow {
+    Nothing,
+    /// Events one by one.
+    Event,
+    /// Vectors of events.
+    Vector,
+}
+
+impl Kind {
+    /// Whether a stream of this kind takes what comes.
+    pub(crate) fn takes(&self, flow: Flow) -> bool
+        ensures { result ≡ takes (kind_tree self.now) flow }
+    {
+        match flow {
+            Flow::Nothing => false,
+            Flow::Event => !matches!(self, Kind::Smap(_)),
+            Flow::Vector => matches!(self, Kind::Notice(_) | Kind::Sdo | Kind::Smap(_)),
+        }
+    }
+
+    /// What a stream of this kind passes on of what comes.
+    pub(crate) fn passes_on(&self, flow: Flow) -> Flow
+        ensures { result ≡ passes_on (kind_tree self.now) flow }
+    {
+        match self {
+            Kind::Index | Kind::Notice(_) => Flow::Nothing,
+            Kind::Sdo => flow,
+            Kind::Rollup { .. }
+            | Kind::Batch { .. }
+            | Kind::FixedEvent { .. }
+            | Kind::MovingEvent { .. }
+            | Kind::FixedTime { .. }
+            | Kind::MovingTime { .. }
+            | Kind::Coalesce { .. } => Flow::Vector,
+            _ => Flow::Event,
+        }
+    }
+
+    /// Whether streams may follow a stream of this kind.
+    pub(crate) fn may_have_children(&self) -> bool
+        ensures { result ≡ may_have_children (kind_tree self.now) }
+    {
+        !matches!(self, Kind::Index | Kind::Notice(_))
+    }
+
+    /// Whether streams may get what a stream of this kind does not pass to its children.
+    pub(crate) fn may_have_otherwise(&self) -> bool
+        ensures { result ≡ may_have_otherwise (kind_tree self.now) }
+    {
+        matches!(self, Kind::Where(_))
+    }
+
+    /// Whether the numbers and the sets of the kind are in their ranges.
+    pub(crate) fn is_in_range(&self) -> bool
+        ensures { result ≡ is_in_range (kind_tree self.now) }
+    {
+        match self {
+            Kind::With(sets) | Kind::Default(sets) => all_fit(sets),
+            Kind::Throttle { count, secs }
+            | Kind::Rollup { count, secs }
+            | Kind::Batch { count, secs } => is_count(*count) && is_secs(*secs),
+            Kind::Runs { count, .. } | Kind::FixedEvent { count } | Kind::MovingEvent { count } =>
+                is_count(*count),
+            Kind::Stable { secs, .. }
+            | Kind::FixedTime { secs }
+            | Kind::MovingTime { secs }
+            | Kind::Coalesce { secs } => is_secs(*secs),
+            _ => true,
+        }
+    }
+}
+
+fn is_count(count: u32) -> bool
+    ensures { result ≡ is_count count }
+{
+    1 <= count && count <= MAX_COUNT
+}
+
+fn is_secs(secs: u32) -> bool
+    ensures { result ≡ is_secs secs }
+{
+    1 <= secs && secs <= MAX_SECS
+}
+
+fn is_ttl(ttl: i64) -> bool
+    ensures { result ≡ is_ttl ttl }
+{
+    0 <= ttl && ttl <= MAX_TTL
+}
+
+fn all_fit(sets: &Sets) -> bool
+    ensures { result ≡ all_fit sets.now }
+{
+    sets.as_slice()
+        .iter()
+        .all(|set| fits(&set.field, &set.value))
+}
+
+/// Whether the field may be set to the value.
+fn fits(field: &Field, value: &Value) -> bool
+    ensures { result ≡ fits field.now value.now }
+{
+    match (field, value) {
+        (Field::Time, Value::Nil) => false,
+        (_, Value::Nil) => true,
+        (Field::Time | Field::Metric, Value::Number(_)) => true,
+        (Field::Ttl, Value::Number(ttl)) => is_ttl(*ttl),
+        (_, Value::Number(_)) => false,
+        (field, Value::Text(_)) => !matches!(field, Field::Time | Field::Ttl | Field::Metric),
+    }
+}

@@ -1,0 +1,65 @@
+use ev_types::{Field, Fields, Fold, Sets, Tags, Text, Value};
+use pred_eval::Rule;
+
+/// The streams that get every event, in their order.
+#[derive(Drop)]
+pub struct Plan {
+    pub streams: Streams,
+}
+
+/// A stream, and the streams that get what it passes on.
+#[derive(Drop)]
+pub struct Stream {
+    pub kind: Kind,
+    pub children: Streams,
+    /// What a `Where` passes on of events that don't meet its rule; empty at every other kind.
+    pub otherwise: Streams,
+}
+
+/// Streams, in the order in which they get what comes.
+pub type Streams = Vec<Stream>;
+
+/// What a stream does with what comes. A count is from 1 to 1,000,000, seconds are from 1 to 604,800.
+#[derive(Drop)]
+pub enum Kind {
+    /// Writes each event into the index.
+    Index,
+    /// Gives a notice with this name of each item.
+    Notice(Text),
+    /// Passes on each item.
+    Sdo,
+    /// Passes an event that meets the rule to the children, any other to those of `otherwise`.
+    Where(Rule),
+    /// Passes on each event with these fields set, in order.
+    With(Sets),
+    /// Passes on each event with these fields set where they are absent, in order.
+    Default(Sets),
+    /// Passes on each event with these tags added that it lacks.
+    Tag(Tags),
+    /// Has a copy of its children for each combination of values of these fields.
+    By(Fields),
+    /// Passes on an event whose field differs from that of the event before.
+    Changed { field: Field, init: Option<Value> },
+    /// Passes on an event where the last `count` events hold the same in the field.
+    Runs { count: u32, field: Field },
+    /// Passes on the first `count` events of each window.
+    Throttle { count: u32, secs: u32 },
+    /// Passes on at most `count` vectors in each window, and the events behind them in one more.
+    Rollup { count: u32, secs: u32 },
+    /// Passes on vectors of `count` events, and what is left at the end of each window.
+    Batch { count: u32, secs: u32 },
+    /// Passes on events once their field has held the same for this long.
+    Stable { secs: u32, field: Field },
+    /// Passes on each `count` events as a vector.
+    FixedEvent { count: u32 },
+    /// Passes on at each event the last `count` events as a vector.
+    MovingEvent { count: u32 },
+    /// Passes on the events of each stretch of this many seconds of event time as a vector.
+    FixedTime { secs: u32 },
+    /// Passes on at each event those of the last so many seconds of event time as a vector.
+    MovingTime { secs: u32 },
+    /// Passes on every so many seconds the last event of each host and service as a vector.
+    Coalesce { secs: u32 },
+    /// Passes on one event that is folded of each vector.
+    Smap(Fold),
+}
