@@ -2,6 +2,7 @@
 -- reap at a moment at which it is late, and not at all where its state is "expired".
 use Rattle.std.specs.Prelude.{◌≡◌, ℕ, Bool, not, ◌||◌, if◌then◌else◌, List, [], ◌∷◌, ◌++◌, filter}
 use Rattle.std.specs.List.{list_any}
+use Rattle.std.specs.List.Sorted.{IsStrictlySortedBy}
 use Rattle.std.specs.Ordering.{is_lt}
 use Rattle.ev_types.specs.declared.event.Event.{Event}
 pub use Rattle.ev_types.specs.Text.{is_text}
@@ -66,3 +67,7 @@ ReapsAreLive = (log : IndexLog) (t : ℕ) → live_events (log ++ Reap t ∷ [])
 -- no live event is over, so a reap ends exactly what is expired at its moment
 abbrev pub ReapsEndExpired : Type 0
 ReapsEndExpired = (log : IndexLog) (t : ℕ) → live_events (log ++ Reap t ∷ []) ≡ filter (λ event. not (is_expired t event)) (live_events log)
+
+-- the live events stand by place, and each place has one
+abbrev pub LiveEventsRise : Type 0
+LiveEventsRise = (log : IndexLog) → IsStrictlySortedBy place_cmp (live_events log)

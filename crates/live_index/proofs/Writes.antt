@@ -1,8 +1,8 @@
 -- What a write makes of a list of events in strictly rising order of place, by where the event's place is.
-use Rattle.std.proofs.Common.{◌≡◌, ℕ, Bool, suc, ◌+◌, ◌<◌, ◌≤◌, true, false, not, cond, List, [], ◌∷◌, ◌++◌, length, get_or, set, take, drop, Result, Ok, Err, MatchResult, refl, sym, ap, ◌∙◌, subst, add-one, arith}
+use Rattle.std.proofs.Common.{◌≡◌, ℕ, suc, ◌+◌, ◌<◌, ◌≤◌, true, false, not, cond, List, [], ◌∷◌, ◌++◌, length, get_or, set, take, drop, Result, Ok, Err, MatchResult, refl, sym, ap, ◌∙◌, subst, add-one, arith}
 use Rattle.std.specs.declared.cmp.Ordering.TheVariants.{Less, Equal, Greater}
 use Rattle.std.specs.Ordering.{is_eq, is_lt, ordering_index, ordering_reverse}
-use Rattle.std.specs.List.{AllByRecursion, filter, insert, remove, HoldsAt}
+use Rattle.std.specs.List.{AllByRecursion, insert, remove, HoldsAt}
 use Rattle.std.specs.List.Sorted.{IsStrictlySortedBy, IsSortedBy, IsNonDecreasingBy, IsPartitionPoint, IsBinarySearchResult}
 use Rattle.std.proofs.lemmas.Cmp.{alike_right}
 use Rattle.std.proofs.lemmas.List.{take-append-drop, get_or-take, get_or-drop, length-take-le, length-drop, drop_more, set_split}
@@ -13,9 +13,7 @@ use Rattle.index_log.specs.Live.{is_over, placed, elsewhere, written, live_event
 use Rattle.index_log.specs.Place.{place_cmp}
 use Rattle.index_log.proofs.Places.{place_total, AreBehind, placed-first}
 use Rattle.index_log.proofs.LiveLaws.{live-write}
-
-abbrev pub IsRising : List Event → Type 0
-IsRising = IsStrictlySortedBy place_cmp
+use Rattle.index_log.proofs.Rising.{IsRising}
 
 -- each event of the list stands before this one, or behind it
 abbrev AllBefore : Event → List Event → Type 0
@@ -48,26 +46,6 @@ rising-without : (front : List Event) (a : Event) (back : List Event) → IsRisi
 unfolding IsStrictlySortedBy
 rising-without [] a back k = k.1
 rising-without (b ∷ front) a back k = let rest = all-without (λ other. place_cmp b other ≡ Less) front a back k.0 in (rest.1, rising-without front a back k.1)
-
-all-cond : (P : Event → Type 0) (t : Bool) (a : Event) (rest : List Event) → P a → AllByRecursion P rest → AllByRecursion P (cond t (a ∷ rest) rest)
-all-cond P true a rest h k = (h, k)
-all-cond P false a rest h k = k
-
-rising-cond : (t : Bool) (a : Event) (rest : List Event) → AllByRecursion (λ b. place_cmp a b ≡ Less) rest → IsRising rest → IsRising (cond t (a ∷ rest) rest)
-unfolding IsStrictlySortedBy
-rising-cond true a rest h k = (h, k)
-rising-cond false a rest h k = k
-
--- ---- what is left of a rising list where some of it is taken out
-
-all-filter : (P : Event → Type 0) (test : Event → Bool) (es : List Event) → AllByRecursion P es → AllByRecursion P (filter test es)
-all-filter P test [] k = tt
-all-filter P test (a ∷ es) k = all-cond P (test a) a (filter test es) k.0 (all-filter P test es k.1)
-
-pub rising-filter : (test : Event → Bool) (es : List Event) → IsRising es → IsRising (filter test es)
-unfolding IsStrictlySortedBy
-rising-filter test [] k = tt
-rising-filter test (a ∷ es) k = rising-cond (test a) a (filter test es) (all-filter (λ b. place_cmp a b ≡ Less) test es k.0) (rising-filter test es k.1)
 
 -- ---- an event of one place with one of the list
 
@@ -146,7 +124,7 @@ written-same event front a back same k =
 -- ---- the same, as the code has it
 
 -- what a binary search asks
-searchable : (events : List Event) (event : Event) → IsRising events → IsNonDecreasingBy (λ other. ordering_index (place_cmp other event)) events
+pub searchable : (events : List Event) (event : Event) → IsRising events → IsNonDecreasingBy (λ other. ordering_index (place_cmp other event)) events
 searchable events event rising =
     let sorted : IsSortedBy (λ a b. is_lt (place_cmp a b)) events
     = λ k d low high. ap is_lt (greater-behind _ _ (Less-from_sorted place_cmp events k (k + 1) d rising (omega arith) high)) in

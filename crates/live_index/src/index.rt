@@ -1,12 +1,13 @@
-ghost use Rattle.std.specs.Prelude.{◌≡◌, ◌^◌, ◌≤◌, [], ◌∷◌, ◌++◌, filter, length, List, IsErr, IsTrue, OnErr, OnOk};
+ghost use Rattle.std.specs.Prelude.{◌≡◌, ◌^◌, ◌≤◌, [], ◌∷◌, ◌++◌, filter, length, option_copied, List, IsErr, IsTrue, OnErr, OnOk};
 ghost use Rattle.ev_types.specs.declared.event.Event.{Event as StoredEvent};
 ghost use Rattle.ev_types.specs.Expiry.{is_expired};
 ghost use Rattle.index_log.specs.Live.{IndexLog, Reap, Write};
-ghost use Rattle.live_index.specs.Index.{Represents};
+ghost use Rattle.std.specs.Borrow.{sem};
+ghost use Rattle.live_index.specs.Index.{Represents, event_at};
 ghost use Rattle.pred_eval.specs.Truth.{holds};
 
 use crate::sorted::SortedEvents;
-use ev_types::{Event, Events, Memory};
+use ev_types::{Event, Events, Memory, Text};
 use list_laws::{Ledger, Steps};
 use pred_eval::Pred;
 use std::alloc::Global;
@@ -30,6 +31,8 @@ impl Model for LiveIndex {
 }
 
 impl LiveIndex {
+    ghost use Rattle.live_index.specs.Lending.{StaysTheSame};
+
     /// An index in which nothing was written. It takes no memory.
     pub fn fresh(alloc: Global) -> LiveIndex
         ensures { Represents result [] }
@@ -64,7 +67,7 @@ impl LiveIndex {
         alloc: Global,
         now: u64,
         out: &mut Events,
-        _steps: &mut Steps<G>,
+        steps: &mut Steps<G>,
     ) -> Result<(), Memory>
         requires { now ≤ 2 ^ 40 }
         ensures ok { OnOk result ((log : IndexLog) → Represents self.old log → Represents self.new (log ++ Reap now ∷ [])) }
@@ -72,6 +75,7 @@ impl LiveIndex {
         ensures err { OnErr result (IsTrue self.new.poisoned) }
         ensures front { OnErr result ((more : List StoredEvent) × (out.new ≡ out.old ++ more)) }
         ensures poisoned { IsTrue self.old.poisoned → IsErr result }
+        ensures forks { steps.new.forks ≡ steps.old.forks }
     {
         if self.poisoned {
             return Err(Memory);
@@ -89,19 +93,35 @@ impl LiveIndex {
         alloc: Global,
         pred: &mut Pred,
         out: &mut Events,
-        _steps: &mut Steps<G>,
+        steps: &mut Steps<G>,
     ) -> Result<(), Memory>
         ensures same { self.new ≡ self.old }
         ensures pred { pred.new ≡ pred.old }
         ensures ok { OnOk result (out.new ≡ out.old ++ filter (holds pred.old) self.old.events) }
         ensures front { OnErr result ((more : List StoredEvent) × (out.new ≡ out.old ++ more)) }
         ensures poisoned { IsTrue self.old.poisoned → IsErr result }
+        ensures forks { steps.new.forks ≡ steps.old.forks }
     {
         if self.poisoned {
             return Err(Memory);
         }
         copy_matching(alloc, self.events.as_slice(), pred, out)?;
         Ok(())
+    }
+
+    /// The live event of this host and this service, each of which may be absent. It takes no memory, and the index
+    /// stays as it is. A poisoned one has no answer for that: it answers by the events that it is left with.
+    pub fn get<G: Ledger>(
+        &mut self,
+        host: Option<&Text>,
+        service: Option<&Text>,
+        _steps: &mut Steps<G>,
+    ) -> Option<&Event>
+        ensures* same { sem 𝓛 (StaysTheSame self.entry) }
+        ensures event { option_copied result ≡ event_at (option_copied host.entry) (option_copied service.entry) self.old.events }
+        ensures steps { _steps.new ≡ _steps.old }
+    {
+        self.events.get(host, service)
     }
 
     /// How many events are live.

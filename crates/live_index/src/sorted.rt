@@ -1,11 +1,11 @@
-ghost use Rattle.std.specs.Prelude.{◌≡◌, ◌^◌, ◌≤◌, List, [], ◌++◌, filter, length, not, IfOk, OnOk, OnErr, MatchResult};
+ghost use Rattle.std.specs.Prelude.{◌≡◌, ◌^◌, ◌≤◌, List, [], ◌++◌, filter, length, not, option_copied, IfOk, OnOk, OnErr, MatchResult};
 ghost use Rattle.ev_types.specs.declared.event.Event.{Event as StoredEvent};
 ghost use Rattle.ev_types.specs.Expiry.{is_expired};
 ghost use Rattle.std.specs.List.{HoldsAt};
 ghost use Rattle.std.specs.List.Sorted.{IsPartitionPoint, IsSearchInRange};
 ghost use Rattle.index_log.specs.Live.{is_over};
 ghost use Rattle.index_log.specs.Place.{place_cmp, text_cmp};
-ghost use Rattle.live_index.specs.Index.{RepresentsWrite};
+ghost use Rattle.live_index.specs.Index.{RepresentsWrite, cmp_at, event_at};
 
 use ev_types::{Event, Events, Memory, Text};
 use std::alloc::Global;
@@ -88,6 +88,16 @@ impl SortedEvents {
         self.events.as_slice()
     }
 
+    /// The event of this host and this service, where there is one. It takes no memory.
+    pub(crate) fn get(&self, host: Option<&Text>, service: Option<&Text>) -> Option<&Event>
+        ensures { option_copied result ≡ event_at (option_copied host.entry) (option_copied service.entry) self.now }
+    {
+        match self.place_at(host, service) {
+            Ok(at) => Some(&self.events[at]),
+            Err(_) => None,
+        }
+    }
+
     // Where the live event of this one's place stands, or else where this one would stand.
     fn place_of(&self, event: &Event) -> Result<usize, usize>
         ensures bound { IsSearchInRange result (length self.now) }
@@ -96,8 +106,19 @@ impl SortedEvents {
             (IsPartitionPoint (λ other. place_cmp other event.now ≡ Ordering.Less)
             (λ other. place_cmp other event.now ≡ Ordering.Greater) self.now) }
     {
+        self.place_at(event.host.as_ref(), event.service.as_ref())
+    }
+
+    // Where the event of this host and this service stands, or else where one would stand.
+    fn place_at(&self, host: Option<&Text>, service: Option<&Text>) -> Result<usize, usize>
+        ensures bound { IsSearchInRange result (length self.now) }
+        ensures place { MatchResult result
+            (HoldsAt (λ other. cmp_at (option_copied host.entry) (option_copied service.entry) other ≡ Ordering.Equal) self.now)
+            (IsPartitionPoint (λ other. cmp_at (option_copied host.entry) (option_copied service.entry) other ≡ Ordering.Less)
+            (λ other. cmp_at (option_copied host.entry) (option_copied service.entry) other ≡ Ordering.Greater) self.now) }
+    {
         self.events
-            .binary_search_by(|other| place_cmp(other, event))
+            .binary_search_by(|other| cmp_at(host, service, other))
     }
 }
 
@@ -124,20 +145,19 @@ fn part_expired(
     Ok(kept)
 }
 
-// The order of the index: by host, then by service.
-#[tactic(auto, unfolding(index_log::specs::Place::place_cmp))]
-fn place_cmp(a: &Event, b: &Event) -> Ordering
-    ensures { result ≡ place_cmp a.now b.now }
+// The order of the event's place to that of a host and a service: by host, then by service.
+fn cmp_at(host: Option<&Text>, service: Option<&Text>, event: &Event) -> Ordering
+    ensures { result ≡ cmp_at (option_copied host.entry) (option_copied service.entry) event.now }
 {
-    match text_cmp(&a.host, &b.host) {
-        Ordering::Equal => text_cmp(&a.service, &b.service),
+    match text_cmp(event.host.as_ref(), host) {
+        Ordering::Equal => text_cmp(event.service.as_ref(), service),
         apart => apart,
     }
 }
 
 // An absent text stands before one that is present.
-fn text_cmp(a: &Option<Text>, b: &Option<Text>) -> Ordering
-    ensures { result ≡ text_cmp a.now b.now }
+fn text_cmp(a: Option<&Text>, b: Option<&Text>) -> Ordering
+    ensures { result ≡ text_cmp (option_copied a.entry) (option_copied b.entry) }
 {
     match (a, b) {
         (None, None) => Ordering::Equal,

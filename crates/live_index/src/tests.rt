@@ -1,3 +1,5 @@
+ghost use Rattle.std.specs.Prelude.{◌≡◌};
+
 use super::LiveIndex;
 use ev_types::{Attr, Attrs, Event, Events, Field, Memory, Tags, Text, Value};
 use list_laws::{NoLedger, Steps};
@@ -197,6 +199,52 @@ fn what_meets_the_rule_is_found(rt: HostRuntime) -> Result<(), Fail> {
     assert_eq!(rt; out.len(), 2);
     assert!(rt; is_at(out.get(0), (Some("a"), None)));
     assert!(rt; is_at(out.get(1), (Some("c"), None)));
+    Ok(())
+}
+
+/// The metric of the live event at the place.
+fn metric_at(index: &mut LiveIndex, host: Option<&Text>, service: Option<&Text>) -> Option<i64>
+    ensures { index.new ≡ index.old }
+{
+    match index.get(host, service, &mut Steps::fresh(NoLedger)) {
+        Some(event) => event.metric,
+        None => None,
+    }
+}
+
+#[test]
+fn an_event_is_got_by_its_host_and_service(rt: HostRuntime) -> Result<(), Fail> {
+    let alloc = rt.alloc();
+    let mut index = LiveIndex::fresh(alloc);
+    let rows = [
+        ((Some("b"), Some("cpu")), "ok", 1, Some(1)),
+        ((None, None), "ok", 2, Some(2)),
+        ((Some(""), None), "ok", 3, Some(3)),
+        ((None, Some("cpu")), "ok", 4, Some(4)),
+        ((Some("a"), Some("cpu")), "ok", 5, Some(7)),
+        ((Some("c"), Some("cpu")), "ok", 6, None),
+        ((Some("a"), Some("cpu")), "warning", 7, Some(7)),
+        ((Some("c"), Some("cpu")), "expired", 8, None),
+    ];
+    for (place, state, metric, _) in rows {
+        index.write(alloc, event(alloc, place, state, metric)?)?;
+    }
+    for (place, _, _, wanted) in rows {
+        let (host, service) = (text(alloc, place.0)?, text(alloc, place.1)?);
+        let found = metric_at(&mut index, host.as_ref(), service.as_ref());
+        assert_eq!(rt; found, wanted, "{place:?}");
+    }
+    for place in [
+        (Some("cpu"), Some("a")),
+        (Some("b"), None),
+        (None, Some("")),
+        (Some("z"), Some("cpu")),
+    ] {
+        let (host, service) = (text(alloc, place.0)?, text(alloc, place.1)?);
+        let found = metric_at(&mut index, host.as_ref(), service.as_ref());
+        assert_eq!(rt; found, None, "{place:?}");
+    }
+    assert_eq!(rt; index.len(), 5);
     Ok(())
 }
 

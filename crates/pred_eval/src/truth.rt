@@ -11,16 +11,16 @@ use ev_types::{Event, Memory, Tags, Text, field_is, field_number, field_text};
 use regex::Regex;
 use std::alloc::Global;
 
-/// Whether the event meets the rule, whose regular expressions are these, in the order in which they are written.
-/// Where there is none it takes no memory.
+/// Whether the event meets the rule, where these are its regular expressions, in the order in which they are written;
+/// with others the answer says nothing. Where the rule has none it takes no memory.
 pub fn rule_holds(
     alloc: Global,
     rule: &Rule,
     patterns: &[Regex],
     event: &Event,
 ) -> Result<bool, Memory>
-    requires { AreReadFrom (searches (tree_of rule.now)) patterns.now }
-    ensures truth { IfOk result (λ met. met ≡ holds (tree_of rule.now) event.now) }
+    ensures truth { AreReadFrom (searches (tree_of rule.now)) patterns.now →
+        IfOk result (λ met. met ≡ holds (tree_of rule.now) event.now) }
     ensures memory { searches (tree_of rule.now) ≡ [] → IsOk result }
 {
     meets(alloc, rule, patterns, event)

@@ -10,7 +10,7 @@ use Rattle.stream_meaning.specs.Arrivals.{Arrival, Elapsed, Post, CoreState, ent
 use Rattle.stream_meaning.specs.Laws.{SameMoments}
 use Rattle.stream_meaning.specs.ArrivalLaws.{ArrivalsComeInOrder, elapsed_in, ArrivalsAreMoments}
 
-from-append : (plan : StreamTrees) (expiry : Option Expiry) (first more : List Arrival) (state : CoreState) →
+pub from-append : (plan : StreamTrees) (expiry : Option Expiry) (first more : List Arrival) (state : CoreState) →
     state_from plan expiry (first ++ more) state ≡ state_from plan expiry more (state_from plan expiry first state)
 from-append plan expiry [] more state = refl
 from-append plan expiry (arrival ∷ first) more state = from-append plan expiry first more (arrived plan expiry arrival state)
@@ -18,7 +18,7 @@ from-append plan expiry (arrival ∷ first) more state = from-append plan expiry
 pub arrivals_in_order : ArrivalsComeInOrder
 arrivals_in_order plan expiry start first more = from-append plan expiry first more (record { history = since start; log = [] })
 
-streamed-moments : (plan : StreamTrees) (es : List Event) (state : CoreState) → SameMoments (streamed plan es state).history state.history
+pub streamed-moments : (plan : StreamTrees) (es : List Event) (state : CoreState) → SameMoments (streamed plan es state).history state.history
 streamed-moments plan [] state = record { begins = refl; ends = refl }
 streamed-moments plan (event ∷ es) state =
     let later = streamed-moments plan es (entered plan (In (One event)) state) in
@@ -31,7 +31,7 @@ either-moments : (t : Bool) (a b c : CoreState) → SameMoments a.history c.hist
 either-moments true a b c p q = p
 either-moments false a b c p q = q
 
-swept-moments : (plan : StreamTrees) (expiry : Option Expiry) (state : CoreState) → SameMoments (swept plan expiry state).history state.history
+pub swept-moments : (plan : StreamTrees) (expiry : Option Expiry) (state : CoreState) → SameMoments (swept plan expiry state).history state.history
 swept-moments plan None state = record { begins = refl; ends = refl }
 swept-moments plan (Some expiry) state =
     either-moments ((moment_of state.history - begun state.history) % expiry.interval == 0) (reaped plan expiry.keep state) state state (reaped-moments plan expiry.keep state)

@@ -1,11 +1,8 @@
 -- What a stream of a kind takes, what it passes on, which streams may follow it, and the ranges of its numbers.
-use Rattle.std.specs.Prelude.{ℕ, ℤ, pos, Bool, true, false, ◌&&◌, nat_le, int_le, List}
+use Rattle.std.specs.Prelude.{ℕ, Bool, true, false, ◌&&◌, nat_le, List}
 use Rattle.std.specs.List.{list_all}
-use Rattle.ev_types.specs.declared.field.Field.{Field}
-use Rattle.ev_types.specs.declared.field.Field.TheVariants as F
 use Rattle.ev_types.specs.declared.settings.Set.{Set}
-use Rattle.ev_types.specs.declared.value.Value.{Value}
-use Rattle.ev_types.specs.declared.value.Value.TheVariants.{Nil, Number, Text}
+use Rattle.ev_types.specs.Set.{fits}
 use Rattle.stream_plan.specs.declared.kinds.Flow.{Flow}
 use Rattle.stream_plan.specs.declared.kinds.Flow.TheVariants.{Nothing, Event, Vector}
 use Rattle.stream_plan.specs.Tree.{KindTree, Index, Notice, Sdo, Where, With, Default, Runs, Throttle, Rollup, Batch, Stable, FixedEvent, MovingEvent, FixedTime, MovingTime, Coalesce, Smap}
@@ -67,40 +64,7 @@ is_count count = nat_le 1 count && nat_le count 1000000
 abbrev pub is_secs : ℕ → Bool
 is_secs secs = nat_le 1 secs && nat_le secs 604800
 
-abbrev pub is_ttl : ℤ → Bool
-is_ttl ttl = int_le (pos 0) ttl && int_le ttl (pos 16777216)
-
--- the value fits the field in a set: a text or nothing, a number for the time, a ttl or nothing, a number or nothing
-abbrev pub is_text_or_nil : Value → Bool
-is_text_or_nil Nil = true
-is_text_or_nil (Number n) = false
-is_text_or_nil (Text t) = true
-
-abbrev pub is_number : Value → Bool
-is_number Nil = false
-is_number (Number n) = true
-is_number (Text t) = false
-
-abbrev pub is_ttl_or_nil : Value → Bool
-is_ttl_or_nil Nil = true
-is_ttl_or_nil (Number n) = is_ttl n
-is_ttl_or_nil (Text t) = false
-
-abbrev pub is_number_or_nil : Value → Bool
-is_number_or_nil Nil = true
-is_number_or_nil (Number n) = true
-is_number_or_nil (Text t) = false
-
-abbrev pub fits : Field → Value → Bool
-fits F.Host = is_text_or_nil
-fits F.Service = is_text_or_nil
-fits F.State = is_text_or_nil
-fits F.Description = is_text_or_nil
-fits (F.Attribute key) = is_text_or_nil
-fits F.Time = is_number
-fits F.Ttl = is_ttl_or_nil
-fits F.Metric = is_number_or_nil
-
+-- each value fits its field
 abbrev pub all_fit : List Set → Bool
 all_fit = list_all (λ set. fits set.field set.value)
 

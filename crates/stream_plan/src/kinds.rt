@@ -2,7 +2,8 @@
 
 ghost use Rattle.std.specs.Prelude.{◌≡◌};
 ghost use Rattle.stream_plan.specs.Tree.{kind_tree};
-ghost use Rattle.stream_plan.specs.Kinds.{takes, passes_on, may_have_children, may_have_otherwise, is_in_range, is_count, is_secs, is_ttl, fits, all_fit};
+ghost use Rattle.stream_plan.specs.Kinds.{takes, passes_on, may_have_children, may_have_otherwise, is_in_range, is_count, is_secs, all_fit};
+ghost use Rattle.ev_types.specs.Set.{fits};
 
 use crate::Kind;
 use ev_types::{Field, Sets, Value};
@@ -102,13 +103,8 @@ fn is_secs(secs: u32) -> bool
     1 <= secs && secs <= MAX_SECS
 }
 
-fn is_ttl(ttl: i64) -> bool
-    ensures { result ≡ is_ttl ttl }
-{
-    0 <= ttl && ttl <= MAX_TTL
-}
-
-fn all_fit(sets: &Sets) -> bool
+/// Whether each value fits the field that it is set to.
+pub fn all_fit(sets: &Sets) -> bool
     ensures { result ≡ all_fit sets.now }
 {
     sets.as_slice()
@@ -116,15 +112,16 @@ fn all_fit(sets: &Sets) -> bool
         .all(|set| fits(&set.field, &set.value))
 }
 
-/// Whether the field may be set to the value.
-fn fits(field: &Field, value: &Value) -> bool
+/// Whether the field may be set to the value: a text or nothing for a text or an attribute, a number for the time, a ttl
+/// from 0 to 16,777,216 or nothing, a number or nothing for the metric.
+pub fn fits(field: &Field, value: &Value) -> bool
     ensures { result ≡ fits field.now value.now }
 {
     match (field, value) {
         (Field::Time, Value::Nil) => false,
         (_, Value::Nil) => true,
         (Field::Time | Field::Metric, Value::Number(_)) => true,
-        (Field::Ttl, Value::Number(ttl)) => is_ttl(*ttl),
+        (Field::Ttl, Value::Number(ttl)) => 0 <= *ttl && *ttl <= MAX_TTL,
         (_, Value::Number(_)) => false,
         (field, Value::Text(_)) => !matches!(field, Field::Time | Field::Ttl | Field::Metric),
     }

@@ -1,7 +1,8 @@
 //! Plans whose regular expressions are built.
 
-ghost use Rattle.std.specs.Prelude.{◌≡◌, ◌<◌, ◌^◌, ◌++◌, length, OnOk, IfOk, None};
+ghost use Rattle.std.specs.Prelude.{◌≡◌, ◌<◌, ◌≤◌, ◌^◌, ◌++◌, length, OnOk, IfOk, None};
 ghost use Rattle.std.specs.Option.{option_map};
+ghost use Rattle.list_laws.specs.Counts.{greatest};
 ghost use Rattle.pred_eval.specs.Building.{texts_of, HasCause, refused_of};
 ghost use Rattle.pred_eval.specs.Search.{AreReadFrom};
 ghost use Rattle.stream_plan.specs.Tree.{kind_tree, list_trees, plan_tree};
@@ -42,12 +43,13 @@ impl Model for ReadyPlan {
 }
 
 impl ReadyPlan {
-    /// The plan, which was checked.
-    #[tactic(auto, using(crate::proofs::SoundLaws::faultless_is_sound))]
+    /// The plan, which was checked. Its regular expressions fit into memory.
+    #[tactic(auto, using(crate::proofs::SoundLaws::faultless_is_sound, pred_eval::proofs::SearchLaws::read_length))]
     pub fn plan(&self) -> &Plan
         ensures same { plan_tree result.now ≡ self.now }
         ensures faultless { first_fault self.now ≡ None }
         ensures sound { IsSound self.now }
+        ensures few { length (plan_patterns self.now) ≤ greatest }
     {
         &self.plan
     }

@@ -1,5 +1,5 @@
 use Rattle.std.specs.List.Sorted.{IsStrictlySortedBy}
-use Rattle.live_index.proofs.Writes.{rising-filter}
+use Rattle.index_log.proofs.Rising.{rising-filter}
 use Rattle.live_index.proofs.sorted.SortedEvents.take_expired.Goals as goal
 
 -- memory was wanted, and no event is left

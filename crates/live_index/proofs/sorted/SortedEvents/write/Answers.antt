@@ -1,6 +1,7 @@
 use Rattle.std.proofs.Common.{sym, ◌∙◌, ap, subst}
 use Rattle.std.specs.List.{insert, remove}
-use Rattle.live_index.proofs.Writes.{IsRising, rising-remove, rising-set, rising-insert, removes, replaces, inserts, leaves, stands}
+use Rattle.index_log.proofs.Rising.{IsRising}
+use Rattle.live_index.proofs.Writes.{rising-remove, rising-set, rising-insert, removes, replaces, inserts, leaves, stands}
 use Rattle.live_index.proofs.sorted.SortedEvents.write.Goals as goal
 
 -- the event's place was taken, and the event is over

@@ -1,0 +1,12 @@
+use Rattle.ev_types.specs.declared.item.Item.TheVariants.{One}
+use Rattle.stream_meaning.specs.declared.entry.Entry.TheVariants.{Item as In}
+use Rattle.event_core.specs.Streams.{plan_of}
+use Rattle.event_core.proofs.Moves.{entry-handled}
+use Rattle.event_core.proofs.streams.IndexedStreams.item.Goals as goal
+
+pub returns-clause-moved : goal.returns-clause-moved
+returns-clause-moved g c = λ state holds at.
+    entry-handled (plan_of c.args.self.now) (In (One c.args.event)) (record { tree = c.item.new.self; index = c.handle.new.index }) c.args.self.now.index state
+    c.fresh-outputs.result c.item.new.out c.args.steps.now c.item.new.steps c.args.out.now c.handle.new.out
+    c.fresh-outputs.ensures (c.in_ok-item.ensures.represents state.history holds.history at) holds.log
+    (c.in_ok-item.ensures.grew state.history holds.history at) c.in_ok-handle.ensures.index c.in_ok-handle.ensures.notices

@@ -1,0 +1,17 @@
+use Rattle.stream_meaning.specs.Arrivals.{entered}
+use Rattle.stream_meaning.specs.declared.entry.Entry.TheVariants.{Tick}
+use Rattle.event_core.specs.Streams.{plan_of}
+use Rattle.event_core.proofs.Moves.{both-fronts}
+use Rattle.event_core.proofs.Arriving.{second-moved}
+use Rattle.event_core.proofs.streams.IndexedStreams.second.Goals as goal
+
+pub returns-clause-moved : goal.returns-clause-moved
+returns-clause-moved g c = λ state holds at begins.
+    let plan = plan_of c.args.self.now in
+    let first = c.in_ok-tick.ensures.moved state holds at in
+    second-moved plan (plan_of c.tick.new.self) c.args.clock.now.expiry c.tick.new.self c.sweep.new.self state
+    c.args.out.now c.args.steps.now.forks c.tick.new.out c.tick.new.steps.forks c.sweep.new.out c.sweep.new.steps.forks
+    c.in_ok-tick.ensures.plan first (c.in_ok-sweep.ensures.moved (entered plan Tick state) first.holds at begins)
+
+pub returns-clause-front : goal.returns-clause-front
+returns-clause-front g c = both-fronts c.args.out.now c.tick.new.out c.sweep.new.out c.in_ok-tick.ensures.front c.in_ok-sweep.ensures.front

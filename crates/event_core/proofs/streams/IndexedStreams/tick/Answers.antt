@@ -1,0 +1,11 @@
+use Rattle.stream_meaning.specs.declared.entry.Entry.TheVariants.{Tick}
+use Rattle.event_core.specs.Streams.{plan_of}
+use Rattle.event_core.proofs.Moves.{entry-handled}
+use Rattle.event_core.proofs.streams.IndexedStreams.tick.Goals as goal
+
+pub returns-clause-moved : goal.returns-clause-moved
+returns-clause-moved g c = λ state holds at.
+    entry-handled (plan_of c.args.self.now) (Tick) (record { tree = c.tick.new.self; index = c.handle.new.index }) c.args.self.now.index state
+    c.fresh-outputs.result c.tick.new.out c.args.steps.now c.tick.new.steps c.args.out.now c.handle.new.out
+    c.fresh-outputs.ensures (c.in_ok-tick.ensures.represents state.history holds.history at) holds.log
+    (c.in_ok-tick.ensures.grew state.history holds.history at) c.in_ok-handle.ensures.index c.in_ok-handle.ensures.notices

@@ -1,0 +1,12 @@
+//! Streams, the index that they write to, and the events of it that expire, together.
+#![tactic(auto)]
+
+mod arrivals;
+mod clock;
+mod outputs;
+mod streams;
+
+pub use arrivals::Core;
+
+#[cfg(test)]
+mod tests;

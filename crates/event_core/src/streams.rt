@@ -1,0 +1,246 @@
+ghost use Rattle.std.specs.Prelude.{◌≡◌, ◌==◌, ◌+◌, ◌-◌, ◌%◌, ◌^◌, ◌<◌, ◌≤◌, true, List, [], ◌++◌, map, replicate, length, IfOk, OnErr, OnOk};
+ghost use Rattle.ev_types.specs.declared.event.Event.{Event as StoredEvent};
+ghost use Rattle.ev_types.specs.declared.item.Item.TheVariants.{One};
+ghost use Rattle.ev_types.specs.declared.item.Notice.{Notice as StoredNotice};
+ghost use Rattle.ev_types.specs.Rebirth.{expired_copy};
+ghost use Rattle.stream_meaning.specs.History.{since, begun, moment_of};
+ghost use Rattle.stream_meaning.specs.declared.entry.Entry.TheVariants.{Tick, Item as In};
+ghost use Rattle.stream_meaning.specs.Arrivals.{CoreState, Elapsed, entered, streamed, reaped, swept, arrived, state_from, matching_events};
+ghost use Rattle.index_log.specs.Live.{live_events};
+ghost use Rattle.stream_tree.specs.Tree.{is_built_plan};
+ghost use Rattle.event_core.specs.Streams.{plan_of, Holds, Moved};
+
+use crate::clock::Clock;
+use crate::outputs::handle;
+use ev_types::{Event, Events, KeepKeys, Memory, Notices, Outputs};
+use list_laws::{Ledger, Steps};
+use live_index::LiveIndex;
+use pred_eval::Pred;
+use std::alloc::Global;
+use stream_plan::ReadyPlan;
+use stream_tree::Tree;
+
+/// Streams, and the index that they write to. After a want of memory nothing is known of them.
+#[derive(Drop)]
+pub(crate) struct IndexedStreams {
+    tree: Tree,
+    index: LiveIndex,
+}
+
+impl IndexedStreams {
+    /// The streams of a plan, to which nothing has come, and an index in which nothing was written.
+    pub(crate) fn fresh(
+        alloc: Global,
+        plan: ReadyPlan,
+        start: u64,
+    ) -> Result<IndexedStreams, Memory>
+        requires moment { start ≤ 2 ^ 40 }
+        requires built { is_built_plan plan ≡ true }
+        ensures plan { IfOk result (λ streams. plan_of streams ≡ plan) }
+        ensures holds { IfOk result (λ streams. Holds streams (record { history = since start; log = [] })) }
+    {
+        Ok(IndexedStreams {
+            tree: Tree::fresh(alloc, plan, start)?,
+            index: LiveIndex::fresh(alloc),
+        })
+    }
+
+    /// An event comes to the streams at the moment `now`, the one they are at.
+    pub(crate) fn item<G: Ledger>(
+        &mut self,
+        alloc: Global,
+        event: Event,
+        now: u64,
+        out: &mut Notices,
+        steps: &mut Steps<G>,
+    ) -> Result<(), Memory>
+        requires { now ≤ 2 ^ 40 }
+        ensures plan { plan_of self.new ≡ plan_of self.old }
+        ensures moved { OnOk result ((state : CoreState) → Holds self.old state → moment_of state.history ≡ now
+            → Moved (plan_of self.old) self.new state (entered (plan_of self.old) (In (One event)) state)
+            out.old steps.old.forks out.new steps.new.forks) }
+        ensures front { (more : List StoredNotice) × (out.new ≡ out.old ++ more) }
+    {
+        let mut outputs = Outputs::fresh(alloc);
+        self.tree.item(alloc, event, now, &mut outputs, steps)?;
+        handle(alloc, outputs, &mut self.index, out)?;
+        Ok(())
+    }
+
+    /// A second has passed for the streams, and it is the moment `now`.
+    fn tick<G: Ledger>(
+        &mut self,
+        alloc: Global,
+        now: u64,
+        out: &mut Notices,
+        steps: &mut Steps<G>,
+    ) -> Result<(), Memory>
+        requires { now ≤ 2 ^ 40 }
+        ensures plan { plan_of self.new ≡ plan_of self.old }
+        ensures moved { OnOk result ((state : CoreState) → Holds self.old state → moment_of state.history + 1 ≡ now
+            → Moved (plan_of self.old) self.new state (entered (plan_of self.old) Tick state)
+            out.old steps.old.forks out.new steps.new.forks) }
+        ensures front { (more : List StoredNotice) × (out.new ≡ out.old ++ more) }
+    {
+        let mut outputs = Outputs::fresh(alloc);
+        self.tree.tick(alloc, now, &mut outputs, steps)?;
+        handle(alloc, outputs, &mut self.index, out)?;
+        Ok(())
+    }
+
+    /// Expired events come to the streams again, one after another.
+    fn stream_again<G: Ledger>(
+        &mut self,
+        alloc: Global,
+        expired: Events,
+        keep: &KeepKeys,
+        now: u64,
+        out: &mut Notices,
+        steps: &mut Steps<G>,
+    ) -> Result<(), Memory>
+        requires { now ≤ 2 ^ 40 }
+        ensures plan { plan_of self.new ≡ plan_of self.old }
+        ensures moved { OnOk result ((state : CoreState) → Holds self.old state → moment_of state.history ≡ now
+            → Moved (plan_of self.old) self.new state
+            (streamed (plan_of self.old) (map (λ event. expired_copy keep.now event now) expired) state)
+            out.old steps.old.forks out.new steps.new.forks) }
+        ensures front { (more : List StoredNotice) × (out.new ≡ out.old ++ more) }
+    {
+        for event in expired.into_vec() {
+            let copy = event.reborn(alloc, keep, now)?;
+            self.item(alloc, copy, now, out, steps)?;
+        }
+        Ok(())
+    }
+
+    /// The live events that have expired leave the index, and then come again. Which ones these are is known before the
+    /// first of them comes.
+    fn reap<G: Ledger>(
+        &mut self,
+        alloc: Global,
+        keep: &KeepKeys,
+        now: u64,
+        out: &mut Notices,
+        steps: &mut Steps<G>,
+    ) -> Result<(), Memory>
+        requires { now ≤ 2 ^ 40 }
+        ensures plan { plan_of self.new ≡ plan_of self.old }
+        ensures moved { OnOk result ((state : CoreState) → Holds self.old state → moment_of state.history ≡ now
+            → Moved (plan_of self.old) self.new state (reaped (plan_of self.old) keep.now state)
+            out.old steps.old.forks out.new steps.new.forks) }
+        ensures front { (more : List StoredNotice) × (out.new ≡ out.old ++ more) }
+    {
+        let mut expired = Events::fresh(alloc);
+        self.index.reap(alloc, now, &mut expired, steps)?;
+        self.stream_again(alloc, expired, keep, now, out, steps)?;
+        Ok(())
+    }
+
+    /// What has expired is looked for where the clock says so at the moment `now`: every so many seconds from its start on.
+    fn sweep<G: Ledger>(
+        &mut self,
+        alloc: Global,
+        clock: &Clock,
+        now: u64,
+        out: &mut Notices,
+        steps: &mut Steps<G>,
+    ) -> Result<(), Memory>
+        requires { now ≤ 2 ^ 40 }
+        ensures plan { plan_of self.new ≡ plan_of self.old }
+        ensures moved { OnOk result ((state : CoreState) → Holds self.old state → moment_of state.history ≡ now
+            → begun state.history ≡ clock.now.start
+            → Moved (plan_of self.old) self.new state (swept (plan_of self.old) clock.now.expiry state)
+            out.old steps.old.forks out.new steps.new.forks) }
+        ensures front { (more : List StoredNotice) × (out.new ≡ out.old ++ more) }
+    {
+        let Some(expiry) = &clock.expiry else {
+            return Ok(());
+        };
+        if !is_due(expiry.interval, clock.start, now) {
+            return Ok(());
+        }
+        self.reap(alloc, &expiry.keep, now, out, steps)?;
+        Ok(())
+    }
+
+    /// A second has passed, and it is the moment `now`.
+    fn second<G: Ledger>(
+        &mut self,
+        alloc: Global,
+        clock: &Clock,
+        now: u64,
+        out: &mut Notices,
+        steps: &mut Steps<G>,
+    ) -> Result<(), Memory>
+        requires { now ≤ 2 ^ 40 }
+        ensures plan { plan_of self.new ≡ plan_of self.old }
+        ensures moved { OnOk result ((state : CoreState) → Holds self.old state → moment_of state.history + 1 ≡ now
+            → begun state.history ≡ clock.now.start
+            → Moved (plan_of self.old) self.new state (arrived (plan_of self.old) clock.now.expiry Elapsed state)
+            out.old steps.old.forks out.new steps.new.forks) }
+        ensures front { (more : List StoredNotice) × (out.new ≡ out.old ++ more) }
+    {
+        self.tick(alloc, now, out, steps)?;
+        self.sweep(alloc, clock, now, out, steps)?;
+        Ok(())
+    }
+
+    /// The seconds from the clock's moment to the moment `to` pass, one after another.
+    pub(crate) fn pass<G: Ledger>(
+        &mut self,
+        alloc: Global,
+        clock: &Clock,
+        to: u64,
+        out: &mut Notices,
+        steps: &mut Steps<G>,
+    ) -> Result<(), Memory>
+        requires from { clock.now.moment ≤ to }
+        requires bound { to ≤ 2 ^ 40 }
+        ensures plan { plan_of self.new ≡ plan_of self.old }
+        ensures moved { OnOk result ((state : CoreState) → Holds self.old state → moment_of state.history ≡ clock.now.moment
+            → begun state.history ≡ clock.now.start
+            → Moved (plan_of self.old) self.new state
+            (state_from (plan_of self.old) clock.now.expiry (replicate (to - clock.now.moment) Elapsed) state)
+            out.old steps.old.forks out.new steps.new.forks) }
+        ensures front { (more : List StoredNotice) × (out.new ≡ out.old ++ more) }
+    {
+        for now in clock.moment..to {
+            self.second(alloc, clock, now + 1, out, steps)?;
+        }
+        Ok(())
+    }
+
+    /// Appends copies of the live events that meet the predicate, in the order of the index.
+    pub(crate) fn search<G: Ledger>(
+        &mut self,
+        alloc: Global,
+        pred: &mut Pred,
+        out: &mut Events,
+        steps: &mut Steps<G>,
+    ) -> Result<(), Memory>
+        ensures same { self.new ≡ self.old }
+        ensures pred { pred.new ≡ pred.old }
+        ensures found { OnOk result ((state : CoreState) → Holds self.old state
+            → out.new ≡ out.old ++ matching_events pred.old state.log) }
+        ensures front { OnErr result ((more : List StoredEvent) × (out.new ≡ out.old ++ more)) }
+        ensures forks { steps.new.forks ≡ steps.old.forks }
+    {
+        self.index.search(alloc, pred, out, steps)?;
+        Ok(())
+    }
+
+    /// How many events are live.
+    pub(crate) fn live(&self) -> usize
+        ensures { (state : CoreState) → Holds self.now state → result ≡ length (live_events state.log) }
+    {
+        self.index.len()
+    }
+}
+
+/// Whether the moment is a multiple of so many seconds after `start`.
+fn is_due(interval: u32, start: u64, now: u64) -> bool
+    requires { 0 < interval }
+    ensures { result ≡ ((now - start) % interval == 0) }
+{
+    now.saturating_sub(start) % u64::from(interval) == 0
+}

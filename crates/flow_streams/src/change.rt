@@ -1,0 +1,59 @@
+ghost use Rattle.std.specs.Prelude.{◌≡◌, IfOk, IsTrue, OnOk};
+ghost use Rattle.ev_types.specs.Set.{fits};
+ghost use Rattle.stream_plan.specs.Kinds.{all_fit};
+ghost use Rattle.stream_meaning.specs.Images.{with_sets, with_default, with_defaults, with_tags};
+
+use ev_types::{Event, Memory, Set, Sets, Tags, Value, field_is};
+use std::alloc::Global;
+
+/// The event with all sets made, in order, of which each value has to fit its field. A later set of a field replaces
+/// what an earlier one gave it. The event is changed in place, and nothing of it is copied.
+pub fn apply_sets(alloc: Global, sets: &Sets, event: Event) -> Result<Event, Memory>
+    requires { IsTrue (all_fit sets.now) }
+    ensures { IfOk result (λ changed. changed ≡ with_sets sets.now event) }
+{
+    let mut changed = event;
+    let sets = sets.as_slice();
+    for set in sets {
+        changed.set(alloc, &set.field, &set.value)?;
+    }
+    Ok(changed)
+}
+
+/// The event with each set made whose field holds nothing by then, in order. Each value has to fit its field. The
+/// event is changed in place, and nothing of it is copied.
+pub fn apply_defaults(alloc: Global, sets: &Sets, event: Event) -> Result<Event, Memory>
+    requires { IsTrue (all_fit sets.now) }
+    ensures { IfOk result (λ changed. changed ≡ with_defaults sets.now event) }
+{
+    let mut changed = event;
+    let sets = sets.as_slice();
+    for set in sets {
+        apply_default(alloc, set, &mut changed)?;
+    }
+    Ok(changed)
+}
+
+/// The event with each tag added behind those that it has, in order, where it is none of them by then. The event is
+/// changed in place, and nothing of it is copied.
+pub fn apply_tags(alloc: Global, tags: &Tags, event: Event) -> Result<Event, Memory>
+    ensures { IfOk result (λ changed. changed ≡ with_tags tags.now event) }
+{
+    let mut changed = event;
+    let tags = tags.as_slice();
+    for tag in tags {
+        changed.add_tag(alloc, tag)?;
+    }
+    Ok(changed)
+}
+
+// Makes the set where its field holds nothing.
+fn apply_default(alloc: Global, set: &Set, event: &mut Event) -> Result<(), Memory>
+    requires { IsTrue (fits set.now.field set.now.value) }
+    ensures { OnOk result (event.new ≡ with_default event.old set.now) }
+{
+    if field_is(event, &set.field, &Value::Nil) {
+        event.set(alloc, &set.field, &set.value)?;
+    }
+    Ok(())
+}

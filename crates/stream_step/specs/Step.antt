@@ -1,0 +1,88 @@
+-- What one stream does at an entry, and what it keeps between entries.
+use Rattle.std.specs.Prelude.{◌≡◌, ℕ, zero, suc, Bool, true, false, List, [], ◌∷◌, ◌++◌, length, map}
+use Rattle.ev_types.specs.declared.item.Emission.{Emission as CodeEmission}
+use Rattle.ev_types.specs.declared.item.Output.{Output}
+use Rattle.pred_eval.specs.Truth.{searches}
+use Rattle.stream_plan.specs.Kinds.{is_in_range}
+use Rattle.stream_plan.specs.Tree.{KindTree, Index, Notice, Sdo, Where, With, Default, Tag}
+use Rattle.stream_meaning.specs.declared.entry.Entry.{Entry}
+use Rattle.stream_meaning.specs.declared.entry.Entry.TheVariants.{Tick, Item as In}
+use Rattle.stream_meaning.specs.History.{History, ◌▸◌}
+use Rattle.stream_meaning.specs.Emission.{Branch as MeantBranch, Children as children, Otherwise as otherwise, Emission, to, emissions}
+use Rattle.stream_meaning.specs.Laws.{own_outputs}
+use Rattle.stream_step.specs.declared.passed.Branch.{Branch}
+use Rattle.stream_step.specs.declared.passed.Branch.TheVariants.{Children, Otherwise}
+use Rattle.stream_step.specs.declared.passed.Passed.{Passed}
+use Rattle.stream_step.specs.declared.passed.Passed.TheVariants.{Nothing, Same, Made}
+use Rattle.stream_step.specs.declared.state.State.{State}
+use Rattle.stream_step.specs.declared.state.State.TheVariants.{Bare, Rule}
+
+-- the kinds that run so far
+abbrev pub is_built_kind : KindTree → Bool
+is_built_kind Index = true
+is_built_kind (Notice name) = true
+is_built_kind Sdo = true
+is_built_kind (Where rule) = true
+is_built_kind (With sets) = true
+is_built_kind (Default sets) = true
+is_built_kind (Tag tags) = true
+is_built_kind _ = false
+
+-- ---- what is passed on
+
+abbrev pub branch_meant : Branch → MeantBranch
+branch_meant Children = children
+branch_meant Otherwise = otherwise
+
+-- 0 is the children's number, and each other one that of `else`
+abbrev pub branch_numbered : ℕ → MeantBranch
+branch_numbered zero = children
+branch_numbered (suc n) = otherwise
+
+abbrev pub emission_meant : CodeEmission → Emission
+emission_meant emission = record { branch = branch_numbered emission.branch; item = emission.item }
+
+-- what comes, as it came
+abbrev pub passed_same : MeantBranch → Entry → List Emission
+passed_same branch Tick = []
+passed_same branch (In item) = to branch item
+
+abbrev pub emissions_meant : Passed → Entry → List Emission
+emissions_meant Nothing x = []
+emissions_meant (Same branch) x = passed_same (branch_meant branch) x
+emissions_meant (Made es) x = map emission_meant es
+
+-- ---- what is kept
+
+-- the texts of a rule stand among all texts, so many from this number on
+pub record StandAt (own : List (List ℕ)) (first count : ℕ) (texts : List (List ℕ)) : Type 0 where
+  pub before : List (List ℕ)
+  pub after : List (List ℕ)
+  pub begins : length before ≡ first
+  pub counted : length own ≡ count
+  pub among : texts ≡ before ++ (own ++ after)
+
+-- a `where` keeps where its regular expressions stand among those of the whole plan, the others keep nothing
+abbrev pub Keeps : List (List ℕ) → KindTree → State → Type 0
+Keeps texts (Where rule) (Rule first count) = StandAt (searches rule) first count texts
+Keeps texts (Where rule) Bare = ⊥
+Keeps texts kind state = Unit {0}
+
+-- The state of a stream has come to where it would be if all of this history had come to it. The texts are those of the
+-- regular expressions of the whole plan.
+pub record StateStands (texts : List (List ℕ)) (kind : KindTree) (state : State) (h : History) : Type 0 where
+  pub built : is_built_kind kind ≡ true
+  pub in_range : is_in_range kind ≡ true
+  pub keeps : Keeps texts kind state
+
+-- ---- what one entry does
+
+-- the second list is the first with more behind it
+abbrev pub Extends : List Output → List Output → Type 0
+Extends old new = (more : List Output) × (new ≡ old ++ more)
+
+-- after one more entry the state stands, the stream has said its own, and this is what it passes on
+pub record Acts (texts : List (List ℕ)) (kind : KindTree) (old new : State) (h : History) (x : Entry) (before after : List Output) (passed : Passed) : Type 0 where
+  pub stands : StateStands texts kind new (h ▸ x)
+  pub said : after ≡ before ++ own_outputs kind (h ▸ x)
+  pub passes : emissions_meant passed x ≡ emissions kind (h ▸ x)

@@ -1,0 +1,116 @@
+-- An entry on its way along a list of streams: the first so many have got it.
+use Rattle.std.proofs.Common.{◌≡◌, ℕ, zero, suc, ◌+◌, ◌<◌, ◌≤◌, min, List, [], ◌∷◌, ◌++◌, length, take, get_or, refl, sym, ap, ◌∙◌, subst, arith}
+use Rattle.std.proofs.Math.ListN.{set}
+use Rattle.std.proofs.lemmas.List.{append-nil, append_assoc, take_more, take_all}
+use Rattle.ev_types.specs.declared.item.Output.{Output}
+use Rattle.list_laws.specs.Counts.{StepCount}
+use Rattle.pred_eval.specs.Search.{AreReadFrom}
+use Rattle.regex.specs.declared.string.regex.Regex.{Regex}
+use Rattle.stream_plan.specs.declared.plan.Stream.{Stream}
+use Rattle.stream_plan.specs.Search.{opened}
+use Rattle.stream_plan.specs.Tree.{StreamTree, StreamTrees, stream, none, also, stream_tree, list_trees}
+use Rattle.stream_plan.proofs.Trees.{stream_tree-opened}
+use Rattle.stream_meaning.specs.declared.entry.Entry.{Entry}
+use Rattle.stream_meaning.specs.History.{History, ◌▸◌, moment_of}
+use Rattle.stream_meaning.specs.Outputs.{Happening, happens, all_happens}
+use Rattle.stream_tree.specs.declared.forest.Node.{Node, out-Node}
+use Rattle.stream_tree.specs.Forest.{NodeStands, ForestStands}
+use Rattle.stream_tree.specs.Running.{ForestRuns, StreamRuns}
+use Rattle.stream_tree.specs.Tree.{Grew}
+use Rattle.stream_tree.proofs.GrewLaws.{grew_none, grew_then}
+
+-- the first so many nodes stand for one entry more
+abbrev pub Halfway : List (List ℕ) → ℕ → StreamTrees → List Node → History → Entry → Type 0
+Halfway texts zero streams nodes h x = ForestStands texts streams nodes h
+Halfway texts (suc i) none nodes h x = ForestStands texts none nodes h
+Halfway texts (suc i) (also first more) [] h x = ⊥
+Halfway texts (suc i) (also first more) (node ∷ nodes) h x = NodeStands texts first node (h ▸ x) × Halfway texts i more nodes h x
+
+module _ (texts : List (List ℕ)) (h : History) (x : Entry) where
+  half_here : (streams : List Stream) (nodes : List Node) (i : ℕ) (s : Stream) (node : Node) → i < length streams → i < length nodes →
+      Halfway texts i (list_trees streams) nodes h x → NodeStands texts (opened (get_or streams i s)) (get_or nodes i node) h
+  half_here [] nodes i s node within within' half = absurd (omega (arith, within))
+  half_here (first ∷ streams) [] i s node within within' half = absurd (omega (arith, within'))
+  half_here (first ∷ streams) (other ∷ nodes) zero s node within within' half =
+      subst (λ (t : StreamTree). NodeStands texts t other h) (stream_tree-opened first) half.0
+  half_here (first ∷ streams) (other ∷ nodes) (suc i) s node within within' half =
+      half_here streams nodes i s node (omega (arith, within)) (omega (arith, within')) half.1
+
+  half_more : (streams : List Stream) (nodes : List Node) (i : ℕ) (s : Stream) (node : Node) → i < length streams → i < length nodes →
+      Halfway texts i (list_trees streams) nodes h x → NodeStands texts (opened (get_or streams i s)) node (h ▸ x) → Halfway texts (suc i) (list_trees streams) (set nodes i node) h x
+  half_more [] nodes i s node within within' half now = absurd (omega (arith, within))
+  half_more (first ∷ streams) [] i s node within within' half now = absurd (omega (arith, within'))
+  half_more (first ∷ streams) (other ∷ nodes) zero s node within within' half now =
+      (subst (λ (t : StreamTree). NodeStands texts t node (h ▸ x)) (sym (stream_tree-opened first)) now, half.1)
+  half_more (first ∷ streams) (other ∷ nodes) (suc i) s node within within' half now =
+      (half.0, half_more streams nodes i s node (omega (arith, within)) (omega (arith, within')) half.1 now)
+
+  half_all : (streams : List Stream) (nodes : List Node) (i : ℕ) → min (length streams) (length nodes) ≤ i →
+      Halfway texts i (list_trees streams) nodes h x → ForestStands texts (list_trees streams) nodes (h ▸ x)
+  half_all [] [] i past half = tt
+  half_all [] (node ∷ nodes) zero past half = half
+  half_all [] (node ∷ nodes) (suc i) past half = half
+  half_all (first ∷ streams) [] zero past half = half
+  half_all (first ∷ streams) [] (suc i) past half = half
+  half_all (first ∷ streams) (node ∷ nodes) zero past half = absurd (omega (arith, past))
+  half_all (first ∷ streams) (node ∷ nodes) (suc i) past half = (half.0, half_all streams nodes i (omega (arith, past)) half.1)
+
+-- there is a node for each stream
+forest_long : (texts : List (List ℕ)) (streams : List Stream) (nodes : List Node) (h : History) → ForestStands texts (list_trees streams) nodes h → length streams ≤ length nodes
+forest_long texts [] nodes h stands = omega arith
+forest_long texts (first ∷ streams) [] h stands = absurd stands
+forest_long texts (first ∷ streams) (node ∷ nodes) h stands = omega (arith, forest_long texts streams nodes h stands.1)
+
+all_happens-append : (front back : List Stream) (h : History) → all_happens (list_trees (front ++ back)) h ≡ all_happens (list_trees front) h ++ all_happens (list_trees back) h
+all_happens-append [] back h = refl
+all_happens-append (s ∷ front) back h =
+    ap (λ (l : List Happening). happens (stream_tree s) h ++ l) (all_happens-append front back h)
+    ∙ sym (append_assoc (happens (stream_tree s) h) (all_happens (list_trees front) h) (all_happens (list_trees back) h))
+
+all_happens-take : (streams : List Stream) (i : ℕ) (s : Stream) (h : History) → i < length streams →
+    all_happens (list_trees (take (i + 1) streams)) h ≡ all_happens (list_trees (take i streams)) h ++ happens (opened (get_or streams i s)) h
+all_happens-take streams i s h within =
+    let here = get_or streams i s in
+    ap (λ (l : List Stream). all_happens (list_trees l) h) (take_more streams i s within)
+    ∙ all_happens-append (take i streams) (here ∷ []) h
+    ∙ ap (λ (l : List Happening). all_happens (list_trees (take i streams)) h ++ l) (append-nil (happens (stream_tree here) h) ∙ ap (λ (t : StreamTree). happens t h) (stream_tree-opened here))
+
+-- ---- the loop
+
+module _ {G : Type 0} (patterns : List Regex) (moment : ℕ) (x : Entry) (a : List Output) (t : StepCount G) (streams : List Stream) (first : List Node) where
+  -- the first so many streams have got the entry
+  abbrev pub ForestRan : ℕ → List Node → List Output → StepCount G → Type 0
+  ForestRan i nodes b u = (texts : List (List ℕ)) (h : History) → AreReadFrom texts patterns → ForestStands texts (list_trees streams) first h → moment_of (h ▸ x) ≡ moment →
+      Halfway texts i (list_trees streams) nodes h x × Grew a t b u (all_happens (list_trees (take i streams)) (h ▸ x))
+
+  pub forest_begins : ForestRan 0 first a t
+  forest_begins texts h from stands now = (stands, grew_none a t)
+
+  pub forest_more : (i : ℕ) (nodes : List Node) (b c : List Output) (u v : StepCount G) (s : Stream) (node node' other : Node) →
+      i < length streams → i < length nodes → s ≡ get_or streams i s → node ≡ get_or nodes i other → ForestRan i nodes b u →
+      StreamRuns patterns moment x b u c v (opened s) (out-Node node).state (out-Node node).children.items (out-Node node).otherwise.items
+      (out-Node node').state (out-Node node').children.items (out-Node node').otherwise.items →
+      ForestRan (i + 1) (set nodes i node') c v
+  forest_more i nodes b c u v s node node' other within within' is is' so_far runs texts h from stands now =
+      let before = so_far texts h from stands now in
+      let at_place : NodeStands texts (opened (get_or streams i s)) (get_or nodes i other) h = half_here texts h x streams nodes i s other within within' before.0 in
+      let here : NodeStands texts (opened s) node h =
+      subst (λ (n : Node). NodeStands texts (opened s) n h) (sym is') (subst (λ (r : Stream). NodeStands texts (opened r) (get_or nodes i other) h) (sym is) at_place) in
+      let ran = runs texts h from here now in
+      let done : NodeStands texts (opened (get_or streams i s)) node' (h ▸ x) = subst (λ (r : Stream). NodeStands texts (opened r) node' (h ▸ x)) is ran.0 in
+      let half : Halfway texts (suc i) (list_trees streams) (set nodes i node') h x = half_more texts h x streams nodes i s node' within within' before.0 done in
+      let number : suc i ≡ i + 1 = omega arith in
+      let happened : all_happens (list_trees (take i streams)) (h ▸ x) ++ happens (opened s) (h ▸ x) ≡ all_happens (list_trees (take (i + 1) streams)) (h ▸ x) =
+      ap (λ (r : Stream). all_happens (list_trees (take i streams)) (h ▸ x) ++ happens (opened r) (h ▸ x)) is ∙ sym (all_happens-take streams i s (h ▸ x) within) in (
+        subst (λ (n : ℕ). Halfway texts n (list_trees streams) (set nodes i node') h x) number half,
+        subst (λ (hs : List Happening). Grew a t c v hs) happened
+            (grew_then a b c t u v (all_happens (list_trees (take i streams)) (h ▸ x)) (happens (opened s) (h ▸ x)) before.1 ran.1),
+      )
+
+  pub forest_ends : (i : ℕ) (nodes : List Node) (b : List Output) (u : StepCount G) → min (length streams) (length nodes) ≤ i → length nodes ≡ length first →
+      ForestRan i nodes b u → ForestRuns patterns moment x a t b u (list_trees streams) first nodes
+  forest_ends i nodes b u past same so_far texts h from stands now =
+      let ran = so_far texts h from stands now in
+      let long = forest_long texts streams first h stands in
+      let all : take i streams ≡ streams = take_all i streams (omega (arith, past, same, long)) in
+      (half_all texts h x streams nodes i past ran.0, subst (λ (l : List Stream). Grew a t b u (all_happens (list_trees l) (h ▸ x))) all ran.1)

@@ -1,0 +1,5 @@
+pub mod BuiltLaws
+pub mod GrewLaws
+pub mod BelowLaws
+pub mod ForestLaws
+pub mod FreshLaws

@@ -1,0 +1,4 @@
+pub mod Forest
+pub mod Fresh
+pub mod Running
+pub mod Tree

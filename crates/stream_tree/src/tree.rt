@@ -1,0 +1,134 @@
+ghost use Rattle.std.specs.Prelude.{◌≡◌, ◌≤◌, ◌+◌, ◌^◌, true, false, List, ◌++◌, IfOk, OnOk, OnErr, IsErr, IsTrue};
+ghost use Rattle.ev_types.specs.declared.item.Item.TheVariants.{One};
+ghost use Rattle.ev_types.specs.declared.item.Output.{Output as SaidOutput};
+ghost use Rattle.stream_meaning.specs.declared.entry.Entry.TheVariants.{Tick, Item as In};
+ghost use Rattle.stream_meaning.specs.History.{History, ◌▸◌, begun, moment_of, TicksAlone};
+ghost use Rattle.stream_meaning.specs.Outputs.{all_happens};
+ghost use Rattle.stream_step.specs.Step.{Extends};
+ghost use Rattle.stream_tree.specs.Tree.{is_built_plan, plan_of, is_poisoned, Represents, Grew};
+
+use crate::forest::{Forest, fresh_forest};
+use crate::run::run_forest;
+use ev_types::{Event, Item, Memory, Outputs};
+use list_laws::{Ledger, Steps};
+use std::alloc::Global;
+use stream_meaning::Entry;
+use stream_plan::ReadyPlan;
+use stream_step::Setting;
+
+/// A plan of streams that runs. Where memory was wanted inside, it is poisoned, and each later call that can answer
+/// `Memory` does.
+#[derive(Drop)]
+pub struct Tree {
+    plan: ReadyPlan,
+    forest: Forest,
+    poisoned: bool,
+}
+
+impl Tree {
+    /// A tree to which nothing has come, at the moment `start`, in seconds since 1970.
+    pub fn fresh(alloc: Global, plan: ReadyPlan, start: u64) -> Result<Tree, Memory>
+        requires start { start ≤ 2 ^ 40 }
+        requires built { is_built_plan plan ≡ true }
+        ensures plan { IfOk result (λ tree. plan_of tree ≡ plan) }
+        ensures represents { IfOk result (λ tree. (h : History) → TicksAlone h → begun h ≡ start → Represents tree h) }
+    {
+        let forest = fresh_forest(alloc, &plan.plan().streams, &mut 0)?;
+        Ok(Tree {
+            plan,
+            forest,
+            poisoned: false,
+        })
+    }
+
+    /// The event comes to the streams at the moment `now`. What they say is appended to `out`. After a want of memory
+    /// the tree is poisoned, and `out` begins with what it had.
+    pub fn item<G: Ledger>(
+        &mut self,
+        alloc: Global,
+        event: Event,
+        now: u64,
+        out: &mut Outputs,
+        steps: &mut Steps<G>,
+    ) -> Result<(), Memory>
+        requires { now ≤ 2 ^ 40 }
+        ensures plan { plan_of self.new ≡ plan_of self.old }
+        ensures grew { OnOk result ((h : History) → Represents self.old h → moment_of h ≡ now →
+            Grew out.old steps.old out.new steps.new (all_happens (plan_of self.old) (h ▸ In (One event)))) }
+        ensures represents { OnOk result ((h : History) → Represents self.old h → moment_of h ≡ now →
+            Represents self.new (h ▸ In (One event))) }
+        ensures poisoned { IsTrue (is_poisoned self.old) → IsErr result }
+        ensures err { OnErr result (IsTrue (is_poisoned self.new)) }
+        ensures sound { OnOk result (is_poisoned self.new ≡ false) }
+        ensures front { (more : List SaidOutput) × (out.new ≡ out.old ++ more) }
+    {
+        let entry = Entry::Item(Item::One(event));
+        self.enter(alloc, &entry, now, out, steps)?;
+        Ok(())
+    }
+
+    /// One more second has passed, and it is the moment `now`. What the streams say is appended to `out`. After a
+    /// want of memory the tree is poisoned, and `out` begins with what it had.
+    pub fn tick<G: Ledger>(
+        &mut self,
+        alloc: Global,
+        now: u64,
+        out: &mut Outputs,
+        steps: &mut Steps<G>,
+    ) -> Result<(), Memory>
+        requires { now ≤ 2 ^ 40 }
+        ensures plan { plan_of self.new ≡ plan_of self.old }
+        ensures grew { OnOk result ((h : History) → Represents self.old h → moment_of h + 1 ≡ now →
+            Grew out.old steps.old out.new steps.new (all_happens (plan_of self.old) (h ▸ Tick))) }
+        ensures represents { OnOk result ((h : History) → Represents self.old h → moment_of h + 1 ≡ now →
+            Represents self.new (h ▸ Tick)) }
+        ensures poisoned { IsTrue (is_poisoned self.old) → IsErr result }
+        ensures err { OnErr result (IsTrue (is_poisoned self.new)) }
+        ensures sound { OnOk result (is_poisoned self.new ≡ false) }
+        ensures front { (more : List SaidOutput) × (out.new ≡ out.old ++ more) }
+    {
+        self.enter(alloc, &Entry::Tick, now, out, steps)?;
+        Ok(())
+    }
+
+    /// The entry comes to the streams.
+    fn enter<G: Ledger>(
+        &mut self,
+        alloc: Global,
+        entry: &Entry,
+        now: u64,
+        out: &mut Outputs,
+        steps: &mut Steps<G>,
+    ) -> Result<(), Memory>
+        ensures plan { plan_of self.new ≡ plan_of self.old }
+        ensures grew { OnOk result ((h : History) → Represents self.old h → moment_of (h ▸ entry.now) ≡ now →
+            Grew out.old steps.old out.new steps.new (all_happens (plan_of self.old) (h ▸ entry.now))) }
+        ensures represents { OnOk result ((h : History) → Represents self.old h → moment_of (h ▸ entry.now) ≡ now →
+            Represents self.new (h ▸ entry.now)) }
+        ensures poisoned { IsTrue (is_poisoned self.old) → IsErr result }
+        ensures err { OnErr result (IsTrue (is_poisoned self.new)) }
+        ensures sound { OnOk result (is_poisoned self.new ≡ false) }
+        ensures front { Extends out.old out.new }
+    {
+        if self.poisoned {
+            return Err(Memory);
+        }
+        self.poisoned = true;
+        let setting = Setting {
+            patterns: self.plan.patterns(),
+            moment: now,
+        };
+        let streams = &self.plan.plan().streams;
+        run_forest(
+            alloc,
+            streams,
+            &mut self.forest,
+            entry,
+            &setting,
+            out,
+            steps,
+        )?;
+        self.poisoned = false;
+        Ok(())
+    }
+}
