@@ -1,4 +1,7 @@
+pub mod CheckLaws
 pub mod EndingLaws
+pub mod FetchLaws
+pub mod PlanLaws
 pub mod ProgressLaws
 pub mod ReadLaws
 pub mod ReplyLaws

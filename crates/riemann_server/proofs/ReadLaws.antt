@@ -1,9 +1,10 @@
 -- What was read, put together from what one read after another says.
 use Rattle.std.proofs.Common.{◌≡◌, ◌≢◌, ℕ, suc, true, false, List, [], ◌∷◌, ◌++◌, refl, ap, sym, ◌∙◌, subst, arith}
-use Rattle.std.specs.Prelude.{Option, Some}
-use Rattle.std.specs.Option.{ForSome, option_map}
+use Rattle.std.specs.Prelude.{Option}
+use Rattle.std.specs.Option.{option_map}
 use Rattle.ports.specs.Reading.{Content}
 use Rattle.ports.specs.declared.store.StoreRead.{StoreRead}
+use Rattle.riemann_server.specs.declared.outcome.ConfigRefusal.{ConfigRefusal}
 use Rattle.riemann_server.specs.declared.outcome.Outcome.{Outcome}
 use Rattle.riemann_server.specs.declared.outcome.Outcome.TheVariants as outcomes
 use Rattle.riemann_server.specs.declared.outcome.Source.{Source}
@@ -12,7 +13,7 @@ use Rattle.riemann_server.specs.declared.status.Status.TheVariants.{Config, Read
 use Rattle.riemann_server.proofs.Sinks.{appended_twice}
 use Rattle.framing.specs.Frames.{frames_of}
 use Rattle.riemann_server.proofs.VerdictLaws.{no_verdicts}
-use Rattle.riemann_server.specs.Endings.{AnswersMessages, IsPlain, plain_index, LastFailed, last_name}
+use Rattle.riemann_server.specs.Endings.{AnswersMessages, IsPlain, LastFailed, last_name}
 use Rattle.riemann_server.specs.Verdicts.{PatternsState}
 use Rattle.riemann_server.specs.Outcome.{ExplainsFed, FedReads, FeedReads, Runs, of_source, status_of}
 
@@ -26,7 +27,7 @@ pub runs_without_fault : (bytes : List ℕ) (patterns patterns' : PatternsState)
 runs_without_fault bytes patterns patterns' out out' outcomes.Done runs e = cc
 runs_without_fault bytes patterns patterns' out out' (outcomes.Truncated left) runs e = cc
 runs_without_fault bytes patterns patterns' out out' outcomes.SinkFault runs e = cc
-runs_without_fault bytes patterns patterns' out out' outcomes.Config runs e = cc
+runs_without_fault bytes patterns patterns' out out' (outcomes.Config refusal) runs e = cc
 runs_without_fault bytes patterns patterns' out out' (outcomes.ReadFault source) runs e = absurd runs
 runs_without_fault bytes patterns patterns' out out' (outcomes.TooLong source) runs e = cc
 runs_without_fault bytes patterns patterns' out out' outcomes.Memory runs e = cc
@@ -68,9 +69,9 @@ fed_not_read old new file grew = record {
 }
 
 -- the same of the configuration, where the fed file was not come to
-pub config_refused : (old new : Option (List StoreRead)) (config file : List ℕ) (content : Content) → new ≡ option_map (λ reads. reads ++ good config ∷ []) old
-    → FeedReads old new config file content outcomes.Config
-config_refused old new config file content grew = record {
+pub config_refused : (old new : Option (List StoreRead)) (config file : List ℕ) (content : Content) (refusal : ConfigRefusal) → new ≡ option_map (λ reads. reads ++ good config ∷ []) old
+    → FeedReads old new config file content (outcomes.Config refusal)
+config_refused old new config file content refusal grew = record {
   made = good config ∷ [];
   grew = grew;
   named = refl;
@@ -110,6 +111,20 @@ config_unread old new config file content grew = record {
   too_long = λ source e. absurd (cc e);
 }
 
+pub config_wanting : (old new : Option (List StoreRead)) (config file : List ℕ) (content : Content) → new ≡ option_map (λ reads. reads ++ good config ∷ []) old
+    → FeedReads old new config file content outcomes.Memory
+config_wanting old new config file content grew = record {
+  made = good config ∷ [];
+  grew = grew;
+  named = refl;
+  order = λ two. absurd (omega arith);
+  config_alone = λ e. absurd (cc e);
+  both = λ ran. absurd ran;
+  fault = λ source e. absurd (cc e);
+  no_fault = λ _. (refl, tt);
+  too_long = λ source e. absurd (cc e);
+}
+
 pub config_not_read : (old new : Option (List StoreRead)) (config file : List ℕ) (content : Content) → new ≡ option_map (λ reads. reads ++ []) old
     → FeedReads old new config file content outcomes.Memory
 config_not_read old new config file content grew = record {
@@ -138,12 +153,9 @@ unread_source content taken taken' outcome source explains e = subst (ExplainsFe
 too_long_source : (content : Content) (taken taken' : ℕ) (outcome : Outcome) (source : Source) → ExplainsFed content taken taken' outcome → outcome ≡ outcomes.TooLong source → source ≡ sources.Fed
 too_long_source content taken taken' outcome source explains e = (subst (ExplainsFed content taken taken') e explains).0
 
-pub plain_held : (content : Content) (text : List ℕ) → ForSome content (λ held. held ≡ Some text) → text ≡ plain_index → IsPlain content
-plain_held content text tells plain = λ held told. (text, tells held told, plain)
-
 not_refused : (content : Content) (taken taken' : ℕ) (outcome : Outcome) → ExplainsFed content taken taken' outcome → status_of outcome ≡ Config → ⊥
 not_refused content taken taken' outcomes.Done explains e = cc
-not_refused content taken taken' outcomes.Config explains e = explains
+not_refused content taken taken' (outcomes.Config refusal) explains e = explains
 not_refused content taken taken' (outcomes.ReadFault source) explains e = cc
 not_refused content taken taken' (outcomes.TooLong source) explains e = cc
 not_refused content taken taken' (outcomes.Truncated left) explains e = cc

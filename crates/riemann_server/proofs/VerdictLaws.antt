@@ -1,6 +1,6 @@
 -- How verdicts on patterns add up over messages.
 use Rattle.std.proofs.Common.{◌≡◌, ℕ, ◌≤◌, ◌<◌, ◌||◌, Bool, true, false, List, [], ◌∷◌, ◌++◌, length, refl, ap, sym, ◌∙◌, arith, append-nil, append_assoc}
-use Rattle.std.specs.Prelude.{IsTrue, IfSome, Option, Some, None, is_some, option_map, option_to_list, slice_index_or}
+use Rattle.std.specs.Prelude.{IsTrue, Option, Some, None, option_map, option_to_list, slice_index_or}
 use Rattle.std.specs.List.{AllByRecursion, list_any}
 use Rattle.std.proofs.lemmas.Option.{slice_get-get_or}
 use Rattle.ports.specs.Counts.{Rose}

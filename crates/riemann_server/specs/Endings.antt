@@ -1,6 +1,6 @@
 -- What each status says of what was read and written.
-use Rattle.std.specs.Prelude.{◌≡◌, ◌≢◌, ℕ, ◌+◌, ◌≤◌, ◌⊎◌, true, false, List, [], ◌∷◌, ◌++◌, length, take, map, codes, Option, Some}
-use Rattle.std.specs.Option.{ForSome, option_map}
+use Rattle.std.specs.Prelude.{◌≡◌, ◌≢◌, ℕ, ◌+◌, ◌≤◌, ◌⊎◌, true, false, List, [], ◌∷◌, ◌++◌, length, take, map, Option}
+use Rattle.std.specs.Option.{option_map}
 use Rattle.framing.specs.Frames.{frames_of, partial}
 use Rattle.ports.specs.Counts.{RoseBy}
 use Rattle.ports.specs.Reading.{Content, IsHeld, IsOverLimit}
@@ -9,7 +9,9 @@ use Rattle.ports.specs.declared.store.StoreRead.{StoreRead}
 use Rattle.riemann_server.specs.declared.server.TheConstants.{CONFIG_LIMIT, FILE_LIMIT}
 use Rattle.riemann_server.specs.declared.status.Status.{Status}
 use Rattle.riemann_server.specs.declared.status.Status.TheVariants.{Done, Usage, Config, ReadFault, SinkFault, Memory, Truncated, TooLong}
-use Rattle.riemann_server.specs.Lines.{config_line, unread_line, too_long_line, left_line, memory_line}
+use Rattle.riemann_server.specs.declared.outcome.ConfigRefusal.{ConfigRefusal}
+use Rattle.riemann_server.specs.Configs.{FeedRefuses, ForConfig, ForHeld, IsPlainIndex}
+use Rattle.riemann_server.specs.Lines.{left_line, memory_line, refusal_line, too_long_line, unread_line}
 use Rattle.riemann_server.specs.Replies.{replies_to}
 use Rattle.riemann_server.specs.Verdicts.{AfterVerdicts, Judged, PatternsState, body_of}
 
@@ -24,23 +26,16 @@ code_of Memory = 6
 code_of Truncated = 8
 code_of TooLong = 9
 
--- the one configuration there is
-abbrev pub plain_index : List ℕ
-plain_index = codes "(streams index)"
-
--- where a store tells its contents, bytes stand under a name, and they are so
-abbrev pub ForHeld : Content → (List ℕ → Type 0) → Type 0
-ForHeld content P = ForSome content (λ held. (bytes : List ℕ) × (held ≡ Some bytes) × P bytes)
-
+-- a configuration of the index alone stands there
 abbrev pub IsPlain : Content → Type 0
-IsPlain config = ForHeld config (λ text. text ≡ plain_index)
+IsPlain config = ForConfig config IsPlainIndex
 
 -- What a status says of the contents of the two files, where the store tells them.
 abbrev pub Explains : Content → Content → Status → Type 0
 Explains config file Done = IsPlain config × ForHeld file (λ bytes. (length bytes ≤ FILE_LIMIT) × (partial bytes ≡ []))
 Explains config file Truncated = IsPlain config × ForHeld file (λ bytes. (length bytes ≤ FILE_LIMIT) × (partial bytes ≢ []))
 Explains config file SinkFault = IsPlain config × ForHeld file (λ bytes. length bytes ≤ FILE_LIMIT)
-Explains config file Config = ForHeld config (λ text. (length text ≤ CONFIG_LIMIT) × (text ≢ plain_index))
+Explains config file Config = (refusal : ConfigRefusal) × FeedRefuses config refusal
 Explains config file TooLong = IsOverLimit config CONFIG_LIMIT ⊎ (IsPlain config × IsOverLimit file FILE_LIMIT)
 Explains config file ReadFault = Unit {0}
 Explains config file Usage = Unit {0}
@@ -156,15 +151,15 @@ HasNoReply TooLong = Unit {0}
 
 -- What the error stream got: the line of the status, or a front of it where a write failed. The lines that name a
 -- file are said beside the reads, and the usage line beside its cause.
-abbrev pub Says : Content → Status → SinkState → SinkState → Type 0
-Says file Config err err' = GotLine err config_line err'
-Says file Memory err err' = GotLine err memory_line err'
-Says file Truncated err err' = (count : ℕ) × ForHeld file (λ bytes. count ≡ length (partial bytes)) × GotLine err (left_line count) err'
-Says file ReadFault err err' = Unit {0}
-Says file TooLong err err' = Unit {0}
-Says file Usage err err' = Unit {0}
-Says file Done err err' = Unit {0}
-Says file SinkFault err err' = Unit {0}
+abbrev pub Says : Content → Content → Status → SinkState → SinkState → Type 0
+Says config file Config err err' = (refusal : ConfigRefusal) × FeedRefuses config refusal × GotLine err (refusal_line refusal) err'
+Says config file Memory err err' = GotLine err memory_line err'
+Says config file Truncated err err' = (count : ℕ) × ForHeld file (λ bytes. count ≡ length (partial bytes)) × GotLine err (left_line count) err'
+Says config file ReadFault err err' = Unit {0}
+Says config file TooLong err err' = Unit {0}
+Says config file Usage err err' = Unit {0}
+Says config file Done err err' = Unit {0}
+Says config file SinkFault err err' = Unit {0}
 
 -- the statuses that have no line
 abbrev pub HasNoLine : Status → Type 0

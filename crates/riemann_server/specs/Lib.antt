@@ -1,8 +1,12 @@
 pub mod Words
+pub mod Commands
 pub mod Bodies
 pub mod Verdicts
 pub mod Replies
 pub mod Lines
+pub mod Configs
 pub mod Endings
 pub mod Outcome
+pub mod Fetches
+pub mod Checks
 pub mod Progress

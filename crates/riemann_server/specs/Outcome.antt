@@ -1,4 +1,4 @@
--- What an outcome of `feed` says, from which status and line follow.
+-- What an outcome of a command says, from which status and line follow.
 use Rattle.std.specs.Prelude.{◌≡◌, ◌≢◌, ℕ, ◌+◌, ◌≤◌, List, [], ◌∷◌, ◌++◌, length, take, map, Option}
 use Rattle.std.specs.Option.{option_map}
 use Rattle.framing.specs.Frames.{partial}
@@ -13,13 +13,14 @@ use Rattle.riemann_server.specs.declared.outcome.Source.{Source}
 use Rattle.riemann_server.specs.declared.outcome.Source.TheVariants as sources
 use Rattle.riemann_server.specs.declared.status.Status.{Status}
 use Rattle.riemann_server.specs.declared.status.Status.TheVariants.{Done, Config, ReadFault, SinkFault, Memory, Truncated, TooLong}
-use Rattle.riemann_server.specs.Lines.{config_line, unread_line, too_long_line, left_line, memory_line}
-use Rattle.riemann_server.specs.Endings.{AnswersMessages, ForHeld, HasRun, IsPlain, LastFailed, NoneFailed, read_name, last_name}
+use Rattle.riemann_server.specs.Lines.{left_line, memory_line, refusal_line, too_long_line, unread_line}
+use Rattle.riemann_server.specs.Configs.{FeedRefuses, ForHeld}
+use Rattle.riemann_server.specs.Endings.{AnswersMessages, HasRun, IsPlain, LastFailed, NoneFailed, read_name, last_name}
 use Rattle.riemann_server.specs.Verdicts.{PatternsState}
 
 abbrev pub status_of : Outcome → Status
 status_of outcomes.Done = Done
-status_of outcomes.Config = Config
+status_of (outcomes.Config refusal) = Config
 status_of (outcomes.ReadFault source) = ReadFault
 status_of (outcomes.TooLong source) = TooLong
 status_of (outcomes.Truncated left) = Truncated
@@ -34,7 +35,7 @@ of_source config file sources.Fed = file
 -- the line of an outcome, with the names of the two files; nothing for those that have none
 abbrev pub line_of : List ℕ → List ℕ → Outcome → List ℕ
 line_of config file outcomes.Done = []
-line_of config file outcomes.Config = config_line
+line_of config file (outcomes.Config refusal) = refusal_line refusal
 line_of config file (outcomes.ReadFault source) = unread_line (of_source config file source)
 line_of config file (outcomes.TooLong source) = too_long_line (of_source config file source) (of_source CONFIG_LIMIT FILE_LIMIT source)
 line_of config file (outcomes.Truncated left) = left_line left
@@ -46,7 +47,7 @@ abbrev pub Shows : Content → Content → ℕ → ℕ → Outcome → Type 0
 Shows config file taken taken' (outcomes.TooLong source) = IsOverLimit (of_source config file source) (of_source CONFIG_LIMIT FILE_LIMIT source) × RoseBy (of_source CONFIG_LIMIT FILE_LIMIT source + 1) taken taken'
 Shows config file taken taken' (outcomes.Truncated left) = ForHeld file (λ bytes. left ≡ length (partial bytes))
 Shows config file taken taken' outcomes.Done = Unit {0}
-Shows config file taken taken' outcomes.Config = Unit {0}
+Shows config file taken taken' (outcomes.Config refusal) = FeedRefuses config refusal
 Shows config file taken taken' (outcomes.ReadFault source) = Unit {0}
 Shows config file taken taken' outcomes.SinkFault = Unit {0}
 Shows config file taken taken' outcomes.Memory = Unit {0}
@@ -71,7 +72,7 @@ ExplainsFed content taken taken' (outcomes.TooLong source) = (source ≡ sources
 ExplainsFed content taken taken' (outcomes.ReadFault source) = source ≡ sources.Fed
 ExplainsFed content taken taken' outcomes.SinkFault = ForHeld content (λ bytes. length bytes ≤ FILE_LIMIT)
 ExplainsFed content taken taken' outcomes.Memory = Unit {0}
-ExplainsFed content taken taken' outcomes.Config = ⊥
+ExplainsFed content taken taken' (outcomes.Config refusal) = ⊥
 
 -- what was read of the fed file
 pub record FedReads (old new : Option (List StoreRead)) (file : List ℕ) (outcome : Outcome) : Type 0 where
@@ -88,7 +89,7 @@ abbrev pub Puts : List ℕ → ℕ → Option (List ℕ) → Option (List ℕ) �
 Puts replies left out out' outcomes.Done = Got out replies out' × (left ≡ 0)
 Puts replies left out out' (outcomes.Truncated count) = Got out replies out' × (left ≢ 0) × (count ≡ left)
 Puts replies left out out' outcomes.SinkFault = GotFront out replies out'
-Puts replies left out out' outcomes.Config = ⊥
+Puts replies left out out' (outcomes.Config refusal) = ⊥
 Puts replies left out out' (outcomes.ReadFault source) = ⊥
 Puts replies left out out' (outcomes.TooLong source) = ⊥
 Puts replies left out out' outcomes.Memory = ⊥
@@ -99,6 +100,6 @@ Runs bytes patterns patterns' out out' outcomes.Done = AnswersMessages bytes [] 
 Runs bytes patterns patterns' out out' (outcomes.Truncated count) = AnswersMessages bytes [] patterns patterns' (λ replies. Got out replies out') × (partial bytes ≢ []) × (count ≡ length (partial bytes))
 Runs bytes patterns patterns' out out' outcomes.SinkFault = AnswersMessages bytes [] patterns patterns' (λ replies. GotFront out replies out')
 Runs bytes patterns patterns' out out' outcomes.Memory = (unanswered : List (List ℕ)) × AnswersMessages bytes unanswered patterns patterns' (λ _. Unit {0})
-Runs bytes patterns patterns' out out' outcomes.Config = ⊥
+Runs bytes patterns patterns' out out' (outcomes.Config refusal) = ⊥
 Runs bytes patterns patterns' out out' (outcomes.ReadFault source) = ⊥
 Runs bytes patterns patterns' out out' (outcomes.TooLong source) = ⊥

@@ -1,5 +1,5 @@
 -- How far the answers to the messages of a stream have come.
-use Rattle.std.specs.Prelude.{◌≡◌, ℕ, ◌+◌, false, List, [], ◌∷◌, ◌++◌, length, map, Option, option_map, option_to_list, is_some, ◌≤◌, IsTrue, IfSome, OnOk, Result}
+use Rattle.std.specs.Prelude.{◌≡◌, ℕ, ◌+◌, false, List, [], ◌++◌, length, map, Option, option_map, option_to_list, is_some, ◌≤◌, IsTrue, IfSome, OnOk, Result}
 use Rattle.framing.specs.Frames.{Represents, frames_of, partial}
 use Rattle.index_log.specs.Live.{IndexLog, Write}
 use Rattle.list_laws.specs.declared.memory.Memory.{Memory}

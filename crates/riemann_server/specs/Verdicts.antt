@@ -1,6 +1,6 @@
 -- What is said of the patterns of queries. Which patterns can be built is not ours to say, so that the verdicts on them
 -- stand beside a run: one for each message.
-use Rattle.std.specs.Prelude.{◌≡◌, ℕ, ◌≤◌, Bool, IsTrue, IfSome, is_some, List, ◌++◌, Option, Some, None, slice_get, option_map, option_to_list}
+use Rattle.std.specs.Prelude.{◌≡◌, ℕ, ◌≤◌, Bool, IsTrue, IfSome, is_some, List, ◌++◌, Option, Some, slice_get, option_map, option_to_list}
 use Rattle.std.specs.List.{AllByRecursion, flat_map, list_any}
 use Rattle.ports.specs.Counts.{Rose}
 use Rattle.pred_eval.specs.Tree.{Tree}

@@ -1,19 +1,21 @@
 ghost use Rattle.std.specs.Prelude.{◌≡◌, ◌↔◌, IsTrue};
 ghost use Rattle.ports.specs.Counts.{Rose};
-ghost use Rattle.riemann_server.specs.Endings.{Answers, Explains, HasEnded, HasNoReply, HasNotRun, plain_index};
+ghost use Rattle.stream_plan.specs.Tree.{Index, also, kind_tree, none, plan_tree, stream, stream_tree};
+ghost use Rattle.riemann_server.specs.Configs.{IsPlainIndex};
+ghost use Rattle.riemann_server.specs.Endings.{Answers, Explains, HasEnded, HasNoReply, HasNotRun};
 ghost use Rattle.riemann_server.specs.Outcome.{ExplainsFed, FedReads, FeedReads, Shows, status_of};
 ghost use Rattle.riemann_server.specs.Verdicts.{patterns_state};
 
-use crate::outcome::{Outcome, Source};
+use crate::fetch::fetch_config;
+use crate::outcome::{ConfigRefusal, Outcome, Source};
 use crate::run::run;
-use crate::{CONFIG_LIMIT, FILE_LIMIT, Status};
-use ev_types::{Blob, Text};
+use crate::{FILE_LIMIT, Status};
+use ev_types::Text;
 use ports::{ReadAnswer, Sink, Store};
 use pred_eval::Patterns;
+use sexp_config::Config;
 use std::alloc::Global;
-
-/// The one configuration there is.
-const PLAIN_INDEX: &[u8; 15] = b"(streams index)";
+use stream_plan::{Kind, Plan, Stream};
 
 /// Reads the configuration and the file, and answers the file's messages.
 pub(crate) fn feed<S: Store, O: Sink, P: Patterns>(
@@ -36,24 +38,47 @@ pub(crate) fn feed<S: Store, O: Sink, P: Patterns>(
     ensures read_fault { status_of result ≡ Status.ReadFault → Rose (S.faults store.old) (S.faults store.new) }
     ensures sink_fault { status_of result ≡ Status.SinkFault → Rose (O.faults out.old) (O.faults out.new) }
 {
-    match store.read(alloc, config, CONFIG_LIMIT) {
-        ReadAnswer::Bytes(text) => {
-            if is_plain_index(&text) {
+    match fetch_config(alloc, config, store) {
+        Ok(config) => {
+            if is_plain_index(&config) {
                 feed_file(alloc, file, store, out, patterns)
             } else {
-                Outcome::Config
+                Outcome::Config(ConfigRefusal::NotBuilt)
             }
         }
-        ReadAnswer::Failed => Outcome::ReadFault(Source::Config),
-        ReadAnswer::TooLong => Outcome::TooLong(Source::Config),
-        ReadAnswer::Memory => Outcome::Memory,
+        Err(fault) => fault.outcome(),
     }
 }
 
-fn is_plain_index(text: &Blob) -> bool
-    ensures { IsTrue result ↔ (text.now ≡ plain_index) }
+/// Whether it is the index alone, with no search for expired events.
+fn is_plain_index(config: &Config) -> bool
+    ensures { IsTrue result ↔ IsPlainIndex config.now }
 {
-    text.as_slice() == PLAIN_INDEX.as_slice()
+    config.expiry.is_none() && is_one_index(config.plan.plan())
+}
+
+fn is_one_index(plan: &Plan) -> bool
+    ensures { IsTrue result ↔ (plan_tree plan.now ≡ also (stream Index none none) none) }
+{
+    match plan.streams.as_slice() {
+        [first] => is_index(first),
+        _ => false,
+    }
+}
+
+fn is_index(first: &Stream) -> bool
+    ensures { IsTrue result ↔ (stream_tree first.now ≡ stream Index none none) }
+{
+    is_index_kind(&first.kind) && first.children.is_empty() && first.otherwise.is_empty()
+}
+
+fn is_index_kind(kind: &Kind) -> bool
+    ensures { IsTrue result ↔ (kind_tree kind.now ≡ Index) }
+{
+    match kind {
+        Kind::Index => true,
+        _ => false,
+    }
 }
 
 /// Reads the file, and answers its messages.

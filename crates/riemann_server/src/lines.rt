@@ -2,20 +2,21 @@ ghost use Rattle.std.specs.Prelude.{◌≡◌, ℕ, ◌≤◌, List, OnOk, OnErr
 ghost use Rattle.ports.specs.Counts.{Rose};
 ghost use Rattle.ports.specs.Writing.{Got, GotFront, GotLine, sink_state};
 ghost use Rattle.riemann_server.specs.Endings.{HasNoLine};
-ghost use Rattle.riemann_server.specs.Lines.{joined, left_line, too_long_line, unread_line};
+ghost use Rattle.riemann_server.specs.Lines.{joined, left_line, pattern_line, refusal_line, refused_line, too_long_line, unread_line, why_text};
 ghost use Rattle.riemann_server.specs.Outcome.{line_of, of_source, status_of};
 
-use crate::outcome::{Outcome, Source};
+use crate::outcome::{ConfigRefusal, Outcome, Source};
 use crate::{CONFIG_LIMIT, FILE_LIMIT};
 use ev_types::Text;
 use itoa::Buffer;
 use ports::{Failed, Sink};
+use sexp_config::ConfigWhy;
 
 pub(crate) const MEMORY_LINE: &str = "riemann: out of memory\n";
 
-const CONFIG_LINE: &str = "riemann: config not built yet\n";
+const NOT_BUILT_LINE: &str = "riemann: config not built yet\n";
 
-/// Writes the line of an outcome of `feed CONFIG FILE`. It takes no memory.
+/// Writes the line of an outcome, with the names of the two files. It takes no memory.
 pub(crate) fn report<E: Sink>(outcome: Outcome, config: &Text, file: &Text, err: &mut E)
     ensures line { GotLine (sink_state (E.text err.old) (E.faults err.old)) (line_of config.now file.now outcome)
         (sink_state (E.text err.new) (E.faults err.new)) }
@@ -23,7 +24,7 @@ pub(crate) fn report<E: Sink>(outcome: Outcome, config: &Text, file: &Text, err:
 {
     match outcome {
         Outcome::Done | Outcome::SinkFault => {}
-        Outcome::Config => put_line(err, &[CONFIG_LINE]),
+        Outcome::Config(refusal) => report_refusal(refusal, err),
         Outcome::Memory => put_line(err, &[MEMORY_LINE]),
         Outcome::ReadFault(source) => report_unread(name_of(source, config, file), err),
         Outcome::TooLong(source) => report_too_long(
@@ -33,6 +34,67 @@ pub(crate) fn report<E: Sink>(outcome: Outcome, config: &Text, file: &Text, err:
         ),
         Outcome::Truncated { left } => report_left(left, err),
     }
+}
+
+fn report_refusal<E: Sink>(refusal: ConfigRefusal, err: &mut E)
+    ensures { GotLine (sink_state (E.text err.old) (E.faults err.old)) (refusal_line refusal)
+        (sink_state (E.text err.new) (E.faults err.new)) }
+{
+    match refusal {
+        ConfigRefusal::Refused { place, why } => report_refused(place, why, err),
+        ConfigRefusal::Pattern { number } => report_pattern(number, err),
+        ConfigRefusal::NotBuilt => put_line(err, &[NOT_BUILT_LINE]),
+    }
+}
+
+fn report_refused<E: Sink>(place: usize, why: ConfigWhy, err: &mut E)
+    ensures { GotLine (sink_state (E.text err.old) (E.faults err.old)) (refused_line place why)
+        (sink_state (E.text err.new) (E.faults err.new)) }
+{
+    let mut digits = Buffer::new();
+    let place = digits.format(place);
+    put_line(
+        err,
+        &[
+            "riemann: config refused at ",
+            place,
+            ": ",
+            why_text(why),
+            "\n",
+        ],
+    );
+}
+
+#[tactic(auto, unfolding(crate::specs::Lines::why_text))]
+fn why_text(why: ConfigWhy) -> &'static str
+    ensures { result.now ≡ why_text why }
+{
+    match why {
+        ConfigWhy::Long => "long",
+        ConfigWhy::Utf8 => "utf8",
+        ConfigWhy::Open => "open",
+        ConfigWhy::Close => "close",
+        ConfigWhy::Token => "token",
+        ConfigWhy::Number => "number",
+        ConfigWhy::Escape => "escape",
+        ConfigWhy::Deep => "deep",
+        ConfigWhy::Form => "form",
+        ConfigWhy::Arguments => "arguments",
+        ConfigWhy::Range => "range",
+        ConfigWhy::Name => "name",
+        ConfigWhy::Twice => "twice",
+        ConfigWhy::Many => "many",
+        ConfigWhy::Kind => "kind",
+    }
+}
+
+fn report_pattern<E: Sink>(number: u32, err: &mut E)
+    ensures { GotLine (sink_state (E.text err.old) (E.faults err.old)) (pattern_line number)
+        (sink_state (E.text err.new) (E.faults err.new)) }
+{
+    let mut digits = Buffer::new();
+    let number = digits.format(number);
+    put_line(err, &["riemann: config pattern ", number, " refused\n"]);
 }
 
 fn report_unread<E: Sink>(name: &Text, err: &mut E)

@@ -2,7 +2,10 @@
 #![tactic(auto)]
 
 mod answers;
+mod check;
+mod command;
 mod feed;
+mod fetch;
 mod lines;
 mod outcome;
 mod program;

@@ -2,12 +2,13 @@ ghost use Rattle.std.specs.Prelude.{◌≡◌};
 ghost use Rattle.riemann_server.specs.Outcome.{status_of};
 
 use crate::Status;
+use sexp_config::ConfigWhy;
 
-/// How `feed` ended, with what its line names.
+/// How a command ended, with what its line names.
 #[derive(Clone, Copy)]
 pub(crate) enum Outcome {
     Done,
-    Config,
+    Config(ConfigRefusal),
     ReadFault(Source),
     TooLong(Source),
     Truncated { left: usize },
@@ -15,7 +16,18 @@ pub(crate) enum Outcome {
     Memory,
 }
 
-/// One of the two files of `feed`.
+/// Why a configuration was refused.
+#[derive(Clone, Copy)]
+pub(crate) enum ConfigRefusal {
+    /// The text is none, for this cause at the place.
+    Refused { place: usize, why: ConfigWhy },
+    /// The pattern of this number was refused.
+    Pattern { number: u32 },
+    /// The command can't run it yet.
+    NotBuilt,
+}
+
+/// One of the two files of a command.
 #[derive(Clone, Copy)]
 pub(crate) enum Source {
     Config,
@@ -28,7 +40,7 @@ impl Outcome {
     {
         match self {
             Outcome::Done => Status::Done,
-            Outcome::Config => Status::Config,
+            Outcome::Config(_) => Status::Config,
             Outcome::ReadFault(_) => Status::ReadFault,
             Outcome::TooLong(_) => Status::TooLong,
             Outcome::Truncated { .. } => Status::Truncated,

@@ -18,6 +18,7 @@ const HELP: &str = "usage: riemann feed CONFIG FILE
 
 commands:
   feed CONFIG FILE  answer the messages in FILE, and write the replies to standard output
+  check CONFIG      read the configuration CONFIG, and write its canonical text to standard output
 
 options:
   --help            write this text

@@ -7,6 +7,7 @@ use pred_eval::ListPatterns;
 use std::process::Abort;
 use std::test::Fail;
 
+mod check;
 mod faults;
 mod feed;
 mod queries;
@@ -37,6 +38,36 @@ const NOTHING_FAILS: Failing<'static> = Failing {
 
 const PLAIN: &[u8] = b"(streams index)";
 
+/// The words, each with its own text.
+fn owned_words<R: AllocGlobal>(rt: &R, words: &[&str]) -> Result<Vec<Text>, Fail> {
+    let mut texts = Vec::new(rt.alloc());
+    for word in words {
+        texts.push(Text::from_str(rt.alloc(), word)?)?;
+    }
+    Ok(texts)
+}
+
+/// A store with these files.
+fn store_of<R: AllocGlobal>(
+    rt: &R,
+    files: &[(&str, &[u8])],
+    failing: &[u64],
+) -> Result<MemStore, Fail> {
+    let mut held = Vec::new(rt.alloc());
+    for (name, bytes) in files {
+        let name = Text::from_str(rt.alloc(), name)?;
+        held.push((name, Blob::from_slice(rt.alloc(), bytes)?))?;
+    }
+    let failing = Vec::from_slice(rt.alloc(), failing)?;
+    Ok(MemStore::fresh(rt.alloc(), held, failing))
+}
+
+/// An empty sink with room for 1 MiB.
+fn sink<R: AllocGlobal>(rt: &R, failing: &[u64]) -> Result<MemSink, Fail> {
+    let failing = Vec::from_slice(rt.alloc(), failing)?;
+    Ok(MemSink::fresh(rt.alloc(), 1 << 20, failing)?)
+}
+
 /// Carries out the words over a store with these files.
 fn run<R: AllocGlobal>(
     rt: &R,
@@ -44,30 +75,10 @@ fn run<R: AllocGlobal>(
     files: &[(&str, &[u8])],
     failing: Failing<'_>,
 ) -> Result<Ended, Fail> {
-    let mut texts = Vec::new(rt.alloc());
-    for word in words {
-        texts.push(Text::from_str(rt.alloc(), word)?)?;
-    }
-    let mut held = Vec::new(rt.alloc());
-    for (name, bytes) in files {
-        let name = Text::from_str(rt.alloc(), name)?;
-        held.push((name, Blob::from_slice(rt.alloc(), bytes)?))?;
-    }
-    let mut store = MemStore::fresh(
-        rt.alloc(),
-        held,
-        Vec::from_slice(rt.alloc(), failing.reads)?,
-    );
-    let mut out = MemSink::fresh(
-        rt.alloc(),
-        1 << 20,
-        Vec::from_slice(rt.alloc(), failing.out)?,
-    )?;
-    let mut err = MemSink::fresh(
-        rt.alloc(),
-        1 << 20,
-        Vec::from_slice(rt.alloc(), failing.err)?,
-    )?;
+    let texts = owned_words(rt, words)?;
+    let mut store = store_of(rt, files, failing.reads)?;
+    let mut out = sink(rt, failing.out)?;
+    let mut err = sink(rt, failing.err)?;
     let mut patterns = ListPatterns {
         refusals: 0,
         refused: Texts::fresh(rt.alloc()),
@@ -87,6 +98,31 @@ fn run<R: AllocGlobal>(
         err,
         patterns,
     })
+}
+
+/// Compares the status, what was written and the line.
+fn compare<R: Abort>(rt: &R, run: &Ended, status: Status, text: &[u8], line: &str) {
+    assert_eq!(rt; run.status, status);
+    assert_eq!(rt; run.out.text.as_slice(), text);
+    assert_eq!(rt; run.err.text.as_slice(), line.as_bytes());
+}
+
+/// Whether these are the texts.
+fn are_texts(texts: &[Text], wanted: &[&str]) -> bool {
+    if texts.len() != wanted.len() {
+        return false;
+    }
+    for (text, wanted) in texts.iter().zip(wanted) {
+        if !text.is(wanted.as_bytes()) {
+            return false;
+        }
+    }
+    true
+}
+
+/// So many bytes, each the same.
+fn filled<R: AllocGlobal>(rt: &R, byte: u8, count: usize) -> Result<Vec<u8>, Fail> {
+    Ok(vec![in rt.alloc(); byte; count]?)
 }
 
 /// Feeds the file to the plain index, with no fault.

@@ -13,7 +13,7 @@ rest text place = lexed_from place place (drop place text)
 drop_suc : (b : ℕ) (bytes : List ℕ) (n k : ℕ) → n ≡ k + 1 → drop n (b ∷ bytes) ≡ drop k bytes
 drop_suc b bytes n k e = rw (e, add-one) refl
 
-skipped : (next place : ℕ) (bytes : List ℕ) → place ≤ next → lexed_from next place bytes ≡ lexed_from next next (drop (next - place) bytes)
+pub skipped : (next place : ℕ) (bytes : List ℕ) → place ≤ next → lexed_from next place bytes ≡ lexed_from next next (drop (next - place) bytes)
 unfolding lexed_from
 skipped next place [] h = rw (drop-nil {A = ℕ} (next - place)) refl
 skipped next place (b ∷ bytes) h = elim (cases_Bool (nat_lt place next)) [

@@ -11,3 +11,8 @@ pub mod Answering
 pub mod Spellings
 pub mod Whole
 pub mod FrontLaws
+pub mod WritingLaws
+pub mod WrittenAtoms
+pub mod WrittenTrees
+pub mod ReadableAtoms
+pub mod TokensFew

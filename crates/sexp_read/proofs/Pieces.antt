@@ -12,7 +12,7 @@ use Rattle.sexp_read.specs.Tokens.{placed}
 class_of_large : (b : ℕ) → 128 ≤ b → class_of b ≡ Run
 class_of_large b h = grind (arith, nat_tests)
 
-quote_is_ascii : (b : ℕ) → class_of b ≡ Quote → b < 128
+pub quote_is_ascii : (b : ℕ) → class_of b ≡ Quote → b < 128
 quote_is_ascii b h = elim (cases_lt b 128) [ inl small ↦ small | inr large ↦ let run = class_of_large b large in cc ]
 
 pub behind_quote : (text : List ℕ) (place : ℕ) → IsUtf8 text → place < length text → class_of (get_or text place 0) ≡ Quote → IsUtf8 (drop (place + 1) text)

@@ -16,12 +16,12 @@ pub with_fronts : (a b : List ℕ) (read : Result (List ℕ × ℕ) Fault) → w
 with_fronts a b (Ok read) = ap (λ text. Ok (text, read.1)) (sym (append_assoc a b read.0))
 with_fronts a b (Err fault) = refl
 
-plain_byte : (kind : Quoted) (start place b : ℕ) (bytes : List ℕ) → b ≢ 34 → b ≢ 92
+pub plain_byte : (kind : Quoted) (start place b : ℕ) (bytes : List ℕ) → b ≢ 34 → b ≢ 92
     → quoted_from kind start place (b ∷ bytes) ≡ with_front (b ∷ []) (quoted_from kind start (place + 1) bytes)
 plain_byte kind start place b [] q s = rw (ne_eqb b 34 q) refl
 plain_byte kind start place b (c ∷ bytes) q s = rw (ne_eqb b 34 q, ne_eqb b 92 s) refl
 
-closing_quote : (kind : Quoted) (start place : ℕ) (bytes : List ℕ) → quoted_from kind start place (34 ∷ bytes) ≡ Ok ([], place + 1)
+pub closing_quote : (kind : Quoted) (start place : ℕ) (bytes : List ℕ) → quoted_from kind start place (34 ∷ bytes) ≡ Ok ([], place + 1)
 closing_quote kind start place [] = refl
 closing_quote kind start place (c ∷ bytes) = refl
 

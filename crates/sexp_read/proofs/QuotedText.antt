@@ -23,13 +23,13 @@ at_seam (x ∷ front) bytes b = at_seam front bytes b
 shorter : (front bytes : List ℕ) (b : ℕ) → length front < length (front ++ b ∷ bytes)
 shorter front bytes b = omega (arith, length-append front (b ∷ bytes))
 
-before_ascii : (front bytes : List ℕ) (b : ℕ) → IsUtf8 (front ++ b ∷ bytes) → b < 128 → IsUtf8 front
+pub before_ascii : (front bytes : List ℕ) (b : ℕ) → IsUtf8 (front ++ b ∷ bytes) → b < 128 → IsUtf8 front
 before_ascii front bytes b u low =
     let cut = IsUtf8-take (front ++ b ∷ bytes) (length front) u
     (IsCharBoundary-before_ascii (front ++ b ∷ bytes) (length front) (shorter front bytes b) (omega (arith, at_seam front bytes b))) in
     subst (λ (text : List ℕ). IsUtf8 text) (take_at front (b ∷ bytes) (length front) refl) cut
 
-behind_ascii : (front bytes : List ℕ) (b : ℕ) → IsUtf8 (front ++ b ∷ bytes) → b < 128 → IsUtf8 bytes
+pub behind_ascii : (front bytes : List ℕ) (b : ℕ) → IsUtf8 (front ++ b ∷ bytes) → b < 128 → IsUtf8 bytes
 behind_ascii front bytes b u low =
     let cut = IsUtf8-drop (front ++ b ∷ bytes) (length front + 1) u
     (IsCharBoundary-after_ascii (front ++ b ∷ bytes) (length front) u (shorter front bytes b) (omega (arith, at_seam front bytes b))) in
@@ -57,26 +57,26 @@ escape_keeps in_pattern c front bytes more h u =
     let two : more ≡ 92 ∷ c ∷ [] = cc in
     rw two (subst (λ (text : List ℕ). IsUtf8 text) (sym (append_assoc front (92 ∷ c ∷ []) bytes)) u)
 
-ok_parts : (x y : List ℕ × ℕ) → let read : Result (List ℕ × ℕ) Fault = Ok x in read ≡ Ok y → (y.0 ≡ x.0) × (y.1 ≡ x.1)
+pub ok_parts : (x y : List ℕ × ℕ) → let read : Result (List ℕ × ℕ) Fault = Ok x in read ≡ Ok y → (y.0 ≡ x.0) × (y.1 ≡ x.1)
 ok_parts x y h = let same : y ≡ x = cc in (ap (λ p. p.0) same, ap (λ p. p.1) same)
 
-record Fronted (front text : List ℕ) (last : ℕ) (read : Result (List ℕ × ℕ) Fault) : Type 0 where
-  rest : List ℕ
-  is : read ≡ Ok (rest, last)
-  whole : text ≡ front ++ rest
+pub record Fronted (front text : List ℕ) (last : ℕ) (read : Result (List ℕ × ℕ) Fault) : Type 0 where
+  pub rest : List ℕ
+  pub is : read ≡ Ok (rest, last)
+  pub whole : text ≡ front ++ rest
 
-fronted : (front text : List ℕ) (last : ℕ) (read : Result (List ℕ × ℕ) Fault) → with_front front read ≡ Ok (text, last) → Fronted front text last read
+pub fronted : (front text : List ℕ) (last : ℕ) (read : Result (List ℕ × ℕ) Fault) → with_front front read ≡ Ok (text, last) → Fronted front text last read
 fronted front text last (Ok read) h =
     let parts = ok_parts (front ++ read.0, read.1) (text, last) h in
     record { rest = read.0; is = ap (λ place. Ok (read.0, place)) (sym parts.1); whole = parts.0 }
 fronted front text last (Err fault) h = cc
 
-record Escaped (text : List ℕ) (last : ℕ) (escape : Option (List ℕ)) (read : Result (List ℕ × ℕ) Fault) : Type 0 where
-  more : List ℕ
-  some : escape ≡ Some more
-  front : Fronted more text last read
+pub record Escaped (text : List ℕ) (last : ℕ) (escape : Option (List ℕ)) (read : Result (List ℕ × ℕ) Fault) : Type 0 where
+  pub more : List ℕ
+  pub some : escape ≡ Some more
+  pub front : Fronted more text last read
 
-escaped : (place : ℕ) (text : List ℕ) (last : ℕ) (escape : Option (List ℕ)) (read : Result (List ℕ × ℕ) Fault)
+pub escaped : (place : ℕ) (text : List ℕ) (last : ℕ) (escape : Option (List ℕ)) (read : Result (List ℕ × ℕ) Fault)
     → with_escape place escape read ≡ Ok (text, last) → Escaped text last escape read
 escaped place text last (Some more) read h = record { more = more; some = refl; front = fronted more text last read h }
 escaped place text last None read h = cc

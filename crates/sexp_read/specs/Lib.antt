@@ -5,3 +5,4 @@ pub mod Gives
 pub mod Grammar
 pub mod Reading
 pub mod Fronts
+pub mod Written

@@ -11,11 +11,15 @@ mod made;
 mod piece;
 mod quoted;
 mod read;
+mod write;
 
 pub use fault::{SexpFault, SexpWhy};
 pub use form::{Form, Forms, Shape};
-pub use law::faults_are_first;
+pub use law::{faults_are_first, written_is_read};
+pub use made::{atom_form, group_form};
+pub use piece::{Atom, Bracket};
 pub use read::read_forms;
+pub use write::write_forms;
 
 #[cfg(test)]
 mod tests;

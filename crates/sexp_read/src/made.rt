@@ -7,7 +7,7 @@ use crate::form::{Form, Forms, Shape};
 use crate::piece::{Atom, Bracket};
 
 /// The form that is one atom.
-pub(crate) fn atom_form(atom: Atom, start: usize, end: usize) -> Form
+pub fn atom_form(atom: Atom, start: usize, end: usize) -> Form
     ensures { form_tree result ≡ Single atom start end }
 {
     let shape = match atom {
@@ -21,7 +21,7 @@ pub(crate) fn atom_form(atom: Atom, start: usize, end: usize) -> Form
 }
 
 /// The forms between brackets as one.
-pub(crate) fn group_form(bracket: Bracket, forms: Forms, start: usize, end: usize) -> Form
+pub fn group_form(bracket: Bracket, forms: Forms, start: usize, end: usize) -> Form
     ensures { form_tree result ≡ Group bracket (form_trees forms.items) start end }
 {
     let shape = match bracket {

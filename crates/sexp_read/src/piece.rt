@@ -2,7 +2,7 @@ use ev_types::Text;
 
 /// A kind of brackets.
 #[derive(Clone, Copy, Debug, PartialEq, Eq)]
-pub(crate) enum Bracket {
+pub enum Bracket {
     /// `( )`
     Round,
     /// `[ ]`
@@ -13,7 +13,7 @@ pub(crate) enum Bracket {
 
 /// A form without parts.
 #[derive(Debug, Drop)]
-pub(crate) enum Atom {
+pub enum Atom {
     Text(Text),
     Pattern(Text),
     Number(i64),

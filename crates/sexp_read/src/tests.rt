@@ -1,4 +1,4 @@
-use crate::{Form, SexpFault, SexpWhy, Shape, read_forms};
+use crate::{Form, SexpFault, SexpWhy, Shape, read_forms, write_forms};
 use ev_types::Blob;
 use std::alloc::Global;
 use std::fmt::Write;
@@ -122,6 +122,33 @@ fn numbers_and_names_are_read(rt: HostRuntime) -> Result<(), Fail> {
         (b"nil", "0-3 symbol nil "),
     ];
     assert_eq!(rt; first_misread(rt.alloc(), rows.as_slice())?, None);
+    Ok(())
+}
+
+/// The first row whose forms are not written so.
+fn first_miswritten(alloc: Global, rows: &[(&[u8], &[u8])]) -> Result<Option<usize>, Fail> {
+    for (i, row) in rows.iter().enumerate() {
+        let forms = read_forms(alloc, row.0)?;
+        let mut out = Blob::fresh(alloc);
+        write_forms(alloc, forms.as_slice(), &mut out)?;
+        if out.as_slice() != row.1 {
+            return Ok(Some(i));
+        }
+    }
+    Ok(None)
+}
+
+#[test]
+fn forms_are_written_on_lines(rt: HostRuntime) -> Result<(), Fail> {
+    let rows: [(&[u8], &[u8]); 6] = [
+        (b" ; none", b""),
+        (b"( a , [ ]{:b  7} ) -08", b"(a [] {:b 7})\n-8\n"),
+        (b"[[(1)2]3]", b"[[(1) 2] 3]\n"),
+        (b"\"\\\"\\\\\\n\\r\\t\n\"", b"\"\\\"\\\\\\n\\r\\t\\n\"\n"),
+        (b"#\"a\\\"\\d\n\"(>= b)", b"#\"a\\\"\\d\n\"\n(>= b)\n"),
+        (b"\"\xe2\x82\xac\"", b"\"\xe2\x82\xac\"\n"),
+    ];
+    assert_eq!(rt; first_miswritten(rt.alloc(), rows.as_slice())?, None);
     Ok(())
 }
 

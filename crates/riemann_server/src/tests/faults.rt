@@ -1,6 +1,6 @@
 //! How a call ends that can't be carried out.
 
-use super::{Ended, Failing, NOTHING_FAILS, PLAIN, run};
+use super::{Failing, NOTHING_FAILS, PLAIN, compare, filled, run};
 use crate::Status;
 use std::process::Abort;
 use std::test::Fail;
@@ -8,139 +8,182 @@ use std::test::Fail;
 const USAGE: &str =
     "riemann: usage: feed CONFIG FILE, check CONFIG, replay CONFIG SCRIPT, serve CONFIG [--turns N], load CONFIG N START\n";
 
-/// Compares the status and the line of a call that wrote no reply.
-fn check<R: Abort>(rt: &R, run: &Ended, status: Status, line: &str) {
-    assert_eq!(rt; run.status, status);
-    assert_eq!(rt; run.err.text.as_slice(), line.as_bytes());
-    assert!(rt; run.out.text.is_empty());
+const NO_CONFIG: &str = "riemann: cannot read c\n";
+
+const NO_FILE: &str = "riemann: cannot read f\n";
+
+const NOT_BUILT: &str = "riemann: config not built yet\n";
+
+/// Words of no command.
+const WRONG_WORDS: &[&[&str]] = &[
+    &[],
+    &["feed"],
+    &["feed", "c"],
+    &["feed", "c", "f", "x"],
+    &["Feed", "c", "f"],
+    &["check"],
+    &["check", "c", "f"],
+    &["feed check", "c"],
+    &["replay", "c", "f"],
+];
+
+/// Files among which one is absent, the line that names it, and how many reads there are.
+const ABSENT: &[(&[(&str, &[u8])], &str, usize)] = &[
+    (&[("f", &[])], NO_CONFIG, 1),
+    (&[("c", PLAIN)], NO_FILE, 2),
+];
+
+/// Configurations other than the index alone, and the lines that say so.
+const REFUSED: &[(&str, &str)] = &[
+    ("", NOT_BUILT),
+    ("(streams)", NOT_BUILT),
+    ("(streams index index)", NOT_BUILT),
+    ("(streams (sdo index))", NOT_BUILT),
+    ("(streams (notice \"n\"))", NOT_BUILT),
+    ("(periodically-expire) (streams index)", NOT_BUILT),
+    ("(streams (where (host #\"(\") index))", NOT_BUILT),
+    ("(streams index", "riemann: config refused at 0: open\n"),
+    ("(streams Index)", "riemann: config refused at 9: name\n"),
+    (
+        "(streams (batch 2 5 index))",
+        "riemann: config refused at 20: kind\n",
+    ),
+];
+
+/// The writes of a line that fail, and how far the line comes. The status stays.
+const CUT: &[(u64, &str)] = &[
+    (0, ""),
+    (1, "riemann: cannot read "),
+    (2, "riemann: cannot read f"),
+];
+
+/// Carries out the words, and compares the status, the line and how many files were read. No reply is written.
+fn check<R: AllocGlobal + Abort>(
+    rt: &R,
+    words: &[&str],
+    files: &[(&str, &[u8])],
+    failing: Failing<'_>,
+    wanted: (Status, &str, usize),
+) -> Result<(), Fail> {
+    let run = run(rt, words, files, failing)?;
+    let (status, line, reads) = wanted;
+    compare(rt, &run, status, b"", line);
+    assert_eq!(rt; run.store.reads.len(), reads);
+    assert_eq!(rt; run.patterns.refusals, 0);
+    Ok(())
 }
 
-/// Compares how words of no command end, at which no file is read.
-fn check_usage<R: AllocGlobal + Abort>(rt: &R, words: &[&str]) -> Result<(), Fail> {
-    let run = run(rt, words, &[("c", PLAIN), ("f", &[])], NOTHING_FAILS)?;
-    check(rt, &run, Status::Usage, USAGE);
-    assert_eq!(rt; run.store.reads.len(), 0);
-    Ok(())
+/// The same of `feed` with a configuration and a file.
+fn check_feed<R: AllocGlobal + Abort>(
+    rt: &R,
+    config: &[u8],
+    file: &[u8],
+    failing: Failing<'_>,
+    wanted: (Status, &str, usize),
+) -> Result<(), Fail> {
+    check(
+        rt,
+        &["feed", "c", "f"],
+        &[("c", config), ("f", file)],
+        failing,
+        wanted,
+    )
 }
 
 #[test]
 fn words_of_no_command_are_refused(rt: HostRuntime) -> Result<(), Fail> {
-    check_usage(&rt, &[])?;
-    check_usage(&rt, &["feed"])?;
-    check_usage(&rt, &["feed", "c"])?;
-    check_usage(&rt, &["feed", "c", "f", "x"])?;
-    check_usage(&rt, &["Feed", "c", "f"])?;
-    check_usage(&rt, &["check", "c"])
+    for words in WRONG_WORDS {
+        check(
+            &rt,
+            words,
+            &[("c", PLAIN), ("f", &[])],
+            NOTHING_FAILS,
+            (Status::Usage, USAGE, 0),
+        )?;
+    }
+    Ok(())
 }
 
 #[test]
 fn a_file_that_is_absent_or_fails_is_named(rt: HostRuntime) -> Result<(), Fail> {
-    let words = ["feed", "c", "f"];
-    let no_config = "riemann: cannot read c\n";
-    let no_file = "riemann: cannot read f\n";
-    let absent = run(&rt, &words, &[("f", &[])], NOTHING_FAILS)?;
-    check(&rt, &absent, Status::ReadFault, no_config);
-    assert_eq!(rt; absent.store.reads.len(), 1);
-    let absent = run(&rt, &words, &[("c", PLAIN)], NOTHING_FAILS)?;
-    check(&rt, &absent, Status::ReadFault, no_file);
-    assert_eq!(rt; absent.store.reads.len(), 2);
-
-    for (call, line) in [(0, no_config), (1, no_file)] {
+    for (files, line, reads) in ABSENT {
+        check(
+            &rt,
+            &["feed", "c", "f"],
+            files,
+            NOTHING_FAILS,
+            (Status::ReadFault, line, *reads),
+        )?;
+    }
+    for (call, line, reads) in [(0, NO_CONFIG, 1), (1, NO_FILE, 2)] {
         let failing = Failing {
             reads: &[call],
             ..NOTHING_FAILS
         };
-        let run = run(&rt, &words, &[("c", PLAIN), ("f", &[])], failing)?;
-        check(&rt, &run, Status::ReadFault, line);
+        check_feed(&rt, PLAIN, &[], failing, (Status::ReadFault, line, reads))?;
     }
     Ok(())
 }
 
 #[test]
 fn a_configuration_other_than_the_index_is_refused(rt: HostRuntime) -> Result<(), Fail> {
+    for (config, line) in REFUSED {
+        let wanted = (Status::Config, *line, 1);
+        check_feed(&rt, config.as_bytes(), &[], NOTHING_FAILS, wanted)?;
+    }
+    Ok(())
+}
+
+#[test]
+fn the_index_alone_is_accepted_however_it_is_written(rt: HostRuntime) -> Result<(), Fail> {
     for config in [
-        b"".as_slice(),
-        b"(streams index".as_slice(),
-        b"(streams index)\n".as_slice(),
-        b"(streams Index)".as_slice(),
+        "(streams index)",
+        "; the index alone\n(streams\n  (index))\n",
+        "(let [i (index)] (streams i))",
+        "(tcp-server {:port 0}) (streams) (streams index)",
     ] {
-        let run = run(
-            &rt,
-            &["feed", "c", "f"],
-            &[("c", config), ("f", &[])],
-            NOTHING_FAILS,
-        )?;
-        check(&rt, &run, Status::Config, "riemann: config not built yet\n");
+        let wanted = (Status::Done, "", 2);
+        check_feed(&rt, config.as_bytes(), &[], NOTHING_FAILS, wanted)?;
     }
     Ok(())
 }
 
 #[test]
 fn a_file_over_its_limit_is_named(rt: HostRuntime) -> Result<(), Fail> {
-    let words = ["feed", "c", "f"];
-    let long = vec![in rt.alloc(); b' '; 1_048_577]?;
-    let over = run(
-        &rt,
-        &words,
-        &[("c", long.as_slice()), ("f", &[])],
-        NOTHING_FAILS,
-    )?;
-    check(
-        &rt,
-        &over,
-        Status::TooLong,
-        "riemann: c is longer than 1048576 bytes\n",
-    );
-    let within = run(
-        &rt,
-        &words,
-        &[("c", &long.as_slice()[1..]), ("f", &[])],
-        NOTHING_FAILS,
-    )?;
-    check(
-        &rt,
-        &within,
-        Status::Config,
-        "riemann: config not built yet\n",
-    );
-    let long = vec![in rt.alloc(); 0u8; 67_108_865]?;
-    let over = run(
-        &rt,
-        &words,
-        &[("c", PLAIN), ("f", long.as_slice())],
-        NOTHING_FAILS,
-    )?;
-    check(
-        &rt,
-        &over,
-        Status::TooLong,
-        "riemann: f is longer than 67108864 bytes\n",
-    );
+    let within = filled(&rt, b' ', 1_048_576)?;
+    let over = filled(&rt, b' ', 1_048_577)?;
+    let file = filled(&rt, 0, 67_108_865)?;
+    let config_over = "riemann: c is longer than 1048576 bytes\n";
+    let file_over = "riemann: f is longer than 67108864 bytes\n";
+    for (config, file, status, line, reads) in [
+        (over.as_slice(), PLAIN, Status::TooLong, config_over, 1),
+        (within.as_slice(), PLAIN, Status::Config, NOT_BUILT, 1),
+        (PLAIN, file.as_slice(), Status::TooLong, file_over, 2),
+    ] {
+        check_feed(&rt, config, file, NOTHING_FAILS, (status, line, reads))?;
+    }
     Ok(())
 }
 
 #[test]
 fn each_write_may_fail(rt: HostRuntime) -> Result<(), Fail> {
-    let words = ["feed", "c", "f"];
     let failing = Failing {
         out: &[0],
         ..NOTHING_FAILS
     };
-    let run_out = run(&rt, &words, &[("c", PLAIN), ("f", &[0; 4])], failing)?;
-    check(&rt, &run_out, Status::SinkFault, "");
-
-    // The line of a status is cut at the write that fails, and the status stays.
-    for (call, line) in [
-        (0, ""),
-        (1, "riemann: cannot read "),
-        (2, "riemann: cannot read f"),
-    ] {
+    check_feed(&rt, PLAIN, &[0; 4], failing, (Status::SinkFault, "", 2))?;
+    for (call, line) in CUT {
         let failing = Failing {
-            err: &[call],
+            err: &[*call],
             ..NOTHING_FAILS
         };
-        let run = run(&rt, &words, &[("c", PLAIN)], failing)?;
-        check(&rt, &run, Status::ReadFault, line);
+        check(
+            &rt,
+            &["feed", "c", "f"],
+            &[("c", PLAIN)],
+            failing,
+            (Status::ReadFault, *line, 2),
+        )?;
     }
     Ok(())
 }

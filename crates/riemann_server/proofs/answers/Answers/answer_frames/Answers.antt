@@ -1,4 +1,4 @@
-use Rattle.std.proofs.Common.{◌≡◌, ◌∙◌, refl}
+use Rattle.std.proofs.Common.{◌≡◌, refl}
 use Rattle.riemann_server.proofs.ProgressLaws.{answers_stopped, fails_before, fails_within, stands_with_frame}
 use Rattle.riemann_server.proofs.Sinks.{on_error}
 use Rattle.riemann_server.proofs.answers.Answers.answer_frames.Goals as goal

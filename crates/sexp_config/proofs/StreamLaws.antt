@@ -1,0 +1,120 @@
+-- Streams and their places, at the values that the code makes.
+use Rattle.std.proofs.Common.{◌≡◌, ℕ, zero, suc, Bool, List, [], ◌∷◌, ◌++◌, drop, Vec, Global, Option, Result, Ok, Err, refl, ap, sym, ◌∙◌}
+use Rattle.sexp_read.specs.declared.piece.Atom.TheVariants as atom
+use Rattle.sexp_read.specs.declared.piece.Bracket.TheVariants.{Round, Square, Curly}
+use Rattle.sexp_read.specs.Tree.{FormTree, FormTrees, Single, Group, none, also}
+use Rattle.stream_plan.specs.declared.plan.Kind.{Kind}
+use Rattle.stream_plan.specs.declared.plan.Stream.{Stream, out-Stream}
+use Rattle.stream_plan.specs.Search.{opened}
+use Rattle.stream_plan.specs.Tree.{KindTree, StreamTree, stream, StreamTrees, kind_tree, stream_tree, list_trees}
+use Rattle.stream_plan.specs.Tree as plan
+use Rattle.stream_plan.proofs.Trees.{stream_tree-opened}
+use Rattle.sexp_config.specs.declared.spot.Spot.{Spot, Row_of-Spot, end_of-Spot, more_of-Spot, out-Spot, is-Spot', items-the_row-Spot, items_hidden-the_row-Spot-0}
+use Rattle.sexp_config.specs.declared.spot.Spot.TheBlock.{hidden-the_row-Spot-0}
+use Rattle.sexp_config.specs.declared.fault.ConfigWhy.TheVariants as why
+use Rattle.sexp_config.specs.Steps.{Fault, start_of}
+use Rattle.sexp_config.specs.Words.{stream_word}
+use Rattle.sexp_config.specs.Arguments.{Env, bound_value}
+use Rattle.sexp_config.specs.Spots.{SpotTree, SpotTrees, spot, with_spot}
+use Rattle.sexp_config.specs.Spots as spots
+use Rattle.sexp_config.specs.Streams.{Below, Part, next_place, with_stream, with_part, all_read, is_where_in, symbol_by, worded, part_at, parts_in}
+use Rattle.sexp_config.specs.Code.{Look, Symbol, Call, Lookup, Other, look_of, behind, next_of}
+use Rattle.sexp_config.specs.Made.{spot_tree, spot_trees, spot_list}
+
+-- ---- one more at the end
+
+pub stream_pushed : (streams : List Stream) (one : Stream) → list_trees (streams ++ one ∷ []) ≡ with_stream (list_trees streams) (stream_tree one)
+stream_pushed [] one = refl
+stream_pushed (first ∷ streams) one = ap (λ more. plan.also (stream_tree first) more) (stream_pushed streams one)
+
+pub spot_pushed : (places : List Spot) (one : Spot) → spot_list (places ++ one ∷ []) ≡ with_spot (spot_list places) (spot_tree one)
+spot_pushed [] one = refl
+spot_pushed (first ∷ places) one = ap (λ more. spots.also (spot_tree first) more) (spot_pushed places one)
+
+-- ---- one level
+
+pub spot_trees-list : {m : _} (row : Row_of-Spot m) → spot_trees row ≡ spot_list (items-the_row-Spot m row)
+spot_trees-list end_of-Spot = refl
+spot_trees-list (more_of-Spot s rest) = ap (λ more. spots.also (spot_tree s) more) (spot_trees-list rest)
+
+pub spot_trees-hidden : (places : Vec Spot Global) → spot_trees (hidden-the_row-Spot-0 places) ≡ spot_list places.items
+spot_trees-hidden places = spot_trees-list (hidden-the_row-Spot-0 places) ∙ ap spot_list (items_hidden-the_row-Spot-0 places)
+
+pub spot_tree-opened : (s : Spot) → spot_tree s ≡ spot (out-Spot s).place (spot_list (out-Spot s).children.items) (spot_list (out-Spot s).otherwise.items)
+spot_tree-opened s =
+    ap spot_tree (is-Spot' s)
+    ∙ ap (λ (children : SpotTrees). spot (out-Spot s).place children (spot_trees (hidden-the_row-Spot-0 (out-Spot s).otherwise))) (spot_trees-hidden (out-Spot s).children)
+    ∙ ap (λ (otherwise : SpotTrees). spot (out-Spot s).place (spot_list (out-Spot s).children.items) otherwise) (spot_trees-hidden (out-Spot s).otherwise)
+
+-- ---- by what a form looks like
+
+abbrev pub part_by : Bool → Env → ℕ → Look → Result Part Fault
+part_by may_else env start (Symbol name) = symbol_by (bound_value name env) name start
+part_by may_else env start (Call name forms) = worded may_else env (stream_word name) start forms (parts_in (is_where_in (stream_word name)) env forms)
+part_by may_else env start (Lookup name forms) = Err (start, why.Form)
+part_by may_else env start Other = Err (start, why.Form)
+
+part_looks : (may_else : Bool) (env : Env) (form : FormTree) → part_at may_else env form ≡ part_by may_else env (start_of form) (look_of form)
+unfolding part_at look_of
+part_looks m env (Single (atom.Symbol name) start last) = refl
+part_looks m env (Single (atom.Text name) start last) = refl
+part_looks m env (Single (atom.Pattern name) start last) = refl
+part_looks m env (Single (atom.Number name) start last) = refl
+part_looks m env (Single (atom.Keyword name) start last) = refl
+part_looks m env (Group Round (also (Single (atom.Symbol name) begin end) forms) start last) = refl
+part_looks m env (Group Round (also (Single (atom.Keyword name) begin end) forms) start last) = refl
+part_looks m env (Group Round (also (Single (atom.Text name) begin end) forms) start last) = refl
+part_looks m env (Group Round (also (Single (atom.Pattern name) begin end) forms) start last) = refl
+part_looks m env (Group Round (also (Single (atom.Number name) begin end) forms) start last) = refl
+part_looks m env (Group Round (also (Group bracket more begin end) forms) start last) = refl
+part_looks m env (Group Round none start last) = refl
+part_looks m env (Group Square forms start last) = refl
+part_looks m env (Group Curly forms start last) = refl
+
+pub part_by_look : (may_else : Bool) (env : Env) (form : FormTree) (look : Look) → look ≡ look_of form → part_at may_else env form ≡ part_by may_else env (start_of form) look
+part_by_look m env form look e = part_looks m env form ∙ ap (part_by m env (start_of form)) (sym e)
+
+-- ---- the forms behind some
+
+parts_in-behind : (m : Bool) (env : Env) (n : ℕ) (forms : FormTrees) → parts_in m env (behind n forms) ≡ drop n (parts_in m env forms)
+unfolding parts_in
+parts_in-behind m env zero forms = refl
+parts_in-behind m env (suc n) none = refl
+parts_in-behind m env (suc n) (also form forms) = parts_in-behind m env n forms
+
+pub parts_behind : (may_else : Bool) (env : Env) (n : ℕ) (forms rest : FormTrees) → rest ≡ behind n forms → parts_in may_else env rest ≡ drop n (parts_in may_else env forms)
+parts_behind m env n forms rest e = ap (parts_in m env) e ∙ parts_in-behind m env n forms
+
+pub next_of_parts : (may_else : Bool) (env : Env) (forms : FormTrees) → next_place (parts_in may_else env forms) ≡ next_of forms
+unfolding parts_in
+next_of_parts m env none = refl
+next_of_parts m env (also f forms) = refl
+
+-- ---- one more part is read
+
+pub parts_more : (may_else : Bool) (env : Env) (below more : Below) (left forms : FormTrees) (form : FormTree) (one : Part) (next : Option ℕ) →
+    left ≡ also form forms → part_at may_else env form ≡ Ok one → next ≡ next_of forms → with_part below one next ≡ Ok more →
+    all_read below (parts_in may_else env left) ≡ all_read more (parts_in may_else env forms)
+unfolding all_read parts_in
+parts_more m env below more left forms form one next at read is put =
+    let told : with_part below one (next_place (parts_in m env forms)) ≡ Ok more = rw (next_of_parts m env forms, sym is) put in
+    rw (at, read, told) refl
+
+pub parts_fail : (may_else : Bool) (env : Env) (below : Below) (left forms : FormTrees) (form : FormTree) (one : Part) (next : Option ℕ) (fault : Fault) →
+    left ≡ also form forms → part_at may_else env form ≡ Ok one → next ≡ next_of forms → with_part below one next ≡ Err fault →
+    all_read below (parts_in may_else env left) ≡ Err fault
+unfolding all_read parts_in
+parts_fail m env below left forms form one next fault at read is put =
+    let told : with_part below one (next_place (parts_in m env forms)) ≡ Err fault = rw (next_of_parts m env forms, sym is) put in
+    rw (at, read, told) refl
+
+-- ---- a stream and a spot that are put together
+
+pub stream_is : (s : Stream) (kind : Kind) (children otherwise : Vec Stream Global) → (out-Stream s).kind ≡ kind → (out-Stream s).children ≡ children → (out-Stream s).otherwise ≡ otherwise →
+    stream_tree s ≡ stream (kind_tree kind) (list_trees children.items) (list_trees otherwise.items)
+unfolding opened
+stream_is s kind children otherwise k c o = stream_tree-opened s ∙ rw (k, c, o) refl
+
+pub spot_is : (s : Spot) (place : ℕ) (children otherwise : Vec Spot Global) → (out-Spot s).place ≡ place → (out-Spot s).children ≡ children → (out-Spot s).otherwise ≡ otherwise →
+    spot_tree s ≡ spot place (spot_list children.items) (spot_list otherwise.items)
+spot_is s place children otherwise p c o = spot_tree-opened s ∙ rw (p, c, o) refl

@@ -1,0 +1,103 @@
+-- The texts that are configurations, and for what the others are refused.
+use Rattle.std.specs.Prelude.{◌≡◌, ℕ, ◌⊎◌, List, [], Option, Some, None, Result, Ok, Err}
+use Rattle.std.specs.Option.{option_map, option_or}
+use Rattle.sexp_read.specs.declared.fault.SexpFault.{SexpFault}
+use Rattle.sexp_read.specs.declared.fault.SexpFault.TheVariants as sexp_fault
+use Rattle.sexp_read.specs.declared.fault.SexpWhy.{SexpWhy}
+use Rattle.sexp_read.specs.declared.fault.SexpWhy.TheVariants as sexp
+use Rattle.sexp_read.specs.Grammar.{IsForms, text_fault}
+use Rattle.sexp_read.specs.Tree.{FormTrees}
+use Rattle.stream_plan.specs.declared.fault.PlanWhy.{PlanWhy}
+use Rattle.stream_plan.specs.declared.fault.PlanWhy.TheVariants as plan_why
+use Rattle.stream_plan.specs.Faults as plan
+use Rattle.stream_plan.specs.Tree.{StreamTrees}
+use Rattle.sexp_config.specs.declared.config.Config.{Config}
+use Rattle.sexp_config.specs.declared.fault.ConfigFault.{ConfigFault}
+use Rattle.sexp_config.specs.declared.fault.ConfigFault.TheVariants.{Refused, Memory}
+use Rattle.sexp_config.specs.declared.fault.ConfigWhy.{ConfigWhy}
+use Rattle.sexp_config.specs.declared.fault.ConfigWhy.TheVariants as why
+use Rattle.sexp_config.specs.Steps.{Fault, ◌>>=◌}
+use Rattle.sexp_config.specs.Spots.{place_along}
+use Rattle.sexp_config.specs.Streams.{Placed}
+use Rattle.sexp_config.specs.Tops.{Server, Draft, usual_server, fresh_draft, or_usual, run, tops_in}
+
+-- ---- the streams together
+
+-- the first stream that is one too many for a cause
+abbrev pub fault_for : PlanWhy → ConfigWhy → Placed → Option Fault
+fault_for cause why placed = option_map (λ s. (place_along 0 placed.places s.path, why)) (plan.place_of cause (plan.preorder_of placed.streams))
+
+-- a stream too many counts before one that does not take what comes
+unfoldable pub plan_fault : Placed → Option Fault
+plan_fault placed = option_or (fault_for plan_why.Many why.Many placed) (fault_for plan_why.Kind why.Kind placed)
+
+abbrev pub faultless : {A : Type 0} → A → Option Fault → Result A Fault
+faultless a None = Ok a
+faultless a (Some fault) = Err fault
+
+abbrev pub checked : Placed → Result StreamTrees Fault
+checked placed = faultless placed.streams (plan_fault placed)
+
+-- ---- a configuration
+
+abbrev pub config_from : Draft → Server → StreamTrees → Config
+config_from draft server plan = record { host = server.host; port = server.port; expiry = draft.expiry; plan = plan }
+
+abbrev pub finished : Draft → Result Config Fault
+finished draft = checked draft.below.children >>= λ plan. Ok (config_from draft (or_usual usual_server draft.server) plan)
+
+-- what the forms of a text stand for
+unfoldable pub config_of : FormTrees → Result Config Fault
+config_of forms = run [] fresh_draft (tops_in forms) >>= λ draft. finished draft
+
+-- ---- texts
+
+-- the text is forms that stand for this
+pub record IsConfigOf (text : List ℕ) (config : Config) : Type 0 where
+  pub forms : FormTrees
+  pub read : IsForms text forms
+  pub stands : config_of forms ≡ Ok config
+
+abbrev pub why_of : SexpWhy → ConfigWhy
+why_of sexp.Long = why.Long
+why_of sexp.Utf8 = why.Utf8
+why_of sexp.Open = why.Open
+why_of sexp.Close = why.Close
+why_of sexp.Token = why.Token
+why_of sexp.Number = why.Number
+why_of sexp.Escape = why.Escape
+why_of sexp.Deep = why.Deep
+
+abbrev pub fault_in : SexpFault → ConfigFault
+fault_in (sexp_fault.Refused place cause) = Refused place (why_of cause)
+fault_in sexp_fault.Memory = Memory
+
+-- the text is no forms, for this cause at the place
+pub record IsFormsFault (text : List ℕ) (place : ℕ) (why : ConfigWhy) : Type 0 where
+  pub cause : SexpWhy
+  pub fault : text_fault text ≡ Some (place, cause)
+  pub is : why_of cause ≡ why
+
+-- the text is forms that stand for nothing, for this cause at the place
+pub record IsReadingFault (text : List ℕ) (place : ℕ) (why : ConfigWhy) : Type 0 where
+  pub forms : FormTrees
+  pub read : IsForms text forms
+  pub fault : config_of forms ≡ Err (place, why)
+
+abbrev pub IsConfigFault : List ℕ → ℕ → ConfigWhy → Type 0
+IsConfigFault text place why = IsFormsFault text place why ⊎ IsReadingFault text place why
+
+abbrev pub IsRefusedFor : List ℕ → ConfigFault → Type 0
+IsRefusedFor text (Refused place why) = IsConfigFault text place why
+IsRefusedFor text Memory = Unit {0}
+
+-- this very configuration is read, or there was no memory
+abbrev pub IsReadAs : Config → Result Config ConfigFault → Type 0
+IsReadAs config (Ok read) = read ≡ config
+IsReadAs config (Err fault) = fault ≡ Memory
+
+-- the text is refused for this very cause at the place, or there was no memory
+abbrev pub IsRefusedAs : ℕ → ConfigWhy → Result Config ConfigFault → Type 0
+IsRefusedAs place why (Ok read) = ⊥
+IsRefusedAs place why (Err (Refused at cause)) = (at ≡ place) × (cause ≡ why)
+IsRefusedAs place why (Err Memory) = Unit {0}

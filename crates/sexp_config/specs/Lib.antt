@@ -1,0 +1,16 @@
+pub mod Steps
+pub mod Words
+pub mod Arguments
+pub mod Rules
+pub mod Kinds
+pub mod Spots
+pub mod Streams
+pub mod Tops
+pub mod Config
+pub mod Canonical
+pub mod Code
+pub mod ReadBack
+pub mod Made
+pub mod Drafts
+pub mod Built
+pub mod Answer

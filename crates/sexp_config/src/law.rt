@@ -1,0 +1,26 @@
+//! What the definition of a configuration owes, apart from how a text is read.
+
+ghost use Rattle.sexp_config.specs.Answer.{TextsAreAnswered, ConfigsAreNotRefused, ConfigsAreOne, RefusalsAreOne};
+ghost use Rattle.sexp_config.specs.Built.{ReadPlansHaveNoFault};
+ghost use Rattle.sexp_config.specs.ReadBack.{CanonicalIsRead};
+
+/// What is written of a configuration that was read is read again as that configuration, where it is within the limits
+/// of a text.
+pub fn written_is_read()
+    ensures { CanonicalIsRead }
+{}
+
+/// The plan of a configuration that was read has no fault: it has at most 4,096 streams, at most 64 of them in a row from
+/// the top down, and each has no streams but those that may follow it, its numbers and sets in their ranges, and takes
+/// what comes to it.
+pub fn read_plans_have_no_fault()
+    ensures { ReadPlansHaveNoFault }
+{}
+
+/// Each text has one answer: the configuration that it is, or the place and the cause for which it is refused.
+pub fn texts_have_one_answer()
+    ensures answered { TextsAreAnswered }
+    ensures apart { ConfigsAreNotRefused }
+    ensures one { ConfigsAreOne }
+    ensures one_refusal { RefusalsAreOne }
+{}

@@ -1,0 +1,316 @@
+//! The words of configurations.
+
+ghost use Rattle.std.specs.Prelude.{◌≡◌, IfOk};
+ghost use Rattle.std.specs.Str.{bytes_eq};
+ghost use Rattle.sexp_config.specs.Words.{top_word, passing_word, counting_word, window_word, stream_word, joining_word, comparing_word, rule_word, bare_field, is_hidden, field_of, field_text, same_field, fold_word};
+
+use ev_types::{Field, Fold, Memory, Text};
+use pred_eval::Ordering;
+use std::alloc::Global;
+
+/// A word that begins a form at the top.
+#[derive(Clone, Copy, Debug, PartialEq, Eq)]
+pub enum TopWord {
+    TcpServer,
+    PeriodicallyExpire,
+    Streams,
+    Let,
+}
+
+/// A word that begins a stream, or the streams of a `where` that get the rest.
+#[derive(Clone, Copy, Debug, PartialEq, Eq)]
+pub enum StreamWord {
+    Index,
+    Notice,
+    Sdo,
+    Where,
+    Else,
+    With,
+    Default,
+    Tag,
+    By,
+    Changed,
+    Runs,
+    Throttle,
+    Rollup,
+    Batch,
+    Stable,
+    FixedEvent,
+    MovingEvent,
+    FixedTime,
+    MovingTime,
+    Coalesce,
+    Smap,
+    Expired,
+    Tagged,
+    Over,
+    Under,
+}
+
+/// A word that begins a predicate.
+#[derive(Clone, Copy, Debug, PartialEq, Eq)]
+pub enum RuleWord {
+    And,
+    Or,
+    Not,
+    Tagged,
+    Equal,
+    NotEqual,
+    Order(Ordering),
+    Like,
+}
+
+pub(crate) fn is(name: &[u8], text: &[u8]) -> bool
+    ensures { result ≡ bytes_eq name.now text.now }
+{
+    name == text
+}
+
+#[tactic(auto, unfolding(crate::specs::Words::top_word))]
+pub(crate) fn top_word(name: &Text) -> Option<TopWord>
+    ensures { result ≡ top_word name.now }
+{
+    let name = name.as_bytes();
+    if is(name, b"tcp-server") {
+        Some(TopWord::TcpServer)
+    } else if is(name, b"periodically-expire") {
+        Some(TopWord::PeriodicallyExpire)
+    } else if is(name, b"streams") {
+        Some(TopWord::Streams)
+    } else if is(name, b"let") {
+        Some(TopWord::Let)
+    } else {
+        None
+    }
+}
+
+#[tactic(auto, unfolding(crate::specs::Words::stream_word))]
+pub(crate) fn stream_word(name: &Text) -> Option<StreamWord>
+    ensures { result ≡ stream_word name.now }
+{
+    let name = name.as_bytes();
+    if let Some(word) = passing_word(name) {
+        return Some(word);
+    }
+    if let Some(word) = counting_word(name) {
+        return Some(word);
+    }
+    window_word(name)
+}
+
+#[tactic(auto, unfolding(crate::specs::Words::passing_word))]
+fn passing_word(name: &[u8]) -> Option<StreamWord>
+    ensures { result ≡ passing_word name.now }
+{
+    if is(name, b"index") {
+        Some(StreamWord::Index)
+    } else if is(name, b"notice") {
+        Some(StreamWord::Notice)
+    } else if is(name, b"sdo") {
+        Some(StreamWord::Sdo)
+    } else if is(name, b"where") {
+        Some(StreamWord::Where)
+    } else if is(name, b"else") {
+        Some(StreamWord::Else)
+    } else if is(name, b"with") {
+        Some(StreamWord::With)
+    } else if is(name, b"default") {
+        Some(StreamWord::Default)
+    } else if is(name, b"tag") {
+        Some(StreamWord::Tag)
+    } else if is(name, b"by") {
+        Some(StreamWord::By)
+    } else {
+        None
+    }
+}
+
+#[tactic(auto, unfolding(crate::specs::Words::counting_word))]
+fn counting_word(name: &[u8]) -> Option<StreamWord>
+    ensures { result ≡ counting_word name.now }
+{
+    if is(name, b"changed") {
+        Some(StreamWord::Changed)
+    } else if is(name, b"runs") {
+        Some(StreamWord::Runs)
+    } else if is(name, b"throttle") {
+        Some(StreamWord::Throttle)
+    } else if is(name, b"rollup") {
+        Some(StreamWord::Rollup)
+    } else if is(name, b"batch") {
+        Some(StreamWord::Batch)
+    } else if is(name, b"stable") {
+        Some(StreamWord::Stable)
+    } else if is(name, b"coalesce") {
+        Some(StreamWord::Coalesce)
+    } else if is(name, b"smap") {
+        Some(StreamWord::Smap)
+    } else {
+        None
+    }
+}
+
+#[tactic(auto, unfolding(crate::specs::Words::window_word))]
+fn window_word(name: &[u8]) -> Option<StreamWord>
+    ensures { result ≡ window_word name.now }
+{
+    if is(name, b"fixed-event-window") {
+        Some(StreamWord::FixedEvent)
+    } else if is(name, b"moving-event-window") {
+        Some(StreamWord::MovingEvent)
+    } else if is(name, b"fixed-time-window") {
+        Some(StreamWord::FixedTime)
+    } else if is(name, b"moving-time-window") {
+        Some(StreamWord::MovingTime)
+    } else if is(name, b"expired") {
+        Some(StreamWord::Expired)
+    } else if is(name, b"tagged") {
+        Some(StreamWord::Tagged)
+    } else if is(name, b"over") {
+        Some(StreamWord::Over)
+    } else if is(name, b"under") {
+        Some(StreamWord::Under)
+    } else {
+        None
+    }
+}
+
+#[tactic(auto, unfolding(crate::specs::Words::rule_word))]
+pub(crate) fn rule_word(name: &Text) -> Option<RuleWord>
+    ensures { result ≡ rule_word name.now }
+{
+    let name = name.as_bytes();
+    if let Some(word) = joining_word(name) {
+        return Some(word);
+    }
+    comparing_word(name)
+}
+
+#[tactic(auto, unfolding(crate::specs::Words::joining_word))]
+fn joining_word(name: &[u8]) -> Option<RuleWord>
+    ensures { result ≡ joining_word name.now }
+{
+    if is(name, b"and") {
+        Some(RuleWord::And)
+    } else if is(name, b"or") {
+        Some(RuleWord::Or)
+    } else if is(name, b"not") {
+        Some(RuleWord::Not)
+    } else if is(name, b"tagged") {
+        Some(RuleWord::Tagged)
+    } else if is(name, b"like") {
+        Some(RuleWord::Like)
+    } else {
+        None
+    }
+}
+
+#[tactic(auto, unfolding(crate::specs::Words::comparing_word))]
+fn comparing_word(name: &[u8]) -> Option<RuleWord>
+    ensures { result ≡ comparing_word name.now }
+{
+    if is(name, b"=") {
+        Some(RuleWord::Equal)
+    } else if is(name, b"not=") {
+        Some(RuleWord::NotEqual)
+    } else if is(name, b"<") {
+        Some(RuleWord::Order(Ordering::Less))
+    } else if is(name, b"<=") {
+        Some(RuleWord::Order(Ordering::LessEqual))
+    } else if is(name, b">") {
+        Some(RuleWord::Order(Ordering::Greater))
+    } else if is(name, b">=") {
+        Some(RuleWord::Order(Ordering::GreaterEqual))
+    } else {
+        None
+    }
+}
+
+/// The field that is no attribute, by its name.
+#[tactic(auto, unfolding(crate::specs::Words::bare_field))]
+pub(crate) fn bare_field(name: &Text) -> Option<Field>
+    ensures { result ≡ bare_field name.now }
+{
+    let name = name.as_bytes();
+    if is(name, b"host") {
+        Some(Field::Host)
+    } else if is(name, b"service") {
+        Some(Field::Service)
+    } else if is(name, b"state") {
+        Some(Field::State)
+    } else if is(name, b"description") {
+        Some(Field::Description)
+    } else if is(name, b"time") {
+        Some(Field::Time)
+    } else if is(name, b"ttl") {
+        Some(Field::Ttl)
+    } else if is(name, b"metric") {
+        Some(Field::Metric)
+    } else {
+        None
+    }
+}
+
+/// Whether no configuration may name the field.
+fn is_hidden(name: &[u8]) -> bool
+    ensures { result ≡ is_hidden name.now }
+{
+    is(name, b"metric_f") || is(name, b"metric_d") || is(name, b"time_micros") || is(name, b"tags")
+}
+
+/// The field that a keyword of this name means. Some names mean none.
+#[tactic(auto, unfolding(crate::specs::Words::field_of))]
+pub(crate) fn field_of(alloc: Global, name: &Text) -> Result<Option<Field>, Memory>
+    ensures { IfOk result (λ field. field ≡ field_of name.now) }
+{
+    if let Some(field) = bare_field(name) {
+        return Ok(Some(field));
+    }
+    if is(name.as_bytes(), b"metric_sint64") {
+        return Ok(Some(Field::Metric));
+    }
+    if is_hidden(name.as_bytes()) {
+        return Ok(None);
+    }
+    Ok(Some(Field::Attribute(name.copy(alloc)?)))
+}
+
+/// The name of the field.
+fn field_text(field: &Field) -> &[u8]
+    ensures { result.now ≡ field_text field.now }
+{
+    match field {
+        Field::Host => b"host",
+        Field::Service => b"service",
+        Field::State => b"state",
+        Field::Description => b"description",
+        Field::Time => b"time",
+        Field::Ttl => b"ttl",
+        Field::Metric => b"metric",
+        Field::Attribute(key) => key.as_bytes(),
+    }
+}
+
+pub(crate) fn same_field(a: &Field, b: &Field) -> bool
+    ensures { result ≡ same_field a.now b.now }
+{
+    is(field_text(a), field_text(b))
+}
+
+#[tactic(auto, unfolding(crate::specs::Words::fold_word))]
+pub(crate) fn fold_word(name: &Text) -> Option<Fold>
+    ensures { result ≡ fold_word name.now }
+{
+    let name = name.as_bytes();
+    if is(name, b"folds/sum") {
+        Some(Fold::Sum)
+    } else if is(name, b"folds/minimum") {
+        Some(Fold::Minimum)
+    } else if is(name, b"folds/maximum") {
+        Some(Fold::Maximum)
+    } else if is(name, b"folds/count") {
+        Some(Fold::Count)
+    } else {
+        None
+    }
+}

@@ -1,0 +1,106 @@
+-- Writing forms piece by piece.
+use Rattle.std.proofs.Common.{◌≡◌, ℕ, ◌+◌, ◌<◌, List, [], ◌∷◌, ◌++◌, length, get_or, take, Vec, Global, refl, ap, sym, ◌∙◌, append_assoc}
+use Rattle.std.proofs.Math.Seq.{take-length}
+use Rattle.std.proofs.lemmas.Grind.{flat_map-append}
+use Rattle.std.proofs.lemmas.List.{take_more, append-nil}
+use Rattle.std.specs.List.{flat_map}
+use Rattle.sexp_read.specs.declared.form.Form.{Form}
+use Rattle.sexp_read.specs.declared.form.Shape.{Shape}
+use Rattle.sexp_read.specs.declared.form.Shape as code
+use Rattle.sexp_read.specs.Tree.{Round, Square, Curly, FormTree, shape_tree, form_tree, form_trees}
+use Rattle.sexp_read.specs.Written.{Grew, Branch, bare_tree, bare_trees, byte_text, tree_text, behind_text, lines_text}
+use Rattle.sexp_read.proofs.Forms.{list_tree, vector_tree, map_tree}
+
+pub content_none : (bytes : List ℕ) → flat_map byte_text (take 0 bytes) ≡ []
+content_none bytes = refl
+
+pub content_all : (bytes : List ℕ) → flat_map byte_text (take (length bytes) bytes) ≡ flat_map byte_text bytes
+content_all bytes = ap (flat_map byte_text) (take-length bytes)
+
+pub content_more : (bytes : List ℕ) (i : ℕ) → i < length bytes → flat_map byte_text (take (i + 1) bytes) ≡ flat_map byte_text (take i bytes) ++ byte_text (get_or bytes i 0)
+content_more bytes i inside =
+    ap (flat_map byte_text) (take_more bytes i 0 inside) ∙ flat_map-append byte_text (take i bytes) (get_or bytes i 0 ∷ [])
+    ∙ ap (λ (last : List ℕ). flat_map byte_text (take i bytes) ++ last) (append-nil (byte_text (get_or bytes i 0)))
+
+-- a group's forms
+
+shaped : (form : Form) (shape : Shape) → form.shape ≡ shape → tree_text (bare_tree (form_tree form)) ≡ tree_text (bare_tree (shape_tree shape form.start form.end))
+shaped form shape is = ap (λ (s : Shape). tree_text (bare_tree (shape_tree s form.start form.end))) is
+
+pub list_text : (form : Form) (forms : Vec Form Global) (items : List Form) → form.shape ≡ code.List forms → items ≡ forms.items
+    → tree_text (Branch Round (bare_trees (form_trees items))) ≡ tree_text (bare_tree (form_tree form))
+list_text form forms items is same =
+    ap (λ (all : List Form). tree_text (Branch Round (bare_trees (form_trees all)))) same
+    ∙ sym (shaped form (code.List forms) is ∙ ap (λ (tree : FormTree). tree_text (bare_tree tree)) (list_tree forms form.start form.end))
+
+pub vector_text : (form : Form) (forms : Vec Form Global) (items : List Form) → form.shape ≡ code.Vector forms → items ≡ forms.items
+    → tree_text (Branch Square (bare_trees (form_trees items))) ≡ tree_text (bare_tree (form_tree form))
+vector_text form forms items is same =
+    ap (λ (all : List Form). tree_text (Branch Square (bare_trees (form_trees all)))) same
+    ∙ sym (shaped form (code.Vector forms) is ∙ ap (λ (tree : FormTree). tree_text (bare_tree tree)) (vector_tree forms form.start form.end))
+
+pub map_text : (form : Form) (forms : Vec Form Global) (items : List Form) → form.shape ≡ code.Map forms → items ≡ forms.items
+    → tree_text (Branch Curly (bare_trees (form_trees items))) ≡ tree_text (bare_tree (form_tree form))
+map_text form forms items is same =
+    ap (λ (all : List Form). tree_text (Branch Curly (bare_trees (form_trees all)))) same
+    ∙ sym (shaped form (code.Map forms) is ∙ ap (λ (tree : FormTree). tree_text (bare_tree tree)) (map_tree forms form.start form.end))
+
+-- one form more
+
+abbrev written : Form → List ℕ
+written form = tree_text (bare_tree (form_tree form))
+
+abbrev behind : List Form → List ℕ
+behind forms = behind_text (bare_trees (form_trees forms))
+
+abbrev lines : List Form → List ℕ
+lines forms = lines_text (bare_trees (form_trees forms))
+
+behind_push : (forms : List Form) (form : Form) → behind (forms ++ form ∷ []) ≡ (behind forms ++ 32 ∷ []) ++ written form
+behind_push [] form = ap (λ (text : List ℕ). 32 ∷ text) (append-nil (written form))
+behind_push (first ∷ forms) form =
+    ap (λ (text : List ℕ). 32 ∷ (written first ++ text)) (behind_push forms form)
+    ∙ ap (λ (text : List ℕ). 32 ∷ text) (sym (append_assoc (written first) (behind forms ++ 32 ∷ []) (written form))
+    ∙ ap (λ (text : List ℕ). text ++ written form) (sym (append_assoc (written first) (behind forms) (32 ∷ []))))
+
+lines_push : (forms : List Form) (form : Form) → lines (forms ++ form ∷ []) ≡ (lines forms ++ written form) ++ 10 ∷ []
+lines_push [] form = refl
+lines_push (first ∷ forms) form =
+    ap (λ (text : List ℕ). written first ++ 10 ∷ text) (lines_push forms form)
+    ∙ sym (append_assoc (written first) (10 ∷ (lines forms ++ written form)) (10 ∷ []))
+    ∙ ap (λ (text : List ℕ). text ++ 10 ∷ []) (sym (append_assoc (written first) (10 ∷ lines forms) (written form)))
+
+taken_more : (forms : List Form) (i : ℕ) (form : Form) → i < length forms → form ≡ get_or forms i form → take (i + 1) forms ≡ take i forms ++ form ∷ []
+taken_more forms i form inside is = take_more forms i form inside ∙ ap (λ (last : Form). take i forms ++ last ∷ []) (sym is)
+
+pub lines_all : (forms : List Form) → lines (take (length forms) forms) ≡ lines forms
+lines_all forms = ap lines (take-length forms)
+
+pub behind_all : (forms : List Form) → behind (take (length forms) forms) ≡ behind forms
+behind_all forms = ap behind (take-length forms)
+
+pub lines_step : (first out put final : List ℕ) (forms : List Form) (i : ℕ) (form : Form)
+    → out ≡ first ++ lines (take i forms) → put ≡ out ++ written form → final ≡ put ++ 10 ∷ []
+    → i < length forms → form ≡ get_or forms i form → final ≡ first ++ lines (take (i + 1) forms)
+lines_step first out put final forms i form before wrote ended inside is =
+    let so_far = lines (take i forms) in
+    ended ∙ ap (λ (text : List ℕ). text ++ 10 ∷ []) (wrote ∙ ap (λ (text : List ℕ). text ++ written form) before ∙ append_assoc first so_far (written form))
+    ∙ append_assoc first (so_far ++ written form) (10 ∷ [])
+    ∙ ap (λ (text : List ℕ). first ++ text) (sym (ap lines (taken_more forms i form inside is) ∙ lines_push (take i forms) form))
+
+pub behind_step : (first initial out put final : List ℕ) (forms : List Form) (i : ℕ) (form : Form)
+    → Grew first out × (out ≡ initial ++ behind (take i forms)) → put ≡ out ++ 32 ∷ [] → final ≡ put ++ written form
+    → i < length forms → form ≡ get_or forms i form
+    → Grew first final × (final ≡ initial ++ behind (take (i + 1) forms))
+behind_step first initial out put final forms i form before blank wrote inside is =
+    let so_far = behind (take i forms) in
+    let all : final ≡ (out ++ 32 ∷ []) ++ written form = wrote ∙ ap (λ (text : List ℕ). text ++ written form) blank in
+    let grown : final ≡ first ++ ((before.0.more ++ 32 ∷ []) ++ written form) =
+    all ∙ ap (λ (text : List ℕ). (text ++ 32 ∷ []) ++ written form) before.0.added
+    ∙ ap (λ (text : List ℕ). text ++ written form) (append_assoc first before.0.more (32 ∷ [])) ∙ append_assoc first (before.0.more ++ 32 ∷ []) (written form) in
+    let same : final ≡ initial ++ ((so_far ++ 32 ∷ []) ++ written form) =
+    all ∙ ap (λ (text : List ℕ). (text ++ 32 ∷ []) ++ written form) before.1
+    ∙ ap (λ (text : List ℕ). text ++ written form) (append_assoc initial so_far (32 ∷ [])) ∙ append_assoc initial (so_far ++ 32 ∷ []) (written form) in (
+      record { more = (before.0.more ++ 32 ∷ []) ++ written form; added = grown },
+      same ∙ ap (λ (text : List ℕ). initial ++ text) (sym (ap behind (taken_more forms i form inside is) ∙ behind_push (take i forms) form)),
+    )
