@@ -8,7 +8,7 @@ use Rattle.index_log.specs.Live.{IndexLog, Write}
 use Rattle.live_index.specs.Index.{Index, Represents}
 use Rattle.stream_plan.specs.Tree.{StreamTrees}
 use Rattle.stream_tree.specs.Tree as tree
-use Rattle.list_laws.specs.Counts.{StepCount}
+use Rattle.step_count.specs.Count.{StepCount}
 use Rattle.stream_meaning.specs.History.{◌▸◌}
 use Rattle.stream_meaning.specs.declared.entry.Entry.{Entry}
 use Rattle.stream_meaning.specs.Outputs.{all_happens, outputs_among, outputs_at, outputs_of, due_among, given_among}

@@ -10,9 +10,9 @@ ghost use Rattle.event_core.specs.Core.{setting_of, now_of, is_poisoned, state_b
 use crate::clock::Clock;
 use crate::streams::IndexedStreams;
 use ev_types::{Event, Events, Expiry, Memory, Notices};
-use list_laws::{Ledger, Steps};
 use pred_eval::Pred;
 use std::alloc::Global;
+use step_count::{Ledger, Steps};
 use stream_plan::ReadyPlan;
 
 /// The streams of a plan, the index that they write to, and a clock of seconds. What expires in the index is looked for

@@ -13,10 +13,10 @@ ghost use Rattle.event_core.specs.Streams.{plan_of, Holds, Moved};
 use crate::clock::Clock;
 use crate::outputs::handle;
 use ev_types::{Event, Events, KeepKeys, Memory, Notices, Outputs};
-use list_laws::{Ledger, Steps};
 use live_index::LiveIndex;
 use pred_eval::Pred;
 use std::alloc::Global;
+use step_count::{Ledger, Steps};
 use stream_plan::ReadyPlan;
 use stream_tree::Tree;
 

@@ -3,10 +3,10 @@ use ev_types::{
     Attrs, Event, Events, Expiry, Field, Item, KeepKey, KeepKeys, Memory, Notice, Notices, Set,
     Sets, Tags, Text, Value,
 };
-use list_laws::{NoLedger, Steps};
 use pred_eval::{Pred, RegexPatterns, Rule, Rules, pattern_count};
 use std::alloc::Global;
 use std::test::Fail;
+use step_count::{NoLedger, Steps};
 use stream_plan::{Kind, Plan, Stream, Streams, build_plan, check_kinds, stream_pattern_count};
 use stream_tree::is_built;
 

@@ -8,10 +8,10 @@ ghost use Rattle.pred_eval.specs.Truth.{holds};
 
 use crate::sorted::SortedEvents;
 use ev_types::{Event, Events, Memory, Text};
-use list_laws::{Ledger, Steps};
 use pred_eval::Pred;
 use std::alloc::Global;
 use std::marker::Model;
+use step_count::{Ledger, Steps};
 
 /// An index of events, one for each host and service. Contracts see its live events, by host and then by service,
 /// absent before present, and whether memory was wanted inside a change: then it is poisoned, and each later call

@@ -2,10 +2,10 @@ ghost use Rattle.std.specs.Prelude.{◌≡◌};
 
 use super::LiveIndex;
 use ev_types::{Attr, Attrs, Event, Events, Field, Memory, Tags, Text, Value};
-use list_laws::{NoLedger, Steps};
 use pred_eval::{Pred, RegexPatterns, Rule};
 use std::alloc::Global;
 use std::test::Fail;
+use step_count::{NoLedger, Steps};
 
 type Place = (Option<&'static str>, Option<&'static str>);
 

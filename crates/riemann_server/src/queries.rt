@@ -13,12 +13,12 @@ ghost use Rattle.riemann_server.specs.Verdicts.{patterns_state};
 use crate::replies::{accept, put_frame, refuse};
 use ev_types::{Blob, Events, Memory};
 use framing::BODY_LIMIT;
-use list_laws::{NoLedger, Steps};
 use live_index::LiveIndex;
 use pred_eval::{BuildFault, Patterns, Pred, Rule};
 use query_lang::{QueryFault, read_query};
 use riemann_msg::{Msg, QueryPart, msg_len};
 use std::alloc::{AllocError, Global};
+use step_count::{NoLedger, Steps};
 
 /// Appends the reply to the query of a message that was accepted.
 pub(crate) fn answer_query<P: Patterns>(

@@ -6,6 +6,7 @@ pub mod Rates
 pub mod Windows
 pub mod Coalesce
 pub mod Emission
+pub mod Emitted
 pub mod Branches
 pub mod Outputs
 pub mod Deadlines

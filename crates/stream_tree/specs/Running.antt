@@ -1,7 +1,7 @@
 -- What comes of one entry for streams, for one stream, and for what stands below a stream.
 use Rattle.std.specs.Prelude.{◌≡◌, ℕ, if◌then◌else◌, List, [], ◌∷◌}
 use Rattle.ev_types.specs.declared.item.Output.{Output}
-use Rattle.list_laws.specs.Counts.{StepCount}
+use Rattle.step_count.specs.Count.{StepCount}
 use Rattle.pred_eval.specs.Search.{AreReadFrom}
 use Rattle.regex.specs.declared.string.regex.Regex.{Regex}
 use Rattle.stream_plan.specs.Tree.{StreamTree, StreamTrees, stream}

@@ -1,7 +1,7 @@
 -- A tree of streams that runs, and the histories for which it stands.
 use Rattle.std.specs.Prelude.{◌≡◌, ◌+◌, Bool, true, false, ◌&&◌, List, ◌++◌}
 use Rattle.ev_types.specs.declared.item.Output.{Output}
-use Rattle.list_laws.specs.Counts.{StepCount}
+use Rattle.step_count.specs.Count.{StepCount}
 use Rattle.stream_plan.specs.Ready.{plan_patterns}
 use Rattle.stream_plan.specs.Tree.{StreamTree, StreamTrees, stream, none, also}
 use Rattle.stream_meaning.specs.History.{History}

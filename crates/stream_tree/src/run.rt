@@ -9,8 +9,8 @@ ghost use Rattle.stream_tree.specs.Running.{ForestRuns, StreamRuns, BranchRuns, 
 
 use crate::forest::{Forest, Node};
 use ev_types::{Emission, Emissions, Memory, Outputs};
-use list_laws::{Ledger, Steps};
 use std::alloc::Global;
+use step_count::{Ledger, Steps};
 use stream_meaning::Entry;
 use stream_plan::Stream;
 use stream_step::{Branch, Passed, Setting, State, act};

@@ -5,10 +5,10 @@ use crate::{Tree, is_built};
 use ev_types::{
     Attrs, Event, Field, Fields, Item, Memory, Output, Outputs, Set, Sets, Tags, Text, Value,
 };
-use list_laws::{CountLedger, Steps};
 use pred_eval::{RegexPatterns, Rule};
 use std::alloc::Global;
 use std::test::Fail;
+use step_count::{CountLedger, Steps};
 use stream_plan::{
     CheckedPlan, Kind, Plan, ReadyPlan, Stream, Streams, build_plan, check_kinds,
     stream_pattern_count,

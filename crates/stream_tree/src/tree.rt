@@ -10,8 +10,8 @@ ghost use Rattle.stream_tree.specs.Tree.{is_built_plan, plan_of, is_poisoned, Re
 use crate::forest::{Forest, fresh_forest};
 use crate::run::run_forest;
 use ev_types::{Event, Item, Memory, Outputs};
-use list_laws::{Ledger, Steps};
 use std::alloc::Global;
+use step_count::{Ledger, Steps};
 use stream_meaning::Entry;
 use stream_plan::ReadyPlan;
 use stream_step::Setting;

@@ -1,10 +1,8 @@
 ghost use Rattle.std.specs.Prelude.{◌≡◌, ◌+◌, ◌<◌, nat_lt, count_by};
 
-use crate::{
-    CountLedger, Ids, Ledger, Memory, NoLedger, Steps, count_where, is_prefix, keep_where,
-    window_of,
-};
+use list_laws::{Ids, Memory, count_where, is_prefix, keep_where, window_of};
 use std::test::Fail;
+use step_count::{CountLedger, Ledger, NoLedger, Steps};
 
 const DIGITS: [u64; 8] = [3, 1, 4, 1, 5, 9, 2, 6];
 
@@ -125,7 +123,7 @@ fn lists_grow_at_their_end(rt: HostRuntime) -> Result<(), Fail> {
 }
 
 #[test]
-fn want_of_memory_has_a_text(rt: HostRuntime) -> Result<(), Fail> {
+fn out_of_memory_has_a_text(rt: HostRuntime) -> Result<(), Fail> {
     let text = format!(in rt.alloc(); "{}", Memory)?;
     assert_eq!(rt; text.as_str(), "out of memory");
     Ok(())

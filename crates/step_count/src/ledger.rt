@@ -1,5 +1,6 @@
 ghost use Rattle.std.specs.Prelude.{◌≡◌, ℕ, ◌+◌, min, Option, Some, None};
-ghost use Rattle.list_laws.specs.Counts.{one_more, greatest};
+ghost use Rattle.list_laws.specs.Counts.{greatest};
+ghost use Rattle.step_count.specs.Count.{one_more};
 
 /// Where steps are counted at run time. Its ghost members are what it counted, where it tells that.
 pub trait Ledger {

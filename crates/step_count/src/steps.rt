@@ -1,5 +1,5 @@
 ghost use Rattle.std.specs.Prelude.{◌≡◌, ◌+◌, length};
-ghost use Rattle.list_laws.specs.Counts.{StepCount, one_more};
+ghost use Rattle.step_count.specs.Count.{StepCount, one_more};
 
 use crate::Ledger;
 use http_server::Log;

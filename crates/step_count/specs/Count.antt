@@ -1,0 +1,14 @@
+-- Counts of steps.
+use Rattle.std.specs.Prelude.{ℕ, ◌+◌, min, Option}
+use Rattle.std.specs.Option.{option_map}
+use Rattle.list_laws.specs.Counts.{greatest}
+
+-- what contracts see of a counter of steps: the two counts, and the ledger that counts them too
+pub record StepCount (G : Type 0) : Type 0 where
+  pub forks : ℕ
+  pub entries : ℕ
+  pub ledger : G
+
+-- the count of a ledger after one more, where it is known
+abbrev pub one_more : Option ℕ → Option ℕ
+one_more known = option_map (λ count. min (count + 1) greatest) known
