@@ -5,7 +5,7 @@ ghost use Rattle.ev_types.specs.declared.item.Notice.{Notice as StoredNotice};
 ghost use Rattle.index_log.specs.Live.{live_events};
 ghost use Rattle.stream_meaning.specs.Arrivals.{Arrival, Elapsed, Post, matching_events};
 ghost use Rattle.stream_tree.specs.Tree.{is_built_plan};
-ghost use Rattle.event_core.specs.Core.{setting_of, now_of, is_poisoned, state_by, Represents, Heard};
+ghost use Rattle.event_core.specs.Core.{config_of, now_of, is_poisoned, state_by, Represents, Heard};
 
 use crate::clock::Clock;
 use crate::streams::IndexedStreams;
@@ -37,7 +37,7 @@ impl Core {
         requires moment { start ≤ 2 ^ 40 }
         requires interval { ForSome expiry (λ set. (1 ≤ set.interval) × (set.interval ≤ 604800)) }
         requires built { is_built_plan plan ≡ true }
-        ensures setting { IfOk result (λ core. setting_of core ≡ record { plan = plan; expiry = expiry; start = start }) }
+        ensures config { IfOk result (λ core. config_of core ≡ record { plan = plan; expiry = expiry; start = start }) }
         ensures represents { IfOk result (λ core. Represents core []) }
         ensures now { IfOk result (λ core. now_of core ≡ start) }
     {
@@ -63,7 +63,7 @@ impl Core {
     /// How many events are live.
     pub fn live(&self) -> usize
         ensures { (arrivals : List Arrival) → Represents self.now arrivals
-            → result ≡ length (live_events (state_by (setting_of self.now) arrivals).log) }
+            → result ≡ length (live_events (state_by (config_of self.now) arrivals).log) }
     {
         self.streams.live()
     }
@@ -82,12 +82,12 @@ impl Core {
         requires from { now_of self.old ≤ to }
         requires hour { to ≤ now_of self.old + 3600 }
         requires bound { to ≤ 2 ^ 40 }
-        ensures setting { setting_of self.new ≡ setting_of self.old }
+        ensures config { config_of self.new ≡ config_of self.old }
         ensures now { OnOk result (now_of self.new ≡ to) }
         ensures represents { OnOk result ((arrivals : List Arrival) → Represents self.old arrivals
             → Represents self.new (arrivals ++ replicate (to - now_of self.old) Elapsed)) }
         ensures heard { OnOk result ((arrivals : List Arrival) → Represents self.old arrivals
-            → Heard (setting_of self.old) arrivals (replicate (to - now_of self.old) Elapsed)
+            → Heard (config_of self.old) arrivals (replicate (to - now_of self.old) Elapsed)
             out.old steps.old.forks out.new steps.new.forks) }
         ensures poisoned { IsTrue (is_poisoned self.old) → IsErr result }
         ensures sound { OnOk result (is_poisoned self.new ≡ false) }
@@ -113,12 +113,12 @@ impl Core {
         out: &mut Notices,
         steps: &mut Steps<G>,
     ) -> Result<(), Memory>
-        ensures setting { setting_of self.new ≡ setting_of self.old }
+        ensures config { config_of self.new ≡ config_of self.old }
         ensures now { now_of self.new ≡ now_of self.old }
         ensures represents { OnOk result ((arrivals : List Arrival) → Represents self.old arrivals
             → Represents self.new (arrivals ++ Post event ∷ [])) }
         ensures heard { OnOk result ((arrivals : List Arrival) → Represents self.old arrivals
-            → Heard (setting_of self.old) arrivals (Post event ∷ [])
+            → Heard (config_of self.old) arrivals (Post event ∷ [])
             out.old steps.old.forks out.new steps.new.forks) }
         ensures poisoned { IsTrue (is_poisoned self.old) → IsErr result }
         ensures sound { OnOk result (is_poisoned self.new ≡ false) }
@@ -145,11 +145,11 @@ impl Core {
         steps: &mut Steps<G>,
     ) -> Result<(), Memory>
         ensures same { OnOk result (self.new ≡ self.old) }
-        ensures setting { setting_of self.new ≡ setting_of self.old }
+        ensures config { config_of self.new ≡ config_of self.old }
         ensures now { now_of self.new ≡ now_of self.old }
         ensures pred { pred.new ≡ pred.old }
         ensures found { OnOk result ((arrivals : List Arrival) → Represents self.old arrivals
-            → out.new ≡ out.old ++ matching_events pred.old (state_by (setting_of self.old) arrivals).log) }
+            → out.new ≡ out.old ++ matching_events pred.old (state_by (config_of self.old) arrivals).log) }
         ensures forks { steps.new.forks ≡ steps.old.forks }
         ensures poisoned { IsTrue (is_poisoned self.old) → IsErr result }
         ensures sound { OnOk result (is_poisoned self.new ≡ false) }

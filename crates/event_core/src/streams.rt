@@ -5,7 +5,7 @@ ghost use Rattle.ev_types.specs.declared.item.Notice.{Notice as StoredNotice};
 ghost use Rattle.ev_types.specs.Rebirth.{expired_copy};
 ghost use Rattle.stream_meaning.specs.History.{since, begun, moment_of};
 ghost use Rattle.stream_meaning.specs.declared.entry.Entry.TheVariants.{Tick, Item as In};
-ghost use Rattle.stream_meaning.specs.Arrivals.{CoreState, Elapsed, entered, streamed, reaped, swept, arrived, state_from, matching_events};
+ghost use Rattle.stream_meaning.specs.Arrivals.{CoreState, Elapsed, entered, streamed, fed_back, swept, arrived, state_from, matching_events};
 ghost use Rattle.index_log.specs.Live.{live_events};
 ghost use Rattle.stream_tree.specs.Tree.{is_built_plan};
 ghost use Rattle.event_core.specs.Streams.{plan_of, Holds, Moved};
@@ -126,7 +126,7 @@ impl IndexedStreams {
         requires { now ≤ 2 ^ 40 }
         ensures plan { plan_of self.new ≡ plan_of self.old }
         ensures moved { OnOk result ((state : CoreState) → Holds self.old state → moment_of state.history ≡ now
-            → Moved (plan_of self.old) self.new state (reaped (plan_of self.old) keep.now state)
+            → Moved (plan_of self.old) self.new state (fed_back (plan_of self.old) keep.now state)
             out.old steps.old.forks out.new steps.new.forks) }
         ensures front { (more : List StoredNotice) × (out.new ≡ out.old ++ more) }
     {

@@ -8,7 +8,7 @@ use Rattle.ev_types.specs.declared.event.Event.{Event}
 pub use Rattle.ev_types.specs.Text.{is_text}
 pub use Rattle.ev_types.specs.Expiry.{is_over, is_late}
 use Rattle.ev_types.specs.Expiry.{is_expired}
-use Rattle.index_log.specs.Place.{place_cmp, same_place}
+use Rattle.index_log.specs.IndexKey.{index_key_cmp, same_index_key}
 
 pub data Logged : Type 0 where
   Write : Event → Logged
@@ -20,7 +20,7 @@ IndexLog = List Logged
 
 -- what comes later in the log ends an event
 abbrev pub ends : Event → Logged → Bool
-ends event (Write later) = same_place event later
+ends event (Write later) = same_index_key event later
 ends event (Reap t) = is_late t event
 
 abbrev pub is_live : Event → IndexLog → Bool
@@ -35,7 +35,7 @@ kept (Reap t ∷ later) = kept later
 -- an event put in before the first event that stands behind it
 abbrev pub placed : Event → List Event → List Event
 placed event [] = event ∷ []
-placed event (first ∷ events) = if is_lt (place_cmp event first) then event ∷ (first ∷ events) else first ∷ placed event events
+placed event (first ∷ events) = if is_lt (index_key_cmp event first) then event ∷ (first ∷ events) else first ∷ placed event events
 
 -- events put in one after another
 abbrev pub placed_onto : List Event → List Event → List Event
@@ -48,7 +48,7 @@ live_events log = placed_onto [] (kept log)
 
 -- the events at other places
 abbrev pub elsewhere : Event → List Event → List Event
-elsewhere event = filter (λ other. not (same_place other event))
+elsewhere event = filter (λ other. not (same_index_key other event))
 
 -- what the live events become by a write
 abbrev pub written : Event → List Event → List Event
@@ -70,4 +70,4 @@ ReapsEndExpired = (log : IndexLog) (t : ℕ) → live_events (log ++ Reap t ∷ 
 
 -- the live events stand by place, and each place has one
 abbrev pub LiveEventsRise : Type 0
-LiveEventsRise = (log : IndexLog) → IsStrictlySortedBy place_cmp (live_events log)
+LiveEventsRise = (log : IndexLog) → IsStrictlySortedBy index_key_cmp (live_events log)

@@ -5,7 +5,7 @@ use Rattle.std.specs.declared.cmp.Ordering.{Ordering}
 use Rattle.std.specs.Ordering.{is_eq, ordering_then}
 use Rattle.ev_types.specs.declared.event.Event.{Event}
 use Rattle.index_log.specs.Live.{IndexLog, Write, live_events}
-use Rattle.index_log.specs.Place.{text_cmp}
+use Rattle.index_log.specs.IndexKey.{text_cmp}
 
 -- the live events in the order of the index, and whether memory was wanted inside a change, after which nothing is
 -- known of them

@@ -4,7 +4,7 @@ ghost use Rattle.ev_types.specs.Expiry.{is_expired};
 ghost use Rattle.std.specs.List.{HoldsAt};
 ghost use Rattle.std.specs.List.Sorted.{IsPartitionPoint, IsSearchInRange};
 ghost use Rattle.index_log.specs.Live.{is_over};
-ghost use Rattle.index_log.specs.Place.{place_cmp, text_cmp};
+ghost use Rattle.index_log.specs.IndexKey.{index_key_cmp, text_cmp};
 ghost use Rattle.live_index.specs.Index.{RepresentsWrite, cmp_at, event_at};
 
 use ev_types::{Event, Events, Memory, Text};
@@ -23,13 +23,13 @@ impl Model for SortedEvents {
     ghost use Rattle.std.specs.Prelude.{List};
     ghost use Rattle.std.specs.List.Sorted.{IsStrictlySortedBy};
     ghost use Rattle.ev_types.specs.declared.event.Event.{Event};
-    ghost use Rattle.index_log.specs.Place.{place_cmp};
+    ghost use Rattle.index_log.specs.IndexKey.{index_key_cmp};
 
     ghost Value = { List Event };
 
     ghost view = { λ index. index.events.items };
 
-    ghost invariant = { λ index. IsStrictlySortedBy place_cmp index.events.items };
+    ghost invariant = { λ index. IsStrictlySortedBy index_key_cmp index.events.items };
 }
 
 impl SortedEvents {
@@ -102,9 +102,9 @@ impl SortedEvents {
     fn place_of(&self, event: &Event) -> Result<usize, usize>
         ensures bound { IsSearchInRange result (length self.now) }
         ensures place { MatchResult result
-            (HoldsAt (λ other. place_cmp other event.now ≡ Ordering.Equal) self.now)
-            (IsPartitionPoint (λ other. place_cmp other event.now ≡ Ordering.Less)
-            (λ other. place_cmp other event.now ≡ Ordering.Greater) self.now) }
+            (HoldsAt (λ other. index_key_cmp other event.now ≡ Ordering.Equal) self.now)
+            (IsPartitionPoint (λ other. index_key_cmp other event.now ≡ Ordering.Less)
+            (λ other. index_key_cmp other event.now ≡ Ordering.Greater) self.now) }
     {
         self.place_at(event.host.as_ref(), event.service.as_ref())
     }

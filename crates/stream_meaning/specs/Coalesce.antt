@@ -4,14 +4,14 @@ use Rattle.std.specs.List.{list_any}
 use Rattle.ev_types.specs.declared.event.Event.{Event}
 use Rattle.ev_types.specs.declared.item.Item.{Item}
 use Rattle.ev_types.specs.Expiry.{is_expired}
-use Rattle.index_log.specs.Place.{same_place}
+use Rattle.index_log.specs.IndexKey.{same_index_key}
 use Rattle.index_log.specs.Live.{placed_onto}
 use Rattle.stream_meaning.specs.History.{History, since, ◌▸◌, Tick, In, begun, moment_of}
 use Rattle.stream_meaning.specs.Came.{Timed, timed_events, vector}
 
 -- the event is of this one's host and service
 abbrev pub replaces : Timed → Timed → Bool
-replaces older newer = same_place older.event newer.event
+replaces older newer = same_index_key older.event newer.event
 
 -- the last event of each host and service
 abbrev pub newest : List Timed → List Timed

@@ -6,7 +6,7 @@ ghost use Rattle.stream_plan.specs.Ready.{kind_patterns};
 ghost use Rattle.pred_eval.specs.Tree.{tree_of};
 ghost use Rattle.pred_eval.specs.Truth.{searches};
 ghost use Rattle.stream_plan.specs.Tree.{kind_tree, Where};
-ghost use Rattle.stream_step.specs.Step.{is_built_kind, Keeps, StateStands};
+ghost use Rattle.stream_step.specs.Step.{is_built_kind, Keeps, StateRepresents};
 
 use pred_eval::{Rule, pattern_count};
 use stream_plan::Kind;
@@ -27,7 +27,7 @@ impl State {
         ensures stands { (before after : List (List ℕ)) (h : History) →
             is_built_kind (kind_tree kind.now) ≡ true → is_in_range (kind_tree kind.now) ≡ true →
             length before ≡ next.old → length (kind_patterns (kind_tree kind.now)) ≤ greatest →
-            StateStands (before ++ (kind_patterns (kind_tree kind.now) ++ after)) (kind_tree kind.now) result h }
+            StateRepresents (before ++ (kind_patterns (kind_tree kind.now) ++ after)) (kind_tree kind.now) result h }
         ensures next { next.old + length (kind_patterns (kind_tree kind.now)) ≤ greatest →
             next.new ≡ next.old + length (kind_patterns (kind_tree kind.now)) }
     {

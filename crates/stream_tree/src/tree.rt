@@ -3,9 +3,9 @@ ghost use Rattle.ev_types.specs.declared.item.Item.TheVariants.{One};
 ghost use Rattle.ev_types.specs.declared.item.Output.{Output as SaidOutput};
 ghost use Rattle.stream_meaning.specs.declared.entry.Entry.TheVariants.{Tick, Item as In};
 ghost use Rattle.stream_meaning.specs.History.{History, ◌▸◌, begun, moment_of, TicksAlone};
-ghost use Rattle.stream_meaning.specs.Outputs.{all_happens};
+ghost use Rattle.stream_meaning.specs.Outputs.{plan_effects};
 ghost use Rattle.stream_step.specs.Step.{Extends};
-ghost use Rattle.stream_tree.specs.Tree.{is_built_plan, plan_of, is_poisoned, Represents, Grew};
+ghost use Rattle.stream_tree.specs.Tree.{is_built_plan, plan_of, is_poisoned, Represents, Performs};
 
 use crate::forest::{Forest, fresh_forest};
 use crate::run::run_forest;
@@ -14,7 +14,7 @@ use std::alloc::Global;
 use step_count::{Ledger, Steps};
 use stream_meaning::Entry;
 use stream_plan::ReadyPlan;
-use stream_step::Setting;
+use stream_step::Context;
 
 /// A plan of streams that runs. Where memory was wanted inside, it is poisoned, and each later call that can answer
 /// `Memory` does.
@@ -54,7 +54,7 @@ impl Tree {
         requires { now ≤ 2 ^ 40 }
         ensures plan { plan_of self.new ≡ plan_of self.old }
         ensures grew { OnOk result ((h : History) → Represents self.old h → moment_of h ≡ now →
-            Grew out.old steps.old out.new steps.new (all_happens (plan_of self.old) (h ▸ In (One event)))) }
+            Performs out.old steps.old out.new steps.new (plan_effects (plan_of self.old) (h ▸ In (One event)))) }
         ensures represents { OnOk result ((h : History) → Represents self.old h → moment_of h ≡ now →
             Represents self.new (h ▸ In (One event))) }
         ensures poisoned { IsTrue (is_poisoned self.old) → IsErr result }
@@ -79,7 +79,7 @@ impl Tree {
         requires { now ≤ 2 ^ 40 }
         ensures plan { plan_of self.new ≡ plan_of self.old }
         ensures grew { OnOk result ((h : History) → Represents self.old h → moment_of h + 1 ≡ now →
-            Grew out.old steps.old out.new steps.new (all_happens (plan_of self.old) (h ▸ Tick))) }
+            Performs out.old steps.old out.new steps.new (plan_effects (plan_of self.old) (h ▸ Tick))) }
         ensures represents { OnOk result ((h : History) → Represents self.old h → moment_of h + 1 ≡ now →
             Represents self.new (h ▸ Tick)) }
         ensures poisoned { IsTrue (is_poisoned self.old) → IsErr result }
@@ -102,7 +102,7 @@ impl Tree {
     ) -> Result<(), Memory>
         ensures plan { plan_of self.new ≡ plan_of self.old }
         ensures grew { OnOk result ((h : History) → Represents self.old h → moment_of (h ▸ entry.now) ≡ now →
-            Grew out.old steps.old out.new steps.new (all_happens (plan_of self.old) (h ▸ entry.now))) }
+            Performs out.old steps.old out.new steps.new (plan_effects (plan_of self.old) (h ▸ entry.now))) }
         ensures represents { OnOk result ((h : History) → Represents self.old h → moment_of (h ▸ entry.now) ≡ now →
             Represents self.new (h ▸ entry.now)) }
         ensures poisoned { IsTrue (is_poisoned self.old) → IsErr result }
@@ -114,7 +114,7 @@ impl Tree {
             return Err(Memory);
         }
         self.poisoned = true;
-        let setting = Setting {
+        let context = Context {
             patterns: self.plan.patterns(),
             moment: now,
         };
@@ -124,7 +124,7 @@ impl Tree {
             streams,
             &mut self.forest,
             entry,
-            &setting,
+            &context,
             out,
             steps,
         )?;

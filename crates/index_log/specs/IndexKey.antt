@@ -20,9 +20,9 @@ abbrev pub event_service : Event → Option (List ℕ)
 event_service event = event.service
 
 -- the order of an index: by host, then by service
-unfoldable pub place_cmp : Event → Event → Ordering
-place_cmp = then_cmp (on event_host text_cmp) (on event_service text_cmp)
+unfoldable pub index_key_cmp : Event → Event → Ordering
+index_key_cmp = then_cmp (on event_host text_cmp) (on event_service text_cmp)
 
 -- two events are of one host and one service
-abbrev pub same_place : Event → Event → Bool
-same_place a b = is_eq (place_cmp a b)
+abbrev pub same_index_key : Event → Event → Bool
+same_index_key a b = is_eq (index_key_cmp a b)

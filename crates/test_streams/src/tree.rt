@@ -163,7 +163,7 @@ fn ready(alloc: Global, streams: Streams) -> Result<ReadyPlan, Memory>
 }
 
 /// An output: the name of the notice, or nothing of a write, its moment, and the event's host, state and number of tags.
-type Said = (&'static str, u64, &'static str, &'static str, usize);
+type Put = (&'static str, u64, &'static str, &'static str, usize);
 
 fn is_event(event: &Event, host: &str, state: &str, tags: usize) -> bool {
     let has_host = match &event.host {
@@ -177,7 +177,7 @@ fn is_event(event: &Event, host: &str, state: &str, tags: usize) -> bool {
     has_host && has_state && event.tags.len() == tags
 }
 
-fn is_said(output: &Output, wanted: &Said) -> bool {
+fn is_said(output: &Output, wanted: &Put) -> bool {
     match output {
         Output::Write(event) => wanted.0.is_empty()
             && is_event(event, wanted.2, wanted.3, wanted.4),
@@ -209,7 +209,7 @@ fn run(alloc: Global, plan: ReadyPlan, out: &mut Outputs) -> Result<Steps<CountL
 #[test]
 fn streams_speak_in_their_order(rt: HostRuntime) -> Result<(), Fail> {
     let alloc = rt.alloc();
-    let rows: [&[Said]; 6] = [
+    let rows: [&[Put]; 6] = [
         &[
             ("in", 100, "a", "", 0),
             ("out", 100, "b", "", 0),
