@@ -18,7 +18,7 @@ pub struct Event {
     pub tags: Tags,
     /// When it was observed, in seconds since 1970.
     pub time: i64,
-    /// The same in microseconds, where it was told so.
+    /// The same in microseconds, where it was given so.
     pub time_micros: Option<i64>,
     /// How many seconds after its time it expires.
     pub ttl: Option<u32>,

@@ -31,7 +31,7 @@ pub type Texts = Items<Text>;
 /// Why bytes are no [`Text`].
 #[derive(Debug, Drop, Error)]
 pub enum TextFault {
-    /// The bytes are not UTF-8: their longest front that is has `place` bytes.
+    /// The bytes are not UTF-8: their longest prefix that is has `place` bytes.
     #[error("not UTF-8 from byte {place} on")]
     Utf8 { place: usize },
     #[error("out of memory")]

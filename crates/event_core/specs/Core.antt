@@ -1,4 +1,4 @@
--- What a core stands for, and what it tells of what arrives.
+-- What a core represents, and what it gives for what arrives.
 use Rattle.std.specs.Prelude.{◌≡◌, ℕ, ◌+◌, Bool, false, List, ◌++◌, Option}
 use Rattle.ev_types.specs.declared.item.Notice.{Notice}
 use Rattle.ev_types.specs.declared.settings.Expiry.{Expiry}
@@ -22,7 +22,7 @@ config_of core = record { plan = plan_of core.streams; expiry = core.clock.expir
 abbrev pub now_of : Core → ℕ
 now_of core = core.clock.moment
 
--- memory was wanted inside a call
+-- a call ran out of memory
 abbrev pub is_poisoned : Core → Bool
 is_poisoned core = core.poisoned
 

@@ -1,4 +1,5 @@
 ghost use Rattle.std.specs.Prelude.{◌≡◌, ◌+◌, ◌-◌, ◌^◌, ◌≤◌, true, false, List, [], ◌∷◌, ◌++◌, length, replicate, IfOk, IsErr, IsTrue, OnErr, OnOk};
+ghost use Rattle.list_laws.specs.Prefix.{IsPrefix};
 ghost use Rattle.std.specs.Option.{ForSome};
 ghost use Rattle.ev_types.specs.declared.event.Event.{Event as StoredEvent};
 ghost use Rattle.ev_types.specs.declared.item.Notice.{Notice as StoredNotice};
@@ -16,7 +17,7 @@ use step_count::{Ledger, Steps};
 use stream_plan::ReadyPlan;
 
 /// The streams of a plan, the index that they write to, and a clock of seconds. What expires in the index is looked for
-/// every so many seconds, and comes to the streams again. After a want of memory a core is poisoned, and each later call
+/// every `interval` seconds, and comes to the streams again. After `Memory` a core is poisoned, and each later call
 /// that can answer `Memory` does.
 #[derive(Drop)]
 pub struct Core {
@@ -71,7 +72,7 @@ impl Core {
     /// Seconds pass, one after another, until it is the moment `to`, at most 3,600 seconds from now and at most 2^40. At
     /// each of them the streams get a tick; then, where it is time to look, the live events that have expired leave the
     /// index, and come to the streams again, in the order of the index. The notices that the streams give are appended to
-    /// `out`. After a want of memory `out` begins with what it had.
+    /// `out`. After `Memory` `out` begins with what it had.
     pub fn advance<G: Ledger>(
         &mut self,
         alloc: Global,
@@ -92,7 +93,7 @@ impl Core {
         ensures poisoned { IsTrue (is_poisoned self.old) → IsErr result }
         ensures sound { OnOk result (is_poisoned self.new ≡ false) }
         ensures err { OnErr result (IsTrue (is_poisoned self.new)) }
-        ensures front { (more : List StoredNotice) × (out.new ≡ out.old ++ more) }
+        ensures prefix { IsPrefix out.old out.new }
     {
         if self.poisoned {
             return Err(Memory);
@@ -104,7 +105,7 @@ impl Core {
         Ok(())
     }
 
-    /// An event comes to the streams. The notices that they give are appended to `out`. After a want of memory `out` begins
+    /// An event comes to the streams. The notices that they give are appended to `out`. After `Memory` `out` begins
     /// with what it had.
     pub fn post<G: Ledger>(
         &mut self,
@@ -123,7 +124,7 @@ impl Core {
         ensures poisoned { IsTrue (is_poisoned self.old) → IsErr result }
         ensures sound { OnOk result (is_poisoned self.new ≡ false) }
         ensures err { OnErr result (IsTrue (is_poisoned self.new)) }
-        ensures front { (more : List StoredNotice) × (out.new ≡ out.old ++ more) }
+        ensures prefix { IsPrefix out.old out.new }
     {
         if self.poisoned {
             return Err(Memory);
@@ -136,7 +137,7 @@ impl Core {
     }
 
     /// Appends copies of the live events that meet the predicate, in the order of the index: by host and then by service,
-    /// absent before present. After a want of memory `out` begins with what it had.
+    /// absent before present. After `Memory` `out` begins with what it had.
     pub fn search<G: Ledger>(
         &mut self,
         alloc: Global,
@@ -154,7 +155,7 @@ impl Core {
         ensures poisoned { IsTrue (is_poisoned self.old) → IsErr result }
         ensures sound { OnOk result (is_poisoned self.new ≡ false) }
         ensures err { OnErr result (IsTrue (is_poisoned self.new)) }
-        ensures front { OnErr result ((more : List StoredEvent) × (out.new ≡ out.old ++ more)) }
+        ensures prefix { OnErr result (IsPrefix out.old out.new) }
     {
         if self.poisoned {
             return Err(Memory);

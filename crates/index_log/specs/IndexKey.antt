@@ -1,4 +1,4 @@
--- The place of an event in an index: its host and its service, each of which may be absent.
+-- The key of an event in an index: its host and its service, each of which may be absent.
 use Rattle.std.specs.Prelude.{ℕ, Bool, List, [], ◌∷◌, Option, Some, None}
 use Rattle.std.specs.declared.cmp.Ordering.{Ordering}
 use Rattle.std.specs.Ordering.{nat_cmp, on, then_cmp, is_eq}

@@ -1,4 +1,5 @@
 ghost use Rattle.std.specs.Prelude.{◌≡◌, ◌^◌, ◌≤◌, List, [], ◌++◌, filter, length, not, option_copied, IfOk, OnOk, OnErr, MatchResult};
+ghost use Rattle.list_laws.specs.Prefix.{IsPrefix};
 ghost use Rattle.ev_types.specs.declared.event.Event.{Event as StoredEvent};
 ghost use Rattle.ev_types.specs.Expiry.{is_expired};
 ghost use Rattle.std.specs.List.{HoldsAt};
@@ -13,7 +14,7 @@ use std::cmp::Ordering;
 use std::marker::Model;
 use std::mem;
 
-/// Events in strictly rising order of place: by host and then by service, absent before present.
+/// Events in strictly rising key order: by host and then by service, absent before present.
 #[derive(Drop)]
 pub(crate) struct SortedEvents {
     events: Vec<Event>,
@@ -65,7 +66,7 @@ impl SortedEvents {
     }
 
     /// Takes out the events that are expired at the moment `now`, at most 2^40, and appends them to `expired`. After
-    /// a want of memory some of the others are lost.
+    /// `Memory` some of the others are lost.
     pub(crate) fn take_expired(
         &mut self,
         alloc: Global,
@@ -75,7 +76,7 @@ impl SortedEvents {
         requires { now ≤ 2 ^ 40 }
         ensures kept { OnOk result (self.new ≡ filter (λ event. not (is_expired now event)) self.old) }
         ensures gone { OnOk result (expired.new ≡ expired.old ++ filter (is_expired now) self.old) }
-        ensures front { OnErr result ((more : List StoredEvent) × (expired.new ≡ expired.old ++ more)) }
+        ensures prefix { OnErr result (IsPrefix expired.old expired.new) }
     {
         let events = mem::replace(&mut self.events, Vec::new(alloc));
         self.events = part_expired(alloc, events, now, expired)?;
@@ -98,7 +99,7 @@ impl SortedEvents {
         }
     }
 
-    // Where the live event of this one's place stands, or else where this one would stand.
+    // The number of the live event of this one's key, or else the number at which this one would be inserted.
     fn place_of(&self, event: &Event) -> Result<usize, usize>
         ensures bound { IsSearchInRange result (length self.now) }
         ensures place { MatchResult result
@@ -109,7 +110,7 @@ impl SortedEvents {
         self.place_at(event.host.as_ref(), event.service.as_ref())
     }
 
-    // Where the event of this host and this service stands, or else where one would stand.
+    // The number of the event of this host and this service, or else the number at which one would be inserted.
     fn place_at(&self, host: Option<&Text>, service: Option<&Text>) -> Result<usize, usize>
         ensures bound { IsSearchInRange result (length self.now) }
         ensures place { MatchResult result
@@ -132,7 +133,7 @@ fn part_expired(
     requires { now ≤ 2 ^ 40 }
     ensures kept { IfOk result (λ kept. kept.items ≡ filter (λ event. not (is_expired now event)) events.items) }
     ensures gone { OnOk result (expired.new ≡ expired.old ++ filter (is_expired now) events.items) }
-    ensures front { OnErr result ((more : List StoredEvent) × (expired.new ≡ expired.old ++ more)) }
+    ensures prefix { OnErr result (IsPrefix expired.old expired.new) }
 {
     let mut kept = Vec::new(alloc);
     for event in events {
@@ -145,7 +146,7 @@ fn part_expired(
     Ok(kept)
 }
 
-// The order of the event's place to that of a host and a service: by host, then by service.
+// How the event's key compares with a host and a service: by host, then by service.
 fn cmp_at(host: Option<&Text>, service: Option<&Text>, event: &Event) -> Ordering
     ensures { result ≡ cmp_at (option_copied host.entry) (option_copied service.entry) event.now }
 {
@@ -155,7 +156,7 @@ fn cmp_at(host: Option<&Text>, service: Option<&Text>, event: &Event) -> Orderin
     }
 }
 
-// An absent text stands before one that is present.
+// An absent text comes before one that is present.
 fn text_cmp(a: Option<&Text>, b: Option<&Text>) -> Ordering
     ensures { result ≡ text_cmp (option_copied a.entry) (option_copied b.entry) }
 {

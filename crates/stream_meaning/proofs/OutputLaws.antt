@@ -1,4 +1,4 @@
--- The outputs among all that stream_effects are what is said.
+-- The outputs among the effects of a plan.
 use Rattle.std.proofs.Common.{◌≡◌, List, [], ◌∷◌, ◌++◌, refl, sym, ap, ◌∙◌}
 use Rattle.std.proofs.lemmas.List.{append-nil, append_assoc}
 use Rattle.stream_plan.specs.Tree.{KindTree, StreamTrees}

@@ -1,4 +1,4 @@
--- At a tick something stream_effects exactly where some stream passes something on.
+-- A tick has effects exactly where some stream passes something on.
 use Rattle.std.proofs.Common.{◌≡◌, false, ◌||◌, List, [], ◌∷◌, ◌++◌, refl, sym, ap, ◌∙◌}
 use mathlib.Core.Bool.{true≢false}
 use Rattle.std.specs.List.{list_any}
@@ -11,7 +11,7 @@ use Rattle.stream_meaning.specs.Outputs.{Effect, due_if_any, emits_if_any, marke
 use Rattle.stream_meaning.specs.DeadlineLaws.{is_any}
 use Rattle.stream_meaning.specs.DueLaws.{is_emission, has_effects}
 
--- what stream_effects is led by an emission
+-- effects begin with an emission
 abbrev pub IsRooted : List Effect → Type 0
 IsRooted effects = has_effects effects ≡ list_any is_emission effects
 

@@ -1,4 +1,4 @@
--- Where nothing has come but ticks, nothing stream_effects.
+-- Where nothing has come but ticks, there are no effects.
 use Rattle.std.proofs.Common.{◌≡◌, ℕ, zero, suc, ◌+◌, ◌-◌, ◌%◌, Bool, true, false, cond, List, [], ◌∷◌, ◌++◌, length, drop, nat_lt, ◌==◌, refl, sym, ap, ◌∙◌, subst, arith}
 use Rattle.std.specs.List.{flat_map}
 use Rattle.std.proofs.Math.Seq.{drop-nil}
@@ -98,7 +98,7 @@ flat-nothing : (f : Branch → List Effect) → ((branch : Branch) → f branch 
 flat-nothing f e [] = refl
 flat-nothing f e (branch ∷ bs) = ap (λ l. l ++ flat_map f bs) (e branch) ∙ flat-nothing f e bs
 
--- nothing stream_effects in what is below a stream
+-- what is below a stream has no effects
 abbrev IsQuiet : (History → List Effect) → Type 0
 IsQuiet below = (h : History) → TicksAlone h → below h ≡ []
 

@@ -15,7 +15,7 @@ same_branch Otherwise Otherwise = true
 same_branch (Fork a) (Fork b) = same_key a b
 same_branch _ _ = false
 
--- a branch's history once it was after_emissions what of these emissions goes to it
+-- a branch's history once those of these emissions that go to it have come
 abbrev pub after_emissions : Branch → List Emission → History → History
 after_emissions branch [] h = h
 after_emissions branch (emission ∷ more) h = after_emissions branch more (if same_branch emission.branch branch then h ▸ In emission.item else h)
@@ -30,7 +30,7 @@ abbrev pub child_history : KindTree → Branch → History → History
 child_history kind branch (since start) = since start
 child_history kind branch (h ▸ x) = after_emissions branch (emissions kind (h ▸ x)) (ticked x (child_history kind branch h))
 
--- the keys, and one more where it is none of them
+-- the keys, and one more where it is not among them
 abbrev pub with_key : List Value → List (List Value) → List (List Value)
 with_key key keys = if list_any (λ other. same_key other key) keys then keys else keys ++ key ∷ []
 

@@ -1,4 +1,4 @@
--- Streams that pass on the last event of each host and service every so many seconds.
+-- Streams that pass on the last event of each host and service every n seconds.
 use Rattle.std.specs.Prelude.{ℕ, ◌-◌, ◌%◌, Bool, not, ◌||◌, nat_le, ◌==◌, if◌then◌else◌, List, [], ◌∷◌, map, filter}
 use Rattle.std.specs.List.{list_any}
 use Rattle.ev_types.specs.declared.event.Event.{Event}
@@ -18,7 +18,7 @@ abbrev pub newest : List Timed → List Timed
 newest [] = []
 newest (older ∷ later) = if list_any (replaces older) later then newest later else older ∷ newest later
 
--- it has not expired at t, or had not so many seconds before, or came in these seconds
+-- it has not expired at t, or had not `secs` seconds before, or came in these seconds
 abbrev pub still_passes : ℕ → ℕ → Timed → Bool
 still_passes secs t timed = not (is_expired t timed.event) || not (is_expired (t - secs) timed.event) || nat_le (t - secs) timed.at
 
@@ -29,7 +29,7 @@ event_of timed = timed.event
 abbrev pub coalesced : ℕ → ℕ → List Timed → List Event
 coalesced secs t came = placed_onto [] (map event_of (filter (still_passes secs t) (newest came)))
 
--- coalesce: every so many seconds the last events
+-- coalesce: every n seconds the last events
 abbrev pub coalesce_items : ℕ → History → List Item
 coalesce_items secs (since start) = []
 coalesce_items secs (h ▸ Tick) =

@@ -1,4 +1,4 @@
--- What the deadline of a whole plan tells, and which forks are due.
+-- What the deadline of a whole plan says, and which forks are due.
 use Rattle.std.specs.Prelude.{◌≡◌, ◌+◌, ◌<◌, Bool, true, false, List, [], ◌∷◌, IfSome}
 use Rattle.std.specs.List.{list_any}
 use Rattle.stream_plan.specs.Tree.{StreamTree, StreamTrees, stream, none, also}
@@ -21,7 +21,7 @@ has_effects (first ∷ more) = true
 abbrev pub some_emits : StreamTrees → History → Bool
 some_emits plan h = list_any is_emission (plan_effects plan h)
 
--- at a tick something stream_effects exactly where some stream passes something on, so those forks are due in which one does
+-- a tick has effects exactly where some stream passes something on, so those forks are due in which one does
 abbrev pub TicksActByEmissions : Type 0
 TicksActByEmissions = (plan : StreamTrees) (h : History) → has_effects (plan_effects plan (h ▸ Tick)) ≡ some_emits plan (h ▸ Tick)
 

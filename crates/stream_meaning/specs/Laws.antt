@@ -31,18 +31,18 @@ below children otherwise Children = children
 below children otherwise Otherwise = otherwise
 below children otherwise (Fork key) = children
 
--- what a stream says by itself: an index writes an event, a notice tells an item
+-- the outputs of a stream itself: an index writes an event, a notice gives an item
 abbrev pub own_outputs : KindTree → History → List Output
 own_outputs kind (since start) = []
 own_outputs kind (h ▸ Tick) = []
 own_outputs kind (h ▸ In item) = outputs_among (at_item kind (h ▸ In item))
 
--- what is said below at a tick, branch by branch
+-- the outputs below at a tick, branch by branch
 abbrev pub outputs_at_tick : Entry → (Branch → StreamTrees) → (Branch → History) → List Branch → List Output
 outputs_at_tick Tick below received branches = flat_map (λ branch. outputs_at (below branch) (received branch ▸ Tick)) branches
 outputs_at_tick (In item) below received branches = []
 
--- what is said below at each emission, in order
+-- the outputs below at each emission, in order
 abbrev pub outputs_at_emissions : (Branch → StreamTrees) → (Branch → History) → List Emission → List Output
 outputs_at_emissions below received [] = []
 outputs_at_emissions below received (emission ∷ more) =
@@ -55,7 +55,7 @@ OutputsAreInOrder = (kind : KindTree) (children otherwise : StreamTrees) (h : Hi
     ++ (outputs_at_tick x (below children otherwise) (λ branch. child_history kind branch h) (branches kind h)
     ++ outputs_at_emissions (below children otherwise) (λ branch. ticked x (child_history kind branch h)) (emissions kind (h ▸ x)))
 
--- streams put_own_outputs in their order, and a history is told entry by entry
+-- outputs come stream by stream, and over a history entry by entry
 pub record OutputsGrow : Type 0 where
   pub streams : (first : StreamTree) (more : StreamTrees) (h : History) → outputs_at (also first more) h ≡ outputs_at (also first none) h ++ outputs_at more h
   pub nothing : (h : History) → outputs_at none h ≡ []

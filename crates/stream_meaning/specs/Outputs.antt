@@ -1,4 +1,4 @@
--- What stream_effects in a plan at the last entry of its history, and what it does to the outside.
+-- The effects of a plan at the last entry of its history: its notices and writes, and the forks that it enters.
 use Rattle.std.specs.Prelude.{ℕ, ◌+◌, if◌then◌else◌, List, [], ◌∷◌, ◌++◌}
 use Rattle.std.specs.List.{flat_map}
 use Rattle.ev_types.specs.declared.item.Item.TheVariants.{One}
@@ -19,7 +19,7 @@ pub data Effect : Type 0 where
   -- a notice or a write
   Put : Output → Effect
 
--- what a stream does by itself at an item
+-- the effects of a stream itself at an item
 abbrev pub at_item : KindTree → History → List Effect
 at_item Index (h ▸ In (One event)) = Put (write event) ∷ []
 at_item (Notice name) (h ▸ In item) = Put (notice (record { name = name; moment = moment_of h; item = item })) ∷ []
@@ -30,7 +30,7 @@ abbrev pub emits_if_any : List Emission → List Effect
 emits_if_any [] = []
 emits_if_any (emission ∷ more) = Emits ∷ []
 
--- what a stream does by itself at an entry
+-- the effects of a stream itself at an entry
 abbrev pub own_effects : KindTree → History → List Effect
 own_effects kind (since start) = []
 own_effects kind (h ▸ Tick) = emits_if_any (emissions kind (h ▸ Tick))
@@ -40,13 +40,13 @@ abbrev pub due_if_any : List Effect → List Effect
 due_if_any [] = []
 due_if_any (first ∷ more) = Due ∷ (first ∷ more)
 
--- what stream_effects in a branch at a tick; where something does in a fork, that fork is due
+-- the effects in a branch at a tick; a fork that has some is due
 abbrev pub marked : Branch → List Effect → List Effect
 marked Children effects = effects
 marked Otherwise effects = effects
 marked (Fork key) effects = due_if_any effects
 
--- what stream_effects below a branch after a history of it
+-- the effects below a branch at the last entry of its history
 abbrev pub BranchEffects : Type 0
 BranchEffects = Branch → History → List Effect
 
@@ -71,7 +71,8 @@ branch_effects children otherwise Children = children
 branch_effects children otherwise Otherwise = otherwise
 branch_effects children otherwise (Fork key) = children
 
--- what stream_effects in a stream and below it at the last entry: first the stream itself, then the tick, then its emissions
+-- the effects of a stream and of all below it at the last entry: first its own, then those of the tick, then those of
+-- its emissions
 abbrev mutual
   pub stream_effects : StreamTree → History → List Effect
   stream_effects (stream kind children otherwise) (since start) = []
@@ -84,22 +85,22 @@ abbrev mutual
   plan_effects none h = []
   plan_effects (also first more) h = stream_effects first h ++ plan_effects more h
 
--- the notices and writes among what stream_effects
+-- the notices and writes among the effects
 abbrev pub outputs_among : List Effect → List Output
 outputs_among [] = []
 outputs_among (Put output ∷ more) = output ∷ outputs_among more
 outputs_among (first ∷ more) = outputs_among more
 
--- what a plan says at the last entry
+-- the outputs of a plan at the last entry
 abbrev pub outputs_at : StreamTrees → History → List Output
 outputs_at plan h = outputs_among (plan_effects plan h)
 
--- what it says over the whole history
+-- its outputs over the whole history
 abbrev pub outputs_of : StreamTrees → History → List Output
 outputs_of plan (since start) = []
 outputs_of plan (h ▸ x) = outputs_of plan h ++ outputs_at plan (h ▸ x)
 
--- how many forks are due among what stream_effects, nested ones too
+-- how many forks are due among the effects, nested ones too
 abbrev pub due_among : List Effect → ℕ
 due_among [] = 0
 due_among (Due ∷ more) = due_among more + 1

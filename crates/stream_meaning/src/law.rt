@@ -41,7 +41,7 @@ pub fn forks_have_their_events()
     ensures unseen { UnseenForksHaveTicks }
 {}
 
-/// A moment is a second for each tick behind the first one, in every branch alike; a window begins where the seconds
+/// A moment is a second for each tick after the first one, in every branch alike; a window begins where the seconds
 /// passed are a multiple of its length.
 pub fn windows_follow_moments()
     ensures moments { MomentsAreCounted }

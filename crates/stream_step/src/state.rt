@@ -16,13 +16,13 @@ use stream_plan::Kind;
 pub enum State {
     /// Nothing.
     Bare,
-    /// Where the regular expressions of its rule stand among those of the plan.
+    /// The numbers of its rule's regular expressions among those of the plan.
     Rule { first: usize, count: usize },
 }
 
 impl State {
-    /// The state of a stream to which nothing but ticks has come. Its regular expressions, where it has some, stand
-    /// among those of the plan from number `next` on, which becomes the number behind them.
+    /// The state of a stream to which nothing but ticks has come. Its regular expressions, where it has some, are
+    /// those of the plan from number `next` on, which becomes the number after them.
     pub fn fresh(kind: &Kind, next: &mut usize) -> State
         ensures stands { (before after : List (List ℕ)) (h : History) →
             is_built_kind (kind_tree kind.now) ≡ true → is_in_range (kind_tree kind.now) ≡ true →

@@ -1,6 +1,7 @@
 ghost use Rattle.std.specs.Prelude.{◌≡◌, ℕ, ◌+◌, ◌≤◌, true, List, ◌++◌, length, take, drop, if◌then◌else◌, IfOk, OnOk};
 ghost use Rattle.ev_types.specs.declared.item.Item.TheVariants.{One, Many};
 ghost use Rattle.ev_types.specs.declared.event.Event.{Event as CameEvent};
+ghost use Rattle.list_laws.specs.Prefix.{IsPrefix};
 ghost use Rattle.pred_eval.specs.Search.{AreReadFrom};
 ghost use Rattle.pred_eval.specs.Tree.{Tree as RuleTree, tree_of};
 ghost use Rattle.pred_eval.specs.Truth.{holds, searches};
@@ -11,7 +12,7 @@ ghost use Rattle.stream_meaning.specs.History.{History, ◌▸◌, moment_of};
 ghost use Rattle.stream_meaning.specs.Images.{with_sets, with_defaults};
 ghost use Rattle.stream_meaning.specs.Laws.{own_outputs};
 ghost use Rattle.stream_plan.specs.Tree.{kind_tree, Where};
-ghost use Rattle.stream_step.specs.Step.{is_built_kind, branch_meant, emissions_meant, AreAt, StateRepresents, Extends, Acts, Keeps};
+ghost use Rattle.stream_step.specs.Step.{is_built_kind, branch_meant, emissions_meant, AreAt, StateRepresents, Acts, Keeps};
 
 use crate::{Branch, Passed, State};
 use ev_types::{Emission, Emissions, Event, Item, Memory, Notice, Output, Outputs, Text};
@@ -44,7 +45,7 @@ pub fn act(
     ensures acts { IfOk result (λ passed. (texts : List (List ℕ)) (h : History) → AreReadFrom texts context.now.patterns.now →
         StateRepresents texts (kind_tree kind.now) state.old h → moment_of (h ▸ entry.now) ≡ context.now.moment →
         Acts texts (kind_tree kind.now) state.old state.new h entry.now out.old out.new passed) }
-    ensures front { Extends out.old out.new }
+    ensures prefix { IsPrefix out.old out.new }
 {
     put_own_outputs(alloc, kind, entry, context.moment, out)?;
     let passed = pass_on(alloc, kind, state, entry, context.patterns)?;
@@ -61,7 +62,7 @@ fn put_own_outputs(
 ) -> Result<(), Memory>
     ensures said { OnOk result ((h : History) → moment_of (h ▸ entry.now) ≡ moment →
         out.new ≡ out.old ++ own_outputs (kind_tree kind.now) (h ▸ entry.now)) }
-    ensures front { Extends out.old out.new }
+    ensures prefix { IsPrefix out.old out.new }
 {
     match entry {
         Entry::Tick => Ok(()),
@@ -79,7 +80,7 @@ fn put_item_outputs(
 ) -> Result<(), Memory>
     ensures said { OnOk result ((h : History) → moment_of h ≡ moment →
         out.new ≡ out.old ++ own_outputs (kind_tree kind.now) (h ▸ In item.now)) }
-    ensures front { Extends out.old out.new }
+    ensures prefix { IsPrefix out.old out.new }
 {
     match (kind, item) {
         (Kind::Index, Item::One(event)) => {
@@ -197,7 +198,7 @@ fn own_patterns<'a>(state: &State, patterns: &'a [Regex]) -> &'a [Regex]
     }
 }
 
-/// So many of the regular expressions from this number on, as far as there are some.
+/// `count` of the regular expressions from number `first` on, as far as there are some.
 fn part<'a>(patterns: &'a [Regex], first: usize, count: usize) -> &'a [Regex]
     ensures { first + count ≤ length patterns.now → result.now ≡ take count (drop first patterns.now) }
 {

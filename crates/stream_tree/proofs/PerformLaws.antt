@@ -12,7 +12,8 @@ use Rattle.stream_meaning.specs.Emission.{Emission, emissions}
 use Rattle.stream_meaning.specs.Laws.{own_outputs}
 use Rattle.stream_meaning.specs.Outputs.{Effect, Emits, Due, Given, Put, own_effects, at_item, emits_if_any, outputs_among, due_among, given_among}
 use Rattle.stream_meaning.proofs.OutputLaws.{outputs_among-append}
-use Rattle.stream_step.specs.Step.{is_built_kind, Extends}
+use Rattle.list_laws.specs.Prefix.{IsPrefix}
+use Rattle.stream_step.specs.Step.{is_built_kind}
 use Rattle.stream_tree.specs.Tree.{Performs}
 
 due-append : (xs ys : List Effect) → due_among (xs ++ ys) ≡ due_among xs + due_among ys
@@ -53,7 +54,7 @@ item_counts (Default sets) h (In item) built = (refl, refl)
 item_counts (Tag tags) h (In item) built = (refl, refl)
 item_counts kind h (In item) built = cc
 
-pub extends_then : (a b c : List Output) → Extends a b → Extends b c → Extends a c
+pub extends_then : (a b c : List Output) → IsPrefix a b → IsPrefix b c → IsPrefix a c
 extends_then a b c first second =
     (first.0 ++ second.0, second.1 ∙ ap (λ (l : List Output). l ++ second.0) first.1 ∙ append_assoc a first.0 second.0)
 

@@ -18,7 +18,7 @@ abbrev mutual
   CanRun none = Unit {0}
   CanRun (also first more) = StreamCanRun first × CanRun more
 
--- the regular expressions stand from this number on, and the next number is behind them
+-- the regular expressions begin at this number, and the next number comes after them
 pub record ForestIsFresh (streams : StreamTrees) (first next : ℕ) (nodes : List Node) : Type 0 where
   pub stands : (before after : List (List ℕ)) (h : History) → TicksAlone h → CanRun streams → length before ≡ first → first + length (plan_patterns streams) ≤ greatest →
       ForestRepresents (before ++ (plan_patterns streams ++ after)) streams nodes h

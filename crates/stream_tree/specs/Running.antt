@@ -1,4 +1,4 @@
--- What comes of one entry for streams, for one stream, and for what stands below a stream.
+-- What one entry does to streams, to one stream, and to what is below a stream.
 use Rattle.std.specs.Prelude.{◌≡◌, ℕ, if◌then◌else◌, List, [], ◌∷◌}
 use Rattle.ev_types.specs.declared.item.Output.{Output}
 use Rattle.step_count.specs.Count.{StepCount}
@@ -24,7 +24,7 @@ otherwise_of (stream kind children otherwise) = otherwise
 -- ---- one entry, with what was kept, said and counted before and after it
 
 module _ {G : Type 0} (patterns : List Regex) (moment : ℕ) (x : Entry) (old : List Output) (before : StepCount G) (new : List Output) (after : StepCount G) where
-  -- wherever the streams stood for a history before it, they stand for the longer one
+  -- wherever the streams represented a history, they represent the longer one
   abbrev pub ForestRuns : StreamTrees → List Node → List Node → Type 0
   ForestRuns streams nodes nodes' = (texts : List (List ℕ)) (h : History) → AreReadFrom texts patterns →
       ForestRepresents texts streams nodes h → moment_of (h ▸ x) ≡ moment →
@@ -35,7 +35,7 @@ module _ {G : Type 0} (patterns : List Regex) (moment : ℕ) (x : Entry) (old : 
       PartsRepresent texts s state below beside h → moment_of (h ▸ x) ≡ moment →
       PartsRepresent texts s state' below' beside' (h ▸ x) × Performs old before new after (stream_effects s (h ▸ x))
 
--- ---- what stands below a stream
+-- ---- what is below a stream
 
 -- what each branch has received
 abbrev pub Received : Type 0
@@ -53,7 +53,7 @@ abbrev pub extended : Branch → Entry → Received → Received
 extended branch x received other = if same_branch branch other then received other ▸ x else received other
 
 module _ {G : Type 0} (patterns : List Regex) (moment : ℕ) (old : List Output) (before : StepCount G) (new : List Output) (after : StepCount G) (s : StreamTree) (below beside below' beside' : List Node) where
-  -- wherever the branches stood for what they had received, an entry for one of them comes to it
+  -- wherever the branches represented what they had received, an entry for one of them comes to it
   abbrev pub BranchRuns : Branch → Entry → Type 0
   BranchRuns branch x = (texts : List (List ℕ)) (received : Received) → AreReadFrom texts patterns →
       BelowRepresents texts s below beside received → moment_of (received branch ▸ x) ≡ moment →

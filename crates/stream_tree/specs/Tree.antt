@@ -1,4 +1,4 @@
--- A tree of streams that runs, and the histories for which it stands.
+-- A tree of streams that runs, and the histories that it represents.
 use Rattle.std.specs.Prelude.{◌≡◌, ◌+◌, Bool, true, false, ◌&&◌, List, ◌++◌}
 use Rattle.ev_types.specs.declared.item.Output.{Output}
 use Rattle.step_count.specs.Count.{StepCount}
@@ -23,7 +23,7 @@ abbrev mutual
 abbrev pub plan_of : Tree → StreamTrees
 plan_of tree = tree.plan
 
--- memory was wanted inside, so that each later call wants memory too
+-- a call ran out of memory, so that each later call answers `Memory` too
 abbrev pub is_poisoned : Tree → Bool
 is_poisoned tree = tree.poisoned
 
@@ -32,7 +32,7 @@ pub record Represents (tree : Tree) (h : History) : Type 0 where
   pub alive : is_poisoned tree ≡ false
   pub stands : ForestRepresents (plan_patterns (plan_of tree)) (plan_of tree) tree.forest.items h
 
--- What effects is said in its order, and counted: a fork is entered where it is due and where an item comes to it, and
+-- The effects are performed in order, and counted: a fork is entered where it is due and where an item comes to it, and
 -- an entry is visited for each fork that is due.
 pub record Performs {G : Type 0} (old : List Output) (before : StepCount G) (new : List Output) (after : StepCount G) (effects : List Effect) : Type 0 where
   pub outputs : new ≡ old ++ outputs_among effects

@@ -1,9 +1,10 @@
 //! One entry on its way down the streams.
 ghost use Rattle.std.specs.Prelude.{◌≡◌, OnOk, map};
+ghost use Rattle.list_laws.specs.Prefix.{IsPrefix};
 ghost use Rattle.stream_meaning.specs.declared.entry.Entry.TheVariants.{Item as Given};
 ghost use Rattle.stream_plan.specs.Search.{opened};
 ghost use Rattle.stream_plan.specs.Tree.{list_trees};
-ghost use Rattle.stream_step.specs.Step.{branch_meant, branch_numbered, emission_meant, emissions_meant, Extends};
+ghost use Rattle.stream_step.specs.Step.{branch_meant, branch_numbered, emission_meant, emissions_meant};
 ghost use Rattle.stream_tree.specs.declared.forest.Node.{out-Node};
 ghost use Rattle.stream_tree.specs.Running.{ForestRuns, StreamRuns, BranchRuns, TickRuns, EmissionsRun};
 
@@ -28,7 +29,7 @@ pub(crate) fn run_forest<G: Ledger>(
 ) -> Result<(), Memory>
     ensures runs { OnOk result (ForestRuns context.now.patterns.now context.now.moment entry.now out.old steps.old out.new steps.new
         (list_trees streams.now) forest.old.items forest.new.items) }
-    ensures front { Extends out.old out.new }
+    ensures prefix { IsPrefix out.old out.new }
 {
     let count = streams.len().min(forest.len());
     for i in 0..count {
@@ -59,7 +60,7 @@ fn run_node<G: Ledger>(
     ensures runs { OnOk result (StreamRuns context.now.patterns.now context.now.moment entry.now out.old steps.old out.new steps.new
         (opened stream.now) (out-Node node.old).state (out-Node node.old).children.items (out-Node node.old).otherwise.items
         (out-Node node.new).state (out-Node node.new).children.items (out-Node node.new).otherwise.items) }
-    ensures front { Extends out.old out.new }
+    ensures prefix { IsPrefix out.old out.new }
 {
     run_stream(
         alloc,
@@ -91,7 +92,7 @@ fn run_stream<G: Ledger>(
 ) -> Result<(), Memory>
     ensures runs { OnOk result (StreamRuns context.now.patterns.now context.now.moment entry.now out.old steps.old out.new steps.new
         (opened stream.now) state.old children.old.items otherwise.old.items state.new children.new.items otherwise.new.items) }
-    ensures front { Extends out.old out.new }
+    ensures prefix { IsPrefix out.old out.new }
 {
     let passed = act(alloc, &stream.kind, state, entry, context, out)?;
     run_tick(
@@ -117,7 +118,7 @@ fn run_tick<G: Ledger>(
 ) -> Result<(), Memory>
     ensures runs { OnOk result (TickRuns context.now.patterns.now context.now.moment out.old steps.old out.new steps.new
         (opened stream.now) children.old.items otherwise.old.items children.new.items otherwise.new.items entry.now) }
-    ensures front { Extends out.old out.new }
+    ensures prefix { IsPrefix out.old out.new }
 {
     if let Entry::Tick = entry {
         run_forest(
@@ -158,7 +159,7 @@ fn run_passed<G: Ledger>(
     ensures runs { OnOk result (EmissionsRun context.now.patterns.now context.now.moment out.old steps.old out.new steps.new
         (opened stream.now) children.old.items otherwise.old.items children.new.items otherwise.new.items
         (emissions_meant passed entry.now)) }
-    ensures front { Extends out.old out.new }
+    ensures prefix { IsPrefix out.old out.new }
 {
     match (passed, entry) {
         (Passed::Made(emissions), _) => {
@@ -192,7 +193,7 @@ fn run_emissions<G: Ledger>(
     ensures runs { OnOk result (EmissionsRun context.now.patterns.now context.now.moment out.old steps.old out.new steps.new
         (opened stream.now) children.old.items otherwise.old.items children.new.items otherwise.new.items
         (map emission_meant emissions)) }
-    ensures front { Extends out.old out.new }
+    ensures prefix { IsPrefix out.old out.new }
 {
     for emission in emissions.into_vec() {
         run_emission(
@@ -217,7 +218,7 @@ fn run_emission<G: Ledger>(
     ensures runs { OnOk result (BranchRuns context.now.patterns.now context.now.moment out.old steps.old out.new steps.new
         (opened stream.now) children.old.items otherwise.old.items children.new.items otherwise.new.items
         (branch_numbered emission.branch) (Given emission.item)) }
-    ensures front { Extends out.old out.new }
+    ensures prefix { IsPrefix out.old out.new }
 {
     let Emission { branch, item } = emission;
     let entry = Entry::Item(item);
@@ -244,7 +245,7 @@ fn run_branch<G: Ledger>(
     ensures runs { OnOk result (BranchRuns context.now.patterns.now context.now.moment out.old steps.old out.new steps.new
         (opened stream.now) children.old.items otherwise.old.items children.new.items otherwise.new.items
         (branch_meant branch) entry.now) }
-    ensures front { Extends out.old out.new }
+    ensures prefix { IsPrefix out.old out.new }
 {
     match branch {
         Branch::Children => {

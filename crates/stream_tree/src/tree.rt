@@ -4,7 +4,7 @@ ghost use Rattle.ev_types.specs.declared.item.Output.{Output as SaidOutput};
 ghost use Rattle.stream_meaning.specs.declared.entry.Entry.TheVariants.{Tick, Item as In};
 ghost use Rattle.stream_meaning.specs.History.{History, ◌▸◌, begun, moment_of, TicksAlone};
 ghost use Rattle.stream_meaning.specs.Outputs.{plan_effects};
-ghost use Rattle.stream_step.specs.Step.{Extends};
+ghost use Rattle.list_laws.specs.Prefix.{IsPrefix};
 ghost use Rattle.stream_tree.specs.Tree.{is_built_plan, plan_of, is_poisoned, Represents, Performs};
 
 use crate::forest::{Forest, fresh_forest};
@@ -16,7 +16,7 @@ use stream_meaning::Entry;
 use stream_plan::ReadyPlan;
 use stream_step::Context;
 
-/// A plan of streams that runs. Where memory was wanted inside, it is poisoned, and each later call that can answer
+/// A plan of streams that runs. Once a call ran out of memory it is poisoned, and each later call that can answer
 /// `Memory` does.
 #[derive(Drop)]
 pub struct Tree {
@@ -41,7 +41,7 @@ impl Tree {
         })
     }
 
-    /// The event comes to the streams at the moment `now`. What they say is appended to `out`. After a want of memory
+    /// The event comes to the streams at the moment `now`. Their outputs are appended to `out`. After `Memory`
     /// the tree is poisoned, and `out` begins with what it had.
     pub fn item<G: Ledger>(
         &mut self,
@@ -60,15 +60,15 @@ impl Tree {
         ensures poisoned { IsTrue (is_poisoned self.old) → IsErr result }
         ensures err { OnErr result (IsTrue (is_poisoned self.new)) }
         ensures sound { OnOk result (is_poisoned self.new ≡ false) }
-        ensures front { (more : List SaidOutput) × (out.new ≡ out.old ++ more) }
+        ensures prefix { IsPrefix out.old out.new }
     {
         let entry = Entry::Item(Item::One(event));
         self.enter(alloc, &entry, now, out, steps)?;
         Ok(())
     }
 
-    /// One more second has passed, and it is the moment `now`. What the streams say is appended to `out`. After a
-    /// want of memory the tree is poisoned, and `out` begins with what it had.
+    /// One more second has passed, and it is the moment `now`. The outputs of the streams are appended to `out`. After
+    /// `Memory` the tree is poisoned, and `out` begins with what it had.
     pub fn tick<G: Ledger>(
         &mut self,
         alloc: Global,
@@ -85,7 +85,7 @@ impl Tree {
         ensures poisoned { IsTrue (is_poisoned self.old) → IsErr result }
         ensures err { OnErr result (IsTrue (is_poisoned self.new)) }
         ensures sound { OnOk result (is_poisoned self.new ≡ false) }
-        ensures front { (more : List SaidOutput) × (out.new ≡ out.old ++ more) }
+        ensures prefix { IsPrefix out.old out.new }
     {
         self.enter(alloc, &Entry::Tick, now, out, steps)?;
         Ok(())
@@ -108,7 +108,7 @@ impl Tree {
         ensures poisoned { IsTrue (is_poisoned self.old) → IsErr result }
         ensures err { OnErr result (IsTrue (is_poisoned self.new)) }
         ensures sound { OnOk result (is_poisoned self.new ≡ false) }
-        ensures front { Extends out.old out.new }
+        ensures prefix { IsPrefix out.old out.new }
     {
         if self.poisoned {
             return Err(Memory);

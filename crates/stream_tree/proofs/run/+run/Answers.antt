@@ -41,7 +41,7 @@ run_emissions-loop-emission-preserved g t c = record {
       c.args.out.now c.loop-emission.out c.run_emission.new.out c.args.steps.now c.loop-emission.steps c.run_emission.new.steps
       c.args.children.now.items c.args.otherwise.now.items c.loop-emission.children.items c.loop-emission.otherwise.items c.run_emission.new.children.items c.run_emission.new.otherwise.items
       c.loop-emission.yielded c.in-Some.emission c.loop-emission.invariant.ran c.in_ok-run_emission.ensures.runs;
-  front = extends_then c.args.out.now c.loop-emission.out c.run_emission.new.out c.loop-emission.invariant.front c.in_ok-run_emission.ensures.front;
+  prefix = extends_then c.args.out.now c.loop-emission.out c.run_emission.new.out c.loop-emission.invariant.prefix c.in_ok-run_emission.ensures.prefix;
 }
 
 pub run_forest-loop-i-preserved : goal.run_forest-loop-i-preserved
@@ -50,7 +50,7 @@ run_forest-loop-i-preserved g t c = record {
       c.loop-i.i c.loop-i.forest.items c.loop-i.out c.run_node.new.out c.loop-i.steps c.run_node.new.steps c.index-streams-i.result c.index_mut.result.now c.run_node.new.node c.index_mut.result.now
       (omega arith) (omega (arith, c.loop-i.invariant.same)) c.index-streams-i.is c.index_mut.ensures.value c.loop-i.invariant.ran c.in_ok-run_node.ensures.runs;
   same = length-set c.loop-i.forest.items c.loop-i.i c.run_node.new.node ∙ c.loop-i.invariant.same;
-  front = extends_then c.args.out.now c.loop-i.out c.run_node.new.out c.loop-i.invariant.front c.in_ok-run_node.ensures.front;
+  prefix = extends_then c.args.out.now c.loop-i.out c.run_node.new.out c.loop-i.invariant.prefix c.in_ok-run_node.ensures.prefix;
 }
 
 pub run_forest-returns-clause-runs : goal.run_forest-returns-clause-runs
