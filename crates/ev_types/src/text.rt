@@ -11,12 +11,12 @@ ghost use Rattle.ev_types.specs.declared.text.TextFault.TheVariants.{Memory as o
 ghost use Rattle.ev_types.specs.Text.{IsNoText};
 
 use crate::{Items, Memory};
-use simdutf8::compat::from_utf8;
 use std::alloc::Global;
 use std::cmp::Ordering;
 use std::fmt;
 use std::hash::{Hash, Hasher};
 use std::marker::Model;
+use std::str::from_utf8;
 use thiserror::Error;
 
 /// A text, which contracts see as its bytes. They are UTF-8. Texts are ordered by their bytes.

@@ -4,7 +4,6 @@ ghost use Rattle.ev_types.specs.declared.event.Event.{Event as StoredEvent};
 ghost use Rattle.ev_types.specs.Expiry.{is_expired};
 ghost use Rattle.std.specs.List.{HoldsAt};
 ghost use Rattle.std.specs.List.Sorted.{IsPartitionPoint, IsSearchInRange};
-ghost use Rattle.index_log.specs.Live.{is_over};
 ghost use Rattle.index_log.specs.IndexKey.{index_key_cmp, text_cmp};
 ghost use Rattle.live_index.specs.Index.{RepresentsWrite, cmp_at, event_at};
 
@@ -42,22 +41,21 @@ impl SortedEvents {
         }
     }
 
-    /// Puts an event in the place of the one of its host and service. One whose state is "expired" only ends that
-    /// one.
+    /// Puts an event in place of the one of its host and service. One whose state is "expired" only ends that one.
     pub(crate) fn write(&mut self, event: Event) -> Result<(), Memory>
         ensures ok { OnOk result (RepresentsWrite self.old event self.new) }
         ensures err { OnErr result (self.new ≡ self.old) }
     {
         match self.place_of(&event) {
             Ok(at) => {
-                if is_over(&event) {
+                if event.is_over() {
                     self.events.remove(at);
                 } else {
                     self.events[at] = event;
                 }
             }
             Err(at) => {
-                if !is_over(&event) {
+                if !event.is_over() {
                     self.events.insert(at, event)?;
                 }
             }
@@ -165,15 +163,5 @@ fn text_cmp(a: Option<&Text>, b: Option<&Text>) -> Ordering
         (None, Some(_)) => Ordering::Less,
         (Some(_), None) => Ordering::Greater,
         (Some(a), Some(b)) => a.as_bytes().cmp(b.as_bytes()),
-    }
-}
-
-// Whether the event says of itself that it is over.
-fn is_over(event: &Event) -> bool
-    ensures { result ≡ is_over event.now }
-{
-    match &event.state {
-        Some(state) => state.is(b"expired"),
-        None => false,
     }
 }

@@ -1,290 +1,172 @@
-use super::Core;
-use ev_types::{
-    Attrs, Event, Events, Expiry, Field, Item, KeepKey, KeepKeys, Memory, Notice, Notices, Set,
-    Sets, Tags, Text, Value,
-};
-use pred_eval::{Pred, RegexPatterns, Rule, Rules, pattern_count};
+//! The core: the streams with their index, and what expires in it.
+
+ghost use Rattle.std.specs.Prelude.{◌≡◌, ◌≤◌, true, IfOk};
+ghost use Rattle.std.specs.Option.{ForSome};
+ghost use Rattle.stream_tree.specs.Tree.{is_built_plan};
+
+use crate::show::{put_notice, put_short};
+use ev_types::{Event, Events, Memory, Notices, Text};
+use event_core::Core;
+use pred_eval::{Pred, RegexPatterns, pattern_count};
+use query_lang::read_query;
+use sexp_config::read_config;
 use std::alloc::Global;
 use std::test::Fail;
 use step_count::{NoLedger, Steps};
-use stream_plan::{Kind, Plan, Stream, Streams, build_plan, check_kinds, stream_pattern_count};
+use stream_plan::build_plan;
 use stream_tree::is_built;
 
-fn text(alloc: Global, chars: &str) -> Result<Text, Memory> {
-    Text::from_str(alloc, chars)
+/// What comes to a core, or is asked of it.
+#[derive(Clone, Copy)]
+enum Step<'a> {
+    /// An event of this host, service and state, where it has one, of this time and ttl, 0 for none.
+    Post(&'a str, &'a str, &'a str, i64, u32),
+    /// The clock goes on to this moment.
+    To(u64),
+    /// The live events that meet the query.
+    Find(&'a str),
 }
 
-fn leaf(alloc: Global, kind: Kind) -> Stream {
-    Stream {
-        kind,
-        children: Vec::new(alloc),
-        otherwise: Vec::new(alloc),
-    }
-}
-
-fn over(kind: Kind, children: Streams, alloc: Global) -> Stream {
-    Stream {
-        kind,
-        children,
-        otherwise: Vec::new(alloc),
-    }
-}
-
-fn is_state(alloc: Global, state: &str) -> Result<Rule, Memory> {
-    Ok(Rule::Equal {
-        field: Field::State,
-        value: Value::Text(text(alloc, state)?),
-    })
-}
-
-fn set_to(alloc: Global, field: Field, value: Value) -> Result<Sets, Memory> {
-    let mut sets = Sets::fresh(alloc);
-    sets.push(alloc, Set { field, value })?;
-    Ok(sets)
-}
-
-/// An index, and beside it a notice of what has expired.
-fn index_and_notice(alloc: Global, name: &str) -> Result<Streams, Memory> {
-    let mut below = Vec::new(alloc);
-    below.push(leaf(alloc, Kind::Notice(text(alloc, name)?)))?;
-    let mut streams = Vec::new(alloc);
-    streams.push(leaf(alloc, Kind::Index))?;
-    streams.push(over(Kind::Where(is_state(alloc, "expired")?), below, alloc))?;
-    Ok(streams)
-}
-
-/// The one stream.
-fn alone(alloc: Global, stream: Stream) -> Result<Streams, Memory> {
-    let mut streams = Vec::new(alloc);
-    streams.push(stream)?;
-    Ok(streams)
-}
-
-/// A core of the streams, which looks every so many seconds for what has expired.
-fn core(alloc: Global, streams: Streams, interval: u32, start: u64) -> Result<Core, Memory> {
-    let Ok(checked) = check_kinds(alloc, Plan { streams }) else {
+/// A core of the configuration, from the moment on.
+fn core(alloc: Global, config: &str, start: u64) -> Result<Core, Memory> {
+    let Ok(config) = read_config(alloc, config.as_bytes()) else {
         return Err(Memory);
     };
-    if !is_built(&checked) || stream_pattern_count(&checked.plan().streams) > 0 {
+    if !is_built(&config.plan) || start > 1_000_000 {
         return Err(Memory);
     }
-    if interval == 0 || interval > 604_800 || start > 1_000_000 {
+    if let Some(expiry) = &config.expiry
+        && (expiry.interval < 1 || expiry.interval > 604_800)
+    {
         return Err(Memory);
     }
-    let Ok(ready) = build_plan(alloc, checked, &mut RegexPatterns { refusals: 0 }) else {
+    let Ok(plan) = build_plan(alloc, config.plan, &mut RegexPatterns { refusals: 0 }) else {
         return Err(Memory);
     };
-    let keep = kept(alloc)?;
-    Core::fresh(alloc, ready, Some(Expiry { interval, keep }), start)
-}
-
-/// The notices that come until the moment.
-fn notices_until(alloc: Global, core: &mut Core, to: u64) -> Result<Notices, Memory> {
-    let now = core.now();
-    if to < now || to > now + 3_600 || to > 1_000_000 {
-        return Err(Memory);
-    }
-    let mut out = Notices::fresh(alloc);
-    core.advance(alloc, to, &mut out, &mut Steps::fresh(NoLedger))?;
-    Ok(out)
-}
-
-/// The notices that come of the event.
-fn notices_of(alloc: Global, core: &mut Core, event: Event) -> Result<Notices, Memory> {
-    let mut out = Notices::fresh(alloc);
-    core.post(alloc, event, &mut out, &mut Steps::fresh(NoLedger))?;
-    Ok(out)
-}
-
-/// An event that comes again keeps its host and its service.
-fn kept(alloc: Global) -> Result<KeepKeys, Memory> {
-    let mut keep = KeepKeys::fresh(alloc);
-    keep.push(alloc, KeepKey::Field(Field::Host))?;
-    keep.push(alloc, KeepKey::Field(Field::Service))?;
-    Ok(keep)
+    Core::fresh(alloc, plan, config.expiry, start)
 }
 
 fn event(
     alloc: Global,
     host: &str,
     service: &str,
-    state: Option<&str>,
+    state: &str,
     time: i64,
-    ttl: Option<u32>,
+    ttl: u32,
 ) -> Result<Event, Memory> {
-    let state = match state {
-        Some(state) => Some(text(alloc, state)?),
-        None => None,
+    let mut event = Event::at(alloc, time);
+    event.host = Some(Text::from_str(alloc, host)?);
+    event.service = Some(Text::from_str(alloc, service)?);
+    if !state.is_empty() {
+        event.state = Some(Text::from_str(alloc, state)?);
+    }
+    if ttl > 0 {
+        event.ttl = Some(ttl);
+    }
+    Ok(event)
+}
+
+fn advance(alloc: Global, core: &mut Core, to: u64, out: &mut Notices) -> Result<(), Memory> {
+    let now = core.now();
+    if to < now || to > now + 3_600 || to > 1_000_000 {
+        return Err(Memory);
+    }
+    core.advance(alloc, to, out, &mut Steps::fresh(NoLedger))
+}
+
+fn find(alloc: Global, core: &mut Core, query: &str, out: &mut Events) -> Result<(), Memory> {
+    let Ok(rule) = read_query(alloc, query.as_bytes()) else {
+        return Err(Memory);
     };
-    Ok(Event {
-        host: Some(text(alloc, host)?),
-        service: Some(text(alloc, service)?),
-        state,
-        description: None,
-        tags: Tags::fresh(alloc),
-        time,
-        time_micros: None,
-        ttl,
-        metric: None,
-        raw_d: None,
-        raw_f: None,
-        attributes: Attrs::fresh(alloc),
-    })
-}
-
-fn is_text(text: &Option<Text>, wanted: Option<&str>) -> bool {
-    match (text, wanted) {
-        (Some(text), Some(wanted)) => text.is(wanted.as_bytes()),
-        (None, None) => true,
-        _ => false,
-    }
-}
-
-/// Whether the event has just these fields.
-fn is_event(
-    event: &Event,
-    host: &str,
-    service: &str,
-    state: Option<&str>,
-    time: i64,
-    ttl: Option<u32>,
-) -> bool {
-    is_text(&event.host, Some(host))
-        && is_text(&event.service, Some(service))
-        && is_text(&event.state, state)
-        && event.description.is_none()
-        && event.tags.len() == 0
-        && event.time == time
-        && event.ttl == ttl
-        && event.metric.is_none()
-        && event.attributes.len() == 0
-}
-
-/// Whether the notice is of an expired event with these fields, and of the moment that is the event's time.
-fn is_notice(
-    notice: &Notice,
-    name: &str,
-    host: &str,
-    service: &str,
-    moment: u64,
-    ttl: Option<u32>,
-) -> bool {
-    if moment > 1_000_000 {
-        return false;
-    }
-    match &notice.item {
-        Item::One(event) => notice.name.is(name.as_bytes())
-            && notice.moment == moment
-            && is_event(event, host, service, Some("expired"), moment as i64, ttl),
-        Item::Many(_) => false,
-    }
-}
-
-/// The live events that meet the rule.
-fn found(alloc: Global, core: &mut Core, rule: Rule) -> Result<Events, Memory> {
     if pattern_count(&rule) > 0 {
         return Err(Memory);
     }
     let Ok(mut pred) = Pred::build(alloc, rule, &mut RegexPatterns { refusals: 0 }) else {
         return Err(Memory);
     };
-    let mut out = Events::fresh(alloc);
-    core.search(alloc, &mut pred, &mut out, &mut Steps::fresh(NoLedger))?;
+    core.search(alloc, &mut pred, out, &mut Steps::fresh(NoLedger))
+}
+
+/// Takes the step, and appends the notices that it gives, or the events that are found.
+fn take(alloc: Global, core: &mut Core, step: Step, out: &mut String) -> Result<(), Memory> {
+    let mut notices = Notices::fresh(alloc);
+    let mut events = Events::fresh(alloc);
+    match step {
+        Step::Post(host, service, state, time, ttl) => {
+            let event = event(alloc, host, service, state, time, ttl)?;
+            core.post(alloc, event, &mut notices, &mut Steps::fresh(NoLedger))?;
+        }
+        Step::To(to) => advance(alloc, core, to, &mut notices)?,
+        Step::Find(query) => find(alloc, core, query, &mut events)?,
+    }
+    for notice in notices.as_slice() {
+        put_notice(alloc, out, notice)?;
+    }
+    for event in events.as_slice() {
+        put_short(alloc, out, event)?;
+    }
+    Ok(())
+}
+
+/// What the core of the configuration gives, a `|` after each step, and at last its moment and the number of live events.
+fn play(alloc: Global, config: &str, start: u64, steps: &[Step]) -> Result<String, Memory> {
+    let mut core = core(alloc, config, start)?;
+    let mut out = String::new(alloc);
+    for step in steps {
+        take(alloc, &mut core, *step, &mut out)?;
+        out.push_str("| ")?;
+    }
+    let (now, live) = (core.now(), core.live());
+    let end = format!(in alloc; "{now} {live}")?;
+    out.push_str(end.as_str())?;
     Ok(out)
 }
 
 #[test]
-fn an_expired_event_comes_again_once_it_is_looked_for(rt: HostRuntime) -> Result<(), Fail> {
-    let alloc = rt.alloc();
-    let mut core = core(alloc, index_and_notice(alloc, "gone")?, 10, 100)?;
-    let posted = event(alloc, "a", "b", None, 100, Some(5))?;
-    assert_eq!(rt; notices_of(alloc, &mut core, posted)?.len(), 0);
-    assert_eq!(rt; notices_until(alloc, &mut core, 106)?.len(), 0);
-
-    // It has expired, and is live until the index looks for it.
-    let before = found(alloc, &mut core, Rule::Always)?;
-    assert_eq!(rt; before.len(), 1);
-    assert!(rt; is_event(&before.as_slice()[0], "a", "b", None, 100, Some(5)));
-    assert_eq!(rt; notices_until(alloc, &mut core, 109)?.len(), 0);
-    assert_eq!(rt; core.live(), 1);
-
-    let gone = notices_until(alloc, &mut core, 110)?;
-    assert_eq!(rt; gone.len(), 1);
-    assert!(rt; is_notice(&gone.as_slice()[0], "gone", "a", "b", 110, None));
-    assert_eq!(rt; found(alloc, &mut core, Rule::Always)?.len(), 0);
-    assert_eq!(rt; core.live(), 0);
-    assert_eq!(rt; core.now(), 110);
-
-    // It comes again once.
-    assert_eq!(rt; notices_until(alloc, &mut core, 150)?.len(), 0);
+fn an_expired_event_comes_again_once_it_is_found(rt: HostRuntime) -> Result<(), Fail> {
+    let config = "(periodically-expire 10) (streams index (expired (notice \"gone\")))";
+    let steps = [
+        Step::Post("a", "b", "", 100, 5),
+        Step::To(106),
+        // It has expired, and is live until the index is searched for it.
+        Step::Find("true"),
+        Step::To(109),
+        Step::To(110),
+        Step::Find("true"),
+        Step::To(150),
+    ];
+    let found = play(rt.alloc(), config, 100, &steps)?;
+    let wanted = "| | a b - 100 5; | | gone@110 a b expired 110 0; | | | 150 0";
+    assert_eq!(rt; found.as_str(), wanted);
     Ok(())
 }
 
 #[test]
 fn an_expired_event_is_live_again_where_its_state_is_set(rt: HostRuntime) -> Result<(), Fail> {
-    let alloc = rt.alloc();
-    let sets = set_to(alloc, Field::State, Value::Text(text(alloc, "ok")?))?;
-    let index = alone(alloc, leaf(alloc, Kind::Index))?;
-    let streams = alone(alloc, over(Kind::With(sets), index, alloc))?;
-    let mut core = core(alloc, streams, 10, 100)?;
-    let posted = event(alloc, "a", "b", None, 100, Some(5))?;
-    assert_eq!(rt; notices_of(alloc, &mut core, posted)?.len(), 0);
-    assert_eq!(rt; notices_until(alloc, &mut core, 110)?.len(), 0);
-    let events = found(alloc, &mut core, Rule::Always)?;
-    assert_eq!(rt; events.len(), 1);
-    assert!(rt; is_event(&events.as_slice()[0], "a", "b", Some("ok"), 110, None));
+    let config = "(periodically-expire 10) (streams (with :state \"ok\" index))";
+    let steps = [
+        Step::Post("a", "b", "", 100, 5),
+        Step::To(110),
+        Step::Find("true"),
+    ];
+    let found = play(rt.alloc(), config, 100, &steps)?;
+    assert_eq!(rt; found.as_str(), "| | a b ok 110 0; | 110 1");
     Ok(())
 }
 
-/// The events of host "a" in another state than "ok".
-fn troubled(alloc: Global) -> Result<Rule, Memory> {
-    let mut parts: Rules = Vec::new(alloc);
-    parts.push(Rule::Equal {
-        field: Field::Host,
-        value: Value::Text(text(alloc, "a")?),
-    })?;
-    parts.push(Rule::Not(Box::new(alloc, is_state(alloc, "ok")?)?))?;
-    Ok(Rule::All(parts))
-}
-
 #[test]
-fn events_get_a_ttl_and_are_told_of_in_the_order_of_the_index(rt: HostRuntime) -> Result<(), Fail> {
-    let alloc = rt.alloc();
-    let sets = set_to(alloc, Field::Ttl, Value::Number(60))?;
-    let below = index_and_notice(alloc, "expired")?;
-    let streams = alone(alloc, over(Kind::Default(sets), below, alloc))?;
-    let mut core = core(alloc, streams, 5, 1_000)?;
-    let rows = [
-        ("a", "cpu", "ok"),
-        ("a", "mem", "critical"),
-        ("b", "cpu", "critical"),
+fn events_get_a_ttl_and_expire_in_key_order(rt: HostRuntime) -> Result<(), Fail> {
+    let config = "(let [index (index)] (periodically-expire 5) (streams (default :ttl 60 index (expired (notice \"expired\")))))";
+    let steps = [
+        Step::Post("a", "cpu", "ok", 1_000, 0),
+        Step::Post("a", "mem", "critical", 1_000, 0),
+        Step::Post("b", "cpu", "critical", 1_000, 0),
+        Step::To(1_001),
+        Step::Find("host = \"a\" and not state = \"ok\""),
+        Step::To(1_065),
     ];
-    for (host, service, state) in rows {
-        let posted = event(alloc, host, service, Some(state), 1_000, None)?;
-        assert_eq!(rt; notices_of(alloc, &mut core, posted)?.len(), 0);
-    }
-    assert_eq!(rt; notices_until(alloc, &mut core, 1_001)?.len(), 0);
-    let events = found(alloc, &mut core, troubled(alloc)?)?;
-    assert_eq!(rt; events.len(), 1);
-    assert!(rt;
-        is_event(
-            &events.as_slice()[0],
-            "a",
-            "mem",
-            Some("critical"),
-            1_000,
-            Some(60)
-        )
-    );
-
-    let told = notices_until(alloc, &mut core, 1_065)?;
-    assert_eq!(rt; told.len(), 3);
-    for (notice, (host, service, _)) in told.as_slice().iter().zip(rows) {
-        assert!(rt;
-            is_notice(notice, "expired", host, service, 1_065, Some(60)),
-            "{host} {service}"
-        );
-    }
-    assert_eq!(rt; core.live(), 0);
+    let found = play(rt.alloc(), config, 1_000, &steps)?;
+    let wanted = "| | | | a mem critical 1000 60; | expired@1065 a cpu expired 1065 60; expired@1065 a mem expired 1065 60; expired@1065 b cpu expired 1065 60; | 1065 0";
+    assert_eq!(rt; found.as_str(), wanted);
     Ok(())
 }

@@ -1,11 +1,10 @@
-ghost use Rattle.std.specs.Prelude.{◌≡◌, IfOk, IsTrue, OnOk};
-ghost use Rattle.ev_types.specs.declared.value.Value.{Value as StoredValue};
-ghost use Rattle.ev_types.specs.Set.{fits, fits_text};
-ghost use Rattle.stream_plan.specs.Kinds.{all_fit};
+//! Streams that keep nothing: sets, defaults, tags and the branch of a rule.
 
-use crate::{apply_defaults, apply_sets, apply_tags, route};
-use ev_types::{Attr, Attrs, Event, Field, Memory, Set, Sets, Tags, Text, Value};
-use pred_eval::{Pred, RegexPatterns, Rule};
+use crate::show::put_event;
+use ev_types::{Attr, Event, Field, Memory, Set, Sets, Tags, Text, Value};
+use flow_streams::{apply_defaults, apply_sets, apply_tags, route};
+use pred_eval::{Pred, RegexPatterns};
+use query_lang::read_query;
 use std::alloc::Global;
 use std::test::Fail;
 
@@ -13,31 +12,27 @@ fn text(alloc: Global, chars: &str) -> Result<Text, Memory> {
     Text::from_str(alloc, chars)
 }
 
-fn attribute(alloc: Global, key: &str, value: Option<&str>) -> Result<Attr, Memory> {
-    let key = text(alloc, key)?;
+fn push_attribute(
+    alloc: Global,
+    event: &mut Event,
+    key: &str,
+    value: Option<&str>,
+) -> Result<(), Memory> {
     let value = match value {
         Some(value) => Some(text(alloc, value)?),
         None => None,
     };
-    Ok(Attr { key, value })
+    let key = text(alloc, key)?;
+    event.attributes.push(alloc, Attr { key, value })
 }
 
-// The event that says nothing but its time, and the other forms of a metric that it has not.
+// An event that holds its time, and forms of a metric that are not numbers here.
 fn bare_event(alloc: Global) -> Event {
-    Event {
-        host: None,
-        service: None,
-        state: None,
-        description: None,
-        tags: Tags::fresh(alloc),
-        time: 5,
-        time_micros: Some(5_000_001),
-        ttl: None,
-        metric: None,
-        raw_d: Some(u64::MAX),
-        raw_f: Some(7),
-        attributes: Attrs::fresh(alloc),
-    }
+    let mut event = Event::at(alloc, 5);
+    event.time_micros = Some(5_000_001);
+    event.raw_d = Some(9);
+    event.raw_f = Some(7);
+    event
 }
 
 // An event that holds something in each field, and the attribute "rack" twice.
@@ -50,195 +45,140 @@ fn full_event(alloc: Global) -> Result<Event, Memory> {
     event.tags.push(alloc, text(alloc, "y")?)?;
     event.ttl = Some(60);
     event.metric = Some(-3);
-    for (key, value) in [
-        ("rack", Some("r7")),
-        ("room", Some("")),
-        ("rack", Some("r8")),
-        ("bare", None),
-    ] {
-        event.attributes.push(alloc, attribute(alloc, key, value)?)?;
-    }
+    push_attribute(alloc, &mut event, "rack", Some("r7"))?;
+    push_attribute(alloc, &mut event, "room", Some(""))?;
+    push_attribute(alloc, &mut event, "rack", Some("r8"))?;
+    push_attribute(alloc, &mut event, "bare", None)?;
     Ok(event)
 }
 
-fn is_text(found: &Option<Text>, wanted: Option<&str>) -> bool {
-    match (found, wanted) {
-        (Some(found), Some(wanted)) => found.is(wanted.as_bytes()),
-        (None, None) => true,
-        _ => false,
-    }
+/// A value in a row.
+#[derive(Clone, Copy)]
+enum Row<'a> {
+    Nil,
+    Number(i64),
+    Text(&'a str),
 }
 
-// Whether the texts are these, of host, service, state and description.
-fn has_texts(event: &Event, wanted: [Option<&str>; 4]) -> bool {
-    let [host, service, state, description] = wanted;
-    is_text(&event.host, host)
-        && is_text(&event.service, service)
-        && is_text(&event.state, state)
-        && is_text(&event.description, description)
-}
-
-// Whether the attributes are these, in order.
-fn has_attributes(event: &Event, wanted: &[(&str, Option<&str>)]) -> bool {
-    let attributes = event.attributes.as_slice();
-    attributes.len() == wanted.len()
-        && attributes.iter().zip(wanted).all(|(attribute, wanted)| attribute
-            .key
-            .is(wanted.0.as_bytes())
-            && is_text(&attribute.value, wanted.1))
-}
-
-fn has_tags(event: &Event, wanted: &[&str]) -> bool {
-    let tags = event.tags.as_slice();
-    tags.len() == wanted.len()
-        && tags
-            .iter()
-            .zip(wanted)
-            .all(|(tag, wanted)| tag.is(wanted.as_bytes()))
-}
-
-// A field that holds a text, by its name.
-fn text_field(alloc: Global, name: &str) -> Result<Field, Memory>
-    ensures { IfOk result (λ field. (value : StoredValue) → fits field value ≡ fits_text value) }
-{
-    Ok(match name.as_bytes() {
-        b"host" => Field::Host,
-        b"service" => Field::Service,
-        b"state" => Field::State,
-        b"description" => Field::Description,
-        _ => Field::Attribute(text(alloc, name)?),
-    })
-}
-
-// One set more.
-fn push(alloc: Global, sets: &mut Sets, field: Field, value: Value) -> Result<(), Memory>
-    requires before { IsTrue (all_fit sets.old) }
-    requires fits { IsTrue (fits field value) }
-    ensures { OnOk result (IsTrue (all_fit sets.new)) }
-{
+fn push_set(alloc: Global, sets: &mut Sets, name: &str, row: Row) -> Result<(), Memory> {
+    let Some(field) = Field::named(text(alloc, name)?) else {
+        return Ok(());
+    };
+    let value = match row {
+        Row::Nil => Value::Nil,
+        Row::Number(number) => Value::Number(number),
+        Row::Text(chars) => Value::Text(text(alloc, chars)?),
+    };
     sets.push(alloc, Set { field, value })
 }
 
-// Sets of texts, or of nothing, by the names of their fields.
-fn text_sets(alloc: Global, rows: &[(&str, Option<&str>)]) -> Result<Sets, Memory>
-    ensures { IfOk result (λ sets. IsTrue (all_fit sets)) }
-{
+fn sets_of(alloc: Global, rows: &[(&str, Row)]) -> Result<Sets, Memory> {
     let mut sets = Sets::fresh(alloc);
     for row in rows {
-        let value = match row.1 {
-            Some(chars) => Value::Text(text(alloc, chars)?),
-            None => Value::Nil,
-        };
-        push(alloc, &mut sets, text_field(alloc, row.0)?, value)?;
+        push_set(alloc, &mut sets, row.0, row.1)?;
     }
     Ok(sets)
 }
 
-#[test]
-fn texts_are_set_in_order(rt: HostRuntime) -> Result<(), Fail> {
-    let alloc = rt.alloc();
-    let sets = text_sets(
-        alloc,
-        &[
-            ("state", Some("warning")),
-            ("rack", None),
-            ("description", None),
-            ("host", Some("")),
-            ("room", Some("r9")),
-            ("state", Some("critical")),
-            ("rack", Some("r10")),
-        ],
-    )?;
-    let changed = apply_sets(alloc, &sets, full_event(alloc)?)?;
-    assert!(rt; has_texts(&changed, [Some(""), Some("cpu"), Some("critical"), None]));
-    assert!(rt;
-        has_attributes(
-            &changed,
-            &[("bare", None), ("room", Some("r9")), ("rack", Some("r10"))]
-        )
-    );
-    assert!(rt; has_tags(&changed, &["y"]));
-    assert_eq!(rt; changed.time_micros, Some(5_000_001));
-    assert_eq!(rt; changed.metric, Some(-3));
+fn shown(alloc: Global, event: &Event) -> Result<String, Memory> {
+    let mut out = String::new(alloc);
+    put_event(alloc, &mut out, event)?;
+    Ok(out)
+}
 
-    let changed = apply_sets(alloc, &Sets::fresh(alloc), full_event(alloc)?)?;
-    assert!(rt; has_texts(&changed, [Some("a"), Some("cpu"), Some("ok"), Some("fine")]));
-    assert_eq!(rt; changed.attributes.len(), 4);
-    Ok(())
+/// The full event with the sets made.
+fn set_full(alloc: Global, rows: &[(&str, Row)]) -> Result<String, Memory> {
+    let sets = sets_of(alloc, rows)?;
+    shown(alloc, &apply_sets(alloc, &sets, full_event(alloc)?)?)
 }
 
 #[test]
-fn numbers_are_set_and_their_other_forms_go(rt: HostRuntime) -> Result<(), Fail> {
+fn sets_are_made_in_order(rt: HostRuntime) -> Result<(), Fail> {
     let alloc = rt.alloc();
-    let mut sets = Sets::fresh(alloc);
-    push(alloc, &mut sets, Field::Ttl, Value::Number(16_777_216))?;
-    push(alloc, &mut sets, Field::Time, Value::Number(-1))?;
-    let changed = apply_sets(alloc, &sets, full_event(alloc)?)?;
-    assert_eq!(rt; changed.ttl, Some(16_777_216));
-    assert_eq!(rt; changed.time, -1);
-    assert_eq!(rt; changed.time_micros, None);
-    assert_eq!(rt; changed.raw_d, Some(u64::MAX));
-
-    let mut sets = Sets::fresh(alloc);
-    push(alloc, &mut sets, Field::Ttl, Value::Nil)?;
-    push(alloc, &mut sets, Field::Metric, Value::Number(9))?;
-    let changed = apply_sets(alloc, &sets, full_event(alloc)?)?;
-    assert_eq!(rt; changed.ttl, None);
-    assert_eq!(rt; changed.metric, Some(9));
-    assert_eq!(rt; changed.raw_d, None);
-    assert_eq!(rt; changed.raw_f, None);
-    assert_eq!(rt; changed.time_micros, Some(5_000_001));
+    let rows: [(&[(&str, Row)], &str); 5] = [
+        (
+            &[
+                ("state", Row::Text("warning")),
+                ("rack", Row::Nil),
+                ("description", Row::Nil),
+                ("host", Row::Text("")),
+                ("room", Row::Text("r9")),
+                ("state", Row::Text("critical")),
+                ("rack", Row::Text("r10")),
+            ],
+            " cpu critical - #y @bare=- @room=r9 @rack=r10 5 Some(5000001) Some(60) Some(-3) Some(9) Some(7)",
+        ),
+        (
+            &[],
+            "a cpu ok fine #y @rack=r7 @room= @rack=r8 @bare=- 5 Some(5000001) Some(60) Some(-3) Some(9) Some(7)",
+        ),
+        (
+            &[("ttl", Row::Number(16_777_216)), ("time", Row::Number(-1))],
+            "a cpu ok fine #y @rack=r7 @room= @rack=r8 @bare=- -1 None Some(16777216) Some(-3) Some(9) Some(7)",
+        ),
+        (
+            &[("ttl", Row::Nil), ("metric", Row::Number(9))],
+            "a cpu ok fine #y @rack=r7 @room= @rack=r8 @bare=- 5 Some(5000001) None Some(9) None None",
+        ),
+        // Values that do not fit their fields.
+        (
+            &[
+                ("ttl", Row::Number(-1)),
+                ("ttl", Row::Number(16_777_217)),
+                ("time", Row::Nil),
+                ("host", Row::Number(1)),
+                ("metric", Row::Text("1")),
+            ],
+            "a cpu ok fine #y @rack=r7 @room= @rack=r8 @bare=- 5 Some(5000001) Some(60) Some(-3) Some(9) Some(7)",
+        ),
+    ];
+    for (sets, wanted) in rows {
+        assert_eq!(rt; set_full(alloc, sets)?.as_str(), wanted);
+    }
     Ok(())
+}
+
+/// The full event, or else the bare one, with the defaults.
+fn default_of(alloc: Global, full: bool, rows: &[(&str, Row)]) -> Result<String, Memory> {
+    let sets = sets_of(alloc, rows)?;
+    let event = if full {
+        full_event(alloc)?
+    } else {
+        bare_event(alloc)
+    };
+    shown(alloc, &apply_defaults(alloc, &sets, event)?)
 }
 
 #[test]
 fn defaults_fill_what_is_absent(rt: HostRuntime) -> Result<(), Fail> {
     let alloc = rt.alloc();
-    let sets = text_sets(
-        alloc,
-        &[
-            ("host", Some("b")),
-            ("host", Some("c")),
-            ("state", None),
-            ("description", Some("late")),
-            ("rack", Some("r1")),
-            ("room", Some("r2")),
-            ("bare", Some("r3")),
-        ],
-    )?;
-    let changed = apply_defaults(alloc, &sets, full_event(alloc)?)?;
-    assert!(rt; has_texts(&changed, [Some("a"), Some("cpu"), Some("ok"), Some("fine")]));
-    assert!(rt;
-        has_attributes(
-            &changed,
-            &[
-                ("rack", Some("r7")),
-                ("room", Some("")),
-                ("rack", Some("r8")),
-                ("bare", Some("r3")),
-            ]
-        )
-    );
-    let changed = apply_defaults(alloc, &sets, bare_event(alloc))?;
-    assert!(rt; has_texts(&changed, [Some("b"), None, None, Some("late")]));
-    assert_eq!(rt; changed.attributes.len(), 3);
-
+    let texts = [
+        ("host", Row::Text("b")),
+        ("host", Row::Text("c")),
+        ("state", Row::Nil),
+        ("description", Row::Text("late")),
+        ("rack", Row::Text("r1")),
+        ("room", Row::Text("r2")),
+        ("bare", Row::Text("r3")),
+    ];
     // A metric that is absent is nothing, so it is set to nothing, and its other forms go.
-    let mut sets = Sets::fresh(alloc);
-    push(alloc, &mut sets, Field::Time, Value::Number(-1))?;
-    push(alloc, &mut sets, Field::Ttl, Value::Number(0))?;
-    push(alloc, &mut sets, Field::Metric, Value::Nil)?;
-    let changed = apply_defaults(alloc, &sets, bare_event(alloc))?;
-    assert_eq!(rt; (changed.time, changed.time_micros), (5, Some(5_000_001)));
-    assert_eq!(rt; changed.ttl, Some(0));
-    assert_eq!(rt; (changed.raw_d, changed.raw_f), (None, None));
-    let changed = apply_defaults(alloc, &sets, full_event(alloc)?)?;
-    assert_eq!(rt; (changed.ttl, changed.metric), (Some(60), Some(-3)));
-    assert_eq!(rt; (changed.raw_d, changed.raw_f), (Some(u64::MAX), Some(7)));
+    let numbers = [
+        ("time", Row::Number(-1)),
+        ("ttl", Row::Number(0)),
+        ("metric", Row::Nil),
+    ];
+    let full = "a cpu ok fine #y @rack=r7 @room= @rack=r8 @bare=r3 5 Some(5000001) Some(60) Some(-3) Some(9) Some(7)";
+    assert_eq!(rt; default_of(alloc, true, &texts)?.as_str(), full);
+    let bare = "b - - late  @rack=r1 @room=r2 @bare=r3 5 Some(5000001) None None Some(9) Some(7)";
+    assert_eq!(rt; default_of(alloc, false, &texts)?.as_str(), bare);
+    let full = "a cpu ok fine #y @rack=r7 @room= @rack=r8 @bare=- 5 Some(5000001) Some(60) Some(-3) Some(9) Some(7)";
+    assert_eq!(rt; default_of(alloc, true, &numbers)?.as_str(), full);
+    let bare = "- - - -  5 Some(5000001) Some(0) None None None";
+    assert_eq!(rt; default_of(alloc, false, &numbers)?.as_str(), bare);
     Ok(())
 }
 
-fn texts(alloc: Global, chars: &[&str]) -> Result<Tags, Memory> {
+fn tags_of(alloc: Global, chars: &[&str]) -> Result<Tags, Memory> {
     let mut tags = Tags::fresh(alloc);
     for chars in chars {
         tags.push(alloc, text(alloc, chars)?)?;
@@ -246,71 +186,53 @@ fn texts(alloc: Global, chars: &[&str]) -> Result<Tags, Memory> {
     Ok(tags)
 }
 
+/// The bare event with the first tags, once the others are added.
+fn tagged(alloc: Global, had: &[&str], added: &[&str]) -> Result<String, Memory> {
+    let mut event = bare_event(alloc);
+    event.tags = tags_of(alloc, had)?;
+    shown(alloc, &apply_tags(alloc, &tags_of(alloc, added)?, event)?)
+}
+
 #[test]
 fn tags_are_added_once_and_in_order(rt: HostRuntime) -> Result<(), Fail> {
     let alloc = rt.alloc();
-    let rows: [(&[&str], &[&str], &[&str]); 5] = [
-        (&["y"], &["x", "y"], &["y", "x"]),
-        (&[], &["b", "a", "b"], &["b", "a"]),
-        (&["a", "a"], &["a", ""], &["a", "a", ""]),
-        (&["a"], &["A", "aa"], &["a", "A", "aa"]),
-        (&["a"], &[], &["a"]),
+    let rows: [(&[&str], &[&str], &str); 5] = [
+        (&["y"], &["x", "y"], "- - - - #y#x 5 "),
+        (&[], &["b", "a", "b"], "- - - - #b#a 5 "),
+        (&["a", "a"], &["a", ""], "- - - - #a#a# 5 "),
+        (&["a"], &["A", "aa"], "- - - - #a#A#aa 5 "),
+        (&["a"], &[], "- - - - #a 5 "),
     ];
     for (had, added, wanted) in rows {
-        let mut event = bare_event(alloc);
-        event.tags = texts(alloc, had)?;
-        let changed = apply_tags(alloc, &texts(alloc, added)?, event)?;
-        assert!(rt; has_tags(&changed, wanted), "{added:?}");
+        assert!(rt; tagged(alloc, had, added)?.as_str().starts_with(wanted), "{added:?}");
     }
-
-    let mut tags = Tags::fresh(alloc);
-    for _ in 0..2 {
-        for byte in 32..97u8 {
-            tags.push(alloc, Text::read(alloc, &[byte])?)?;
-        }
-    }
-    let changed = apply_tags(alloc, &tags, bare_event(alloc))?;
-    assert_eq!(rt; changed.tags.len(), 65);
-    assert!(rt; changed.tags.get(64).is(b"`"));
     Ok(())
+}
+
+/// The branches of the full and of the bare event below the rule of the query.
+fn branches(alloc: Global, query: &str) -> Result<(u32, u32), Memory> {
+    let Ok(rule) = read_query(alloc, query.as_bytes()) else {
+        return Err(Memory);
+    };
+    let Ok(mut pred) = Pred::build(alloc, rule, &mut RegexPatterns { refusals: 0 }) else {
+        return Err(Memory);
+    };
+    let full = route(alloc, &mut pred, &full_event(alloc)?)?;
+    let bare = route(alloc, &mut pred, &bare_event(alloc))?;
+    Ok((full, bare))
 }
 
 #[test]
 fn a_rule_parts_events(rt: HostRuntime) -> Result<(), Fail> {
     let alloc = rt.alloc();
-    let rules = [
-        (Rule::Always, 0, 0),
-        (Rule::Never, 1, 1),
-        (
-            Rule::Equal {
-                field: Field::State,
-                value: Value::Text(text(alloc, "ok")?),
-            },
-            0,
-            1,
-        ),
-        (
-            Rule::Equal {
-                field: Field::State,
-                value: Value::Nil,
-            },
-            1,
-            0,
-        ),
-        (
-            Rule::Search {
-                field: Field::Service,
-                pattern: text(alloc, "^c.u$")?,
-            },
-            0,
-            1,
-        ),
-    ];
-    for (rule, full, bare) in rules {
-        let mut patterns = RegexPatterns { refusals: 0 };
-        let mut pred = Pred::build(alloc, rule, &mut patterns)?;
-        assert_eq!(rt; route(alloc, &mut pred, &full_event(alloc)?)?, full);
-        assert_eq!(rt; route(alloc, &mut pred, &bare_event(alloc))?, bare);
+    for (query, wanted) in [
+        ("true", (0, 0)),
+        ("false", (1, 1)),
+        ("state = \"ok\"", (0, 1)),
+        ("state = nil", (1, 0)),
+        ("service ~= \"^c.u$\"", (0, 1)),
+    ] {
+        assert!(rt; branches(alloc, query)? == wanted, "{query}");
     }
     Ok(())
 }

@@ -1,106 +1,122 @@
+//! The index of live events.
+
 ghost use Rattle.std.specs.Prelude.{◌≡◌};
 
-use super::LiveIndex;
-use ev_types::{Attr, Attrs, Event, Events, Field, Memory, Tags, Text, Value};
-use pred_eval::{Pred, RegexPatterns, Rule};
+use crate::show::{put_event, put_short};
+use ev_types::{Attr, Event, Events, Memory, Text};
+use live_index::LiveIndex;
+use pred_eval::{Pred, RegexPatterns};
+use query_lang::read_query;
 use std::alloc::Global;
 use std::test::Fail;
 use step_count::{NoLedger, Steps};
 
-type Place = (Option<&'static str>, Option<&'static str>);
-
-fn text(alloc: Global, chars: Option<&str>) -> Result<Option<Text>, Memory> {
-    match chars {
-        Some(chars) => Ok(Some(Text::from_str(alloc, chars)?)),
-        None => Ok(None),
+/// The text, where it is not `-`.
+fn text(alloc: Global, chars: &str) -> Result<Option<Text>, Memory> {
+    if chars == "-" {
+        Ok(None)
+    } else {
+        Ok(Some(Text::from_str(alloc, chars)?))
     }
 }
 
-fn event(alloc: Global, place: Place, state: &str, metric: i64) -> Result<Event, Memory> {
-    Ok(Event {
-        host: text(alloc, place.0)?,
-        service: text(alloc, place.1)?,
-        state: text(alloc, Some(state))?,
-        description: None,
-        tags: Tags::fresh(alloc),
-        time: 100,
-        time_micros: None,
-        ttl: None,
-        metric: Some(metric),
-        raw_d: None,
-        raw_f: None,
-        attributes: Attrs::fresh(alloc),
-    })
-}
-
-fn is_text(text: &Option<Text>, wanted: Option<&str>) -> bool {
-    match (text, wanted) {
-        (Some(text), Some(wanted)) => text.is(wanted.as_bytes()),
-        (None, None) => true,
-        _ => false,
+fn event(alloc: Global, host: &str, service: &str, state: &str, ttl: u32) -> Result<Event, Memory> {
+    let mut event = Event::at(alloc, 100);
+    event.host = text(alloc, host)?;
+    event.service = text(alloc, service)?;
+    event.state = text(alloc, state)?;
+    if ttl > 0 {
+        event.ttl = Some(ttl);
     }
+    Ok(event)
 }
 
-fn is_at(event: &Event, place: Place) -> bool {
-    is_text(&event.host, place.0) && is_text(&event.service, place.1)
+/// Writes events of these hosts, services, states and ttls, 0 for none.
+fn write_all(
+    alloc: Global,
+    index: &mut LiveIndex,
+    rows: &[(&str, &str, &str, u32)],
+) -> Result<(), Memory> {
+    for row in rows {
+        index.write(alloc, event(alloc, row.0, row.1, row.2, row.3)?)?;
+    }
+    Ok(())
 }
 
-/// Appends all live events.
-fn copy_all(alloc: Global, index: &mut LiveIndex, out: &mut Events) -> Result<(), Memory> {
-    let mut patterns = RegexPatterns { refusals: 0 };
-    let Ok(mut pred) = Pred::build(alloc, Rule::Always, &mut patterns) else {
+/// Appends copies of the live events that meet the query.
+fn search(
+    alloc: Global,
+    index: &mut LiveIndex,
+    query: &str,
+    out: &mut Events,
+) -> Result<(), Memory> {
+    let Ok(rule) = read_query(alloc, query.as_bytes()) else {
+        return Err(Memory);
+    };
+    let Ok(mut pred) = Pred::build(alloc, rule, &mut RegexPatterns { refusals: 0 }) else {
         return Err(Memory);
     };
     index.search(alloc, &mut pred, out, &mut Steps::fresh(NoLedger))
 }
 
-#[test]
-fn live_events_stand_by_host_and_then_by_service(rt: HostRuntime) -> Result<(), Fail> {
-    let alloc = rt.alloc();
-    let places = [
-        (None, None),
-        (None, Some("zoo")),
-        (Some(""), None),
-        (Some("a"), None),
-        (Some("a"), Some("")),
-        (Some("a"), Some("cpu")),
-        (Some("ab"), Some("a")),
-        (Some("b"), Some("Cpu")),
-        (Some("b"), Some("cpu")),
-        // A byte of 128 or more stands behind all of ASCII.
-        (Some("é"), Some("cpu")),
-    ];
+fn shown(alloc: Global, events: &Events) -> Result<String, Memory> {
+    let mut out = String::new(alloc);
+    for event in events.as_slice() {
+        put_short(alloc, &mut out, event)?;
+    }
+    Ok(out)
+}
+
+/// The live events that meet the query once these are written.
+fn found(
+    alloc: Global,
+    rows: &[(&str, &str, &str, u32)],
+    query: &str,
+) -> Result<String, Memory> {
     let mut index = LiveIndex::fresh(alloc);
-    for i in [7, 2, 9, 0, 5, 4, 1, 8, 3, 6] {
-        index.write(alloc, event(alloc, places[i], "ok", 1)?)?;
-    }
+    write_all(alloc, &mut index, rows)?;
     let mut out = Events::fresh(alloc);
-    copy_all(alloc, &mut index, &mut out)?;
-    assert_eq!(rt; out.len(), places.len());
-    assert_eq!(rt; index.len(), places.len());
-    for (found, place) in out.as_slice().iter().zip(places) {
-        assert!(rt; is_at(found, place), "{place:?}");
-    }
+    search(alloc, &mut index, query, &mut out)?;
+    shown(alloc, &out)
+}
+
+#[test]
+fn live_events_are_in_key_order(rt: HostRuntime) -> Result<(), Fail> {
+    let rows = [
+        ("b", "Cpu", "-", 0),
+        ("", "-", "-", 0),
+        // A byte of 128 or more comes after all of ASCII.
+        ("é", "cpu", "-", 0),
+        ("-", "-", "-", 0),
+        ("a", "cpu", "-", 0),
+        ("a", "", "-", 0),
+        ("-", "zoo", "-", 0),
+        ("b", "cpu", "-", 0),
+        ("a", "-", "-", 0),
+        ("ab", "a", "-", 0),
+    ];
+    let wanted = "- - - 100 0; - zoo - 100 0;  - - 100 0; a - - 100 0; a  - 100 0; a cpu - 100 0; ab a - 100 0; b Cpu - 100 0; b cpu - 100 0; é cpu - 100 0; ";
+    assert_eq!(rt; found(rt.alloc(), &rows, "true")?.as_str(), wanted);
     Ok(())
 }
 
 #[test]
-fn a_write_takes_the_place_of_the_one_before(rt: HostRuntime) -> Result<(), Fail> {
-    let alloc = rt.alloc();
-    let mut index = LiveIndex::fresh(alloc);
-    let cpu = (Some("a"), Some("cpu"));
-    let disk = (Some("a"), Some("disk"));
-    for (place, state, metric) in [(cpu, "ok", 1), (disk, "ok", 2), (cpu, "warning", 3)] {
-        index.write(alloc, event(alloc, place, state, metric)?)?;
-    }
-    let mut out = Events::fresh(alloc);
-    copy_all(alloc, &mut index, &mut out)?;
-    let events = out.as_slice();
-    assert_eq!(rt; events.len(), 2);
-    assert!(rt; is_at(&events[0], cpu));
-    assert!(rt; is_text(&events[0].state, Some("warning")));
-    assert_eq!(rt; events[0].metric, Some(3));
-    assert!(rt; is_at(&events[1], disk));
+fn a_write_replaces_the_one_of_its_key(rt: HostRuntime) -> Result<(), Fail> {
+    let rows = [
+        ("a", "cpu", "ok", 1),
+        ("a", "disk", "ok", 2),
+        ("a", "cpu", "warning", 3),
+    ];
+    let wanted = "a cpu warning 100 3; a disk ok 100 2; ";
+    assert_eq!(rt; found(rt.alloc(), &rows, "true")?.as_str(), wanted);
+    Ok(())
+}
+
+#[test]
+fn what_meets_the_rule_is_found(rt: HostRuntime) -> Result<(), Fail> {
+    let rows = [("a", "-", "ok", 1), ("b", "-", "warning", 1), ("c", "-", "ok", 1)];
+    let wanted = "a - ok 100 1; c - ok 100 1; ";
+    assert_eq!(rt; found(rt.alloc(), &rows, "state = \"ok\"")?.as_str(), wanted);
     Ok(())
 }
 
@@ -108,106 +124,57 @@ fn a_write_takes_the_place_of_the_one_before(rt: HostRuntime) -> Result<(), Fail
 fn only_the_state_expired_ends_an_event(rt: HostRuntime) -> Result<(), Fail> {
     let alloc = rt.alloc();
     let mut index = LiveIndex::fresh(alloc);
-    let cpu = (Some("a"), Some("cpu"));
-    let disk = (Some("a"), Some("disk"));
-    let writes = [
-        (cpu, "expired", 0),
-        (cpu, "ok", 1),
-        (disk, "ok", 2),
-        (cpu, "Expired", 2),
-        (disk, "expired ", 2),
-        (cpu, "expired", 1),
-        (cpu, "expired", 1),
-        (disk, "expired", 0),
-    ];
-    for (i, (place, state, live)) in writes.into_iter().enumerate() {
-        index.write(alloc, event(alloc, place, state, 1)?)?;
-        assert_eq!(rt; index.len(), live, "after write {i}");
+    for (service, state, live) in [
+        ("cpu", "expired", 0),
+        ("cpu", "ok", 1),
+        ("disk", "ok", 2),
+        ("cpu", "Expired", 2),
+        ("disk", "expired ", 2),
+        ("cpu", "expired", 1),
+        ("cpu", "expired", 1),
+        ("disk", "expired", 0),
+    ] {
+        index.write(alloc, event(alloc, "a", service, state, 0)?)?;
+        assert!(rt; index.len() == live, "{service} {state}");
     }
     Ok(())
 }
 
 #[test]
-fn copies_are_equal_and_stand_after_what_was_there(rt: HostRuntime) -> Result<(), Fail> {
+fn copies_are_equal_and_come_after_what_was_there(rt: HostRuntime) -> Result<(), Fail> {
     let alloc = rt.alloc();
-    let mut tags = Tags::fresh(alloc);
-    tags.push(alloc, Text::from_str(alloc, "edge")?)?;
-    let mut attributes = Attrs::fresh(alloc);
-    attributes.push(
-        alloc,
-        Attr {
-            key: Text::from_str(alloc, "rack")?,
-            value: text(alloc, Some("7"))?,
-        },
-    )?;
+    let mut full = event(alloc, "a", "cpu", "ok", 30)?;
+    full.description = text(alloc, "all is well")?;
+    full.tags.push(alloc, Text::from_str(alloc, "edge")?)?;
+    full.time = -1;
+    full.time_micros = Some(-1_000_000);
+    full.metric = Some(-5);
+    full.raw_d = Some(1);
+    full.raw_f = Some(2);
+    let key = Text::from_str(alloc, "rack")?;
+    let value = text(alloc, "7")?;
+    full.attributes.push(alloc, Attr { key, value })?;
     let mut index = LiveIndex::fresh(alloc);
-    index.write(
-        alloc,
-        Event {
-            description: text(alloc, Some("all is well"))?,
-            tags,
-            time: -1,
-            time_micros: Some(-1_000_000),
-            ttl: Some(30),
-            raw_d: Some(1),
-            raw_f: Some(2),
-            attributes,
-            ..event(alloc, (Some("a"), Some("cpu")), "ok", -5)?
-        },
-    )?;
+    index.write(alloc, full)?;
     let mut out = Events::fresh(alloc);
-    out.push(alloc, event(alloc, (None, None), "first", 1)?)?;
-    copy_all(alloc, &mut index, &mut out)?;
-    let events = out.as_slice();
-    assert_eq!(rt; events.len(), 2);
-    assert!(rt; is_text(&events[0].state, Some("first")));
-    let copy = &events[1];
-    assert!(rt; is_at(copy, (Some("a"), Some("cpu"))));
-    assert!(rt; is_text(&copy.state, Some("ok")));
-    assert!(rt; is_text(&copy.description, Some("all is well")));
-    assert_eq!(rt;
-        (copy.time, copy.time_micros, copy.ttl),
-        (-1, Some(-1_000_000), Some(30))
-    );
-    assert_eq!(rt;
-        (copy.metric, copy.raw_d, copy.raw_f),
-        (Some(-5), Some(1), Some(2))
-    );
-    assert_eq!(rt; copy.tags.len(), 1);
-    assert!(rt; copy.tags.get(0).is(b"edge"));
-    assert_eq!(rt; copy.attributes.len(), 1);
-    assert!(rt; copy.attributes.get(0).key.is(b"rack"));
-    assert!(rt; is_text(&copy.attributes.get(0).value, Some("7")));
-    Ok(())
-}
-
-#[test]
-fn what_meets_the_rule_is_found(rt: HostRuntime) -> Result<(), Fail> {
-    let alloc = rt.alloc();
-    let mut index = LiveIndex::fresh(alloc);
-    for (host, state) in [("a", "ok"), ("b", "warning"), ("c", "ok")] {
-        index.write(alloc, event(alloc, (Some(host), None), state, 1)?)?;
+    out.push(alloc, event(alloc, "-", "-", "first", 0)?)?;
+    search(alloc, &mut index, "true", &mut out)?;
+    let mut shown = String::new(alloc);
+    for event in out.as_slice() {
+        put_event(alloc, &mut shown, event)?;
+        shown.push_str("; ")?;
     }
-    let rule = Rule::Equal {
-        field: Field::State,
-        value: Value::Text(Text::from_str(alloc, "ok")?),
-    };
-    let mut patterns = RegexPatterns { refusals: 0 };
-    let mut pred = Pred::build(alloc, rule, &mut patterns)?;
-    let mut out = Events::fresh(alloc);
-    index.search(alloc, &mut pred, &mut out, &mut Steps::fresh(NoLedger))?;
-    assert_eq!(rt; out.len(), 2);
-    assert!(rt; is_at(out.get(0), (Some("a"), None)));
-    assert!(rt; is_at(out.get(1), (Some("c"), None)));
+    let wanted = "- - first -  100 None None None None None; a cpu ok all is well #edge @rack=7 -1 Some(-1000000) Some(30) Some(-5) Some(1) Some(2); ";
+    assert_eq!(rt; shown.as_str(), wanted);
     Ok(())
 }
 
-/// The metric of the live event at the place.
-fn metric_at(index: &mut LiveIndex, host: Option<&Text>, service: Option<&Text>) -> Option<i64>
+/// The ttl of the live event of this host and service.
+fn ttl_of(index: &mut LiveIndex, host: Option<&Text>, service: Option<&Text>) -> Option<u32>
     ensures { index.new ≡ index.old }
 {
     match index.get(host, service, &mut Steps::fresh(NoLedger)) {
-        Some(event) => event.metric,
+        Some(event) => event.ttl,
         None => None,
     }
 }
@@ -217,57 +184,50 @@ fn an_event_is_got_by_its_host_and_service(rt: HostRuntime) -> Result<(), Fail> 
     let alloc = rt.alloc();
     let mut index = LiveIndex::fresh(alloc);
     let rows = [
-        ((Some("b"), Some("cpu")), "ok", 1, Some(1)),
-        ((None, None), "ok", 2, Some(2)),
-        ((Some(""), None), "ok", 3, Some(3)),
-        ((None, Some("cpu")), "ok", 4, Some(4)),
-        ((Some("a"), Some("cpu")), "ok", 5, Some(7)),
-        ((Some("c"), Some("cpu")), "ok", 6, None),
-        ((Some("a"), Some("cpu")), "warning", 7, Some(7)),
-        ((Some("c"), Some("cpu")), "expired", 8, None),
+        ("b", "cpu", "ok", 1),
+        ("-", "-", "ok", 2),
+        ("", "-", "ok", 3),
+        ("-", "cpu", "ok", 4),
+        ("a", "cpu", "ok", 5),
+        ("c", "cpu", "ok", 6),
+        ("a", "cpu", "warning", 7),
+        ("c", "cpu", "expired", 8),
     ];
-    for (place, state, metric, _) in rows {
-        index.write(alloc, event(alloc, place, state, metric)?)?;
-    }
-    for (place, _, _, wanted) in rows {
-        let (host, service) = (text(alloc, place.0)?, text(alloc, place.1)?);
-        let found = metric_at(&mut index, host.as_ref(), service.as_ref());
-        assert_eq!(rt; found, wanted, "{place:?}");
-    }
-    for place in [
-        (Some("cpu"), Some("a")),
-        (Some("b"), None),
-        (None, Some("")),
-        (Some("z"), Some("cpu")),
+    write_all(alloc, &mut index, &rows)?;
+    for (host, service, wanted) in [
+        ("b", "cpu", 1),
+        ("-", "-", 2),
+        ("", "-", 3),
+        ("-", "cpu", 4),
+        ("a", "cpu", 7),
+        ("c", "cpu", 0),
+        ("cpu", "a", 0),
+        ("b", "-", 0),
+        ("-", "", 0),
+        ("z", "cpu", 0),
     ] {
-        let (host, service) = (text(alloc, place.0)?, text(alloc, place.1)?);
-        let found = metric_at(&mut index, host.as_ref(), service.as_ref());
-        assert_eq!(rt; found, None, "{place:?}");
+        let (own_host, own_service) = (text(alloc, host)?, text(alloc, service)?);
+        let found = ttl_of(&mut index, own_host.as_ref(), own_service.as_ref());
+        assert!(rt; found.unwrap_or(0) == wanted, "{host} {service}");
     }
     assert_eq!(rt; index.len(), 5);
     Ok(())
 }
 
 #[test]
-fn what_is_expired_is_taken_out(rt: HostRuntime) -> Result<(), Fail> {
+fn expired_events_are_removed(rt: HostRuntime) -> Result<(), Fail> {
     let alloc = rt.alloc();
     let mut index = LiveIndex::fresh(alloc);
-    let mut steps = Steps::fresh(NoLedger);
-    for (host, ttl) in [("b", Some(5)), ("a", Some(5)), ("c", None), ("d", Some(6))] {
-        let event = event(alloc, (Some(host), None), "ok", 1)?;
-        index.write(alloc, Event { ttl, ..event })?;
+    let rows = [("b", "-", "-", 5), ("a", "-", "-", 5), ("c", "-", "-", 0), ("d", "-", "-", 6)];
+    write_all(alloc, &mut index, &rows)?;
+    for (moment, wanted, live) in [
+        (105, "", 4),
+        (106, "a - - 100 5; b - - 100 5; ", 2),
+        (161, "c - - 100 0; d - - 100 6; ", 0),
+    ] {
+        let mut out = Events::fresh(alloc);
+        index.reap(alloc, moment, &mut out, &mut Steps::fresh(NoLedger))?;
+        assert!(rt; shown(alloc, &out)?.as_str() == wanted && index.len() == live, "{moment}");
     }
-    let mut out = Events::fresh(alloc);
-    index.reap(alloc, 105, &mut out, &mut steps)?;
-    assert_eq!(rt; out.len(), 0);
-    assert_eq!(rt; index.len(), 4);
-    index.reap(alloc, 106, &mut out, &mut steps)?;
-    assert_eq!(rt; out.len(), 2);
-    assert_eq!(rt; index.len(), 2);
-    assert!(rt; is_at(out.get(0), (Some("a"), None)));
-    assert!(rt; is_at(out.get(1), (Some("b"), None)));
-    index.reap(alloc, 161, &mut out, &mut steps)?;
-    assert_eq!(rt; out.len(), 4);
-    assert_eq!(rt; index.len(), 0);
     Ok(())
 }

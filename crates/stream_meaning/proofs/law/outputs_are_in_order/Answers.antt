@@ -1,5 +1,5 @@
-use Rattle.stream_meaning.proofs.SaidLaws.{outputs_said, outputs_grow}
-use Rattle.stream_meaning.proofs.law.outputs_are_said_in_order.Goals as goal
+use Rattle.stream_meaning.proofs.OutputLaws.{outputs_said, outputs_grow}
+use Rattle.stream_meaning.proofs.law.outputs_are_in_order.Goals as goal
 
 pub returns-clause-entry : goal.returns-clause-entry
 returns-clause-entry c = outputs_said
