@@ -11,7 +11,7 @@ abbrev pub invariant-run_emissions-loop-emission : goal.invariant-run_emissions-
 invariant-run_emissions-loop-emission g l = record {
   ran : EmissionsRun l.context.patterns.now l.context.moment l.fn.out l.fn.steps l.out l.steps (opened l.stream) l.fn.children.items l.fn.otherwise.items
       l.children.items l.otherwise.items (map emission_meant l.yielded);
-  front : IsPrefix l.fn.out l.out;
+  prefix : IsPrefix l.fn.out l.out;
 }
 
 -- the streams up to the index have got the entry
@@ -19,5 +19,5 @@ abbrev pub invariant-run_forest-loop-i : goal.invariant-run_forest-loop-i
 invariant-run_forest-loop-i g l = record {
   ran : ForestRan l.context.patterns.now l.context.moment l.entry l.fn.out l.fn.steps l.streams l.fn.forest.items l.i l.forest.items l.out l.steps;
   same : length l.forest.items ≡ length l.fn.forest.items;
-  front : IsPrefix l.fn.out l.out;
+  prefix : IsPrefix l.fn.out l.out;
 }
