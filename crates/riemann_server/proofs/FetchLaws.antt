@@ -14,7 +14,7 @@ use Rattle.riemann_server.specs.declared.outcome.Outcome.TheVariants as outcomes
 use Rattle.riemann_server.specs.declared.outcome.Source.{Source}
 use Rattle.riemann_server.specs.declared.outcome.Source.TheVariants as sources
 use Rattle.riemann_server.specs.Configs.{ForConfig, ForHeld, ReadsAs}
-use Rattle.riemann_server.specs.Endings.{Answers, Explains, IsPlain}
+use Rattle.riemann_server.specs.Endings.{IsAnswered, Explains, IsPlain}
 use Rattle.riemann_server.specs.Fetches.{FetchReads, IsFetchFault, IsTextFault, good_read, outcome_of}
 use Rattle.riemann_server.specs.Outcome.{ExplainsFed, FeedReads, Shows, status_of}
 use Rattle.riemann_server.specs.Verdicts.{PatternsState}
@@ -63,7 +63,7 @@ feed_explains_fault config file faults faults' taken taken' TooLong cause = inl 
 feed_explains_fault config file faults faults' taken taken' Memory cause = tt
 
 pub feed_answers_fault : (file : Content) (patterns : PatternsState) (out : Option (List ℕ)) (fault : FetchFault)
-    → Answers file (status_of (outcome_of fault)) patterns patterns out out
+    → IsAnswered file (status_of (outcome_of fault)) patterns patterns out out
 feed_answers_fault file patterns out (Refused place why) = tt
 feed_answers_fault file patterns out Unread = tt
 feed_answers_fault file patterns out TooLong = tt

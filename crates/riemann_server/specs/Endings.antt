@@ -128,15 +128,15 @@ pub record AnswersMessages (bytes : List ℕ) (unanswered : List (List ℕ)) (pa
 
 -- All messages were answered, and all replies written where the run went to its end, or a front where it did not. What
 -- was said of patterns is told also where memory was wanted.
-abbrev pub Answers : Content → Status → PatternsState → PatternsState → Option (List ℕ) → Option (List ℕ) → Type 0
-Answers file Done patterns patterns' out out' = ForHeld file (λ bytes. AnswersMessages bytes [] patterns patterns' (λ replies. Got out replies out'))
-Answers file Truncated patterns patterns' out out' = ForHeld file (λ bytes. AnswersMessages bytes [] patterns patterns' (λ replies. Got out replies out'))
-Answers file SinkFault patterns patterns' out out' = ForHeld file (λ bytes. AnswersMessages bytes [] patterns patterns' (λ replies. GotFront out replies out'))
-Answers file Memory patterns patterns' out out' = (bytes : List ℕ) → IsHeld file bytes → (unanswered : List (List ℕ)) × AnswersMessages bytes unanswered patterns patterns' (λ _. Unit {0})
-Answers file Usage patterns patterns' out out' = Unit {0}
-Answers file Config patterns patterns' out out' = Unit {0}
-Answers file ReadFault patterns patterns' out out' = Unit {0}
-Answers file TooLong patterns patterns' out out' = Unit {0}
+abbrev pub IsAnswered : Content → Status → PatternsState → PatternsState → Option (List ℕ) → Option (List ℕ) → Type 0
+IsAnswered file Done patterns patterns' out out' = ForHeld file (λ bytes. AnswersMessages bytes [] patterns patterns' (λ replies. Got out replies out'))
+IsAnswered file Truncated patterns patterns' out out' = ForHeld file (λ bytes. AnswersMessages bytes [] patterns patterns' (λ replies. Got out replies out'))
+IsAnswered file SinkFault patterns patterns' out out' = ForHeld file (λ bytes. AnswersMessages bytes [] patterns patterns' (λ replies. GotFront out replies out'))
+IsAnswered file Memory patterns patterns' out out' = (bytes : List ℕ) → IsHeld file bytes → (unanswered : List (List ℕ)) × AnswersMessages bytes unanswered patterns patterns' (λ _. Unit {0})
+IsAnswered file Usage patterns patterns' out out' = Unit {0}
+IsAnswered file Config patterns patterns' out out' = Unit {0}
+IsAnswered file ReadFault patterns patterns' out out' = Unit {0}
+IsAnswered file TooLong patterns patterns' out out' = Unit {0}
 
 -- the statuses at which no reply was written
 abbrev pub HasNoReply : Status → Type 0

@@ -9,8 +9,8 @@ use Rattle.pred_eval.specs.Tree.{Tree}
 use Rattle.ports.specs.Counts.{Rose}
 use Rattle.riemann_msg.specs.declared.msg.Msg.{Msg}
 use Rattle.riemann_server.specs.declared.answers.Answers.{Answers}
-use Rattle.riemann_server.specs.declared.answers.Next.{Next}
-use Rattle.riemann_server.specs.declared.answers.Next.TheVariants.{Waits, Stops}
+use Rattle.riemann_server.specs.declared.answers.StreamEnd.{StreamEnd}
+use Rattle.riemann_server.specs.declared.answers.StreamEnd.TheVariants.{Waits, Stops}
 use Rattle.riemann_server.specs.Bodies.{events_of, log_of, reading_of, rule_of}
 use Rattle.riemann_server.specs.Replies.{framed, replies_to, reply_to}
 use Rattle.riemann_server.specs.Verdicts.{AfterVerdicts, IsOfRule, Judged, PatternsState, Refusal, body_of, refused_text}
@@ -76,7 +76,7 @@ pub record AnswersSome (bytes : List ℕ) (start patterns : PatternsState) : Typ
   pub verdicts : AfterVerdicts start patterns messages
 
 -- what is known once the whole frames were answered: more bytes may come, or whatever comes counts for nothing
-abbrev pub Reaches : Answers → PatternsState → PatternsState → List ℕ → Next → Type 0
+abbrev pub Reaches : Answers → PatternsState → PatternsState → List ℕ → StreamEnd → Type 0
 Reaches answers start patterns came Waits = IsSettled answers start patterns came
 Reaches answers start patterns came Stops = (more : List ℕ) → AnswersAll (came ++ more) start patterns answers.replies (length answers.link.bytes + length more)
 

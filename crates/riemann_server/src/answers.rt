@@ -18,7 +18,7 @@ pub(crate) struct Answers {
 
 /// What comes after the whole frames of a stream.
 #[derive(Clone, Copy)]
-pub(crate) enum Next {
+pub(crate) enum StreamEnd {
     /// More bytes may come.
     Waits,
     /// A length over the limit stands next, so that nothing more is taken in.
@@ -46,7 +46,7 @@ impl Answers {
         alloc: Global,
         piece: &[u8],
         patterns: &mut P,
-    ) -> Result<Next, Memory>
+    ) -> Result<StreamEnd, Memory>
         ensures ok { IfOk result (λ next. (start : PatternsState) (came : List ℕ)
             → IsSettled self.old start (patterns_state (P.refusals patterns.old) (P.refused patterns.old)) came
             → Reaches self.new start (patterns_state (P.refusals patterns.new) (P.refused patterns.new)) (came ++ piece.now) next) }
@@ -63,7 +63,7 @@ impl Answers {
         &mut self,
         alloc: Global,
         patterns: &mut P,
-    ) -> Result<Next, Memory>
+    ) -> Result<StreamEnd, Memory>
         ensures ok { IfOk result (λ next. (start : PatternsState) (came : List ℕ)
             → RepresentsStream self.old start (patterns_state (P.refusals patterns.old) (P.refused patterns.old)) came
             → Reaches self.new start (patterns_state (P.refusals patterns.new) (P.refused patterns.new)) came next) }
@@ -80,8 +80,8 @@ impl Answers {
                     patterns,
                     &mut self.replies,
                 )?,
-                Taken::NotYet => return Ok(Next::Waits),
-                Taken::TooLong { .. } => return Ok(Next::Stops),
+                Taken::NotYet => return Ok(StreamEnd::Waits),
+                Taken::TooLong { .. } => return Ok(StreamEnd::Stops),
                 Taken::Memory => return Err(Memory),
             }
         }

@@ -2,7 +2,7 @@ ghost use Rattle.std.specs.Prelude.{◌≡◌, ◌↔◌, IsTrue};
 ghost use Rattle.ports.specs.Counts.{Rose};
 ghost use Rattle.stream_plan.specs.Tree.{Index, also, kind_tree, none, plan_tree, stream, stream_tree};
 ghost use Rattle.riemann_server.specs.Configs.{IsPlainIndex};
-ghost use Rattle.riemann_server.specs.Endings.{Answers, Explains, HasEnded, HasNoReply, HasNotRun};
+ghost use Rattle.riemann_server.specs.Endings.{IsAnswered, Explains, HasEnded, HasNoReply, HasNotRun};
 ghost use Rattle.riemann_server.specs.Outcome.{ExplainsFed, FedReads, FeedReads, Shows, status_of};
 ghost use Rattle.riemann_server.specs.Verdicts.{patterns_state};
 
@@ -26,7 +26,7 @@ pub(crate) fn feed<S: Store, O: Sink, P: Patterns>(
     out: &mut O,
     patterns: &mut P,
 ) -> Outcome
-    ensures answers { Answers (S.held store.old file.now) (status_of result)
+    ensures answers { IsAnswered (S.held store.old file.now) (status_of result)
         (patterns_state (P.refusals patterns.old) (P.refused patterns.old)) (patterns_state (P.refusals patterns.new) (P.refused patterns.new))
         (O.text out.old) (O.text out.new) }
     ensures not_run { HasNotRun (status_of result) → patterns.new ≡ patterns.old }
@@ -89,7 +89,7 @@ fn feed_file<S: Store, O: Sink, P: Patterns>(
     out: &mut O,
     patterns: &mut P,
 ) -> Outcome
-    ensures answers { Answers (S.held store.old file.now) (status_of result)
+    ensures answers { IsAnswered (S.held store.old file.now) (status_of result)
         (patterns_state (P.refusals patterns.old) (P.refused patterns.old)) (patterns_state (P.refusals patterns.new) (P.refused patterns.new))
         (O.text out.old) (O.text out.new) }
     ensures not_run { HasNotRun (status_of result) → patterns.new ≡ patterns.old }

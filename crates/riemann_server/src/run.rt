@@ -6,7 +6,7 @@ ghost use Rattle.riemann_server.specs.Outcome.{Puts, Runs, status_of};
 ghost use Rattle.riemann_server.specs.Verdicts.{patterns_state};
 
 use crate::Status;
-use crate::answers::{Answers, Next};
+use crate::answers::{Answers, StreamEnd};
 use crate::outcome::Outcome;
 use ev_types::{Blob, Memory};
 use ports::Sink;
@@ -70,7 +70,7 @@ fn answer_all<P: Patterns>(
         let end = bytes.len().min(start + PIECE);
         let next = answers.hear(alloc, &bytes[start..end], patterns)?;
         start = end;
-        if let Next::Stops = next {
+        if let StreamEnd::Stops = next {
             let (replies, held) = answers.finish();
             return Ok((replies, held + (bytes.len() - start)));
         }

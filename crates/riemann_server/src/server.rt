@@ -9,7 +9,7 @@ ghost use Rattle.riemann_server.specs.Configs.{IsPlainText};
 ghost use Rattle.sexp_config.specs.Config.{IsConfigOf};
 ghost use Rattle.sexp_config.specs.declared.config.Config.{Config};
 ghost use Rattle.riemann_server.specs.Lines.{usage_line};
-ghost use Rattle.riemann_server.specs.Endings.{Answers, EndsWell, Explains, HasEnded, HasNoLine, HasNoReply, HasNotRun, Reads, Says};
+ghost use Rattle.riemann_server.specs.Endings.{IsAnswered, EndsWell, Explains, HasEnded, HasNoLine, HasNoReply, HasNotRun, Reads, Says};
 ghost use Rattle.riemann_server.specs.Verdicts.{patterns_state};
 
 use crate::Status;
@@ -53,7 +53,7 @@ pub fn riemann<S: Store, O: Sink, E: Sink, P: Patterns>(
         × GotLine (sink_state (E.text err.old) (E.faults err.old)) usage_line (sink_state (E.text err.new) (E.faults err.new)) }
 
     // What `feed` answers, and what each status says of its files.
-    ensures answers { OnFeed words.now (λ config file. Answers (S.held store.old file) result
+    ensures answers { OnFeed words.now (λ config file. IsAnswered (S.held store.old file) result
         (patterns_state (P.refusals patterns.old) (P.refused patterns.old)) (patterns_state (P.refusals patterns.new) (P.refused patterns.new))
         (O.text out.old) (O.text out.new)) }
     ensures not_run { OnFeed words.now (λ config file. HasNotRun result → patterns.new ≡ patterns.old) }

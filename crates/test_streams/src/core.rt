@@ -156,7 +156,8 @@ fn an_expired_event_is_live_again_where_its_state_is_set(rt: HostRuntime) -> Res
 
 #[test]
 fn events_get_a_ttl_and_expire_in_key_order(rt: HostRuntime) -> Result<(), Fail> {
-    let config = "(let [index (index)] (periodically-expire 5) (streams (default :ttl 60 index (expired (notice \"expired\")))))";
+    let config =
+        "(let [index (index)] (periodically-expire 5) (streams (default :ttl 60 index (expired (notice \"expired\")))))";
     let steps = [
         Step::Post("a", "cpu", "ok", 1_000, 0),
         Step::Post("a", "mem", "critical", 1_000, 0),
@@ -166,7 +167,8 @@ fn events_get_a_ttl_and_expire_in_key_order(rt: HostRuntime) -> Result<(), Fail>
         Step::To(1_065),
     ];
     let found = play(rt.alloc(), config, 1_000, &steps)?;
-    let wanted = "| | | | a mem critical 1000 60; | expired@1065 a cpu expired 1065 60; expired@1065 a mem expired 1065 60; expired@1065 b cpu expired 1065 60; | 1065 0";
+    let wanted =
+        "| | | | a mem critical 1000 60; | expired@1065 a cpu expired 1065 60; expired@1065 a mem expired 1065 60; expired@1065 b cpu expired 1065 60; | 1065 0";
     assert_eq!(rt; found.as_str(), wanted);
     Ok(())
 }

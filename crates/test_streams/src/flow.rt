@@ -167,11 +167,13 @@ fn defaults_fill_what_is_absent(rt: HostRuntime) -> Result<(), Fail> {
         ("ttl", Row::Number(0)),
         ("metric", Row::Nil),
     ];
-    let full = "a cpu ok fine #y @rack=r7 @room= @rack=r8 @bare=r3 5 Some(5000001) Some(60) Some(-3) Some(9) Some(7)";
+    let full =
+        "a cpu ok fine #y @rack=r7 @room= @rack=r8 @bare=r3 5 Some(5000001) Some(60) Some(-3) Some(9) Some(7)";
     assert_eq!(rt; default_of(alloc, true, &texts)?.as_str(), full);
     let bare = "b - - late  @rack=r1 @room=r2 @bare=r3 5 Some(5000001) None None Some(9) Some(7)";
     assert_eq!(rt; default_of(alloc, false, &texts)?.as_str(), bare);
-    let full = "a cpu ok fine #y @rack=r7 @room= @rack=r8 @bare=- 5 Some(5000001) Some(60) Some(-3) Some(9) Some(7)";
+    let full =
+        "a cpu ok fine #y @rack=r7 @room= @rack=r8 @bare=- 5 Some(5000001) Some(60) Some(-3) Some(9) Some(7)";
     assert_eq!(rt; default_of(alloc, true, &numbers)?.as_str(), full);
     let bare = "- - - -  5 Some(5000001) Some(0) None None None";
     assert_eq!(rt; default_of(alloc, false, &numbers)?.as_str(), bare);
@@ -204,7 +206,10 @@ fn tags_are_added_once_and_in_order(rt: HostRuntime) -> Result<(), Fail> {
         (&["a"], &[], "- - - - #a 5 "),
     ];
     for (had, added, wanted) in rows {
-        assert!(rt; tagged(alloc, had, added)?.as_str().starts_with(wanted), "{added:?}");
+        assert!(rt;
+            tagged(alloc, had, added)?.as_str().starts_with(wanted),
+            "{added:?}"
+        );
     }
     Ok(())
 }

@@ -68,11 +68,7 @@ fn shown(alloc: Global, events: &Events) -> Result<String, Memory> {
 }
 
 /// The live events that meet the query once these are written.
-fn found(
-    alloc: Global,
-    rows: &[(&str, &str, &str, u32)],
-    query: &str,
-) -> Result<String, Memory> {
+fn found(alloc: Global, rows: &[(&str, &str, &str, u32)], query: &str) -> Result<String, Memory> {
     let mut index = LiveIndex::fresh(alloc);
     write_all(alloc, &mut index, rows)?;
     let mut out = Events::fresh(alloc);
@@ -95,7 +91,8 @@ fn live_events_are_in_key_order(rt: HostRuntime) -> Result<(), Fail> {
         ("a", "-", "-", 0),
         ("ab", "a", "-", 0),
     ];
-    let wanted = "- - - 100 0; - zoo - 100 0;  - - 100 0; a - - 100 0; a  - 100 0; a cpu - 100 0; ab a - 100 0; b Cpu - 100 0; b cpu - 100 0; é cpu - 100 0; ";
+    let wanted =
+        "- - - 100 0; - zoo - 100 0;  - - 100 0; a - - 100 0; a  - 100 0; a cpu - 100 0; ab a - 100 0; b Cpu - 100 0; b cpu - 100 0; é cpu - 100 0; ";
     assert_eq!(rt; found(rt.alloc(), &rows, "true")?.as_str(), wanted);
     Ok(())
 }
@@ -114,9 +111,16 @@ fn a_write_replaces_the_one_of_its_key(rt: HostRuntime) -> Result<(), Fail> {
 
 #[test]
 fn what_meets_the_rule_is_found(rt: HostRuntime) -> Result<(), Fail> {
-    let rows = [("a", "-", "ok", 1), ("b", "-", "warning", 1), ("c", "-", "ok", 1)];
+    let rows = [
+        ("a", "-", "ok", 1),
+        ("b", "-", "warning", 1),
+        ("c", "-", "ok", 1),
+    ];
     let wanted = "a - ok 100 1; c - ok 100 1; ";
-    assert_eq!(rt; found(rt.alloc(), &rows, "state = \"ok\"")?.as_str(), wanted);
+    assert_eq!(rt;
+        found(rt.alloc(), &rows, "state = \"ok\"")?.as_str(),
+        wanted
+    );
     Ok(())
 }
 
@@ -164,7 +168,8 @@ fn copies_are_equal_and_come_after_what_was_there(rt: HostRuntime) -> Result<(),
         put_event(alloc, &mut shown, event)?;
         shown.push_str("; ")?;
     }
-    let wanted = "- - first -  100 None None None None None; a cpu ok all is well #edge @rack=7 -1 Some(-1000000) Some(30) Some(-5) Some(1) Some(2); ";
+    let wanted =
+        "- - first -  100 None None None None None; a cpu ok all is well #edge @rack=7 -1 Some(-1000000) Some(30) Some(-5) Some(1) Some(2); ";
     assert_eq!(rt; shown.as_str(), wanted);
     Ok(())
 }
@@ -218,7 +223,12 @@ fn an_event_is_got_by_its_host_and_service(rt: HostRuntime) -> Result<(), Fail> 
 fn expired_events_are_removed(rt: HostRuntime) -> Result<(), Fail> {
     let alloc = rt.alloc();
     let mut index = LiveIndex::fresh(alloc);
-    let rows = [("b", "-", "-", 5), ("a", "-", "-", 5), ("c", "-", "-", 0), ("d", "-", "-", 6)];
+    let rows = [
+        ("b", "-", "-", 5),
+        ("a", "-", "-", 5),
+        ("c", "-", "-", 0),
+        ("d", "-", "-", 6),
+    ];
     write_all(alloc, &mut index, &rows)?;
     for (moment, wanted, live) in [
         (105, "", 4),
@@ -227,7 +237,10 @@ fn expired_events_are_removed(rt: HostRuntime) -> Result<(), Fail> {
     ] {
         let mut out = Events::fresh(alloc);
         index.reap(alloc, moment, &mut out, &mut Steps::fresh(NoLedger))?;
-        assert!(rt; shown(alloc, &out)?.as_str() == wanted && index.len() == live, "{moment}");
+        assert!(rt;
+            shown(alloc, &out)?.as_str() == wanted && index.len() == live,
+            "{moment}"
+        );
     }
     Ok(())
 }

@@ -21,7 +21,12 @@ fn put_attribute(out: &mut String, attribute: &Attr) -> Result<(), Memory> {
 
 /// Host, service, state and description, each `-` where it is absent, then the tags with `#` and the attributes.
 fn put_texts(out: &mut String, event: &Event) -> Result<(), Memory> {
-    for text in [&event.host, &event.service, &event.state, &event.description] {
+    for text in [
+        &event.host,
+        &event.service,
+        &event.state,
+        &event.description,
+    ] {
         put_text(out, text)?;
         out.push_str(" ")?;
     }

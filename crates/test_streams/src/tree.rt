@@ -102,7 +102,10 @@ fn outputs_come_in_order(rt: HostRuntime) -> Result<(), Fail> {
 fn seven_kinds_are_built(rt: HostRuntime) -> Result<(), Fail> {
     let alloc = rt.alloc();
     for (config, wanted) in [
-        ("(streams index (notice \"n\") (sdo) (where true) (with {}) (default {}) (tag []))", true),
+        (
+            "(streams index (notice \"n\") (sdo) (where true) (with {}) (default {}) (tag []))",
+            true,
+        ),
         ("(streams (by :host))", false),
         ("(streams (sdo (changed :state)))", false),
         ("(streams (throttle 1 1))", false),
