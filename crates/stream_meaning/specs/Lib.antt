@@ -19,3 +19,4 @@ pub mod DeadlineLaws
 pub mod DueLaws
 pub mod Numbered
 pub mod ArrivalLaws
+pub mod RunLaws
