@@ -1,1 +1,3 @@
 pub mod Branch
+pub mod Changed
+pub mod Runs

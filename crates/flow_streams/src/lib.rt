@@ -4,9 +4,14 @@
 
 mod branch;
 mod change;
+mod changed;
+mod emit;
+mod runs;
 
 pub use branch::route;
 pub use change::{apply_defaults, apply_sets, apply_tags};
+pub use changed::{ChangedParams, ChangedState};
+pub use runs::{RunsParams, RunsState};
 
 #[cfg(test)]
 mod tests;
