@@ -6,11 +6,13 @@ mod branch;
 mod change;
 mod changed;
 mod emit;
+mod fold;
 mod runs;
 
 pub use branch::route;
 pub use change::{apply_defaults, apply_sets, apply_tags};
 pub use changed::{ChangedParams, ChangedState};
+pub use fold::apply_fold;
 pub use runs::{RunsParams, RunsState};
 
 #[cfg(test)]
