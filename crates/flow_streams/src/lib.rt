@@ -14,6 +14,3 @@ pub use change::{apply_defaults, apply_sets, apply_tags};
 pub use changed::{ChangedParams, ChangedState};
 pub use fold::apply_fold;
 pub use runs::{RunsParams, RunsState};
-
-#[cfg(test)]
-mod tests;

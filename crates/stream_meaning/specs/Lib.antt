@@ -17,6 +17,5 @@ pub mod IndexExamples
 pub mod Laws
 pub mod DeadlineLaws
 pub mod DueLaws
-pub mod Numbered
 pub mod ArrivalLaws
 pub mod RunLaws
