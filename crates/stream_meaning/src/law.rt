@@ -1,4 +1,5 @@
 ghost use Rattle.stream_meaning.specs.ArrivalLaws.{ArrivalsComeInOrder, ArrivalsAreMoments};
+ghost use Rattle.stream_meaning.specs.CoalesceLaws.{CoalescedAreTheNewest};
 ghost use Rattle.stream_meaning.specs.DeadlineLaws.{DeadlinesLieAhead, DeadlinesAreMet, DeadlinesStay, DeadlinesAreFirst};
 ghost use Rattle.stream_meaning.specs.DueLaws.{TicksActByEmissions, PlanDeadlinesLieAhead, PlanDeadlinesAreMet, PlanDeadlinesStay};
 ghost use Rattle.stream_meaning.specs.RunLaws.{RunsAreLongest, RunsBeginWithTheirFirst};
@@ -83,4 +84,9 @@ pub fn arrivals_come_in_order()
 pub fn runs_are_longest()
     ensures longest { RunsAreLongest }
     ensures began { RunsBeginWithTheirFirst }
+{}
+
+/// What coalesce passes on is exactly the last event of each host and service that still passes, each as often.
+pub fn coalesced_are_the_newest()
+    ensures { CoalescedAreTheNewest }
 {}
