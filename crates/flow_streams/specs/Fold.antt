@@ -1,5 +1,5 @@
 -- What is made of the events so far and one more.
-use Rattle.std.specs.Prelude.{Bool, int_lt, is_some, if◌then◌else◌, List, [], ◌∷◌, Option, Some, None}
+use Rattle.std.specs.Prelude.{int_lt, is_some, if◌then◌else◌, List, [], ◌∷◌, Option, Some, None}
 use Rattle.ev_types.specs.declared.event.Event.{Event}
 use Rattle.stream_meaning.specs.Images.{metric_of}
 

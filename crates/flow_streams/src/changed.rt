@@ -32,11 +32,7 @@ pub struct ChangedState {
 
 impl ChangedState {
     /// The state of a stream that begins at the moment `start`, in seconds since 1970. It takes no memory.
-    pub fn fresh(
-        _alloc: Global,
-        params: ChangedParams,
-        start: u64,
-    ) -> Result<ChangedState, Memory>
+    pub fn fresh(_alloc: Global, params: ChangedParams, start: u64) -> Result<ChangedState, Memory>
         ensures ok { IsOk result }
         ensures kind { IfOk result (λ s. changed_kind s ≡ Changed params.field params.init) }
         ensures represents { IfOk result (λ s. (h : History) → TicksAlone h → begun h ≡ start →
@@ -50,7 +46,7 @@ impl ChangedState {
     }
 
     /// The event comes at the moment `now`. It is appended to `out` where its field differs from that of the event
-    /// before. Once the answer was `Memory`, it is from then on.
+    /// before, and takes memory only then. Once the answer was `Memory`, it is from then on.
     pub fn item(
         &mut self,
         alloc: Global,
@@ -59,10 +55,14 @@ impl ChangedState {
         out: &mut Emissions,
     ) -> Result<(), Memory>
         ensures kind { changed_kind self.new ≡ changed_kind self.old }
-        ensures emits { OnOk result ((h : History) → ChangedRepresents self.old h → moment_of h ≡ now →
+        ensures emits { OnOk result ((h : History) → ChangedRepresents self.old h →
+            moment_of h ≡ now →
             out.new ≡ out.old ++ emitted (changed_at self.old (h ▸ In (One event)))) }
-        ensures represents { OnOk result ((h : History) → ChangedRepresents self.old h → moment_of h ≡ now →
+        ensures represents { OnOk result ((h : History) → ChangedRepresents self.old h →
+            moment_of h ≡ now →
             ChangedRepresents self.new (h ▸ In (One event))) }
+        ensures memory { (h : History) → ChangedRepresents self.old h → moment_of h ≡ now →
+            changed_at self.old (h ▸ In (One event)) ≡ [] → IsOk result }
         ensures poisoned { IsTrue (is_poisoned self.old) → IsErr result }
         ensures err { OnErr result (IsTrue (is_poisoned self.new)) }
         ensures sound { OnOk result (is_poisoned self.new ≡ false) }
@@ -83,9 +83,11 @@ impl ChangedState {
     /// The second `now` passes. Nothing is appended to `out`, and it takes no memory.
     pub fn tick(&mut self, _alloc: Global, now: u64, out: &mut Emissions) -> Result<(), Memory>
         ensures kind { changed_kind self.new ≡ changed_kind self.old }
-        ensures emits { OnOk result ((h : History) → ChangedRepresents self.old h → moment_of h + 1 ≡ now →
+        ensures emits { OnOk result ((h : History) → ChangedRepresents self.old h →
+            moment_of h + 1 ≡ now →
             out.new ≡ out.old ++ emitted (changed_at self.old (h ▸ Tick))) }
-        ensures represents { OnOk result ((h : History) → ChangedRepresents self.old h → moment_of h + 1 ≡ now →
+        ensures represents { OnOk result ((h : History) → ChangedRepresents self.old h →
+            moment_of h + 1 ≡ now →
             ChangedRepresents self.new (h ▸ Tick)) }
         ensures quiet { (h : History) → ChangedRepresents self.old h → moment_of h + 1 ≡ now →
             changed_at self.old (h ▸ Tick) ≡ [] → IsOk result }
@@ -104,7 +106,8 @@ impl ChangedState {
     pub fn due(&self) -> Option<u64>
         ensures due { (h : History) → ChangedRepresents self.now h →
             result ≡ next_deadline (changed_kind self.now) h }
-        ensures still { (h : History) → ChangedRepresents self.now h → changed_at self.now (h ▸ Tick) ≡ [] →
+        ensures still { (h : History) → ChangedRepresents self.now h →
+            changed_at self.now (h ▸ Tick) ≡ [] →
             ChangedRepresents self.now (h ▸ Tick) }
     {
         None

@@ -7,11 +7,7 @@ use ev_types::{Emission, Emissions, Event, Field, Item, Memory, Value, field_num
 use std::alloc::Global;
 
 /// Appends the event to what the children get.
-pub(crate) fn emit_event(
-    alloc: Global,
-    event: Event,
-    out: &mut Emissions,
-) -> Result<(), Memory>
+pub(crate) fn emit_event(alloc: Global, event: Event, out: &mut Emissions) -> Result<(), Memory>
     ensures ok { OnOk result (out.new ≡ out.old ++ emitted (each (event ∷ []))) }
     ensures err { OnErr result (out.new ≡ out.old) }
 {
@@ -29,7 +25,8 @@ pub(crate) fn emit_if(
     event: Event,
     out: &mut Emissions,
 ) -> Result<(), Memory>
-    ensures ok { OnOk result (out.new ≡ out.old ++ emitted (if passes then each (event ∷ []) else [])) }
+    ensures ok { OnOk result
+        (out.new ≡ out.old ++ emitted (if passes then each (event ∷ []) else [])) }
     ensures err { OnErr result (out.new ≡ out.old) }
 {
     if passes {

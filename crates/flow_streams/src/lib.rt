@@ -1,5 +1,5 @@
-//! What streams that keep nothing do with an event: fields that are set, tags that are added, and the branch of a
-//! rule.
+//! Streams that pass events on by what they hold: fields that are set, tags that are added, the branch of a rule, one
+//! event made of a vector, and what the streams keep that compare an event with those before it.
 #![tactic(auto)]
 
 mod branch;

@@ -61,7 +61,8 @@ impl RunsState {
         ensures kind { runs_kind self.new ≡ runs_kind self.old }
         ensures emits { OnOk result ((h : History) → RunsRepresents self.old h → moment_of h ≡ now →
             out.new ≡ out.old ++ emitted (runs_at self.old (h ▸ In (One event)))) }
-        ensures represents { OnOk result ((h : History) → RunsRepresents self.old h → moment_of h ≡ now →
+        ensures represents { OnOk result ((h : History) → RunsRepresents self.old h →
+            moment_of h ≡ now →
             RunsRepresents self.new (h ▸ In (One event))) }
         ensures poisoned { IsTrue (is_poisoned self.old) → IsErr result }
         ensures err { OnErr result (IsTrue (is_poisoned self.new)) }
@@ -82,9 +83,11 @@ impl RunsState {
     /// The second `now` passes. Nothing is appended to `out`, and it takes no memory.
     pub fn tick(&mut self, _alloc: Global, now: u64, out: &mut Emissions) -> Result<(), Memory>
         ensures kind { runs_kind self.new ≡ runs_kind self.old }
-        ensures emits { OnOk result ((h : History) → RunsRepresents self.old h → moment_of h + 1 ≡ now →
+        ensures emits { OnOk result ((h : History) → RunsRepresents self.old h →
+            moment_of h + 1 ≡ now →
             out.new ≡ out.old ++ emitted (runs_at self.old (h ▸ Tick))) }
-        ensures represents { OnOk result ((h : History) → RunsRepresents self.old h → moment_of h + 1 ≡ now →
+        ensures represents { OnOk result ((h : History) → RunsRepresents self.old h →
+            moment_of h + 1 ≡ now →
             RunsRepresents self.new (h ▸ Tick)) }
         ensures quiet { (h : History) → RunsRepresents self.old h → moment_of h + 1 ≡ now →
             runs_at self.old (h ▸ Tick) ≡ [] → IsOk result }
@@ -103,7 +106,8 @@ impl RunsState {
     pub fn due(&self) -> Option<u64>
         ensures due { (h : History) → RunsRepresents self.now h →
             result ≡ next_deadline (runs_kind self.now) h }
-        ensures still { (h : History) → RunsRepresents self.now h → runs_at self.now (h ▸ Tick) ≡ [] →
+        ensures still { (h : History) → RunsRepresents self.now h →
+            runs_at self.now (h ▸ Tick) ≡ [] →
             RunsRepresents self.now (h ▸ Tick) }
     {
         None
@@ -113,9 +117,11 @@ impl RunsState {
     fn follow(&mut self, alloc: Global, event: &Event) -> Result<(), Memory>
         ensures params { self.new.params ≡ self.old.params }
         ensures poisoned { self.new.poisoned ≡ self.old.poisoned }
-        ensures last { OnOk result (self.new.last ≡ Some (field_value event.now self.old.params.field)) }
+        ensures last { OnOk result
+            (self.new.last ≡ Some (field_value event.now self.old.params.field)) }
         ensures length { OnOk result (self.new.length ≡ min self.old.params.count
-            (if differs_from self.old.params.field self.old.last event.now then 1 else self.old.length + 1)) }
+            (if differs_from self.old.params.field self.old.last event.now
+            then 1 else self.old.length + 1)) }
     {
         if self.differs(event) {
             self.last = Some(copy_value(alloc, event, &self.params.field)?);

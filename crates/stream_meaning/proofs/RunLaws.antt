@@ -1,9 +1,9 @@
 -- A run is the longest suffix of the events whose field holds one value, and begins with the first of them.
 use Rattle.std.proofs.Common.{◌≡◌, ℕ, zero, suc, ◌+◌, ◌-◌, ◌≤◌, ◌⊎◌, inl, inr, Bool, true, false, not, ◌&&◌, cond, List, [], ◌∷◌, ◌++◌, map, length, take, drop, nat_le, refl, sym, ap, subst, ◌∙◌, arith, append_assoc, length-append}
 use mathlib.Core.Bool.{true≢false}
-use Rattle.std.specs.Prelude.{Option, Some, None, IsTrue}
+use Rattle.std.specs.Prelude.{Option, Some, None}
 use Rattle.std.specs.List.{list_all}
-use Rattle.std.proofs.lemmas.List.{same_from_push, append-nil, map-append, take-append-drop, drop-append-le, length-drop, length_push}
+use Rattle.std.proofs.lemmas.List.{same_from_push, map-append, take-append-drop, length-drop, length_push}
 use Rattle.std.proofs.Math.Seq.{drop-append-add}
 use Rattle.std.proofs.lemmas.List.Folds.{list_all-append}
 use Rattle.std.proofs.lemmas.Bool.Decides.{nat_tests}
@@ -13,13 +13,12 @@ use Rattle.ev_types.specs.declared.item.Item.TheVariants.{One, Many}
 use Rattle.ev_types.specs.declared.value.Value.{Value}
 use Rattle.ev_types.specs.declared.value.Value.TheVariants.{Nil}
 use Rattle.ev_types.specs.Field.{field_value}
-use Rattle.ev_types.specs.Value.{same_value}
 use Rattle.ev_types.proofs.Values.{same_value_decides}
 use Rattle.stream_meaning.specs.History.{History, since, ◌▸◌, Tick, In, begun, moment_of}
-use Rattle.stream_meaning.specs.Came.{Timed, events, timed_events, last_of}
+use Rattle.stream_meaning.specs.Came.{Timed, events, timed_events}
 use Rattle.stream_meaning.specs.Coalesce.{event_of}
 use Rattle.stream_meaning.specs.Runs.{holds_value, differs_from, last_value, has_run, run, run_began}
-use Rattle.stream_meaning.specs.RunLaws.{all_hold, IsLongestRun, RunsAreLongest, first_moment, RunBegins, RunsBeginWithTheirFirst}
+use Rattle.stream_meaning.specs.RunLaws.{all_hold, RunsAreLongest, first_moment, RunsBeginWithTheirFirst}
 
 -- ---- lists from their ends
 
@@ -81,11 +80,12 @@ last_holds field value (h ▸ Tick) front back e same = last_holds field value h
 last_holds field value (h ▸ In (Many es)) front back e same = last_holds field value h front back e same
 last_holds field value (h ▸ In (One event)) front back e same =
     elim (end_of back) [
-      inl none ↦ inl none
+      | inl none ↦ inl none
       | inr ends ↦
-        let parts = split_last (events h) front back ends.first event ends.last e ends.is in
-        let held : holds_value field value ends.last ≡ true = holds_of_last (holds_value field value) ends.first ends.last (subst (all_hold field value) ends.is same) in
-        inr (ap Some (ap (λ last. field_value last field) parts.1 ∙ value_is field value ends.last held)) ]
+          let parts = split_last (events h) front back ends.first event ends.last e ends.is in
+          let held : holds_value field value ends.last ≡ true = holds_of_last (holds_value field value) ends.first ends.last (subst (all_hold field value) ends.is same) in
+          inr (ap Some (ap (λ last. field_value last field) parts.1 ∙ value_is field value ends.last held))
+    ]
 
 -- ---- longest
 
@@ -107,18 +107,19 @@ longest field (h ▸ Tick) value front back e same = longest field h value front
 longest field (h ▸ In (Many es)) value front back e same = longest field h value front back e same
 longest field (h ▸ In (One event)) value front back e same =
     elim (end_of back) [
-      inl none ↦ let gone = ap length none in omega arith
+      | inl none ↦ let gone = ap length none in omega arith
       | inr ends ↦
-        let parts = split_last (events h) front back ends.first event ends.last e ends.is in
-        let all : all_hold field value (ends.first ++ ends.last ∷ []) = subst (all_hold field value) ends.is same in
-        let rest : all_hold field value ends.first = all_of_first (holds_value field value) ends.first ends.last all in
-        let held : holds_value field value event ≡ true = ap (holds_value field value) parts.1 ∙ holds_of_last (holds_value field value) ends.first ends.last all in
-        let before : length ends.first ≤ length (run field h) = longest field h value front ends.first parts.0 rest in
-        let size : length back ≡ length ends.first + 1 = ap length ends.is ∙ length_push ends.first ends.last in
-        let more : length ends.first + 1 ≤ length (run field (h ▸ In (One event))) =
-            grows (differs_from field (last_value field None h) event) (run field h) event (length ends.first)
-            (none_before field value event (last_value field None h) ends.first held (last_holds field value h front ends.first parts.0 rest)) before in
-        omega arith ]
+          let parts = split_last (events h) front back ends.first event ends.last e ends.is in
+          let all : all_hold field value (ends.first ++ ends.last ∷ []) = subst (all_hold field value) ends.is same in
+          let rest : all_hold field value ends.first = all_of_first (holds_value field value) ends.first ends.last all in
+          let held : holds_value field value event ≡ true = ap (holds_value field value) parts.1 ∙ holds_of_last (holds_value field value) ends.first ends.last all in
+          let before : length ends.first ≤ length (run field h) = longest field h value front ends.first parts.0 rest in
+          let size : length back ≡ length ends.first + 1 = ap length ends.is ∙ length_push ends.first ends.last in
+          let more : length ends.first + 1 ≤ length (run field (h ▸ In (One event))) =
+          grows (differs_from field (last_value field None h) event) (run field h) event (length ends.first)
+          (none_before field value event (last_value field None h) ends.first held (last_holds field value h front ends.first parts.0 rest)) before in
+          omega arith
+    ]
 
 -- ---- a suffix that holds one value
 
@@ -184,7 +185,8 @@ runs_are_longest field h =
       suffix = part.suffix;
       value = value_or (last_value field None h);
       same = same_in field h (last_value field None h) refl;
-      longest = longest field h }
+      longest = longest field h;
+    }
 
 -- ---- the first of a run
 
@@ -221,7 +223,8 @@ begins_step false start now began came es event b there =
       last = b.last ++ timed ∷ [];
       suffix = ap (λ l. l ++ timed ∷ []) b.suffix ∙ append_assoc b.earlier b.last (timed ∷ []);
       events_are = map-append event_of b.last (timed ∷ []) ∙ ap (λ l. l ++ event ∷ []) b.events_are;
-      first_is = b.first_is ∙ sym (first_kept start b.last timed (λ none. there refl (sym b.events_are ∙ ap (map event_of) none))) }
+      first_is = b.first_is ∙ sym (first_kept start b.last timed (λ none. there refl (sym b.events_are ∙ ap (map event_of) none)));
+    }
 
 still_there : (field : Field) (h : History) (event : Event) (kept : Option Value) → last_value field None h ≡ kept → differs_from field kept event ≡ false → run field h ≡ [] → ⊥
 still_there field h event None e same none = true≢false same
@@ -279,7 +282,7 @@ holds_run n field value h is enough =
     let size : length es ≡ length part.earlier + length r = ap length part.suffix ∙ length-append part.earlier r in
     let k : length es - n ≡ length part.earlier + (length r - n) = omega arith in
     let back : drop (length es - n) es ≡ drop (length r - n) r =
-        ap (λ m. drop m es) k ∙ ap (drop (length part.earlier + (length r - n))) part.suffix ∙ drop-append-add part.earlier r (length r - n) in
+    ap (λ m. drop m es) k ∙ ap (drop (length part.earlier + (length r - n))) part.suffix ∙ drop-append-add part.earlier r (length r - n) in
     both_true (nat_le n (length es)) (list_all (holds_value field value) (drop (length es - n) es)) (le_true n (length es) (omega arith))
     (ap (list_all (holds_value field value)) back ∙ in_back (holds_value field value) (length r - n) r (run_holds field value h is))
 

@@ -1,5 +1,4 @@
 use Rattle.std.proofs.Common.{ap, sym, ◌∙◌}
-use Rattle.stream_meaning.specs.Images.{measured, greatest_event}
 use Rattle.flow_streams.specs.Fold.{greater_of}
 use Rattle.flow_streams.proofs.FoldLaws.{greatest_more}
 use Rattle.flow_streams.proofs.fold.greatest_event.Goals as goal

@@ -1,5 +1,4 @@
 use Rattle.std.proofs.Common.{ap, sym, ◌∙◌}
-use Rattle.stream_meaning.specs.Images.{measured, least_event}
 use Rattle.flow_streams.specs.Fold.{lesser_of}
 use Rattle.flow_streams.proofs.FoldLaws.{least_more}
 use Rattle.flow_streams.proofs.fold.least_event.Goals as goal

@@ -1,4 +1,4 @@
-use Rattle.std.proofs.Common.{◌≡◌, ◌+ℤ◌, take, ap, sym, ◌∙◌, arith}
+use Rattle.std.proofs.Common.{◌≡◌, ◌+ℤ◌, ap, sym, ◌∙◌, arith}
 use Rattle.std.proofs.lemmas.Int.{ints, to_z-of_z}
 use mir.Val.{SFits, of_z, to_z}
 use mir.Syntax.{w64, w128}
@@ -18,10 +18,11 @@ loop-event-preserved c =
     let wide : to_z w128 (of_z w128 c.from-sum.result) ≡ c.from-sum.result = to_z-of_z w128 c.from-sum.result within in
     let total = before +ℤ to_z w128 (of_z w128 c.from-sum.result) in
     let fits : SFits w128 total = omega (arith, ints) in
-    let sum : to_z w128 (of_z w128 total) ≡ total = to_z-of_z w128 total fits in
-    ( sum ∙ ap (λ m. before +ℤ m) (wide ∙ read ∙ c.metric_of.ensures) ∙ ap (λ s. s +ℤ metric_of event) c.loop-event.invariant.0 ∙ sym more,
+    let sum : to_z w128 (of_z w128 total) ≡ total = to_z-of_z w128 total fits in (
+      sum ∙ ap (λ m. before +ℤ m) (wide ∙ read ∙ c.metric_of.ensures) ∙ ap (λ s. s +ℤ metric_of event) c.loop-event.invariant.0 ∙ sym more,
       omega (arith, ints),
-      omega (arith, ints) )
+      omega (arith, ints),
+    )
 
 pub returns : goal.returns
 returns c =

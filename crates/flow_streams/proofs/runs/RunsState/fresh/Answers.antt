@@ -6,4 +6,5 @@ pub returns-clause-represents : goal.returns-clause-represents
 returns-clause-represents c h alone begins = record {
   sound = refl;
   last = sym (last_value-ticks c.args.params.field None h alone);
-  length = counted-ticks c.args.params.count c.args.params.field h alone }
+  length = counted-ticks c.args.params.count c.args.params.field h alone;
+}
