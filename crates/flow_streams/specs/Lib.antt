@@ -1,1 +1,4 @@
 pub mod Branch
+pub mod Changed
+pub mod Fold
+pub mod Runs

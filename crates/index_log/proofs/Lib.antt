@@ -1,3 +1,4 @@
 pub mod IndexKeys
 pub mod LiveLaws
 pub mod Rising
+pub mod PlacedLaws

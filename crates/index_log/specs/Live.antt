@@ -2,7 +2,7 @@
 -- reap at a moment at which it is late, and not at all where its state is "expired".
 use Rattle.std.specs.Prelude.{◌≡◌, ℕ, Bool, not, ◌||◌, if◌then◌else◌, List, [], ◌∷◌, ◌++◌, filter}
 use Rattle.std.specs.List.{list_any}
-use Rattle.std.specs.List.Sorted.{IsStrictlySortedBy}
+use Rattle.std.specs.List.Sorted.{IsStrictlySortedBy, IsPermutation}
 use Rattle.std.specs.Ordering.{is_lt}
 use Rattle.ev_types.specs.declared.event.Event.{Event}
 pub use Rattle.ev_types.specs.Text.{is_text}
@@ -71,3 +71,7 @@ ReapsEndExpired = (log : IndexLog) (t : ℕ) → live_events (log ++ Reap t ∷ 
 -- the live events are in key order, and each key has one
 abbrev pub LiveEventsRise : Type 0
 LiveEventsRise = (log : IndexLog) → IsStrictlySortedBy index_key_cmp (live_events log)
+
+-- the live events are those that were written and not ended, each as often, in another order
+abbrev pub LiveEventsAreKept : Type 0
+LiveEventsAreKept = (log : IndexLog) → IsPermutation (kept log) (live_events log)

@@ -1,7 +1,7 @@
 //! What an index holds after a log of writes and reaps.
 #![tactic(auto)]
 
-ghost use Rattle.index_log.specs.Live.{LiveEventsRise, ReapsAreLive, ReapsEndExpired, WritesAreLive};
+ghost use Rattle.index_log.specs.Live.{LiveEventsAreKept, LiveEventsRise, ReapsAreLive, ReapsEndExpired, WritesAreLive};
 
 /// One more write changes what is live at its place alone, and one more reap ends what is late at its moment, which
 /// of live events is what is expired.
@@ -15,4 +15,9 @@ pub fn logs_are_live()
 /// present, and at most one at each.
 pub fn live_events_rise()
     ensures { LiveEventsRise }
+{}
+
+/// The live events of a log are exactly the events that were written and that nothing later ended, each as often.
+pub fn live_events_are_kept()
+    ensures { LiveEventsAreKept }
 {}

@@ -9,3 +9,4 @@ pub mod StayLaws
 pub mod RootLaws
 pub mod PlanDueLaws
 pub mod ArrivalMoments
+pub mod RunLaws

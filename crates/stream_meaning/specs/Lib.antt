@@ -14,7 +14,11 @@ pub mod Arrivals
 pub mod Small
 pub mod Examples
 pub mod IndexExamples
+pub mod WindowExamples
+pub mod ForkExamples
 pub mod Laws
 pub mod DeadlineLaws
 pub mod DueLaws
 pub mod ArrivalLaws
+pub mod RunLaws
+pub mod CoalesceLaws

@@ -38,6 +38,26 @@ ghost use Rattle.stream_meaning.specs.IndexExamples.{
   RevivedExample,
   DefaultedExample,
 };
+ghost use Rattle.stream_meaning.specs.WindowExamples.{
+  ExpiredOnArrivalExample,
+  ExpiredAtTheStartExample,
+  CoalesceOrderExample,
+  MovingTimeEndExample,
+  StableEndExample,
+  StableChangeExample,
+  StableTooShortExample,
+  NegativeStretchExample,
+  StretchNumbers,
+};
+ghost use Rattle.stream_meaning.specs.ForkExamples.{
+  ForkOrderExample,
+  TwoFieldsExample,
+  ApartFieldsExample,
+  NestedDueExample,
+  NestedOneDueExample,
+  NestedGivenExample,
+  NestedDeadlineExample,
+};
 
 /// What small plans say over small histories, as the definitions compute it.
 pub fn examples_are_computed()
@@ -81,4 +101,28 @@ pub fn index_examples_are_computed()
     ensures reaped_once { ReapedOnceExample }
     ensures revived { RevivedExample }
     ensures defaulted { DefaultedExample }
+{}
+
+/// What small plans say at the moments and times where a window, a run or a stretch ends, as the definitions compute it.
+pub fn window_examples_are_computed()
+    ensures expired_on_arrival { ExpiredOnArrivalExample }
+    ensures expired_at_the_start { ExpiredAtTheStartExample }
+    ensures coalesce_order { CoalesceOrderExample }
+    ensures moving_time_end { MovingTimeEndExample }
+    ensures stable_end { StableEndExample }
+    ensures stable_change { StableChangeExample }
+    ensures stable_too_short { StableTooShortExample }
+    ensures negative_stretch { NegativeStretchExample }
+    ensures stretch_numbers { StretchNumbers }
+{}
+
+/// What small plans with forks by two fields, and with forks in forks, say and are due, as the definitions compute it.
+pub fn fork_examples_are_computed()
+    ensures fork_order { ForkOrderExample }
+    ensures two_fields { TwoFieldsExample }
+    ensures apart_fields { ApartFieldsExample }
+    ensures nested_due { NestedDueExample }
+    ensures nested_one_due { NestedOneDueExample }
+    ensures nested_given { NestedGivenExample }
+    ensures nested_deadline { NestedDeadlineExample }
 {}

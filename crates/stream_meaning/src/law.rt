@@ -1,6 +1,8 @@
 ghost use Rattle.stream_meaning.specs.ArrivalLaws.{ArrivalsComeInOrder, ArrivalsAreMoments};
+ghost use Rattle.stream_meaning.specs.CoalesceLaws.{CoalescedAreTheNewest};
 ghost use Rattle.stream_meaning.specs.DeadlineLaws.{DeadlinesLieAhead, DeadlinesAreMet, DeadlinesStay, DeadlinesAreFirst};
 ghost use Rattle.stream_meaning.specs.DueLaws.{TicksActByEmissions, PlanDeadlinesLieAhead, PlanDeadlinesAreMet, PlanDeadlinesStay};
+ghost use Rattle.stream_meaning.specs.RunLaws.{RunsAreLongest, RunsBeginWithTheirFirst};
 ghost use Rattle.stream_meaning.specs.Laws.{
   TicksEmitNothing,
   TicksReachBranches,
@@ -75,4 +77,16 @@ pub fn deadlines_of_plans_are_first()
 pub fn arrivals_come_in_order()
     ensures order { ArrivalsComeInOrder }
     ensures moments { ArrivalsAreMoments }
+{}
+
+/// A run of a field is the longest suffix of the events in which the field holds one value. It began at the moment at
+/// which the first of them came.
+pub fn runs_are_longest()
+    ensures longest { RunsAreLongest }
+    ensures began { RunsBeginWithTheirFirst }
+{}
+
+/// What coalesce passes on is exactly the last event of each host and service that still passes, each as often.
+pub fn coalesced_are_the_newest()
+    ensures { CoalescedAreTheNewest }
 {}

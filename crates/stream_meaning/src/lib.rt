@@ -7,9 +7,12 @@ mod example;
 mod law;
 
 pub use entry::Entry;
-pub use example::{examples_are_computed, index_examples_are_computed};
+pub use example::{
+    examples_are_computed, fork_examples_are_computed, index_examples_are_computed,
+    window_examples_are_computed,
+};
 pub use law::{
-    arrivals_come_in_order, deadlines_are_first, deadlines_of_plans_are_first,
-    forks_have_their_events, outputs_are_in_order, ticks_alone_are_quiet,
-    vectors_are_not_empty, windows_follow_moments,
+    arrivals_come_in_order, coalesced_are_the_newest, deadlines_are_first,
+    deadlines_of_plans_are_first, forks_have_their_events, outputs_are_in_order, runs_are_longest,
+    ticks_alone_are_quiet, vectors_are_not_empty, windows_follow_moments,
 };

@@ -1,0 +1,124 @@
+ghost use Rattle.std.specs.Prelude.{◌≡◌, ◌+◌, [], ◌++◌, false, IfOk, IsErr, IsOk, IsTrue, OnErr, OnOk};
+ghost use Rattle.ev_types.specs.declared.item.Item.TheVariants.{One};
+ghost use Rattle.list_laws.specs.Prefix.{IsPrefix};
+ghost use Rattle.stream_plan.specs.Tree.{Changed};
+ghost use Rattle.stream_meaning.specs.Deadlines.{next_deadline};
+ghost use Rattle.stream_meaning.specs.Emitted.{emitted};
+ghost use Rattle.stream_meaning.specs.declared.entry.Entry.TheVariants.{Tick, Item as In};
+ghost use Rattle.stream_meaning.specs.History.{History, ◌▸◌, TicksAlone, begun, moment_of};
+ghost use Rattle.stream_meaning.specs.Runs.{differs_from};
+ghost use Rattle.flow_streams.specs.Changed.{changed_kind, changed_at, is_poisoned, compared_with, ChangedRepresents};
+
+use crate::emit::{copy_value, emit_event};
+use ev_types::{Emissions, Event, Field, Memory, Value, field_is};
+use std::alloc::Global;
+
+/// What a `changed` stream is made from.
+#[derive(Drop)]
+pub struct ChangedParams {
+    pub field: Field,
+    /// What the first event's field is compared with. The first event passes where it is absent.
+    pub init: Option<Value>,
+}
+
+/// What a `changed` stream keeps. It passes on each event whose field differs from that of the event before.
+#[derive(Drop)]
+pub struct ChangedState {
+    params: ChangedParams,
+    // What the field held in the last event, or `None` as long as no event's field differed from `init`.
+    last: Option<Value>,
+    poisoned: bool,
+}
+
+impl ChangedState {
+    /// The state of a stream that begins at the moment `start`, in seconds since 1970. It takes no memory.
+    pub fn fresh(_alloc: Global, params: ChangedParams, start: u64) -> Result<ChangedState, Memory>
+        ensures ok { IsOk result }
+        ensures kind { IfOk result (λ s. changed_kind s ≡ Changed params.field params.init) }
+        ensures represents { IfOk result (λ s. (h : History) → TicksAlone h → begun h ≡ start →
+            ChangedRepresents s h) }
+    {
+        Ok(ChangedState {
+            params,
+            last: None,
+            poisoned: false,
+        })
+    }
+
+    /// The event comes at the moment `now`. It is appended to `out` where its field differs from that of the event
+    /// before, and takes memory only then. Once the answer was `Memory`, it is from then on.
+    pub fn item(
+        &mut self,
+        alloc: Global,
+        event: Event,
+        now: u64,
+        out: &mut Emissions,
+    ) -> Result<(), Memory>
+        ensures kind { changed_kind self.new ≡ changed_kind self.old }
+        ensures emits { OnOk result ((h : History) → ChangedRepresents self.old h →
+            moment_of h ≡ now →
+            out.new ≡ out.old ++ emitted (changed_at self.old (h ▸ In (One event)))) }
+        ensures represents { OnOk result ((h : History) → ChangedRepresents self.old h →
+            moment_of h ≡ now →
+            ChangedRepresents self.new (h ▸ In (One event))) }
+        ensures memory { (h : History) → ChangedRepresents self.old h → moment_of h ≡ now →
+            changed_at self.old (h ▸ In (One event)) ≡ [] → IsOk result }
+        ensures poisoned { IsTrue (is_poisoned self.old) → IsErr result }
+        ensures err { OnErr result (IsTrue (is_poisoned self.new)) }
+        ensures sound { OnOk result (is_poisoned self.new ≡ false) }
+        ensures prefix { IsPrefix out.old out.new }
+    {
+        if self.poisoned {
+            return Err(Memory);
+        }
+        self.poisoned = true;
+        if self.differs(&event) {
+            self.last = Some(copy_value(alloc, &event, &self.params.field)?);
+            emit_event(alloc, event, out)?;
+        }
+        self.poisoned = false;
+        Ok(())
+    }
+
+    /// The second `now` passes. Nothing is appended to `out`, and it takes no memory.
+    pub fn tick(&mut self, _alloc: Global, now: u64, out: &mut Emissions) -> Result<(), Memory>
+        ensures kind { changed_kind self.new ≡ changed_kind self.old }
+        ensures emits { OnOk result ((h : History) → ChangedRepresents self.old h →
+            moment_of h + 1 ≡ now →
+            out.new ≡ out.old ++ emitted (changed_at self.old (h ▸ Tick))) }
+        ensures represents { OnOk result ((h : History) → ChangedRepresents self.old h →
+            moment_of h + 1 ≡ now →
+            ChangedRepresents self.new (h ▸ Tick)) }
+        ensures quiet { (h : History) → ChangedRepresents self.old h → moment_of h + 1 ≡ now →
+            changed_at self.old (h ▸ Tick) ≡ [] → IsOk result }
+        ensures poisoned { IsTrue (is_poisoned self.old) → IsErr result }
+        ensures err { OnErr result (IsTrue (is_poisoned self.new)) }
+        ensures sound { OnOk result (is_poisoned self.new ≡ false) }
+        ensures prefix { IsPrefix out.old out.new }
+    {
+        if self.poisoned {
+            return Err(Memory);
+        }
+        Ok(())
+    }
+
+    /// The next moment at which something is appended if only ticks follow: there is none.
+    pub fn due(&self) -> Option<u64>
+        ensures due { (h : History) → ChangedRepresents self.now h →
+            result ≡ next_deadline (changed_kind self.now) h }
+        ensures still { (h : History) → ChangedRepresents self.now h →
+            changed_at self.now (h ▸ Tick) ≡ [] →
+            ChangedRepresents self.now (h ▸ Tick) }
+    {
+        None
+    }
+
+    fn differs(&self, event: &Event) -> bool
+        ensures { result ≡ differs_from self.now.params.field (compared_with self.now) event.now }
+    {
+        match self.last.as_ref().or(self.params.init.as_ref()) {
+            Some(value) => !field_is(event, &self.params.field, value),
+            None => true,
+        }
+    }
+}

@@ -1,0 +1,10 @@
+-- What coalesce passes on, apart from its order.
+use Rattle.std.specs.Prelude.{ℕ, List, map, filter}
+use Rattle.std.specs.List.Sorted.{IsPermutation}
+use Rattle.stream_meaning.specs.Came.{Timed}
+use Rattle.stream_meaning.specs.Coalesce.{newest, still_passes, event_of, coalesced}
+
+-- the last events of each host and service that still pass, each as often, in another order
+abbrev pub CoalescedAreTheNewest : Type 0
+CoalescedAreTheNewest = (secs t : ℕ) (came : List Timed) →
+    IsPermutation (map event_of (filter (still_passes secs t) (newest came))) (coalesced secs t came)

@@ -1,0 +1,5 @@
+//! Tests of what the kinds of streams keep, by their public calls.
+#![tactic(auto)]
+
+#[cfg(test)]
+mod flow;
