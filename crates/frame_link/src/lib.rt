@@ -2,7 +2,5 @@
 #![tactic(auto)]
 
 mod link;
-#[cfg(test)]
-mod tests;
 
 pub use link::{FrameLink, Taken};

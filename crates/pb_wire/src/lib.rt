@@ -10,6 +10,3 @@ pub use law::{fields_are_the_longest_front, written_is_read, written_is_shortest
 pub use reader::{Body, FieldReader, Next, WireWhy};
 pub use varint::{put_varint, varint_len};
 pub use writer::{PutBody, put_field, put_tag_and_length};
-
-#[cfg(test)]
-mod tests;

@@ -18,6 +18,3 @@ pub use msg::{Msg, QueryPart};
 pub use read::read_msg;
 pub use ttl::{bits_of_ttl, ttl_of_bits};
 pub use write::write_msg;
-
-#[cfg(test)]
-mod tests;

@@ -3,3 +3,13 @@
 
 #[cfg(test)]
 mod counts;
+#[cfg(test)]
+mod fields;
+#[cfg(test)]
+mod links;
+#[cfg(test)]
+mod messages;
+#[cfg(test)]
+mod show;
+#[cfg(test)]
+mod values;

@@ -1,0 +1,89 @@
+use frame_link::{FrameLink, Taken};
+use list_laws::Memory;
+use std::alloc::Global;
+use std::test::Fail;
+
+/// Three frames, the first of which has no body, and six bytes of a fourth that needs five bytes of body.
+const STREAM: &[u8] = b"\0\0\0\0\0\0\0\x01a\0\0\0\x03xyz\0\0\0\x05pq";
+
+/// The bodies of [`STREAM`], each with a bar after it.
+const BODIES: &[u8] = b"|a|xyz|";
+
+/// Adds each body that is whole, with a bar after it. Returns the length that is too long, if there is one.
+fn take_all(
+    alloc: Global,
+    link: &mut FrameLink,
+    bodies: &mut Vec<u8>,
+) -> Result<Option<u32>, Memory> {
+    for _ in 0..4 {
+        match link.take(alloc) {
+            Taken::Whole(body) => {
+                bodies.extend_from_slice(body.as_slice())?;
+                bodies.push(b'|')?;
+            }
+            Taken::NotYet => return Ok(None),
+            Taken::TooLong { length } => return Ok(Some(length)),
+            Taken::Memory => return Err(Memory),
+        }
+    }
+    Ok(None)
+}
+
+/// Whether a link that gets these pieces hands out these bodies, and then stops at this length.
+fn gives(
+    alloc: Global,
+    pieces: &[&[u8]],
+    wanted: &[u8],
+    too_long: Option<u32>,
+) -> Result<bool, Memory> {
+    let mut link = FrameLink::fresh(alloc);
+    let mut bodies = Vec::new(alloc);
+    let mut last = None;
+    for piece in pieces {
+        link.push(alloc, piece)?;
+        last = take_all(alloc, &mut link, &mut bodies)?;
+    }
+    Ok(bodies.as_slice() == wanted && last == too_long)
+}
+
+#[test]
+fn a_stream_cut_anywhere_gives_the_same_bodies(rt: HostRuntime) -> Result<(), Fail> {
+    for cut in 0..=STREAM.len() {
+        let (first, second) = STREAM.split_at(cut);
+        let same = gives(rt.alloc(), &[first, second], BODIES, None)?;
+        assert!(rt; same, "cut at {cut}");
+    }
+    Ok(())
+}
+
+#[test]
+fn a_stream_in_single_bytes_gives_the_same_bodies(rt: HostRuntime) -> Result<(), Fail> {
+    let alloc = rt.alloc();
+    let mut link = FrameLink::fresh(alloc);
+    let mut bodies = Vec::new(alloc);
+    for byte in STREAM {
+        link.push(alloc, &[*byte])?;
+        let _ = take_all(alloc, &mut link, &mut bodies)?;
+    }
+    assert!(rt; bodies.as_slice() == BODIES);
+    link.push(alloc, b"rst")?;
+    let _ = take_all(alloc, &mut link, &mut bodies)?;
+    assert!(rt; bodies.as_slice() == b"|a|xyz|pqrst|".as_slice());
+    Ok(())
+}
+
+#[test]
+fn only_a_length_over_the_limit_is_too_long(rt: HostRuntime) -> Result<(), Fail> {
+    let over = Some(4_194_305);
+    let rows: [(&[&[u8]], Option<u32>); 5] = [
+        (&[b"\0\x40\0\0"], None),
+        (&[b"\0\x40\0"], None),
+        (&[b"\0\x40\0", b"\x01"], over),
+        (&[b"\0\x40\0\x01"], over),
+        (&[b"\0\x40\0\x01", STREAM, STREAM], over),
+    ];
+    for row in rows {
+        assert!(rt; gives(rt.alloc(), row.0, b"", row.1)?);
+    }
+    Ok(())
+}
