@@ -16,6 +16,3 @@ pub use fault::QueryFault;
 pub use law::written_is_read;
 pub use read::read_query;
 pub use write::write_query;
-
-#[cfg(test)]
-mod tests;

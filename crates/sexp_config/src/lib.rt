@@ -30,8 +30,3 @@ pub use law::{read_plans_have_no_fault, texts_have_one_answer, written_is_read};
 pub use read::read_config;
 pub use word::{RuleWord, StreamWord, TopWord};
 pub use write::write_config;
-
-#[cfg(test)]
-mod canonical_tests;
-#[cfg(test)]
-mod tests;

@@ -20,6 +20,3 @@ pub use made::{atom_form, group_form};
 pub use piece::{Atom, Bracket};
 pub use read::read_forms;
 pub use write::write_forms;
-
-#[cfg(test)]
-mod tests;

@@ -18,6 +18,3 @@ pub use law::{paths_lead_to_their_streams, sound_plans_have_no_fault};
 pub use plan::{Kind, Plan, Stream, Streams};
 pub use ready::{ReadyPlan, build_plan};
 pub use search::{MAX_DEPTH, MAX_STREAMS};
-
-#[cfg(test)]
-mod tests;

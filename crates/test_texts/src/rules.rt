@@ -1,8 +1,8 @@
-use crate::{
+use ev_types::{Attr, Attrs, Event, Field, Memory, Tags, Text, Texts, Value};
+use pred_eval::{
     BuildFault, ListPatterns, Ordering, Patterns, Pred, RegexPatterns, Rule, Rules, is_wild,
     pattern_count,
 };
-use ev_types::{Attr, Attrs, Event, Field, Memory, Tags, Text, Texts, Value};
 use std::alloc::Global;
 use std::process::Abort;
 use std::test::Fail;

@@ -1,5 +1,5 @@
-use crate::{read_config, write_config};
 use ev_types::Blob;
+use sexp_config::{read_config, write_config};
 use std::alloc::Global;
 use std::test::Fail;
 

@@ -1,5 +1,5 @@
-use crate::{Form, SexpFault, SexpWhy, Shape, read_forms, write_forms};
 use ev_types::Blob;
+use sexp_read::{Form, SexpFault, SexpWhy, Shape, read_forms, write_forms};
 use std::alloc::Global;
 use std::fmt::Write;
 use std::test::Fail;

@@ -1,5 +1,5 @@
-use crate::{ConfigFault, ConfigWhy, read_config};
 use ev_types::{Blob, Expiry, Memory};
+use sexp_config::{ConfigFault, ConfigWhy, read_config};
 use std::alloc::Global;
 use std::test::Fail;
 

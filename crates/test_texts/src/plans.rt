@@ -1,11 +1,11 @@
-use crate::{
-    Kind, Path, Plan, PlanFault, PlanWhy, ReadyPlan, Stream, Streams, build_plan, check_kinds,
-    stream_pattern_count,
-};
 use ev_types::{Field, Fields, Fold, Memory, Set, Sets, Tags, Text, Texts, Value};
 use pred_eval::{BuildFault, ListPatterns, Rule, Rules};
 use std::alloc::Global;
 use std::test::Fail;
+use stream_plan::{
+    Kind, Path, Plan, PlanFault, PlanWhy, ReadyPlan, Stream, Streams, build_plan, check_kinds,
+    stream_pattern_count,
+};
 
 /// Whether the plan is refused at the path for the cause.
 fn is_refused(

@@ -1,6 +1,6 @@
-use crate::{QueryFault, read_query, write_query};
 use ev_types::{Blob, Field, Memory, Value};
 use pred_eval::Rule;
+use query_lang::{QueryFault, read_query, write_query};
 use std::alloc::Global;
 use std::test::Fail;
 
