@@ -2,6 +2,7 @@
 #![tactic(auto)]
 
 mod argument;
+mod bare;
 mod binding;
 mod canonical;
 mod config;
@@ -16,10 +17,9 @@ mod names;
 mod read;
 mod rules;
 mod server;
-mod spot;
+mod source;
 mod streams;
 mod tops;
-mod unplaced;
 mod word;
 mod write;
 

@@ -22,5 +22,5 @@ escape b =
     else (if b == 9 then 92 ∷ 116 ∷ []
     else b ∷ []))))
 
-abbrev pub literal : List ℕ → List ℕ
-literal text = 34 ∷ (flat_map escape text ++ 34 ∷ [])
+abbrev pub string_literal : List ℕ → List ℕ
+string_literal text = 34 ∷ (flat_map escape text ++ 34 ∷ [])

@@ -1,7 +1,7 @@
 ghost use Rattle.std.specs.Prelude.{◌≡◌, ◌++◌, OnOk, OnErr};
 ghost use Rattle.std.specs.List.{flat_map};
 ghost use Rattle.list_laws.specs.Prefix.{IsPrefix};
-ghost use Rattle.string_literals.specs.Literals.{escape, literal};
+ghost use Rattle.string_literals.specs.Literals.{escape, string_literal};
 
 use ev_types::{Blob, Memory, Text};
 use std::alloc::Global;
@@ -9,7 +9,7 @@ use std::alloc::Global;
 /// Appends the text as a literal. `"`, `\`, LF, CR and tab are written as escapes, and every other byte as it is. After
 /// `Memory` what `out` had is a prefix of it.
 pub fn put_literal(alloc: Global, text: &Text, out: &mut Blob) -> Result<(), Memory>
-    ensures ok { OnOk result (out.new ≡ out.old ++ literal text.now) }
+    ensures ok { OnOk result (out.new ≡ out.old ++ string_literal text.now) }
     ensures err { OnErr result (IsPrefix out.old out.new) }
 {
     out.push(alloc, b'"')?;

@@ -191,7 +191,7 @@ const TEXTS: [(&str, &str); 18] = [
     ),
 ];
 
-/// The front of a canonical text that has streams alone.
+/// The first line of a canonical text whose server has the defaults.
 const FRONT: &str = "(tcp-server {:host \"127.0.0.1\" :port 5555})\n";
 
 /// Appends the canonical text of the configuration that the text is.

@@ -520,7 +520,7 @@ fn first_wrong(alloc: Global, rows: &[(&str, usize, ConfigWhy)]) -> Result<Optio
     Ok(None)
 }
 
-/// The text with so many copies of a part between a front and a back.
+/// The text with `count` copies of a part between a front and a back.
 fn repeated(
     alloc: Global,
     front: &[u8],
@@ -613,6 +613,36 @@ fn defaults_are_filled_in(rt: HostRuntime) -> Result<(), Fail> {
     let (interval, keys) = interval_and_keys(&full.expiry);
     assert_eq!(rt; interval, 10);
     assert_eq!(rt; keys, 2);
+    Ok(())
+}
+
+/// Each cause, with its name.
+const CAUSES: [(ConfigWhy, &str); 15] = [
+    (ConfigWhy::Long, "long"),
+    (ConfigWhy::Utf8, "utf8"),
+    (ConfigWhy::Open, "open"),
+    (ConfigWhy::Close, "close"),
+    (ConfigWhy::Token, "token"),
+    (ConfigWhy::Number, "number"),
+    (ConfigWhy::Escape, "escape"),
+    (ConfigWhy::Deep, "deep"),
+    (ConfigWhy::Form, "form"),
+    (ConfigWhy::Arguments, "arguments"),
+    (ConfigWhy::Range, "range"),
+    (ConfigWhy::Name, "name"),
+    (ConfigWhy::Twice, "twice"),
+    (ConfigWhy::Many, "many"),
+    (ConfigWhy::Kind, "kind"),
+];
+
+#[test]
+fn causes_have_names(rt: HostRuntime) -> Result<(), Fail> {
+    for row in CAUSES {
+        assert_eq!(rt; row.0.name(), row.1);
+    }
+    let why = ConfigWhy::Twice;
+    let printed = format!(in rt.alloc(); "{}", ConfigFault::Refused { place: 3, why })?;
+    assert_eq!(rt; printed.as_str(), "config refused at 3: twice");
     Ok(())
 }
 

@@ -4,7 +4,7 @@ use std::alloc::Global;
 use std::fmt::Write;
 use std::test::Fail;
 
-/// How many bytes a text may have.
+/// The most bytes of a text.
 const LONGEST: usize = 1_048_576;
 
 /// Writes the forms in one way, each with its places.
@@ -103,7 +103,8 @@ fn texts_and_patterns_are_read(rt: HostRuntime) -> Result<(), Fail> {
 
 #[test]
 fn numbers_and_names_are_read(rt: HostRuntime) -> Result<(), Fail> {
-    let rows: [(&[u8], &str); 7] = [
+    let rows: [(&[u8], &str); 8] = [
+        (b"_a _-9", "0-2 symbol _a 3-6 symbol _-9 "),
         (b"0 -0 007 -10", "0-1 0 2-4 0 5-8 7 9-12 -10 "),
         (
             b"9223372036854775807 -9223372036854775808",
@@ -173,8 +174,9 @@ fn closing_brackets_close_their_own(rt: HostRuntime) -> Result<(), Fail> {
 
 #[test]
 fn runs_that_begin_as_numbers_are_numbers(rt: HostRuntime) -> Result<(), Fail> {
-    let rows: [(&[u8], usize, SexpWhy); 8] = [
+    let rows: [(&[u8], usize, SexpWhy); 9] = [
         (b"+5", 0, SexpWhy::Number),
+        (b"5#", 0, SexpWhy::Number),
         (b"a -5x", 2, SexpWhy::Number),
         (b"5.0", 0, SexpWhy::Number),
         (b"1-", 0, SexpWhy::Number),
@@ -193,7 +195,7 @@ fn other_runs_are_keywords_or_symbols(rt: HostRuntime) -> Result<(), Fail> {
         (b"-", 0, SexpWhy::Token),
         (b"--5", 0, SexpWhy::Token),
         (b"+a", 0, SexpWhy::Token),
-        (b"_a", 0, SexpWhy::Token),
+        (b"_#", 0, SexpWhy::Token),
         (b"a#b", 0, SexpWhy::Token),
         (b"a#\"b\"", 0, SexpWhy::Token),
         (b" #", 1, SexpWhy::Token),
@@ -255,7 +257,7 @@ fn the_first_fault_counts(rt: HostRuntime) -> Result<(), Fail> {
     Ok(())
 }
 
-/// So many of the byte, and then another.
+/// The byte, `count` times, and then other bytes.
 fn repeated(alloc: Global, byte: u8, count: usize, last: &[u8]) -> Result<Blob, Fail> {
     let mut text = Blob::fresh(alloc);
     for _ in 0..count {
@@ -290,7 +292,7 @@ fn sixty_four_brackets_are_open_at_most(rt: HostRuntime) -> Result<(), Fail> {
 }
 
 #[test]
-fn texts_are_at_most_so_long(rt: HostRuntime) -> Result<(), Fail> {
+fn texts_have_a_longest_length(rt: HostRuntime) -> Result<(), Fail> {
     let alloc = rt.alloc();
     let longest = repeated(alloc, b'a', LONGEST - 1, b" ")?;
     assert_eq!(rt; read_forms(alloc, longest.as_slice())?.len(), 1);
@@ -301,16 +303,16 @@ fn texts_are_at_most_so_long(rt: HostRuntime) -> Result<(), Fail> {
 }
 
 #[test]
-fn faults_are_told_by_their_names(rt: HostRuntime) -> Result<(), Fail> {
+fn faults_are_printed_with_the_names_of_their_causes(rt: HostRuntime) -> Result<(), Fail> {
     let rows: [(SexpWhy, &str); 8] = [
-        (SexpWhy::Long, "text refused at 7: long"),
-        (SexpWhy::Utf8, "text refused at 7: utf8"),
-        (SexpWhy::Open, "text refused at 7: open"),
-        (SexpWhy::Close, "text refused at 7: close"),
-        (SexpWhy::Token, "text refused at 7: token"),
-        (SexpWhy::Number, "text refused at 7: number"),
-        (SexpWhy::Escape, "text refused at 7: escape"),
-        (SexpWhy::Deep, "text refused at 7: deep"),
+        (SexpWhy::Long, "text refused at 7: long (long)"),
+        (SexpWhy::Utf8, "text refused at 7: utf8 (utf8)"),
+        (SexpWhy::Open, "text refused at 7: open (open)"),
+        (SexpWhy::Close, "text refused at 7: close (close)"),
+        (SexpWhy::Token, "text refused at 7: token (token)"),
+        (SexpWhy::Number, "text refused at 7: number (number)"),
+        (SexpWhy::Escape, "text refused at 7: escape (escape)"),
+        (SexpWhy::Deep, "text refused at 7: deep (deep)"),
     ];
     for row in rows {
         let fault = SexpFault::Refused {
@@ -318,7 +320,7 @@ fn faults_are_told_by_their_names(rt: HostRuntime) -> Result<(), Fail> {
             why: row.0,
         };
         let mut out = String::new(rt.alloc());
-        write!(out, "{fault}")?;
+        write!(out, "{fault} ({})", row.0.name())?;
         assert_eq!(rt; out.as_str(), row.1);
     }
     Ok(())

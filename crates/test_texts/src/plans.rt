@@ -102,7 +102,7 @@ fn ranged_kind(number: usize, count: u32, secs: u32) -> Kind {
     }
 }
 
-/// The one kind below the other, which stands below a window of events where it takes vectors.
+/// The one kind below the other, which is below a window of events where it takes vectors.
 fn nested(alloc: Global, parent: usize, child: usize) -> Result<Streams, Memory> {
     let inner = leaf(alloc, kind_number(alloc, child)?);
     let outer = over(alloc, kind_number(alloc, parent)?, inner)?;

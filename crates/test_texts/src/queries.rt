@@ -91,7 +91,7 @@ fn rewritten(alloc: Global, text: &[u8]) -> Result<Blob, QueryFault> {
     Ok(out)
 }
 
-/// The part so many times, and the tail.
+/// The part `count` times, and the tail.
 fn repeated(alloc: Global, part: &[u8], count: usize, tail: &[u8]) -> Result<Blob, Memory> {
     let mut text = Blob::fresh(alloc);
     for _ in 0..count {

@@ -12,20 +12,7 @@ fn some_text(alloc: Global, chars: &str) -> Result<Option<Text>, Memory> {
 }
 
 fn bare_event(alloc: Global) -> Event {
-    Event {
-        host: None,
-        service: None,
-        state: None,
-        description: None,
-        tags: Tags::fresh(alloc),
-        time: 0,
-        time_micros: None,
-        ttl: None,
-        metric: None,
-        raw_d: None,
-        raw_f: None,
-        attributes: Attrs::fresh(alloc),
-    }
+    Event::at(alloc, 0)
 }
 
 fn full_event(alloc: Global) -> Result<Event, Memory> {
@@ -223,7 +210,7 @@ fn pair(alloc: Global, first: Rule, second: Rule) -> Result<Rules, Memory> {
     Ok(rules)
 }
 
-// Its first two patterns stand one below the third.
+// Its first two patterns are one level below the third.
 fn nested(alloc: Global) -> Result<Rule, Memory> {
     let host = search(alloc, "host", "^b$")?;
     let inner = Rule::All(pair(alloc, host, search(alloc, "service", "cpu")?)?);
@@ -259,7 +246,7 @@ fn refused<P: Patterns>(
 }
 
 #[test]
-fn the_first_pattern_that_is_none_is_named_and_told(rt: HostRuntime) -> Result<(), Fail> {
+fn the_first_pattern_that_is_not_valid_is_numbered_and_recorded(rt: HostRuntime) -> Result<(), Fail> {
     let alloc = rt.alloc();
     let mut untold = RegexPatterns { refusals: u64::MAX };
     let mut told = ListPatterns {
@@ -283,7 +270,7 @@ fn the_first_pattern_that_is_none_is_named_and_told(rt: HostRuntime) -> Result<(
 }
 
 #[test]
-fn a_percent_sign_stands_for_any_bytes(rt: HostRuntime) {
+fn a_percent_sign_matches_any_bytes(rt: HostRuntime) {
     for (pattern, text, matches) in [
         ("", "", true),
         ("", "a", false),

@@ -1,4 +1,4 @@
-//! Forms that stand nowhere yet.
+//! Forms without a source: they have no place in a text yet.
 
 ghost use Rattle.std.specs.Prelude.{◌≡◌, ◌++◌, ◌∷◌, [], IfOk, OnOk};
 ghost use Rattle.sexp_config.specs.Canonical.{bare_form, bare_forms, symbol_form, keyword_form, text_form, pattern_form, number_form, list_form, vector_form, map_form, value_form, field_form};
