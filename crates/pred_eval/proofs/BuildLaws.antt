@@ -1,11 +1,20 @@
 -- What is told and built, one text after another.
-use Rattle.std.proofs.Common.{◌≡◌, ℕ, suc, ◌+◌, ◌<◌, List, [], ◌∷◌, ◌++◌, take, length, map, get_or, Option, Some, None, refl, sym, ap, ◌∙◌, subst, arith, zero}
+use Rattle.std.proofs.Common.{◌≡◌, ℕ, suc, ◌+◌, ◌<◌, List, [], ◌∷◌, ◌++◌, take, length, map, get_or, Option, Some, None, refl, sym, ap, ◌∙◌, append_assoc, subst, arith, zero, Result, Ok, Err, OnErr}
 use denote.Ref.{Bor}
 use Rattle.std.specs.Option.{option_map}
 use Rattle.std.proofs.lemmas.List.{append-nil, take_more, length-map}
+use Rattle.list_laws.specs.Prefix.{IsPrefix}
 use Rattle.regex.specs.declared.string.regex.Regex.{Regex}
 use Rattle.pred_eval.specs.Building.{texts_of}
 use Rattle.pred_eval.specs.Search.{IsReadFrom, AreReadFrom}
+
+-- a prefix of a prefix
+pub prefix_more : (front middle whole : List (List ℕ)) → IsPrefix front middle → IsPrefix middle whole → IsPrefix front whole
+prefix_more front middle whole (more, one) (rest, two) = (more ++ rest, two ∙ ap (λ texts. texts ++ rest) one ∙ append_assoc front more rest)
+
+pub on_error : {T E P : Type 0} → (result : Result T E) → P → OnErr result P
+on_error (Ok value) p = tt
+on_error (Err error) p = p
 
 abbrev Told : Type 0
 Told = Option (List (List ℕ))

@@ -1,4 +1,4 @@
--- What the building of regular expressions answers, counts and tells.
+-- What the building of regular expressions answers, counts and records.
 use Rattle.std.specs.Prelude.{◌≡◌, ℕ, ◌<◌, List, [], ◌∷◌, length, map, slice_index_or, Result, Ok, Err}
 use denote.Ref.{Bor}
 use Rattle.list_laws.specs.Counts.{Rose}
@@ -8,7 +8,7 @@ use Rattle.pred_eval.specs.declared.patterns.BuildFault.{BuildFault}
 use Rattle.pred_eval.specs.declared.patterns.BuildFault.TheVariants.{Pattern, Memory as out_of_memory}
 use Rattle.pred_eval.specs.Search.{IsReadFrom}
 
--- what was built is what the text spells
+-- what was built is the regular expression of the text
 abbrev pub IsAnswerTo : List ℕ → PatternAnswer → Type 0
 IsAnswerTo pattern (Built regex) = IsReadFrom pattern regex
 IsAnswerTo pattern Refused = Unit {0}

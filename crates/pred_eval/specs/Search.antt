@@ -6,16 +6,16 @@ use Rattle.regex.specs.Patterns.{Re, find_str, default_config}
 use Rattle.regex.specs.Strings.{regex_source, regex_config, IsReadFromSource}
 use Rattle.regex.specs.declared.string.regex.Regex.{Regex}
 
--- some part of the text matches what was read; nothing was read where the pattern's text is none
+-- some part of the text matches what was read; nothing was read where the pattern's text is not valid
 abbrev pub is_found : Option (Nested Re × Names) → List ℕ → Bool
 is_found None text = false
 is_found (Some (re, names)) text = is_some (find_str re.value text 0)
 
--- the regular expression that the first text spells is found in the second
+-- the regular expression of the first text is found in the second
 abbrev pub finds : List ℕ → List ℕ → Bool
 finds pattern text = is_found (read default_config (chars pattern)) text
 
--- the regular expression is the one that this text spells, under the default options
+-- the regular expression is the one of this text, under the default options
 pub record IsReadFrom (pattern : List ℕ) (regex : Regex) : Type 0 where
   pub source : regex_source regex ≡ pattern
   pub config : regex_config regex ≡ default_config

@@ -56,13 +56,13 @@ any_of (trees rules ∷ parts) = tree (Any rules) ∷ parts
 any_of (tree rule ∷ parts) = []
 any_of [] = []
 
-abbrev put_behind : Tree → List Part → List Part
-put_behind rule (trees rules ∷ parts) = trees (also rule rules) ∷ parts
-put_behind rule (tree other ∷ parts) = []
-put_behind rule [] = []
+abbrev put_before : Tree → List Part → List Part
+put_before rule (trees rules ∷ parts) = trees (also rule rules) ∷ parts
+put_before rule (tree other ∷ parts) = []
+put_before rule [] = []
 
 abbrev put_first : List Part → List Part
-put_first (tree rule ∷ parts) = put_behind rule parts
+put_first (tree rule ∷ parts) = put_before rule parts
 put_first (trees rules ∷ parts) = []
 put_first [] = []
 
@@ -99,7 +99,7 @@ mutual
 
   pub read_all_back : (rules : Trees) (rest : List Mark) → read_marks (marks_of rules rest) ≡ trees rules ∷ read_marks rest
   read_all_back none rest = refl
-  read_all_back (also rule rules) rest = ap put_first (read_back rule (marks_of rules rest)) ∙ ap (put_behind rule) (read_all_back rules rest)
+  read_all_back (also rule rules) rest = ap put_first (read_back rule (marks_of rules rest)) ∙ ap (put_before rule) (read_all_back rules rest)
 
 abbrev spelled : Tree → List Mark
 spelled rule = marks rule []

@@ -1,9 +1,8 @@
 -- Whether an event meets a rule.
 use Rattle.std.specs.Prelude.{ℕ, ℤ, Bool, true, false, not, ◌&&◌, ◌||◌, int_lt, int_le, List, [], ◌∷◌, ◌++◌, Option, Some, None}
-use Rattle.std.specs.Str.{bytes_eq}
-use Rattle.std.specs.List.{list_any}
 use Rattle.ev_types.specs.declared.event.Event.{Event}
 use Rattle.ev_types.specs.Field.{field_value}
+use Rattle.ev_types.specs.Set.{has_text}
 use Rattle.ev_types.specs.Value.{same_value, number_of, text_of}
 use Rattle.pred_eval.specs.declared.rule.Ordering.{Ordering}
 use Rattle.pred_eval.specs.declared.rule.Ordering.TheVariants.{Less, LessEqual, Greater, GreaterEqual}
@@ -11,26 +10,22 @@ use Rattle.pred_eval.specs.Tree.{Tree, Trees, Always, Never, Not, All, Any, Tagg
 use Rattle.pred_eval.specs.Wild.{is_wild}
 use Rattle.pred_eval.specs.Search.{finds}
 
--- the first number stands so to the second
-abbrev pub stands_so : Ordering → ℤ → ℤ → Bool
-stands_so Less a b = int_lt a b
-stands_so LessEqual a b = int_le a b
-stands_so Greater a b = int_lt b a
-stands_so GreaterEqual a b = int_le b a
+-- the first number compares in this way with the second
+abbrev pub is_ordered : Ordering → ℤ → ℤ → Bool
+is_ordered Less a b = int_lt a b
+is_ordered LessEqual a b = int_le a b
+is_ordered Greater a b = int_lt b a
+is_ordered GreaterEqual a b = int_le b a
 
--- there is a number, and it stands so to this one
+-- there is a number, and it compares in this way with this one
 abbrev pub is_in_order : Ordering → ℤ → Option ℤ → Bool
 is_in_order order number None = false
-is_in_order order number (Some value) = stands_so order value number
+is_in_order order number (Some value) = is_ordered order value number
 
 -- there is a text, and it passes the test
 abbrev pub is_text_with : (List ℕ → Bool) → Option (List ℕ) → Bool
 is_text_with test None = false
 is_text_with test (Some text) = test text
-
--- the tag is among these
-abbrev pub is_among : List ℕ → List (List ℕ) → Bool
-is_among tag tags = list_any (λ own. bytes_eq own tag) tags
 
 abbrev mutual
   pub holds : Tree → Event → Bool
@@ -39,7 +34,7 @@ abbrev mutual
   holds (Not rule) event = not (holds rule event)
   holds (All rules) event = all_hold rules event
   holds (Any rules) event = any_holds rules event
-  holds (Tagged tag) event = is_among tag event.tags
+  holds (Tagged tag) event = has_text tag event.tags
   holds (Equal field value) event = same_value (field_value event field) value
   holds (Order field order number) event = is_in_order order number (number_of (field_value event field))
   holds (Wild field pattern) event = is_text_with (is_wild pattern) (text_of (field_value event field))

@@ -1,4 +1,4 @@
--- Patterns in which `%` stands for any bytes, none included, and every other byte for itself.
+-- Patterns in which `%` matches any bytes, also none, and every other byte matches itself.
 use Rattle.std.specs.Prelude.{◌≡◌, ◌↔◌, IsTrue, ℕ, ◌==◌, Bool, true, false, ◌&&◌, List, [], ◌∷◌, ◌++◌, if◌then◌else◌}
 use Rattle.std.specs.List.{list_any}
 
@@ -6,7 +6,7 @@ use Rattle.std.specs.List.{list_any}
 abbrev pub percent : ℕ
 percent = 37
 
--- what stands between the `%` of a pattern: a first part, and the later ones
+-- the parts between the `%` of a pattern: a first part, and the later ones
 pub record Parts : Type 0 where
   pub first : List ℕ
   pub later : List (List ℕ)
@@ -18,7 +18,7 @@ parts_of (byte ∷ pattern) =
     if byte == percent then record { first = []; later = rest.first ∷ rest.later }
     else record { first = byte ∷ rest.first; later = rest.later }
 
--- the text is the first part, and then each later one behind any bytes
+-- the text is the first part, and then each later one after any bytes
 abbrev pub IsJoined : List ℕ → List (List ℕ) → List ℕ → Type 0
 IsJoined first [] text = text ≡ first
 IsJoined first (next ∷ later) text =
@@ -42,7 +42,7 @@ abbrev pub is_byte_before : ℕ → (List ℕ → Bool) → List ℕ → Bool
 is_byte_before byte test [] = false
 is_byte_before byte test (first ∷ text) = first == byte && test text
 
--- The same as a test, byte by byte: behind a `%` the pattern may go on at any place of the text.
+-- The same as a test, byte by byte: after a `%` the pattern may go on at any place of the text.
 abbrev pub is_wild : List ℕ → List ℕ → Bool
 is_wild [] text = is_nothing text
 is_wild (byte ∷ pattern) text =

@@ -12,6 +12,3 @@ pub use pred::{Pred, append_texts};
 pub use rule::{Ordering, Rule, Rules};
 pub use truth::{pattern_count, rule_holds};
 pub use wild::{is_wild, wild_texts_are_joined};
-
-#[cfg(test)]
-mod tests;

@@ -9,12 +9,12 @@ use regex::{Error, Regex};
 use std::alloc::{AllocFailed, Global};
 use thiserror::Error;
 
-/// What became of a pattern's text.
+/// What a pattern's text was built into.
 #[derive(Drop)]
 pub enum PatternAnswer {
-    /// The regular expression that the text spells.
+    /// The regular expression of this text.
     Built(Regex),
-    /// The text spells no regular expression, or one that is too big.
+    /// The text is not a regular expression, or its program is too big.
     Refused,
     Memory,
 }
@@ -26,18 +26,19 @@ pub trait Patterns {
     /// How many texts were refused.
     ghost refusals: { Self → ℕ };
 
-    /// The texts that were refused, where they are told.
+    /// The texts that were refused, where they are known.
     ghost refused: { Self → Option (List (List ℕ)) };
 
-    /// Builds the regular expression that the text spells. Only a refusal is counted and told.
+    /// Builds the regular expression of the text. Only a refusal is counted and recorded.
     fn build(&mut self, alloc: Global, pattern: &Text) -> PatternAnswer
         ensures built { IsAnswerTo pattern.now result }
         ensures counted { IsCounted (refusals self.old) (refusals self.new) result }
-        ensures told { refused self.new ≡ option_map (λ texts. texts ++ refused_by pattern.now result) (refused self.old) }
+        ensures told { refused self.new ≡ option_map
+            (λ texts. texts ++ refused_by pattern.now result) (refused self.old) }
         ensures refusals { refusals self.old ≤ refusals self.new };
 }
 
-/// Builds by the crate `regex`. It counts refusals, up to the greatest number, and tells no text.
+/// Builds by the crate `regex`. It counts refusals, up to the greatest number, and keeps no text.
 #[derive(Drop)]
 pub struct RegexPatterns {
     pub refusals: u64,
@@ -128,8 +129,10 @@ pub fn build_all<P: Patterns>(
 ) -> Result<Vec<Regex>, BuildFault>
     requires { length texts.now < 2 ^ 32 }
     ensures built { IfOk result (λ regexes. AreReadFrom (texts_of texts.now) regexes.items) }
-    ensures cause { HasCause (texts_of texts.now) (P.refusals patterns.old) (P.refusals patterns.new) result }
-    ensures told { P.refused patterns.new ≡ option_map (λ told. told ++ refused_of (texts_of texts.now) result) (P.refused patterns.old) }
+    ensures cause { HasCause (texts_of texts.now) (P.refusals patterns.old) (P.refusals patterns.new)
+        result }
+    ensures told { P.refused patterns.new ≡ option_map
+        (λ refused. refused ++ refused_of (texts_of texts.now) result) (P.refused patterns.old) }
     ensures refusals { P.refusals patterns.old ≤ P.refusals patterns.new }
 {
     let mut built = Vec::new(alloc);

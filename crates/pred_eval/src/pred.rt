@@ -1,4 +1,5 @@
-ghost use Rattle.std.specs.Prelude.{◌≡◌, ◌<◌, ◌≤◌, ◌^◌, [], ◌++◌, length, OnOk, IfOk, IsOk};
+ghost use Rattle.std.specs.Prelude.{◌≡◌, ◌<◌, ◌≤◌, ◌^◌, [], ◌++◌, length, OnOk, OnErr, IfOk, IsOk};
+ghost use Rattle.list_laws.specs.Prefix.{IsPrefix};
 ghost use Rattle.std.specs.Option.{option_map};
 ghost use Rattle.pred_eval.specs.Tree.{tree_of, trees_in};
 ghost use Rattle.pred_eval.specs.Truth.{holds, searches, searches_of};
@@ -45,9 +46,10 @@ impl Pred {
     ) -> Result<Pred, BuildFault>
         requires { length (searches (tree_of rule)) < 2 ^ 32 }
         ensures rule { IfOk result (λ pred. pred ≡ tree_of rule) }
-        ensures cause { HasCause (searches (tree_of rule)) (P.refusals patterns.old) (P.refusals patterns.new) result }
-        ensures told { P.refused patterns.new ≡
-            option_map (λ texts. texts ++ refused_of (searches (tree_of rule)) result) (P.refused patterns.old) }
+        ensures cause { HasCause (searches (tree_of rule)) (P.refusals patterns.old) (P.refusals patterns.new)
+            result }
+        ensures told { P.refused patterns.new ≡ option_map
+            (λ texts. texts ++ refused_of (searches (tree_of rule)) result) (P.refused patterns.old) }
         ensures refusals { P.refusals patterns.old ≤ P.refusals patterns.new }
     {
         let patterns = build_patterns(alloc, &rule, patterns)?;
@@ -64,14 +66,17 @@ impl Pred {
     }
 }
 
-/// Appends the texts of the rule's regular expressions, in the order in which they are written.
+/// Appends the texts of the rule's regular expressions, in the order in which they are written. After `Memory` the
+/// list has some of them, after those that it had.
 #[cycle(collect)]
 pub fn append_texts<'a>(
     alloc: Global,
     rule: &'a Rule,
     texts: &mut Vec<&'a Text>,
 ) -> Result<(), Memory>
-    ensures { OnOk result (texts_of texts.new.items ≡ texts_of texts.old.items ++ searches (tree_of rule.now)) }
+    ensures ok { OnOk result
+        (texts_of texts.new.items ≡ texts_of texts.old.items ++ searches (tree_of rule.now)) }
+    ensures err { OnErr result (IsPrefix (texts_of texts.old.items) (texts_of texts.new.items)) }
 {
     match rule {
         Rule::Not(rule) => append_texts(alloc, rule, texts),
@@ -92,7 +97,9 @@ pub fn append_texts<'a>(
 
 #[cycle(collect)]
 fn append_all<'a>(alloc: Global, rules: &'a Rules, texts: &mut Vec<&'a Text>) -> Result<(), Memory>
-    ensures { OnOk result (texts_of texts.new.items ≡ texts_of texts.old.items ++ searches_of (trees_in rules.now.items)) }
+    ensures ok { OnOk result
+        (texts_of texts.new.items ≡ texts_of texts.old.items ++ searches_of (trees_in rules.now.items)) }
+    ensures err { OnErr result (IsPrefix (texts_of texts.old.items) (texts_of texts.new.items)) }
 {
     for rule in rules {
         append_texts(alloc, rule, texts)?;
@@ -108,9 +115,10 @@ fn build_patterns<P: Patterns>(
 ) -> Result<Vec<Regex>, BuildFault>
     requires { length (searches (tree_of rule.now)) < 2 ^ 32 }
     ensures built { IfOk result (λ regexes. AreReadFrom (searches (tree_of rule.now)) regexes.items) }
-    ensures cause { HasCause (searches (tree_of rule.now)) (P.refusals patterns.old) (P.refusals patterns.new) result }
-    ensures told { P.refused patterns.new ≡
-        option_map (λ texts. texts ++ refused_of (searches (tree_of rule.now)) result) (P.refused patterns.old) }
+    ensures cause { HasCause (searches (tree_of rule.now)) (P.refusals patterns.old) (P.refusals patterns.new)
+        result }
+    ensures told { P.refused patterns.new ≡ option_map
+        (λ texts. texts ++ refused_of (searches (tree_of rule.now)) result) (P.refused patterns.old) }
     ensures refusals { P.refusals patterns.old ≤ P.refusals patterns.new }
 {
     let mut texts = Vec::new(alloc);

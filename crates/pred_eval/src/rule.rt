@@ -1,6 +1,6 @@
 ghost use Rattle.std.specs.Prelude.{◌≡◌, IfOk};
 ghost use Rattle.pred_eval.specs.Tree.{tree_of, trees_in};
-ghost use Rattle.pred_eval.specs.Truth.{stands_so};
+ghost use Rattle.pred_eval.specs.Truth.{is_ordered};
 
 use ev_types::{Field, Memory, Text, Value};
 use std::alloc::Global;
@@ -24,13 +24,13 @@ pub enum Rule {
         field: Field,
         value: Value,
     },
-    /// The field holds a number that stands so to the number.
+    /// The field holds a number that compares in this way with the number.
     Order {
         field: Field,
         order: Ordering,
         number: i64,
     },
-    /// The field holds a text that matches the pattern as a whole, in which `%` stands for any bytes.
+    /// The field holds a text that matches the pattern as a whole, in which `%` matches any bytes.
     Wild {
         field: Field,
         pattern: Text,
@@ -45,7 +45,7 @@ pub enum Rule {
 /// Rules, in the order in which they were written.
 pub type Rules = Vec<Rule>;
 
-/// How a number stands to another.
+/// How a number compares with another.
 #[derive(Clone, Copy, Debug, PartialEq, Eq)]
 pub enum Ordering {
     Less,
@@ -104,9 +104,9 @@ fn copy_rules(alloc: Global, rules: &Rules) -> Result<Rules, Memory>
 }
 
 impl Ordering {
-    /// Whether the first number stands so to the second.
-    pub fn stands(self, a: i64, b: i64) -> bool
-        ensures { result ≡ stands_so self a b }
+    /// Whether the first number compares in this way with the second.
+    pub fn holds_of(self, a: i64, b: i64) -> bool
+        ensures { result ≡ is_ordered self a b }
     {
         match self {
             Ordering::Less => a < b,

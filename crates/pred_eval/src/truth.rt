@@ -1,13 +1,13 @@
 ghost use Rattle.std.specs.Prelude.{◌≡◌, ℕ, min, List, [], ◌∷◌, length, take, drop, ◌≤◌, IfOk, IsOk, option_copied};
 ghost use Rattle.list_laws.specs.Counts.{greatest};
 ghost use Rattle.pred_eval.specs.Tree.{tree_of, trees_in};
-ghost use Rattle.pred_eval.specs.Truth.{holds, all_hold, any_holds, is_among, is_text_with, searches, searches_of};
+ghost use Rattle.pred_eval.specs.Truth.{holds, all_hold, any_holds, is_text_with, searches, searches_of};
 ghost use Rattle.pred_eval.specs.Search.{finds, IsReadFrom, AreReadFrom};
 ghost use Rattle.pred_eval.specs.Wild.{is_wild};
 
 use crate::wild::is_wild;
 use crate::{Rule, Rules};
-use ev_types::{Event, Memory, Tags, Text, field_is, field_number, field_text};
+use ev_types::{Event, Memory, Text, field_is, field_number, field_text};
 use regex::Regex;
 use std::alloc::Global;
 
@@ -28,7 +28,8 @@ pub fn rule_holds(
 
 #[cycle(meets)]
 fn meets(alloc: Global, rule: &Rule, patterns: &[Regex], event: &Event) -> Result<bool, Memory>
-    ensures truth { AreReadFrom (searches (tree_of rule.now)) patterns.now → IfOk result (λ met. met ≡ holds (tree_of rule.now) event.now) }
+    ensures truth { AreReadFrom (searches (tree_of rule.now)) patterns.now →
+        IfOk result (λ met. met ≡ holds (tree_of rule.now) event.now) }
     ensures memory { searches (tree_of rule.now) ≡ [] → IsOk result }
 {
     match rule {
@@ -37,14 +38,14 @@ fn meets(alloc: Global, rule: &Rule, patterns: &[Regex], event: &Event) -> Resul
         Rule::Not(rule) => Ok(!meets(alloc, rule, patterns, event)?),
         Rule::All(rules) => meets_all(alloc, rules, patterns, event),
         Rule::Any(rules) => meets_any(alloc, rules, patterns, event),
-        Rule::Tagged(tag) => Ok(has_tag(&event.tags, tag)),
+        Rule::Tagged(tag) => Ok(event.has_tag(tag)),
         Rule::Equal { field, value } => Ok(field_is(event, field, value)),
         Rule::Order {
             field,
             order,
             number,
         } => match field_number(event, field) {
-            Some(value) => Ok(order.stands(value, *number)),
+            Some(value) => Ok(order.holds_of(value, *number)),
             None => Ok(false),
         },
         Rule::Wild { field, pattern } => match field_text(event, field) {
@@ -101,7 +102,7 @@ fn meets_any(
     Ok(false)
 }
 
-// The patterns of the rule, and those of the rules behind it.
+// The patterns of the rule, and those of the rules after it.
 fn split_patterns<'a>(rule: &Rule, patterns: &'a [Regex]) -> (&'a [Regex], &'a [Regex])
     ensures own { length (searches (tree_of rule.now)) ≤ length patterns.now →
         result.0.now ≡ take (length (searches (tree_of rule.now))) patterns.now }
@@ -144,12 +145,6 @@ fn count_patterns(rules: &Rules) -> usize
     count
 }
 
-fn has_tag(tags: &Tags, tag: &Text) -> bool
-    ensures { result ≡ is_among tag.now tags.now }
-{
-    tags.as_slice().iter().any(|own| *own == *tag)
-}
-
 // Whether the first of the patterns is found in the text, where there is one.
 fn search(alloc: Global, patterns: &[Regex], text: Option<&Text>) -> Result<bool, Memory>
     ensures { IfOk result (λ found. (pattern : List ℕ) → AreReadFrom (pattern ∷ []) patterns.now →
@@ -162,7 +157,8 @@ fn search(alloc: Global, patterns: &[Regex], text: Option<&Text>) -> Result<bool
 }
 
 fn is_found(alloc: Global, regex: &Regex, text: &str) -> Result<bool, Memory>
-    ensures { IfOk result (λ found. (pattern : List ℕ) → IsReadFrom pattern regex.now → found ≡ finds pattern text.now) }
+    ensures { IfOk result (λ found. (pattern : List ℕ) → IsReadFrom pattern regex.now →
+        found ≡ finds pattern text.now) }
 {
     let mut matcher = regex.matcher(alloc)?;
     Ok(matcher.is_match(text))

@@ -3,11 +3,13 @@ use Rattle.std.proofs.Common.{◌≡◌, ℕ, ◌+◌, ◌<◌, ◌≤◌, List,
 use Rattle.std.proofs.lemmas.Bool.{cases_lt}
 use Rattle.pred_eval.specs.declared.rule.Rule.{Rule}
 use Rattle.pred_eval.specs.Tree.{Tree, tree_of}
+use Rattle.query_lang.specs.declared.read.TheConstants.{MAX_BYTES}
+use Rattle.query_lang.specs.declared.parser.TheConstants.{MAX_OPENINGS}
 use Rattle.query_lang.specs.declared.fault.QueryFault.{QueryFault}
 use Rattle.query_lang.specs.declared.fault.QueryFault.TheVariants.{TooLong, Refused, TooDeep, Memory}
 use Rattle.query_lang.specs.declared.token.Token.{Token}
 use Rattle.query_lang.specs.Tokens.{token_at}
-use Rattle.query_lang.specs.Grammar.{IsQuery, IsFront}
+use Rattle.query_lang.specs.Grammar.{IsQuery, IsQueryPrefix}
 use Rattle.query_lang.specs.Queries.{Begins, openings, Stops, StopsAtToken, IsQueryText, IsRefusedAt, IsTooDeepAt, IsAnswer, Says}
 use Rattle.query_lang.specs.Reading.{Reads}
 use Rattle.query_lang.proofs.ParserLaws.{one_tree, append_nil}
@@ -36,14 +38,14 @@ same_split Allowed text (t ∷ a) (u ∷ b) behind_a behind_b (after_a, read_a, 
     subst Claim (some_pair (sym read_a ∙ read_b)) same begins_b allowed_b blocks_b
 
 abbrev Allowed : List Token → Type 0
-Allowed tokens = IsFront tokens × (openings tokens ≤ 64)
+Allowed tokens = IsQueryPrefix tokens × (openings tokens ≤ MAX_OPENINGS)
 
 -- how each answer splits the text, and what it says of the split
 
 abbrev EndsIn : List ℕ → Result Tree QueryFault → List Token → List ℕ → Type 0
 EndsIn text (Ok tree) tokens rest = (rest ≡ []) × IsQuery tokens tree
 EndsIn text (Err (Refused place)) tokens rest = (place + length rest ≡ length text) × Stops tokens rest
-EndsIn text (Err (TooDeep place)) tokens rest = (place + length rest ≡ length text) × (t : Token) × (after : List ℕ) × (token_at rest ≡ Some (t, after)) × IsFront (tokens ++ t ∷ [])
+EndsIn text (Err (TooDeep place)) tokens rest = (place + length rest ≡ length text) × (t : Token) × (after : List ℕ) × (token_at rest ≡ Some (t, after)) × IsQueryPrefix (tokens ++ t ∷ [])
 EndsIn text (Err (TooLong size)) tokens rest = ⊥
 EndsIn text (Err Memory) tokens rest = ⊥
 
@@ -59,16 +61,16 @@ nothing_read : (t : Token) (after : List ℕ) → token_at [] ≡ Some (t, after
 unfolding token_at
 nothing_read t after e = cc
 
-shorter_front : (tokens more : List Token) → IsFront (tokens ++ more) → IsFront tokens
+shorter_front : (tokens more : List Token) → IsQueryPrefix (tokens ++ more) → IsQueryPrefix tokens
 shorter_front tokens more (others, tree, query) = (more ++ others, tree, subst (λ (all : List Token). IsQuery all tree) (append_assoc tokens more others) query)
 
-first_of : (tokens : List Token) (t : Token) (more : List Token) → IsFront (tokens ++ t ∷ more) → IsFront (tokens ++ t ∷ [])
-first_of tokens t more front = shorter_front (tokens ++ t ∷ []) more (subst (λ (all : List Token). IsFront all) (sym (append_assoc tokens (t ∷ []) more)) front)
+first_of : (tokens : List Token) (t : Token) (more : List Token) → IsQueryPrefix (tokens ++ t ∷ more) → IsQueryPrefix (tokens ++ t ∷ [])
+first_of tokens t more front = shorter_front (tokens ++ t ∷ []) more (subst (λ (all : List Token). IsQueryPrefix all) (sym (append_assoc tokens (t ∷ []) more)) front)
 
-query_front : (tokens : List Token) (tree : Tree) → IsQuery tokens tree → IsFront tokens
+query_front : (tokens : List Token) (tree : Tree) → IsQuery tokens tree → IsQueryPrefix tokens
 query_front tokens tree query = ([], tree, subst (λ (all : List Token). IsQuery all tree) (sym (append_nil tokens)) query)
 
-stops_token : (tokens : List Token) (rest : List ℕ) (t : Token) (after : List ℕ) → Stops tokens rest → token_at rest ≡ Some (t, after) → IsFront (tokens ++ t ∷ []) → ⊥
+stops_token : (tokens : List Token) (rest : List ℕ) (t : Token) (after : List ℕ) → Stops tokens rest → token_at rest ≡ Some (t, after) → IsQueryPrefix (tokens ++ t ∷ []) → ⊥
 stops_token tokens [] t after stops read front = nothing_read t after read
 stops_token tokens (b ∷ bytes) t after stops read front = subst (λ (found : Option (Token × List ℕ)). StopsAtToken tokens found) read stops front
 
@@ -97,7 +99,7 @@ deep_blocks text place is t after more read allowed =
     let same : t ≡ is.token = ap (λ (p : Token × List ℕ). p.0) (some_pair (sym read ∙ is.read)) in
     let all = openings_append (is.tokens ++ is.token ∷ []) more in
     let whole = ap openings (append_assoc is.tokens (is.token ∷ []) more) in
-    let few : openings (is.tokens ++ is.token ∷ more) ≤ 64 = subst (λ (first : Token). openings (is.tokens ++ first ∷ more) ≤ 64) same allowed.1 in
+    let few : openings (is.tokens ++ is.token ∷ more) ≤ MAX_OPENINGS = subst (λ (first : Token). openings (is.tokens ++ first ∷ more) ≤ MAX_OPENINGS) same allowed.1 in
     omega (arith, is.deep)
 
 split_deep : (text : List ℕ) (place : ℕ) → IsTooDeepAt text place → Split text (Err (TooDeep place))
@@ -143,14 +145,14 @@ one_split text a b first second =
     agree text first.tokens first.rest a b first.ends ends
 
 -- a text that is not too long is split by its answer
-split_of : (text : List ℕ) (answer : Result Tree QueryFault) → length text ≤ 4096 → IsAnswer text answer → Split text answer
+split_of : (text : List ℕ) (answer : Result Tree QueryFault) → length text ≤ MAX_BYTES → IsAnswer text answer → Split text answer
 split_of text (Ok tree) short is = split_query text tree is.1
 split_of text (Err (Refused place)) short is = split_refused text place is.1
 split_of text (Err (TooDeep place)) short is = split_deep text place is.1
 split_of text (Err (TooLong size)) short is = absurd (omega (arith, is.0))
 split_of text (Err Memory) short is = absurd is
 
-long_answer : (text : List ℕ) (answer : Result Tree QueryFault) → 4096 < length text → IsAnswer text answer → answer ≡ Err (TooLong (length text))
+long_answer : (text : List ℕ) (answer : Result Tree QueryFault) → MAX_BYTES < length text → IsAnswer text answer → answer ≡ Err (TooLong (length text))
 long_answer text (Ok tree) long is = absurd (omega (arith, is.0))
 long_answer text (Err (Refused place)) long is = absurd (omega (arith, is.0))
 long_answer text (Err (TooDeep place)) long is = absurd (omega (arith, is.0))
@@ -161,7 +163,7 @@ pub one_answer : (text : List ℕ) (a b : Result Tree QueryFault) → IsAnswer t
 one_answer text a b is also_is = ⊎_elim
     (λ long. long_answer text a long is ∙ sym (long_answer text b long also_is))
     (λ short. one_split text a b (split_of text a short is) (split_of text b short also_is))
-    (cases_lt 4096 (length text))
+    (cases_lt MAX_BYTES (length text))
 
 -- a call that gives an answer gives the only one
 
@@ -173,11 +175,11 @@ says_only text (Err (TooLong size)) ok err answer is = one_answer text answer (E
 says_only text (Err (Refused place)) ok err answer is = one_answer text answer (Err (Refused place)) is (err (λ same. cc))
 says_only text (Err (TooDeep place)) ok err answer is = one_answer text answer (Err (TooDeep place)) is (err (λ same. cc))
 
-pub reads_ok : (text : List ℕ) (result : Result Rule QueryFault) → length text ≤ 4096 → Reads text result → IfOk result (λ rule. IsAnswer text (Ok (tree_of rule)))
+pub reads_ok : (text : List ℕ) (result : Result Rule QueryFault) → length text ≤ MAX_BYTES → Reads text result → IfOk result (λ rule. IsAnswer text (Ok (tree_of rule)))
 reads_ok text (Ok rule) short reads = (short, reads)
 reads_ok text (Err fault) short reads = tt
 
-pub reads_err : (text : List ℕ) (result : Result Rule QueryFault) → length text ≤ 4096 → Reads text result → IfErr result (λ fault. fault ≢ Memory → IsAnswer text (Err fault))
+pub reads_err : (text : List ℕ) (result : Result Rule QueryFault) → length text ≤ MAX_BYTES → Reads text result → IfErr result (λ fault. fault ≢ Memory → IsAnswer text (Err fault))
 reads_err text (Ok rule) short reads = tt
 reads_err text (Err (Refused place)) short reads = λ other. (short, reads)
 reads_err text (Err (TooDeep place)) short reads = λ other. (short, reads)

@@ -4,6 +4,8 @@ use Rattle.std.proofs.lemmas.Bool.Decides.{nat_tests}
 use Rattle.ev_types.specs.declared.field.Field.{Field}
 use Rattle.pred_eval.specs.Tree.{Tree, Trees, Always, Never, Not, All, Any, Tagged, none, also}
 use Rattle.pred_eval.specs.Truth.{searches, searches_of}
+use Rattle.query_lang.specs.declared.read.TheConstants.{MAX_BYTES}
+use Rattle.query_lang.specs.declared.parser.TheConstants.{MAX_OPENINGS}
 use Rattle.query_lang.specs.declared.fault.QueryFault.{QueryFault}
 use Rattle.query_lang.specs.declared.fault.QueryFault.TheVariants.{TooLong, Refused, TooDeep, Memory}
 use Rattle.query_lang.specs.declared.token.Operator.{Operator}
@@ -23,7 +25,7 @@ use Rattle.query_lang.proofs.ScanLaws.{after_shorter, blanks_shorter}
 
 -- ---- the answer
 
-end_is_answer : (text : List ℕ) (state : State) → length text ≤ 4096 → SoFar text [] state → (found : Option Tree) → finish state ≡ found → IsAnswer text (ended_at (length text) found)
+end_is_answer : (text : List ℕ) (state : State) → length text ≤ MAX_BYTES → SoFar text [] state → (found : Option Tree) → finish state ≡ found → IsAnswer text (ended_at (length text) found)
 end_is_answer text state short so None is = (short, so_far_end text state so (Err (Refused (length text))) (refl, is))
 end_is_answer text state short so (Some tree) is = (
   short,
@@ -41,13 +43,13 @@ no_memory_at place state rest false e = cc
 
 no_memory_behind : (place : ℕ) (rest : List ℕ) (stepped : Option State) → with_rest rest (within_limit place stepped) ≡ Err Memory → ⊥
 no_memory_behind place rest None e = cc
-no_memory_behind place rest (Some state) e = no_memory_at place state rest (ltb 64 state.openings) e
+no_memory_behind place rest (Some state) e = no_memory_at place state rest (ltb MAX_OPENINGS state.openings) e
 
 no_memory : (place : ℕ) (state : State) (found : Option (Token × List ℕ)) → taken place state found ≡ Err Memory → ⊥
 no_memory place state None e = cc
 no_memory place state (Some found) e = no_memory_behind place (past_blanks found.1) (step state found.0) e
 
-fault_is_answer : (text rest : List ℕ) (place : ℕ) (state : State) → length text ≤ 4096 → SoFar text rest state → place + length rest ≡ length text → 0 < length rest
+fault_is_answer : (text rest : List ℕ) (place : ℕ) (state : State) → length text ≤ MAX_BYTES → SoFar text rest state → place + length rest ≡ length text → 0 < length rest
     → (fault : QueryFault) → taken place state (token_at rest) ≡ Err fault → IsAnswer text (Err fault)
 fault_is_answer text rest place state short so at some fault e =
     reads_err text (Err fault) short (so_far_fault text rest place state so at some fault e)
@@ -57,14 +59,14 @@ fault_is_answer text rest place state short so at some fault e =
 abbrev Answered : ℕ → List ℕ → Type 0
 Answered n text = (rest : List ℕ) (state : State) → length rest ≤ n → SoFar text rest state → IsAnswer text (answer_within n (length text) state rest)
 
-step_is_answer : (n : ℕ) (text rest : List ℕ) (place : ℕ) (state : State) → Answered n text → length text ≤ 4096 → length rest ≤ suc n → SoFar text rest state → place + length rest ≡ length text → 0 < length rest
+step_is_answer : (n : ℕ) (text rest : List ℕ) (place : ℕ) (state : State) → Answered n text → length text ≤ MAX_BYTES → length rest ≤ suc n → SoFar text rest state → place + length rest ≡ length text → 0 < length rest
     → (found : Result (State × List ℕ) QueryFault) → taken place state (token_at rest) ≡ found → IsAnswer text (and_then found (answer_within n (length text)))
 step_is_answer n text rest place state behind short fits so at some (Ok found) e =
     behind found.1 found.0
     (omega (arith, fits, behind_shorter rest found.1 place state found.0 e)) (so_far_more text rest found.1 place state found.0 so e)
 step_is_answer n text rest place state behind short fits so at some (Err fault) e = fault_is_answer text rest place state short so at some fault e
 
-within_is_answer : (n : ℕ) (text : List ℕ) → length text ≤ 4096 → Answered n text
+within_is_answer : (n : ℕ) (text : List ℕ) → length text ≤ MAX_BYTES → Answered n text
 unfolding answer_within
 within_is_answer zero text short [] state fits so = end_is_answer text state short so (finish state) refl
 within_is_answer (suc n) text short [] state fits so = end_is_answer text state short so (finish state) refl
@@ -73,7 +75,7 @@ within_is_answer (suc n) text short (b ∷ bytes) state fits so =
     step_is_answer n text (b ∷ bytes) (length text - length (b ∷ bytes)) state (within_is_answer n text short) short fits so (omega (arith, so.within)) (omega arith)
     (taken (length text - length (b ∷ bytes)) state (token_at (b ∷ bytes))) refl
 
-answer_if_long : (text : List ℕ) (long : Bool) → ltb 4096 (length text) ≡ long
+answer_if_long : (text : List ℕ) (long : Bool) → ltb MAX_BYTES (length text) ≡ long
     → IsAnswer text (cond long (Err (TooLong (length text))) (answer_within (length text) (length text) start (past_blanks text)))
 answer_if_long text true is = (grind (arith, nat_tests), refl)
 answer_if_long text false is =
@@ -81,7 +83,7 @@ answer_if_long text false is =
 
 pub texts_are_answered : (text : List ℕ) → IsAnswer text (query_of text)
 unfolding query_of
-texts_are_answered text = answer_if_long text (ltb 4096 (length text)) refl
+texts_are_answered text = answer_if_long text (ltb MAX_BYTES (length text)) refl
 
 -- ---- how many patterns a query has: no more than tokens, which are no more than bytes
 
@@ -201,7 +203,7 @@ tokens_few text [] rest begins = omega (arith, blanks_shorter text, ap length be
 tokens_few text (t ∷ tokens) rest (after, read, begins) =
     omega (arith, blanks_shorter text, after_shorter (past_blanks text) t after read, tokens_few after tokens rest begins)
 
-pub patterns_are_few : (text : List ℕ) (tree : Tree) → IsAnswer text (Ok tree) → length (searches tree) ≤ 4096
+pub patterns_are_few : (text : List ℕ) (tree : Tree) → IsAnswer text (Ok tree) → length (searches tree) ≤ MAX_BYTES
 patterns_are_few text tree (short, query) =
     let trees = query.query in
     let few : length (searches tree) ≤ length query.tokens

@@ -10,7 +10,8 @@ use Rattle.query_lang.specs.declared.token.Operator.{Operator}
 use Rattle.query_lang.specs.declared.token.Operator.TheVariants as operator
 use Rattle.query_lang.specs.declared.token.Token.{Token}
 use Rattle.query_lang.specs.declared.token.Token.TheVariants as token
-use Rattle.query_lang.specs.Grammar.{field_of, test_of, is_opening}
+use Rattle.ev_types.specs.Names.{named_field}
+use Rattle.query_lang.specs.Grammar.{test_of, is_opening}
 use Rattle.query_lang.specs.Parsing.{Group, State, operand_step, tag_step, operator_step, joint_step, step_at, step, joined, closed}
 use Rattle.query_lang.specs.Queries.{openings}
 
@@ -52,7 +53,7 @@ operand_counts state token.True = same_count state token.True _ refl refl (λ c.
 operand_counts state token.False = same_count state token.False _ refl refl (λ c. record { group = omega arith; outer = c.outer })
 operand_counts state token.Nil = same_count state token.Nil _ refl refl (λ c. record { group = omega arith; outer = c.outer })
 operand_counts state token.Tagged = same_count state token.Tagged _ refl refl (λ c. record { group = c.group; outer = c.outer })
-operand_counts state (token.Name name) = name_counts state name (field_of name)
+operand_counts state (token.Name name) = name_counts state name (named_field name)
 operand_counts state t = tt
 
 tag_counts : (state : State) (t : Token) → Stepped state t (tag_step state t)

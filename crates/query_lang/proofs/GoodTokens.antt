@@ -2,7 +2,7 @@
 use Rattle.std.proofs.Common.{◌≡◌, ℕ, zero, suc, ◌+◌, ◌<◌, ◌≤◌, ◌^◌, ◌&&◌, ◌||◌, Bool, true, false, cond, eqb, ltb, leb, List, [], ◌∷◌, codes, length, take, drop, Option, Some, None, unwrap_or, ℤ, pos, neg_ℤ, refl, ap, sym, subst, arith, one-add}
 use Rattle.std.specs.Char.{is_ascii_digit}
 use Rattle.std.specs.List.{prefix_len}
-use Rattle.std.specs.Option.{option_map, option_and_then}
+use Rattle.std.specs.Option.{option_map, option_and_then, option_or}
 use Rattle.std.specs.Str.{bytes_eq, is_utf8}
 use Rattle.std.specs.Str.Parse.{digits_value}
 use Rattle.std.proofs.lemmas.Bool.Decides.{nat_tests}
@@ -17,7 +17,8 @@ use Rattle.query_lang.specs.declared.token.Token.TheVariants as token
 use Rattle.query_lang.specs.declared.token.Operator.{Operator}
 use Rattle.query_lang.specs.declared.token.Operator.TheVariants as operator
 use Rattle.query_lang.specs.Tokens.{is_name_byte, is_name_start, is_number_start, past_blanks, goes_on, word_of, name_at, number_at, number_of, quoted, string_at, symbol_at, or_short, long_symbol, short_symbol, token_at}
-use Rattle.query_lang.specs.Grammar.{field_of, is_hidden, test_of, listed, any_of, all_of, IsAny, IsAll, IsOne, one_alternative, more_alternatives, one_part, more_parts, negated, grouped, always, never, nothing, tagged, test}
+use Rattle.ev_types.specs.Names.{protocol_field, is_hidden, named_field}
+use Rattle.query_lang.specs.Grammar.{test_of, listed, any_of, all_of, IsAny, IsAll, IsOne, one_alternative, more_alternatives, one_part, more_parts, negated, grouped, always, never, nothing, tagged, test}
 use Rattle.query_lang.specs.Queries.{Begins}
 use Rattle.query_lang.proofs.ScanLaws.{AllPassing, run_passes, start_is_name_byte}
 use Rattle.query_lang.proofs.ReadBackLaws.{IsName, Fits64}
@@ -152,7 +153,7 @@ tokens_good text (t ∷ tokens) rest (after, read, begins) =
 -- trees
 
 abbrev pub GoodField : Field → Type 0
-GoodField (field.Attribute key) = IsName key × (field_of key ≡ Some (field.Attribute key))
+GoodField (field.Attribute key) = IsName key × (named_field key ≡ Some (field.Attribute key))
 GoodField f = Unit {0}
 
 abbrev pub GoodValue : Value → Type 0
@@ -192,19 +193,29 @@ means_if : (name : List ℕ) (test : Bool) (x y : Option Field) → Means name x
 means_if name true x y first second = first
 means_if name false x y first second = second
 
-field_means : (name : List ℕ) → Means name (field_of name)
-unfolding field_of
-field_means name =
+means_or : (name : List ℕ) (x y : Option Field) → Means name x → Means name y → Means name (option_or x y)
+means_or name None y first second = second
+means_or name (Some f) y first second = first
+
+protocol_means : (name : List ℕ) → Means name (protocol_field name)
+unfolding protocol_field
+protocol_means name =
     means_if name (bytes_eq name (codes "host")) (Some field.Host) _ tt (means_if name (bytes_eq name (codes "service")) (Some field.Service) _ tt
     (means_if name (bytes_eq name (codes "state")) (Some field.State) _ tt (means_if name (bytes_eq name (codes "description")) (Some field.Description) _ tt
     (means_if name (bytes_eq name (codes "time")) (Some field.Time) _ tt (means_if name (bytes_eq name (codes "ttl")) (Some field.Ttl) _ tt
-    (means_if name (bytes_eq name (codes "metric") || bytes_eq name (codes "metric_sint64")) (Some field.Metric) _ tt
-    (means_if name (is_hidden name) None (Some (field.Attribute name)) tt refl)))))))
+    (means_if name (bytes_eq name (codes "metric")) (Some field.Metric) None tt tt))))))
 
-field_good : (name : List ℕ) (f : Field) → field_of name ≡ Some f → IsName name → GoodField f
+field_means : (name : List ℕ) → Means name (named_field name)
+unfolding named_field
+field_means name =
+    means_or name (protocol_field name) _ (protocol_means name)
+    (means_if name (bytes_eq name (codes "metric_sint64")) (Some field.Metric) _ tt
+    (means_if name (is_hidden name) None (Some (field.Attribute name)) tt refl))
+
+field_good : (name : List ℕ) (f : Field) → named_field name ≡ Some f → IsName name → GoodField f
 field_good name (field.Attribute key) is named =
     let same : key ≡ name = subst (λ (found : Option Field). Means name found) is (field_means name) in
-    (subst (λ (text : List ℕ). IsName text) (sym same) named, subst (λ (text : List ℕ). field_of text ≡ Some (field.Attribute key)) (sym same) is)
+    (subst (λ (text : List ℕ). IsName text) (sym same) named, subst (λ (text : List ℕ). named_field text ≡ Some (field.Attribute key)) (sym same) is)
 field_good name f is named = tt
 
 abbrev GoodTest : Option Tree → Type 0

@@ -10,7 +10,8 @@ use Rattle.query_lang.specs.declared.token.Operator.{Operator}
 use Rattle.query_lang.specs.declared.token.Operator.TheVariants as operator
 use Rattle.query_lang.specs.declared.token.Token.{Token}
 use Rattle.query_lang.specs.declared.token.Token.TheVariants as token
-use Rattle.query_lang.specs.Grammar.{field_of, test_of, any_of, all_of, IsAny, IsAll, IsOne, one_alternative, more_alternatives, one_part, more_parts, negated as negated_one, grouped, always, never, nothing, tagged, test, IsQuery, IsFront}
+use Rattle.ev_types.specs.Names.{named_field}
+use Rattle.query_lang.specs.Grammar.{test_of, any_of, all_of, IsAny, IsAll, IsOne, one_alternative, more_alternatives, one_part, more_parts, negated as negated_one, grouped, always, never, nothing, tagged, test, IsQuery, IsQueryPrefix}
 use Rattle.query_lang.specs.Parsing.{Group, State, empty_group, start, negated, with_part, tree_of_group, operand_step, tag_step, operator_step, joint_step, step, finish}
 
 pub negated_more : (n i : ℕ) (tree : Tree) → i < n → negated (n - i) tree ≡ negated (n - (i + 1)) (Not tree)
@@ -138,7 +139,7 @@ group_close group tokens = record {
   tree_is = ap (λ (all : List Tree). any_of (group.alternatives ++ all_of all ∷ [])) (sym (append_nil group.parts));
 }
 
-sound_name : (tokens : List Token) → Sound tokens → (name : List ℕ) (found : Option Field) → field_of name ≡ found → (outer : List Group) (group : Group) (count : ℕ) (tree : Tree)
+sound_name : (tokens : List Token) → Sound tokens → (name : List ℕ) (found : Option Field) → named_field name ≡ found → (outer : List Group) (group : Group) (count : ℕ) (tree : Tree)
     → option_and_then (λ next. result_of next tokens) (option_map (λ field. state_at outer group count (wants.Operator field)) found) ≡ Some tree → EndsAt wants.Operand outer group (token.Name name ∷ tokens) tree
 sound_name tokens after name None is outer group count tree e = cc
 sound_name tokens after name (Some field) is outer group count tree e =
@@ -160,7 +161,7 @@ sound_operand tokens after token.Nil outer group count tree e = (Never, tokens, 
 sound_operand tokens after token.Tagged outer group count tree e =
     let (tag, rest, same, joint) = after outer group count wants.Tag tree tt e in
     (Tagged tag, rest, subst (λ (others : List Token). IsOne (token.Tagged ∷ others) (Tagged tag) rest) (sym same) tagged, joint)
-sound_operand tokens after (token.Name name) outer group count tree e = sound_name tokens after name (field_of name) refl outer group count tree e
+sound_operand tokens after (token.Name name) outer group count tree e = sound_name tokens after name (named_field name) refl outer group count tree e
 sound_operand tokens after token.Close outer group count tree e = cc
 sound_operand tokens after token.And outer group count tree e = cc
 sound_operand tokens after token.Or outer group count tree e = cc
@@ -251,7 +252,7 @@ parsed_is_query tokens tree e =
 RunsTo : State → List Token → State → List Token → Type 0
 RunsTo from tokens to rest = result_of from tokens ≡ result_of to rest
 
-run_name : (name : List ℕ) (field : Field) (outer : List Group) (group : Group) (count : ℕ) (tokens : List Token) → field_of name ≡ Some field
+run_name : (name : List ℕ) (field : Field) (outer : List Group) (group : Group) (count : ℕ) (tokens : List Token) → named_field name ≡ Some field
     → RunsTo (state_at outer group count wants.Operand) (token.Name name ∷ tokens) (state_at outer group count (wants.Operator field)) tokens
 unfolding RunsTo step
 run_name name field outer group count tokens is = rw is refl
@@ -381,12 +382,12 @@ reached_more state (first ∷ tokens) t = reached_more_step tokens t (step state
 
 -- what a parser takes is the front of a query, and nothing else is
 
-pub taken_is_front : (tokens : List Token) (state : State) → reached start tokens ≡ Some state → IsFront tokens
+pub taken_is_front : (tokens : List Token) (state : State) → reached start tokens ≡ Some state → IsQueryPrefix tokens
 taken_is_front tokens state is =
     let (more, tree, e) = viable state in
     (more, tree, parsed_is_query (tokens ++ more) tree (result_after start tokens more ∙ ap (λ (found : Option State). option_and_then (λ next. result_of next more) found) is ∙ e))
 
-pub refused_is_none : (tokens : List Token) → reached start tokens ≡ None → IsFront tokens → ⊥
+pub refused_is_none : (tokens : List Token) → reached start tokens ≡ None → IsQueryPrefix tokens → ⊥
 refused_is_none tokens is (more, tree, query) =
     let parsed = query_is_parsed (tokens ++ more) tree query in
     let after = result_after start tokens more in

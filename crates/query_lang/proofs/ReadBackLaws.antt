@@ -11,9 +11,9 @@ use Rattle.std.specs.Str.Parse.{AllDigits, digits_value}
 use Rattle.std.proofs.lemmas.Bool.Decides.{nat_tests, eqb_tells}
 use Rattle.query_lang.specs.declared.token.Token.{Token}
 use Rattle.query_lang.specs.declared.token.Token.TheVariants as token
-use Rattle.query_lang.specs.Tokens.{is_blank, is_name_byte, is_name_start, is_number_start, past_blanks, word_of, name_at, number_at, number_of, goes_on, unescape, with_front, quoted, string_at, token_at}
+use Rattle.query_lang.specs.Tokens.{is_blank, is_name_byte, is_name_start, is_number_start, past_blanks, word_of, name_at, number_at, number_of, goes_on, unescape, with_prefix, quoted, string_at, token_at}
 use Rattle.query_lang.specs.Queries.{Begins}
-use Rattle.query_lang.specs.Spelling.{escape, string_spelling}
+use Rattle.string_literals.specs.Literals.{escape, string_literal}
 use Rattle.query_lang.proofs.ScanLaws.{AllPassing, quoted_more}
 
 pub begins_blank : (bytes : List ℕ) (tokens : List Token) (last : List ℕ) → Begins bytes tokens last → Begins (32 ∷ bytes) tokens last
@@ -97,14 +97,14 @@ unescape_plain b [] slash = rw slash refl
 unescape_plain b (c ∷ rest) slash = rw slash refl
 
 abbrev Escapes : List ℕ → ℕ → Type 0
-Escapes rest b = quoted (escape b ++ rest) ≡ with_front b (quoted rest)
+Escapes rest b = quoted (escape b ++ rest) ≡ with_prefix b (quoted rest)
 
 same_escape : (rest : List ℕ) (b c : ℕ) → Escapes rest c → b ≡ c → Escapes rest b
 same_escape rest b c is same = subst (λ (b : ℕ). Escapes rest b) (sym same) is
 
 plain_escape : (rest : List ℕ) (b : ℕ) → eqb b 34 ≡ false → eqb b 92 ≡ false → eqb b 10 ≡ false → eqb b 13 ≡ false → eqb b 9 ≡ false → Escapes rest b
 plain_escape rest b quote slash line return tab =
-    subst (λ (text : List ℕ). quoted (text ++ rest) ≡ with_front b (quoted rest)) (sym (escape_plain b quote slash line return tab))
+    subst (λ (text : List ℕ). quoted (text ++ rest) ≡ with_prefix b (quoted rest)) (sym (escape_plain b quote slash line return tab))
     (quoted_more b rest b rest quote (unescape_plain b rest slash))
 
 quoted_escape : (rest : List ℕ) (b : ℕ) → Escapes rest b
@@ -123,7 +123,7 @@ quoted_end (c ∷ rest) = refl
 quoted_content : (text rest : List ℕ) → quoted (flat_map escape text ++ 34 ∷ rest) ≡ Some (text, rest)
 quoted_content [] rest = quoted_end rest
 quoted_content (b ∷ text) rest =
-    ap quoted (append_assoc (escape b) (flat_map escape text) (34 ∷ rest)) ∙ quoted_escape (flat_map escape text ++ 34 ∷ rest) b ∙ ap (with_front b) (quoted_content text rest)
+    ap quoted (append_assoc (escape b) (flat_map escape text) (34 ∷ rest)) ∙ quoted_escape (flat_map escape text ++ 34 ∷ rest) b ∙ ap (with_prefix b) (quoted_content text rest)
 
 string_token : (bytes : List ℕ) → token_at (34 ∷ bytes) ≡ string_at bytes
 unfolding token_at
@@ -134,7 +134,7 @@ unfolding string_at
 string_read text rest utf8 =
     ap (option_and_then (λ found. cond (is_utf8 found.0) (Some (token.Quoted found.0, found.1)) None)) (quoted_content text rest) ∙ ap (λ (test : Bool). cond test (Some (token.Quoted text, rest)) None) utf8
 
-pub begins_string : (text rest : List ℕ) → is_utf8 text ≡ true → token_at (past_blanks (string_spelling text ++ rest)) ≡ Some (token.Quoted text, rest)
+pub begins_string : (text rest : List ℕ) → is_utf8 text ≡ true → token_at (past_blanks (string_literal text ++ rest)) ≡ Some (token.Quoted text, rest)
 begins_string text rest utf8 = string_token ((flat_map escape text ++ 34 ∷ []) ++ rest) ∙ ap string_at (append_assoc (flat_map escape text) (34 ∷ []) rest) ∙ string_read text rest utf8
 
 -- a number

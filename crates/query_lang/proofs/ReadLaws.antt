@@ -6,11 +6,12 @@ use Rattle.std.proofs.lemmas.Bool.{eqb-false}
 use Rattle.std.proofs.lemmas.Bool.Decides.{nat_tests}
 use Rattle.pred_eval.specs.declared.rule.Rule.{Rule}
 use Rattle.pred_eval.specs.Tree.{tree_of}
+use Rattle.query_lang.specs.declared.parser.TheConstants.{MAX_OPENINGS}
 use Rattle.query_lang.specs.declared.fault.QueryFault.{QueryFault}
 use Rattle.query_lang.specs.declared.fault.QueryFault.TheVariants.{TooLong, Refused, TooDeep, Memory}
 use Rattle.query_lang.specs.declared.token.Token.{Token}
 use Rattle.query_lang.specs.Tokens.{past_blanks, token_at}
-use Rattle.query_lang.specs.Grammar.{IsFront, is_opening}
+use Rattle.query_lang.specs.Grammar.{IsQueryPrefix, is_opening}
 use Rattle.query_lang.specs.Parsing.{State, start, step, finish, within_limit, Ends}
 use Rattle.query_lang.specs.Queries.{Begins, openings, Stops, StopsAtToken, IsRefusedAt, IsTooDeepAt}
 use Rattle.query_lang.specs.Reading.{with_rest, taken, Takes, Reads}
@@ -25,7 +26,7 @@ pub record SoFar (text rest : List ℕ) (state : State) : Type 0 where
   pub within : length rest ≤ length text
   pub is : reached start tokens ≡ Some state
   pub count : state.openings ≡ openings tokens
-  pub few : state.openings ≤ 64
+  pub few : state.openings ≤ MAX_OPENINGS
   pub counted : Counted state
 
 at_start : (text : List ℕ) → SoFar text (past_blanks text) start
@@ -45,28 +46,28 @@ pub record Next (place : ℕ) (state : State) (found : Option (Token × List ℕ
   pub after : List ℕ
   pub read : found ≡ Some (token, after)
   pub step_is : step state token ≡ Some next
-  pub few : next.openings ≤ 64
+  pub few : next.openings ≤ MAX_OPENINGS
   pub rest_is : past_blanks after ≡ rest
 
 ok_same : {x y : State × List ℕ} → ◌≡◌ {A = Result (State × List ℕ) QueryFault} (Ok x) (Ok y) → x ≡ y
 ok_same same = cc
 
-at_most : (n : ℕ) → ltb 64 n ≡ false → n ≤ 64
+at_most : (n : ℕ) → ltb MAX_OPENINGS n ≡ false → n ≤ MAX_OPENINGS
 at_most n over = grind (arith, nat_tests)
 
-next_at_limit : (place : ℕ) (state next : State) (token : Token) (after rest : List ℕ) (middle : State) (test : Bool) → step state token ≡ Some middle → ltb 64 middle.openings ≡ test
+next_at_limit : (place : ℕ) (state next : State) (token : Token) (after rest : List ℕ) (middle : State) (test : Bool) → step state token ≡ Some middle → ltb MAX_OPENINGS middle.openings ≡ test
     → with_rest (past_blanks after) (cond test (Err (TooDeep place)) (Ok middle)) ≡ Ok (next, rest) → Next place state (Some (token, after)) next rest
 next_at_limit place state next token after rest middle true is over e = cc
 next_at_limit place state next token after rest middle false is over e =
     let pair : (middle, past_blanks after) ≡ (next, rest) = ok_same e in
     let same : middle ≡ next = ap (λ (p : State × List ℕ). p.0) pair in
-    let few : middle.openings ≤ 64 = at_most middle.openings over in
-    record { token = token; after = after; read = refl; step_is = is ∙ ap (λ (s : State). Some s) same; few = subst (λ (s : State). s.openings ≤ 64) same few; rest_is = ap (λ (p : State × List ℕ). p.1) pair }
+    let few : middle.openings ≤ MAX_OPENINGS = at_most middle.openings over in
+    record { token = token; after = after; read = refl; step_is = is ∙ ap (λ (s : State). Some s) same; few = subst (λ (s : State). s.openings ≤ MAX_OPENINGS) same few; rest_is = ap (λ (p : State × List ℕ). p.1) pair }
 
 next_at_step : (place : ℕ) (state next : State) (token : Token) (after rest : List ℕ) (stepped : Option State) → step state token ≡ stepped
     → with_rest (past_blanks after) (within_limit place stepped) ≡ Ok (next, rest) → Next place state (Some (token, after)) next rest
 next_at_step place state next token after rest None is e = cc
-next_at_step place state next token after rest (Some middle) is e = next_at_limit place state next token after rest middle (ltb 64 middle.openings) is refl e
+next_at_step place state next token after rest (Some middle) is e = next_at_limit place state next token after rest middle (ltb MAX_OPENINGS middle.openings) is refl e
 
 next_at : (place : ℕ) (state next : State) (found : Option (Token × List ℕ)) (rest : List ℕ) → taken place state found ≡ Ok (next, rest) → Next place state found next rest
 next_at place state next None rest e = cc
@@ -127,11 +128,11 @@ opening_once true = omega arith
 opening_once false = omega arith
 
 fault_at_limit : (text rest : List ℕ) (place : ℕ) (state : State) (so : SoFar text rest state) → place + length rest ≡ length text → (token : Token) (after : List ℕ) → token_at rest ≡ Some (token, after)
-    → (fault : QueryFault) (middle : State) (test : Bool) → step state token ≡ Some middle → ltb 64 middle.openings ≡ test
+    → (fault : QueryFault) (middle : State) (test : Bool) → step state token ≡ Some middle → ltb MAX_OPENINGS middle.openings ≡ test
     → with_rest (past_blanks after) (cond test (Err (TooDeep place)) (Ok middle)) ≡ Err fault → Reads text (Err fault)
 fault_at_limit text rest place state so at token after read fault middle false is over e = cc
 fault_at_limit text rest place state so at token after read fault middle true is over e =
-    let above : 64 < middle.openings = grind (arith, nat_tests) in
+    let above : MAX_OPENINGS < middle.openings = grind (arith, nat_tests) in
     let counts = step_counts state token middle is in
     let more = openings_more so.tokens token in
     let once : openings (token ∷ []) ≤ 1 = opening_once (is_opening token) in
@@ -154,12 +155,12 @@ fault_at_step : (text rest : List ℕ) (place : ℕ) (state : State) (so : SoFar
     → (token : Token) (after : List ℕ) → token_at rest ≡ Some (token, after) → (fault : QueryFault) (stepped : Option State) → step state token ≡ stepped
     → with_rest (past_blanks after) (within_limit place stepped) ≡ Err fault → Reads text (Err fault)
 fault_at_step text rest place state so at some token after read fault None is e =
-    let none : IsFront (so.tokens ++ token ∷ []) → ⊥ = refused_is_none (so.tokens ++ token ∷ []) (reached_step text rest state so token ∙ is) in
+    let none : IsQueryPrefix (so.tokens ++ token ∷ []) → ⊥ = refused_is_none (so.tokens ++ token ∷ []) (reached_step text rest state so token ∙ is) in
     let stops : StopsAtToken so.tokens (token_at rest) = subst (λ (found : Option (Token × List ℕ)). StopsAtToken so.tokens found) (sym read) none in
     let Claim : QueryFault → Type 0 = λ fault. Reads text (Err fault) in
     subst Claim (err_same e) (refused_at text rest place state so at (stops_at so.tokens rest some stops))
 fault_at_step text rest place state so at some token after read fault (Some middle) is e =
-    fault_at_limit text rest place state so at token after read fault middle (ltb 64 middle.openings) is refl e
+    fault_at_limit text rest place state so at token after read fault middle (ltb MAX_OPENINGS middle.openings) is refl e
 
 fault_at : (text rest : List ℕ) (place : ℕ) (state : State) (so : SoFar text rest state) → place + length rest ≡ length text → 0 < length rest
     → (found : Option (Token × List ℕ)) → token_at rest ≡ found → (fault : QueryFault) → taken place state found ≡ Err fault → Reads text (Err fault)

@@ -18,7 +18,8 @@ use Rattle.ev_types.specs.declared.text.TextFault.TheVariants.{Utf8}
 use Rattle.ev_types.specs.Text.{IsNoText}
 use Rattle.query_lang.specs.declared.token.Token.{Token}
 use Rattle.query_lang.specs.declared.token.Token.TheVariants.{Number, Quoted}
-use Rattle.query_lang.specs.Tokens.{is_blank, is_name_byte, is_name_start, is_number_start, IsLiteral, past_blanks, goes_on, number_of, quoted, unescape, escaped, with_front, name_at, number_at, string_at, symbol_at, or_short, long_symbol, short_symbol, token_at}
+use Rattle.string_literals.specs.Literals.{escaped}
+use Rattle.query_lang.specs.Tokens.{is_blank, is_name_byte, is_name_start, is_number_start, IsLiteral, past_blanks, goes_on, number_of, quoted, unescape, with_prefix, name_at, number_at, string_at, symbol_at, or_short, long_symbol, short_symbol, token_at}
 
 -- UTF-8
 
@@ -66,7 +67,7 @@ names_are_utf8 bytes = is_utf8-from_IsUtf8 _ (IsUtf8-from_ascii _ (ascii_passing
 abbrev pub behind : List ℕ → Option (List ℕ × List ℕ) → Option (List ℕ × List ℕ)
 behind front = option_map (λ found. (front ++ found.0, found.1))
 
-pub behind_more : (front : List ℕ) (b : ℕ) (found : Option (List ℕ × List ℕ)) → behind (front ++ b ∷ []) found ≡ behind front (with_front b found)
+pub behind_more : (front : List ℕ) (b : ℕ) (found : Option (List ℕ × List ℕ)) → behind (front ++ b ∷ []) found ≡ behind front (with_prefix b found)
 behind_more front b None = refl
 behind_more front b (Some found) = ap (λ (text : List ℕ). Some (text, found.1)) (append_assoc front (b ∷ []) found.0)
 
@@ -83,17 +84,17 @@ some_same : {x y : Found} → Some x ≡ Some y → x ≡ y
 some_same e = cc
 
 abbrev on_found : Found → Option (List ℕ × List ℕ)
-on_found found = with_front found.0 (quoted found.1)
+on_found found = with_prefix found.0 (quoted found.1)
 
 abbrev letter : List ℕ → Option ℕ → Option Found
 letter bytes = option_map (λ meant. (meant, bytes))
 
-no_letter : (bytes : List ℕ) (meant : Option ℕ) → letter bytes meant ≡ None → option_and_then (λ m. with_front m (quoted bytes)) meant ≡ None
+no_letter : (bytes : List ℕ) (meant : Option ℕ) → letter bytes meant ≡ None → option_and_then (λ m. with_prefix m (quoted bytes)) meant ≡ None
 no_letter bytes None e = refl
 no_letter bytes (Some m) e = cc
 
 no_slash : (v : Bool) (b c : ℕ) (bytes : List ℕ) → ◌≡◌ {A = Option Found} (cond v (letter bytes (escaped c)) (Some (b, c ∷ bytes))) None
-    → cond v (option_and_then (λ m. with_front m (quoted bytes)) (escaped c)) (with_front b (quoted (c ∷ bytes))) ≡ None
+    → cond v (option_and_then (λ m. with_prefix m (quoted bytes)) (escaped c)) (with_prefix b (quoted (c ∷ bytes))) ≡ None
 no_slash true b c bytes e = no_letter bytes (escaped c) e
 no_slash false b c bytes e = cc
 
@@ -101,27 +102,27 @@ pub quoted_stops : (b : ℕ) (after : List ℕ) → eqb b 34 ≡ false → unesc
 quoted_stops b [] other none = rw other refl
 quoted_stops b (c ∷ bytes) other none = rw other (no_slash (eqb b 92) b c bytes none)
 
-some_letter : (bytes : List ℕ) (meant : Option ℕ) (m : ℕ) (rest : List ℕ) → letter bytes meant ≡ Some (m, rest) → option_and_then (λ m. with_front m (quoted bytes)) meant ≡ with_front m (quoted rest)
+some_letter : (bytes : List ℕ) (meant : Option ℕ) (m : ℕ) (rest : List ℕ) → letter bytes meant ≡ Some (m, rest) → option_and_then (λ m. with_prefix m (quoted bytes)) meant ≡ with_prefix m (quoted rest)
 some_letter bytes None m rest e = cc
 some_letter bytes (Some found) m rest e = ap on_found (some_same e)
 
 some_slash : (v : Bool) (b c : ℕ) (bytes : List ℕ) (m : ℕ) (rest : List ℕ) → ◌≡◌ {A = Option Found} (cond v (letter bytes (escaped c)) (Some (b, c ∷ bytes))) (Some (m, rest))
-    → cond v (option_and_then (λ m. with_front m (quoted bytes)) (escaped c)) (with_front b (quoted (c ∷ bytes))) ≡ with_front m (quoted rest)
+    → cond v (option_and_then (λ m. with_prefix m (quoted bytes)) (escaped c)) (with_prefix b (quoted (c ∷ bytes))) ≡ with_prefix m (quoted rest)
 some_slash true b c bytes m rest e = some_letter bytes (escaped c) m rest e
 some_slash false b c bytes m rest e = ap on_found (some_same e)
 
-last_byte : (v : Bool) (b m : ℕ) (rest : List ℕ) → ◌≡◌ {A = Option Found} (cond v None (Some (b, []))) (Some (m, rest)) → None ≡ with_front m (quoted rest)
+last_byte : (v : Bool) (b m : ℕ) (rest : List ℕ) → ◌≡◌ {A = Option Found} (cond v None (Some (b, []))) (Some (m, rest)) → None ≡ with_prefix m (quoted rest)
 last_byte true b m rest e = cc
 last_byte false b m rest e = ap on_found (some_same e)
 
-pub quoted_more : (b : ℕ) (after : List ℕ) (m : ℕ) (rest : List ℕ) → eqb b 34 ≡ false → unescape b after ≡ Some (m, rest) → quoted (b ∷ after) ≡ with_front m (quoted rest)
+pub quoted_more : (b : ℕ) (after : List ℕ) (m : ℕ) (rest : List ℕ) → eqb b 34 ≡ false → unescape b after ≡ Some (m, rest) → quoted (b ∷ after) ≡ with_prefix m (quoted rest)
 quoted_more b [] m rest other some = rw other (last_byte (eqb b 92) b m rest some)
 quoted_more b (c ∷ bytes) m rest other some = rw other (some_slash (eqb b 92) b c bytes m rest some)
 
 pub quoted_step : (front all after rest : List ℕ) (b m : ℕ) (found : Option (List ℕ × List ℕ)) → behind front (quoted all) ≡ found → all ≡ b ∷ after → (b ≡ 34 → ⊥)
     → Some (m, rest) ≡ unescape b after → behind (front ++ m ∷ []) (quoted rest) ≡ found
 quoted_step front all after rest b m found before is other read =
-    let opened : quoted all ≡ with_front m (quoted rest) = subst (λ (bytes : List ℕ). quoted bytes ≡ with_front m (quoted rest)) (sym is) (quoted_more b after m rest (ne_eqb b 34 other) (sym read)) in
+    let opened : quoted all ≡ with_prefix m (quoted rest) = subst (λ (bytes : List ℕ). quoted bytes ≡ with_prefix m (quoted rest)) (sym is) (quoted_more b after m rest (ne_eqb b 34 other) (sym read)) in
     behind_more front m (quoted rest) ∙ sym (ap (behind front) opened) ∙ before
 
 -- numbers
@@ -202,11 +203,11 @@ shorter_than : {X : Type 0} (small size : ℕ) (found : Option (X × List ℕ)) 
 shorter_than small size None le h = tt
 shorter_than small size (Some found) le h = omega arith
 
-shorter_front : (size b : ℕ) (found : Option (List ℕ × List ℕ)) → Shorter size found → Shorter size (with_front b found)
+shorter_front : (size b : ℕ) (found : Option (List ℕ × List ℕ)) → Shorter size found → Shorter size (with_prefix b found)
 shorter_front size b None h = tt
 shorter_front size b (Some found) h = h
 
-shorter_escape : (size : ℕ) (meant : Option ℕ) (found : Option (List ℕ × List ℕ)) → Shorter size found → Shorter size (option_and_then (λ m. with_front m found) meant)
+shorter_escape : (size : ℕ) (meant : Option ℕ) (found : Option (List ℕ × List ℕ)) → Shorter size found → Shorter size (option_and_then (λ m. with_prefix m found) meant)
 shorter_escape size None found h = tt
 shorter_escape size (Some m) found h = shorter_front size m found h
 

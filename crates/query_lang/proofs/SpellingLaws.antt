@@ -1,29 +1,17 @@
 -- Writing a rule piece by piece.
 use Rattle.std.proofs.Common.{◌≡◌, ℕ, ◌+◌, ◌<◌, List, [], ◌∷◌, ◌++◌, cond, Bool, true, false, codes, length, get_or, take, map, Vec, Global, refl, ap, sym, ◌∙◌, append_assoc}
 use Rattle.std.proofs.Math.Seq.{take-length}
-use Rattle.std.proofs.lemmas.Grind.{flat_map-append}
 use Rattle.std.proofs.lemmas.List.{take_more}
-use Rattle.std.specs.List.{flat_map}
+use Rattle.list_laws.specs.Prefix.{IsPrefix}
 use Rattle.pred_eval.specs.declared.rule.Rule.{Rule}
 use Rattle.pred_eval.specs.declared.rule.Rule as code
 use Rattle.pred_eval.specs.Tree.{tree_of}
 use Rattle.query_lang.specs.declared.write.Under.{Under}
 use Rattle.query_lang.specs.declared.write.Under.TheVariants as under
 use Rattle.query_lang.specs.Grammar.{listed}
-use Rattle.query_lang.specs.Spelling.{Grew, escape, grouped, groups_any, groups_all, spelling_under, joined_spelling, more_spelling}
+use Rattle.query_lang.specs.Spelling.{grouped, groups_any, groups_all, spelling_under, joined_spelling, more_spelling}
 use Rattle.query_lang.proofs.Rules.{any_listed, all_listed}
 use Rattle.query_lang.proofs.ParserLaws.{append_nil}
-
-pub content_none : (bytes : List ℕ) → flat_map escape (take 0 bytes) ≡ []
-content_none bytes = refl
-
-pub content_all : (bytes : List ℕ) → flat_map escape (take (length bytes) bytes) ≡ flat_map escape bytes
-content_all bytes = ap (flat_map escape) (take-length bytes)
-
-pub content_more : (bytes : List ℕ) (i : ℕ) → i < length bytes → flat_map escape (take (i + 1) bytes) ≡ flat_map escape (take i bytes) ++ escape (get_or bytes i 0)
-content_more bytes i inside =
-    ap (flat_map escape) (take_more bytes i 0 inside) ∙ flat_map-append escape (take i bytes) (get_or bytes i 0 ∷ [])
-    ∙ ap (λ (last : List ℕ). flat_map escape (take i bytes) ++ last) (append_nil (escape (get_or bytes i 0)))
 
 pub grouped_parts : (group : Bool) (old text : List ℕ) → ((old ++ cond group (codes "( ") []) ++ text) ++ cond group (codes " )") [] ≡ old ++ grouped group text
 grouped_parts true old text = append_assoc (old ++ codes "( ") text (codes " )") ∙ append_assoc old (codes "( ") (text ++ codes " )") ∙ ap (λ (all : List ℕ). old ++ all) (sym (append_assoc (codes "( ") text (codes " )")))
@@ -62,17 +50,17 @@ any_spelled rule parts items place is same =
 
 -- one part more, behind the word
 pub parts_step : (first initial out appended final word : List ℕ) (place : Under) (parts : List Rule) (i : ℕ) (part : Rule)
-    → Grew first out × (out ≡ initial ++ more_spelling word place (listed (map tree_of (take i parts)))) → appended ≡ out ++ word → final ≡ appended ++ spelling_under place (tree_of part)
+    → IsPrefix first out × (out ≡ initial ++ more_spelling word place (listed (map tree_of (take i parts)))) → appended ≡ out ++ word → final ≡ appended ++ spelling_under place (tree_of part)
     → i < length parts → part ≡ get_or parts i part
-    → Grew first final × (final ≡ initial ++ more_spelling word place (listed (map tree_of (take (i + 1) parts))))
+    → IsPrefix first final × (final ≡ initial ++ more_spelling word place (listed (map tree_of (take (i + 1) parts))))
 parts_step first initial out appended final word place parts i part before append put inside is =
     let spelled = spelling_under place (tree_of part) in
     let all : final ≡ (out ++ word) ++ spelled = put ∙ ap (λ (text : List ℕ). text ++ spelled) append in
-    let grown : final ≡ first ++ ((before.0.more ++ word) ++ spelled) = all ∙ ap (λ (text : List ℕ). (text ++ word) ++ spelled) before.0.added
-    ∙ ap (λ (text : List ℕ). text ++ spelled) (append_assoc first before.0.more word) ∙ append_assoc first (before.0.more ++ word) spelled in
+    let grown : final ≡ first ++ ((before.0.0 ++ word) ++ spelled) = all ∙ ap (λ (text : List ℕ). (text ++ word) ++ spelled) before.0.1
+    ∙ ap (λ (text : List ℕ). text ++ spelled) (append_assoc first before.0.0 word) ∙ append_assoc first (before.0.0 ++ word) spelled in
     let so_far = more_spelling word place (listed (map tree_of (take i parts))) in
     let same : final ≡ initial ++ ((so_far ++ word) ++ spelled) = all ∙ ap (λ (text : List ℕ). (text ++ word) ++ spelled) before.1
     ∙ ap (λ (text : List ℕ). text ++ spelled) (append_assoc initial so_far word) ∙ append_assoc initial (so_far ++ word) spelled in (
-      record { more = (before.0.more ++ word) ++ spelled; added = grown },
+      ((before.0.0 ++ word) ++ spelled, grown),
       same ∙ ap (λ (text : List ℕ). initial ++ text) (sym (more_parts word place parts i part inside is)),
     )

@@ -16,9 +16,11 @@ use Rattle.query_lang.specs.declared.token.Operator.TheVariants as operator
 use Rattle.query_lang.specs.declared.write.Under.{Under}
 use Rattle.query_lang.specs.declared.write.Under.TheVariants as under
 use Rattle.query_lang.specs.Tokens.{past_blanks, word_of, name_at, long_symbol, short_symbol, token_at}
-use Rattle.query_lang.specs.Grammar.{field_of, test_of, listed, any_of, all_of, IsAny, IsAll, IsOne, one_alternative, more_alternatives, one_part, more_parts, negated, grouped as in_group, always, never, tagged, test, IsQuery}
+use Rattle.ev_types.specs.Names.{protocol_field, named_field, field_name}
+use Rattle.query_lang.specs.Grammar.{test_of, listed, any_of, all_of, IsAny, IsAll, IsOne, one_alternative, more_alternatives, one_part, more_parts, negated, grouped as in_group, always, never, tagged, test, IsQuery}
 use Rattle.query_lang.specs.Queries.{Begins}
-use Rattle.query_lang.specs.Spelling.{string_spelling, field_name, value_spelling, order_symbol, groups_any, groups_all, grouped, spelling_under, joined_spelling, more_spelling, spelling}
+use Rattle.string_literals.specs.Literals.{string_literal}
+use Rattle.query_lang.specs.Spelling.{value_spelling, order_symbol, groups_any, groups_all, grouped, spelling_under, joined_spelling, more_spelling, spelling}
 use Rattle.query_lang.specs.ReadBack.{IsReadable, IsReadBack}
 use Rattle.query_lang.proofs.ReadBackLaws.{Separated, begins_blank, begins_name, begins_string, begins_number}
 use Rattle.query_lang.proofs.ParserLaws.{append_nil}
@@ -117,7 +119,7 @@ groups_under_not (Search f p) = tt
 
 test_is : (f : Field) (o : Operator) (literal : Token) (tree : Tree) (more : List Token) → GoodField f → test_of f o literal ≡ Some tree
     → IsOne (name_token f ∷ token.Operator o ∷ literal ∷ more) tree more
-unfolding field_of
+unfolding named_field protocol_field
 test_is field.Host o literal tree more good is = test refl is
 test_is field.Service o literal tree more good is = test refl is
 test_is field.State o literal tree more good is = test refl is
@@ -334,10 +336,10 @@ word_spells word t read rest more last ends begins = (rest, read rest ends, begi
 not_spells : (text : List ℕ) (tokens : List Token → List Token) → Spells text tokens → Spells (codes "not " ++ text) (λ more. token.Not ∷ tokens more)
 not_spells text tokens spells rest more last ends begins = (32 ∷ (text ++ rest), not_read (text ++ rest), begins_blank (text ++ rest) (tokens more) last (spells rest more last ends begins))
 
-tagged_spells : (tag : List ℕ) → is_utf8 tag ≡ true → Spells (codes "tagged " ++ string_spelling tag) (λ more. token.Tagged ∷ token.Quoted tag ∷ more)
+tagged_spells : (tag : List ℕ) → is_utf8 tag ≡ true → Spells (codes "tagged " ++ string_literal tag) (λ more. token.Tagged ∷ token.Quoted tag ∷ more)
 tagged_spells tag utf8 rest more last ends begins =
-    let string : Begins (string_spelling tag ++ rest) (token.Quoted tag ∷ more) last = (rest, begins_string tag rest utf8, begins) in
-    (32 ∷ (string_spelling tag ++ rest), tagged_read (string_spelling tag ++ rest), begins_blank (string_spelling tag ++ rest) (token.Quoted tag ∷ more) last string)
+    let string : Begins (string_literal tag ++ rest) (token.Quoted tag ∷ more) last = (rest, begins_string tag rest utf8, begins) in
+    (32 ∷ (string_literal tag ++ rest), tagged_read (string_literal tag ++ rest), begins_blank (string_literal tag ++ rest) (token.Quoted tag ∷ more) last string)
 
 test_spells : (f : Field) (symbol literal : List ℕ) (o : Operator) (t : Token) → GoodField f
     → ((bytes : List ℕ) → (after : List ℕ) × (symbol ++ bytes ≡ 32 ∷ after)) → ((bytes : List ℕ) → token_at (past_blanks (symbol ++ bytes)) ≡ Some (token.Operator o, 32 ∷ bytes))
@@ -394,9 +396,9 @@ mutual
   rule_spells (Equal f v) good place = test_spells f (codes " = ") (value_spelling v) operator.Equal (value_token v) good.0 (λ bytes. (61 ∷ 32 ∷ bytes, refl)) equal_read (λ rest ends. value_read v rest good.1 ends)
   rule_spells (Order f order number) good place = test_spells f (order_symbol order) (signed_decimal number) (operator.Order order) (token.Number number) good.0 (order_blank order) (order_read order)
       (λ rest ends. begins_number number rest good.1 ends)
-  rule_spells (Wild f pattern) good place = test_spells f (codes " =~ ") (string_spelling pattern) operator.Wild (token.Quoted pattern) good.0 (λ bytes. (61 ∷ 126 ∷ 32 ∷ bytes, refl)) wild_read
+  rule_spells (Wild f pattern) good place = test_spells f (codes " =~ ") (string_literal pattern) operator.Wild (token.Quoted pattern) good.0 (λ bytes. (61 ∷ 126 ∷ 32 ∷ bytes, refl)) wild_read
       (λ rest ends. begins_string pattern rest good.1)
-  rule_spells (Search f pattern) good place = test_spells f (codes " ~= ") (string_spelling pattern) operator.Search (token.Quoted pattern) good.0 (λ bytes. (126 ∷ 61 ∷ 32 ∷ bytes, refl)) search_read
+  rule_spells (Search f pattern) good place = test_spells f (codes " ~= ") (string_literal pattern) operator.Search (token.Quoted pattern) good.0 (λ bytes. (126 ∷ 61 ∷ 32 ∷ bytes, refl)) search_read
       (λ rest ends. begins_string pattern rest good.1)
 
   joined_spells : (trees : Trees) → GoodTrees trees → (word : List ℕ) (t : Token) (place : Under) → Between word t → Spells (joined_spelling word place trees) (joined_tokens t place trees)

@@ -2,6 +2,7 @@
 use Rattle.std.specs.Prelude.{◌≡◌, ℕ, zero, suc, ◌-◌, ◌≤◌, nat_lt, if◌then◌else◌, List, [], ◌∷◌, length, Option, Some, None, Result, Ok, Err}
 use Rattle.pred_eval.specs.Tree.{Tree}
 use Rattle.pred_eval.specs.Truth.{searches}
+use Rattle.query_lang.specs.declared.read.TheConstants.{MAX_BYTES}
 use Rattle.query_lang.specs.declared.fault.QueryFault.{QueryFault}
 use Rattle.query_lang.specs.declared.fault.QueryFault.TheVariants.{TooLong, Refused}
 use Rattle.query_lang.specs.Tokens.{past_blanks, token_at}
@@ -26,7 +27,7 @@ answer_within (suc n) size state (b ∷ bytes) = and_then (taken (size - length 
 
 unfoldable pub query_of : List ℕ → Result Tree QueryFault
 query_of text =
-    if nat_lt 4096 (length text) then Err (TooLong (length text))
+    if nat_lt MAX_BYTES (length text) then Err (TooLong (length text))
     else answer_within (length text) (length text) start (past_blanks text)
 
 abbrev pub TextsAreAnswered : Type 0
@@ -37,4 +38,4 @@ AnswersAreOne = (text : List ℕ) (answer other : Result Tree QueryFault) → Is
 
 -- a query has no more patterns than bytes
 abbrev pub PatternsAreFew : Type 0
-PatternsAreFew = (text : List ℕ) (tree : Tree) → IsAnswer text (Ok tree) → length (searches tree) ≤ 4096
+PatternsAreFew = (text : List ℕ) (tree : Tree) → IsAnswer text (Ok tree) → length (searches tree) ≤ MAX_BYTES

@@ -1,9 +1,8 @@
--- The grammar of queries, as a relation between tokens and the tree that they stand for. A part of a query is read as
+-- The grammar of queries, as a relation between tokens and the tree that they represent. A part of a query is read as
 -- "the tokens are such a part, and then these": so each rule says how the first of them is made of smaller ones.
-use Rattle.std.specs.Prelude.{◌≡◌, ℕ, Bool, true, false, ◌||◌, if◌then◌else◌, List, [], ◌∷◌, ◌++◌, Option, Some, None, codes}
-use Rattle.std.specs.Str.{bytes_eq}
+use Rattle.std.specs.Prelude.{◌≡◌, ℕ, Bool, true, false, List, [], ◌∷◌, ◌++◌, Option, Some, None}
 use Rattle.ev_types.specs.declared.field.Field.{Field}
-use Rattle.ev_types.specs.declared.field.Field.TheVariants.{Host, Service, State, Description, Time, Ttl, Metric, Attribute}
+use Rattle.ev_types.specs.Names.{named_field}
 use Rattle.ev_types.specs.declared.value.Value.TheVariants as value
 use Rattle.pred_eval.specs.Tree.{Tree, Trees, Always, Never, Not, All, Any, Tagged, Equal, Order, Wild, Search, none, also}
 use Rattle.query_lang.specs.declared.token.Token.{Token}
@@ -11,24 +10,7 @@ use Rattle.query_lang.specs.declared.token.Token.TheVariants as token
 use Rattle.query_lang.specs.declared.token.Operator.{Operator}
 use Rattle.query_lang.specs.declared.token.Operator.TheVariants as operator
 
--- these are no fields that a query may name
-abbrev pub is_hidden : List ℕ → Bool
-is_hidden name = bytes_eq name (codes "metric_f") || bytes_eq name (codes "metric_d") || bytes_eq name (codes "time_micros") || bytes_eq name (codes "tags")
-
--- the field that a name means
-unfoldable pub field_of : List ℕ → Option Field
-field_of name =
-    if bytes_eq name (codes "host") then Some Host
-    else (if bytes_eq name (codes "service") then Some Service
-    else (if bytes_eq name (codes "state") then Some State
-    else (if bytes_eq name (codes "description") then Some Description
-    else (if bytes_eq name (codes "time") then Some Time
-    else (if bytes_eq name (codes "ttl") then Some Ttl
-    else (if bytes_eq name (codes "metric") || bytes_eq name (codes "metric_sint64") then Some Metric
-    else (if is_hidden name then None
-    else Some (Attribute name))))))))
-
--- what a field is tested for, by the operator and the token behind it
+-- what a field is tested for, by the operator and the token after it
 abbrev pub test_of : Field → Operator → Token → Option Tree
 test_of field operator.Equal (token.Quoted text) = Some (Equal field (value.Text text))
 test_of field operator.Equal (token.Number number) = Some (Equal field (value.Number number))
@@ -45,7 +27,7 @@ abbrev pub listed : List Tree → Trees
 listed [] = none
 listed (tree ∷ trees) = also tree (listed trees)
 
--- two parts or more that `or` joins are Any, and those that `and` joins All; one part stands for itself
+-- two parts or more that `or` joins are Any, and those that `and` joins All; one part is itself
 abbrev pub any_of : List Tree → Tree
 any_of [] = Any none
 any_of (tree ∷ []) = tree
@@ -73,16 +55,16 @@ mutual
     never : {rest : List Token} → IsOne (token.False ∷ rest) Never rest
     nothing : {rest : List Token} → IsOne (token.Nil ∷ rest) Never rest
     tagged : {tag : List ℕ} {rest : List Token} → IsOne (token.Tagged ∷ token.Quoted tag ∷ rest) (Tagged tag) rest
-    test : {name : List ℕ} {field : Field} {operator : Operator} {literal : Token} {tree : Tree} {rest : List Token} → field_of name ≡ Some field → test_of field operator literal ≡ Some tree
+    test : {name : List ℕ} {field : Field} {operator : Operator} {literal : Token} {tree : Tree} {rest : List Token} → named_field name ≡ Some field → test_of field operator literal ≡ Some tree
         → IsOne (token.Name name ∷ token.Operator operator ∷ literal ∷ rest) tree rest
 
--- the tokens are a whole query, which stands for the tree
+-- the tokens are a whole query, which represents the tree
 abbrev pub IsQuery : List Token → Tree → Type 0
 IsQuery tokens tree = (trees : List Tree) × IsAny tokens trees [] × (tree ≡ any_of trees)
 
--- the tokens are the front of a query, or a whole one
-abbrev pub IsFront : List Token → Type 0
-IsFront tokens = (more : List Token) × (tree : Tree) × IsQuery (tokens ++ more) tree
+-- the tokens are a prefix of a query, or a whole one
+abbrev pub IsQueryPrefix : List Token → Type 0
+IsQueryPrefix tokens = (more : List Token) × (tree : Tree) × IsQuery (tokens ++ more) tree
 
 -- the tokens of which a query has 64 at most
 abbrev pub is_opening : Token → Bool

@@ -2,8 +2,10 @@
 use Rattle.std.specs.Prelude.{◌≡◌, ℕ, zero, suc, ◌+◌, nat_lt, if◌then◌else◌, List, [], ◌∷◌, ◌++◌, map, reverse, Option, Some, None, Result, Ok, Err}
 use Rattle.std.specs.Option.{option_map}
 use Rattle.ev_types.specs.declared.field.Field.{Field}
+use Rattle.ev_types.specs.Names.{named_field}
 use Rattle.pred_eval.specs.declared.rule.Rule.{Rule}
 use Rattle.pred_eval.specs.Tree.{Tree, Always, Never, Not, Tagged, tree_of}
+use Rattle.query_lang.specs.declared.parser.TheConstants.{MAX_OPENINGS}
 use Rattle.query_lang.specs.declared.fault.QueryFault.{QueryFault}
 use Rattle.query_lang.specs.declared.fault.QueryFault.TheVariants.{Refused, TooDeep, Memory}
 use Rattle.query_lang.specs.declared.parser.Group as code_group
@@ -13,10 +15,10 @@ use Rattle.query_lang.specs.declared.parser.Wants.TheVariants as wants
 use Rattle.query_lang.specs.declared.token.Operator.{Operator}
 use Rattle.query_lang.specs.declared.token.Token.{Token}
 use Rattle.query_lang.specs.declared.token.Token.TheVariants as token
-use Rattle.query_lang.specs.Grammar.{field_of, test_of, any_of, all_of}
+use Rattle.query_lang.specs.Grammar.{test_of, any_of, all_of}
 
--- what stands so far between a parenthesis and its partner, or in the whole query: the alternatives before the last
--- `or`, the parts behind it, and how many `not` stand before the next part
+-- the part of a query between a parenthesis and its partner, or of the whole query, as far as it was read: the alternatives before the last
+-- `or`, the parts after it, and how many `not` come before the next part
 pub record Group : Type 0 where
   pub alternatives : List Tree
   pub parts : List Tree
@@ -50,7 +52,7 @@ negated (suc n) tree = negated n (Not tree)
 abbrev pub with_part : Tree → Group → Group
 with_part tree group = record { alternatives = group.alternatives; parts = group.parts ++ negated group.nots tree ∷ []; nots = 0 }
 
--- what a whole group stands for
+-- the tree of a whole group
 abbrev pub tree_of_group : Group → Tree
 tree_of_group group = any_of (group.alternatives ++ all_of group.parts ∷ [])
 
@@ -91,7 +93,7 @@ operand_step state token.True = Some (joined Always state)
 operand_step state token.False = Some (joined Never state)
 operand_step state token.Nil = Some (joined Never state)
 operand_step state token.Tagged = Some (wanting wants.Tag state)
-operand_step state (token.Name name) = option_map (λ field. wanting (wants.Operator field) state) (field_of name)
+operand_step state (token.Name name) = option_map (λ field. wanting (wants.Operator field) state) (named_field name)
 operand_step state t = None
 
 abbrev pub tag_step : State → Token → Option State
@@ -119,11 +121,11 @@ step_at (wants.Operator field) = operator_step field
 step_at (wants.Literal field operator) = literal_step field operator
 step_at wants.Joint = joint_step
 
--- the state behind the token, where it may come
+-- the state after the token, where it may come
 unfoldable pub step : State → Token → Option State
 step state t = step_at state.wants state t
 
--- what the tokens so far stand for, where they are a whole query
+-- the tree of the tokens so far, where they are a whole query
 abbrev pub finished : Wants → List Group → Group → Option Tree
 finished wants.Joint [] group = Some (tree_of_group group)
 finished next outer group = None
@@ -134,7 +136,7 @@ finish state = finished state.wants state.outer state.group
 -- a token at a place may not come, or is one too many of its kind
 abbrev pub within_limit : ℕ → Option State → Result State QueryFault
 within_limit place None = Err (Refused place)
-within_limit place (Some state) = if nat_lt 64 state.openings then Err (TooDeep place) else Ok state
+within_limit place (Some state) = if nat_lt MAX_OPENINGS state.openings then Err (TooDeep place) else Ok state
 
 -- what a call answers, and the state that it leaves
 abbrev pub Leaves : {X : Type 0} → Result X QueryFault → State → Result State QueryFault → Type 0

@@ -1,6 +1,8 @@
 -- What is written is read again.
 use Rattle.std.specs.Prelude.{ℕ, ◌≤◌, List, [], length, Ok}
 use Rattle.pred_eval.specs.Tree.{Tree}
+use Rattle.query_lang.specs.declared.read.TheConstants.{MAX_BYTES}
+use Rattle.query_lang.specs.declared.parser.TheConstants.{MAX_OPENINGS}
 use Rattle.query_lang.specs.declared.token.Token.{Token}
 use Rattle.query_lang.specs.Grammar.{IsQuery}
 use Rattle.query_lang.specs.Queries.{Begins, openings, IsAnswer}
@@ -15,7 +17,7 @@ pub record IsReadBack (tree : Tree) : Type 0 where
   pub tokens : List Token
   pub text_is : Begins (spelling tree) tokens []
   pub query : IsQuery tokens tree
-  pub reads : length (spelling tree) ≤ 4096 → openings tokens ≤ 64 → IsAnswer (spelling tree) (Ok tree)
+  pub reads : length (spelling tree) ≤ MAX_BYTES → openings tokens ≤ MAX_OPENINGS → IsAnswer (spelling tree) (Ok tree)
 
 abbrev pub QueriesAreReadBack : Type 0
 QueriesAreReadBack = (tree : Tree) → IsReadable tree → IsReadBack tree

@@ -14,7 +14,7 @@ abbrev pub with_rest : List ℕ → Result State QueryFault → Result (State ×
 with_rest rest (Ok state) = Ok (state, rest)
 with_rest rest (Err fault) = Err fault
 
--- the state behind what was read at the place, and the bytes from the next token on
+-- the state after what was read at the place, and the bytes from the next token on
 abbrev pub taken : ℕ → State → Option (Token × List ℕ) → Result (State × List ℕ) QueryFault
 taken place state None = Err (Refused place)
 taken place state (Some found) = with_rest (past_blanks found.1) (within_limit place (step state found.0))

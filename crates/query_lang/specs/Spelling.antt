@@ -1,49 +1,20 @@
 -- How a rule is written as a query.
-use Rattle.std.specs.Prelude.{◌≡◌, ℕ, ◌==◌, Bool, true, false, if◌then◌else◌, List, [], ◌∷◌, ◌++◌, codes}
+use Rattle.std.specs.Prelude.{ℕ, Bool, true, false, List, [], ◌++◌, codes}
 use Rattle.std.specs.Fmt.{signed_decimal}
-use Rattle.std.specs.List.{flat_map}
-use Rattle.ev_types.specs.declared.field.Field.{Field}
-use Rattle.ev_types.specs.declared.field.Field.TheVariants.{Host, Service, State, Description, Time, Ttl, Metric, Attribute}
+use Rattle.ev_types.specs.Names.{field_name}
 use Rattle.ev_types.specs.declared.value.Value.{Value}
 use Rattle.ev_types.specs.declared.value.Value.TheVariants.{Nil, Number, Text}
+use Rattle.string_literals.specs.Literals.{string_literal}
 use Rattle.pred_eval.specs.declared.rule.Ordering.{Ordering}
 use Rattle.pred_eval.specs.declared.rule.Ordering.TheVariants.{Less, LessEqual, Greater, GreaterEqual}
 use Rattle.pred_eval.specs.Tree.{Tree, Trees, Always, Never, Not, All, Any, Tagged, Equal, Order, Wild, Search, none, also}
 use Rattle.query_lang.specs.declared.write.Under.{Under}
 use Rattle.query_lang.specs.declared.write.Under.TheVariants as under
 
--- some bytes were added behind the old ones
-pub record Grew (old new : List ℕ) : Type 0 where
-  pub more : List ℕ
-  pub added : new ≡ old ++ more
-
--- a byte in a string: an escape for `"`, `\`, LF, CR and tab, and itself else
-abbrev pub escape : ℕ → List ℕ
-escape b =
-    if b == 34 then 92 ∷ 34 ∷ []
-    else (if b == 92 then 92 ∷ 92 ∷ []
-    else (if b == 10 then 92 ∷ 110 ∷ []
-    else (if b == 13 then 92 ∷ 114 ∷ []
-    else (if b == 9 then 92 ∷ 116 ∷ []
-    else b ∷ []))))
-
-abbrev pub string_spelling : List ℕ → List ℕ
-string_spelling text = 34 ∷ (flat_map escape text ++ 34 ∷ [])
-
-abbrev pub field_name : Field → List ℕ
-field_name Host = codes "host"
-field_name Service = codes "service"
-field_name State = codes "state"
-field_name Description = codes "description"
-field_name Time = codes "time"
-field_name Ttl = codes "ttl"
-field_name Metric = codes "metric"
-field_name (Attribute key) = key
-
 abbrev pub value_spelling : Value → List ℕ
 value_spelling Nil = codes "nil"
 value_spelling (Number number) = signed_decimal number
-value_spelling (Text text) = string_spelling text
+value_spelling (Text text) = string_literal text
 
 abbrev pub order_symbol : Ordering → List ℕ
 order_symbol Less = codes " < "
@@ -51,7 +22,7 @@ order_symbol LessEqual = codes " <= "
 order_symbol Greater = codes " > "
 order_symbol GreaterEqual = codes " >= "
 
--- whether parentheses stand round Any and All there
+-- whether Any and All are in parentheses there
 abbrev pub groups_any : Under → Bool
 groups_any under.Query = false
 groups_any under.Any = true
@@ -76,11 +47,11 @@ abbrev mutual
   spelling_under place (Not tree) = codes "not " ++ spelling_under under.Not tree
   spelling_under place (All trees) = grouped (groups_all place) (joined_spelling (codes " and ") under.All trees)
   spelling_under place (Any trees) = grouped (groups_any place) (joined_spelling (codes " or ") under.Any trees)
-  spelling_under place (Tagged tag) = codes "tagged " ++ string_spelling tag
+  spelling_under place (Tagged tag) = codes "tagged " ++ string_literal tag
   spelling_under place (Equal field value) = field_name field ++ (codes " = " ++ value_spelling value)
   spelling_under place (Order field order number) = field_name field ++ (order_symbol order ++ signed_decimal number)
-  spelling_under place (Wild field pattern) = field_name field ++ (codes " =~ " ++ string_spelling pattern)
-  spelling_under place (Search field pattern) = field_name field ++ (codes " ~= " ++ string_spelling pattern)
+  spelling_under place (Wild field pattern) = field_name field ++ (codes " =~ " ++ string_literal pattern)
+  spelling_under place (Search field pattern) = field_name field ++ (codes " ~= " ++ string_literal pattern)
 
   -- rules with the word between them
   pub joined_spelling : List ℕ → Under → Trees → List ℕ

@@ -1,4 +1,4 @@
--- The tokens of a query, read from the front of its text on.
+-- The tokens of a query, read from the start of its text on.
 use Rattle.std.specs.Prelude.{◌≡◌, ℕ, ℤ, pos, neg_ℤ, ◌+◌, ◌^◌, ◌==◌, ◌||◌, ◌&&◌, nat_lt, nat_le, Bool, true, false, if◌then◌else◌, unwrap_or, List, [], ◌∷◌, length, take, drop, Option, Some, None, codes}
 use Rattle.std.specs.Char.{is_ascii_alphabetic, is_ascii_alphanumeric, is_ascii_digit}
 use Rattle.std.specs.List.{prefix_len}
@@ -6,6 +6,7 @@ use Rattle.std.specs.Option.{option_map, option_and_then}
 use Rattle.std.specs.Str.{bytes_eq, is_utf8}
 use Rattle.std.specs.Str.Parse.{AllDigits, digits_value}
 use Rattle.pred_eval.specs.declared.rule.Ordering.TheVariants.{Less, LessEqual, Greater, GreaterEqual}
+use Rattle.string_literals.specs.Literals.{escaped}
 use Rattle.query_lang.specs.declared.token.Token.{Token}
 use Rattle.query_lang.specs.declared.token.Token.TheVariants.{Open, Close, And, Or, Not, True, False, Nil, Tagged, Operator, Name, Number, Quoted}
 use Rattle.query_lang.specs.declared.token.Operator.TheVariants.{Equal, Unequal, Order, Wild, Search}
@@ -58,45 +59,35 @@ number_of (b ∷ digits) =
     if b == 45 then (if nat_lt 0 (length digits) && nat_le (digits_value 10 digits) (2 ^ 63) then Some (neg_ℤ (pos (digits_value 10 digits))) else None)
     else (if nat_lt (digits_value 10 (b ∷ digits)) (2 ^ 63) then Some (pos (digits_value 10 (b ∷ digits))) else None)
 
--- a name byte stands at the front
+-- the first byte is a name byte
 abbrev pub goes_on : List ℕ → Bool
 goes_on [] = false
 goes_on (b ∷ bytes) = is_name_byte b
 
--- the first byte and the longest run of digits behind it, with no name byte behind these
+-- the first byte and the longest run of digits after it, with no name byte after these
 unfoldable pub number_at : List ℕ → Option (Token × List ℕ)
 number_at bytes = let size = 1 + prefix_len is_ascii_digit (drop 1 bytes) in
     if goes_on (drop size bytes) then None
     else option_map (λ number. (Number number, drop size bytes)) (number_of (take size bytes))
 
--- what a backslash and the byte stand for in a string
-abbrev pub escaped : ℕ → Option ℕ
-escaped b =
-    if b == 34 then Some 34
-    else (if b == 92 then Some 92
-    else (if b == 110 then Some 10
-    else (if b == 114 then Some 13
-    else (if b == 116 then Some 9
-    else None))))
-
--- the byte that a byte of a string stands for, with the one behind it where it is a backslash, and the bytes behind these
+-- the byte that a byte of a string represents, with the one after it where it is a backslash, and the bytes after these
 abbrev pub unescape : ℕ → List ℕ → Option (ℕ × List ℕ)
 unescape b [] = if b == 92 then None else Some (b, [])
 unescape b (c ∷ bytes) = if b == 92 then option_map (λ meant. (meant, bytes)) (escaped c) else Some (b, c ∷ bytes)
 
-abbrev pub with_front : ℕ → Option (List ℕ × List ℕ) → Option (List ℕ × List ℕ)
-with_front b = option_map (λ found. (b ∷ found.0, found.1))
+abbrev pub with_prefix : ℕ → Option (List ℕ × List ℕ) → Option (List ℕ × List ℕ)
+with_prefix b = option_map (λ found. (b ∷ found.0, found.1))
 
--- what a string holds, and the bytes behind its closing quote
+-- what a string holds, and the bytes after its closing quote
 abbrev pub quoted : List ℕ → Option (List ℕ × List ℕ)
 quoted [] = None
 quoted (b ∷ []) = if b == 34 then Some ([], []) else None
 quoted (b ∷ c ∷ bytes) =
     if b == 34 then Some ([], c ∷ bytes)
-    else (if b == 92 then option_and_then (λ meant. with_front meant (quoted bytes)) (escaped c)
-    else with_front b (quoted (c ∷ bytes)))
+    else (if b == 92 then option_and_then (λ meant. with_prefix meant (quoted bytes)) (escaped c)
+    else with_prefix b (quoted (c ∷ bytes)))
 
--- a string behind its opening quote. What it holds is UTF-8.
+-- a string after its opening quote. What it holds is UTF-8.
 unfoldable pub string_at : List ℕ → Option (Token × List ℕ)
 string_at bytes = option_and_then (λ found. if is_utf8 found.0 then Some (Quoted found.0, found.1) else None) (quoted bytes)
 
@@ -129,7 +120,7 @@ symbol_at [] = None
 symbol_at (b ∷ []) = option_map (λ token. (token, [])) (short_symbol b)
 symbol_at (b ∷ c ∷ bytes) = or_short b (c ∷ bytes) (option_map (λ token. (token, bytes)) (long_symbol b c))
 
--- the token at the front, and the bytes behind it. It is unreadable where there is none.
+-- the first token, and the bytes after it. It is unreadable where there is no token.
 unfoldable pub token_at : List ℕ → Option (Token × List ℕ)
 token_at [] = None
 token_at (b ∷ bytes) =

@@ -10,14 +10,14 @@ pub enum QueryFault {
     /// The text has `length` bytes, which are more than 4,096.
     #[error("query of {length} bytes over 4096")]
     TooLong { length: usize },
-    /// No query goes on as the text does at `place`, counted in bytes from its start. There stands a token that may
+    /// No query goes on as the text does at `place`, counted in bytes from its start: there is a token that may
     /// not come here, or no token, or the text ends, and then `place` is its length.
     #[error("query refused at {place}")]
     Refused { place: usize },
-    /// At `place` stands the 65th token that is `(` or `not`, where the grammar allows it.
+    /// At `place` is the 65th token that is `(` or `not`, where the grammar allows it.
     #[error("query too deep at {place}")]
     TooDeep { place: usize },
-    /// Memory was wanted and none was left.
+    /// Out of memory.
     #[error("out of memory")]
     Memory,
 }

@@ -1,51 +1,16 @@
-//! What names, tests and parts of a query stand for.
+//! The rules that names, tests and parts of a query represent.
 
 ghost use Rattle.std.specs.Prelude.{◌≡◌, ◌≢◌, [], ◌∷◌, length, map, IfOk, MatchOption};
 ghost use Rattle.std.specs.Option.{option_map};
 ghost use Rattle.pred_eval.specs.Tree.{Not, tree_of};
-ghost use Rattle.query_lang.specs.Grammar.{field_of, is_hidden, test_of, any_of, all_of};
+ghost use Rattle.query_lang.specs.Grammar.{test_of, any_of, all_of};
 
-use crate::scan::is;
 use crate::token::{Operator, Token};
-use ev_types::{Field, Memory, Text, Value};
+use ev_types::{Field, Memory, Value};
 use pred_eval::{Ordering, Rule, Rules};
 use std::alloc::Global;
 
-/// The field that the name means. Some names mean none.
-#[tactic(auto, unfolding(crate::specs::Grammar::field_of))]
-pub(crate) fn field_of(name: Text) -> Option<Field>
-    ensures { result ≡ field_of name }
-{
-    let bytes = name.as_bytes();
-    if is(bytes, b"host") {
-        Some(Field::Host)
-    } else if is(bytes, b"service") {
-        Some(Field::Service)
-    } else if is(bytes, b"state") {
-        Some(Field::State)
-    } else if is(bytes, b"description") {
-        Some(Field::Description)
-    } else if is(bytes, b"time") {
-        Some(Field::Time)
-    } else if is(bytes, b"ttl") {
-        Some(Field::Ttl)
-    } else if is(bytes, b"metric") || is(bytes, b"metric_sint64") {
-        Some(Field::Metric)
-    } else if is_hidden(bytes) {
-        None
-    } else {
-        Some(Field::Attribute(name))
-    }
-}
-
-/// Whether no query may name the field.
-fn is_hidden(name: &[u8]) -> bool
-    ensures { result ≡ is_hidden name.now }
-{
-    is(name, b"metric_f") || is(name, b"metric_d") || is(name, b"time_micros") || is(name, b"tags")
-}
-
-/// What the field is tested for by the operator and the literal behind it, or `None` where these do not go together.
+/// What the field is tested for by the operator and the literal after it, or `None` where these do not go together.
 pub(crate) fn test_of(
     alloc: Global,
     field: Field,
@@ -103,7 +68,7 @@ pub(crate) fn negated(alloc: Global, rule: Rule) -> Result<Rule, Memory>
     Ok(Rule::Not(Box::new(alloc, rule)?))
 }
 
-/// What parts that `or` joins stand for. There is one of them at least.
+/// The rule of parts that `or` joins. There is at least one part.
 #[tactic(auto, using(crate::proofs::Rules::any_rule, crate::proofs::Rules::any_only))]
 pub(crate) fn any_of(mut parts: Rules) -> Rule
     ensures { tree_of result ≡ any_of (map tree_of parts.items) }
@@ -114,7 +79,7 @@ pub(crate) fn any_of(mut parts: Rules) -> Rule
     }
 }
 
-/// What parts that `and` joins stand for. There is one of them at least.
+/// The rule of parts that `and` joins. There is at least one part.
 #[tactic(auto, using(crate::proofs::Rules::all_rule, crate::proofs::Rules::all_only))]
 pub(crate) fn all_of(mut parts: Rules) -> Rule
     ensures { tree_of result ≡ all_of (map tree_of parts.items) }
@@ -127,7 +92,9 @@ pub(crate) fn all_of(mut parts: Rules) -> Rule
 
 /// Takes out the part, where there is exactly one.
 fn only_part(parts: &mut Rules) -> Option<Rule>
-    ensures { MatchOption result ((length parts.old.items ≢ 1) × (parts.new.items ≡ parts.old.items)) (λ part. parts.old.items ≡ part ∷ []) }
+    ensures { MatchOption result
+        ((length parts.old.items ≢ 1) × (parts.new.items ≡ parts.old.items))
+        (λ part. parts.old.items ≡ part ∷ []) }
 {
     if parts.len() == 1 { parts.pop() } else { None }
 }

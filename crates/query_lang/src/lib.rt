@@ -14,8 +14,6 @@ mod write;
 pub use answer::texts_have_one_answer;
 pub use fault::QueryFault;
 pub use law::written_is_read;
-pub use read::read_query;
+pub use parser::MAX_OPENINGS;
+pub use read::{MAX_BYTES, read_query};
 pub use write::write_query;
-
-#[cfg(test)]
-mod tests;

@@ -8,24 +8,24 @@ ghost use Rattle.query_lang.specs.Grammar.{all_of};
 ghost use Rattle.query_lang.specs.Parsing.{start, empty_group, group_of, state_of, negated, with_part, tree_of_group, wanting, joined, opened, denied, next_alternative, closed, operand_step, tag_step, operator_step, literal_step, joint_step, step, finish, within_limit, Leaves, Ends};
 
 use crate::fault::QueryFault;
-use crate::grammar::{all_of, any_of, field_of, negated, test_of};
+use crate::grammar::{all_of, any_of, negated, test_of};
 use crate::token::{Operator, Token};
 use ev_types::{Field, Memory, Text};
 use pred_eval::{Rule, Rules};
 use std::alloc::Global;
 use std::mem;
 
-/// How many tokens of a query may be `(` or `not`.
-const MAX_OPENINGS: usize = 64;
+/// The most tokens of a query that are `(` or `not`.
+pub const MAX_OPENINGS: usize = 64;
 
-/// What stands so far between a parenthesis and its partner, or in the whole query.
+/// The part of a query between a parenthesis and its partner, or of the whole query, as far as it was read.
 #[derive(Drop)]
 pub(crate) struct Group {
-    /// What stands before the last `or`.
+    /// The alternatives before the last `or`.
     alternatives: Rules,
-    /// What stands behind it, and before the last `and`.
+    /// The parts after it, before the last `and`.
     parts: Rules,
-    /// How many `not` stand before the next part.
+    /// The number of `not` before the next part.
     nots: usize,
 }
 
@@ -33,7 +33,7 @@ pub(crate) struct Group {
 #[derive(Debug, Drop)]
 pub(crate) enum Wants {
     Operand,
-    /// The string behind `tagged`.
+    /// The string after `tagged`.
     Tag,
     Operator(Field),
     Literal(Field, Operator),
@@ -63,7 +63,7 @@ impl Group {
         }
     }
 
-    /// Adds a part, behind the `not`s that wait for it.
+    /// Adds a part, after the `not`s that wait for it.
     fn add_part(&mut self, alloc: Global, rule: Rule) -> Result<(), Memory>
         ensures { OnOk result (group_of self.new ≡ with_part (tree_of rule) (group_of self.old)) }
     {
@@ -82,7 +82,7 @@ impl Group {
         Ok(())
     }
 
-    /// What the whole group stands for.
+    /// The rule of the whole group.
     fn into_rule(mut self, alloc: Global) -> Result<Rule, Memory>
         ensures { IfOk result (λ rule. tree_of rule ≡ tree_of_group (group_of self)) }
     {
@@ -91,7 +91,7 @@ impl Group {
     }
 }
 
-/// The rule behind so many `not`s.
+/// The rule after n `not`s.
 #[tactic(auto, using(crate::proofs::ParserLaws::negated_more))]
 fn deny(alloc: Global, nots: usize, rule: Rule) -> Result<Rule, Memory>
     ensures { IfOk result (λ denied. tree_of denied ≡ negated nots (tree_of rule)) }
@@ -115,7 +115,7 @@ impl Parser {
         }
     }
 
-    /// Takes the next token, which stands at `place`. After an error the parser is of no more use.
+    /// Takes the next token, which is at `place`. After an error the parser is of no more use.
     #[tactic(auto, unfolding(crate::specs::Parsing::step))]
     pub(crate) fn take(
         &mut self,
@@ -123,7 +123,7 @@ impl Parser {
         token: Token,
         place: usize,
     ) -> Result<(), QueryFault>
-        requires few { self.old.openings ≤ 64 }
+        requires few { self.old.openings ≤ MAX_OPENINGS }
         requires nots { self.old.group.nots ≤ self.old.openings }
         ensures { Leaves result (state_of self.new) (within_limit place (step (state_of self.old) token)) }
     {
@@ -139,7 +139,7 @@ impl Parser {
         Ok(())
     }
 
-    /// The rule that the tokens stand for, where they are a whole query of `length` bytes.
+    /// The rule of the tokens, where they are a whole query of `length` bytes.
     #[tactic(auto, unfolding(crate::specs::Parsing::finish))]
     pub(crate) fn finish(self, alloc: Global, length: usize) -> Result<Rule, QueryFault>
         ensures { Ends result length (finish (state_of self)) }
@@ -151,7 +151,7 @@ impl Parser {
     }
 
     fn take_operand(&mut self, alloc: Global, token: Token, place: usize) -> Result<(), QueryFault>
-        requires few { self.old.openings ≤ 64 }
+        requires few { self.old.openings ≤ MAX_OPENINGS }
         requires nots { self.old.group.nots ≤ self.old.openings }
         ensures { Leaves result (state_of self.new) (within_limit place (operand_step (state_of self.old) token)) }
     {
@@ -168,10 +168,10 @@ impl Parser {
     }
 
     fn take_name(&mut self, name: Text, place: usize) -> Result<(), QueryFault>
-        requires { self.old.openings ≤ 64 }
+        requires { self.old.openings ≤ MAX_OPENINGS }
         ensures { Leaves result (state_of self.new) (within_limit place (operand_step (state_of self.old) (Token.Name name))) }
     {
-        let Some(field) = field_of(name) else {
+        let Some(field) = Field::named(name) else {
             return Err(QueryFault::Refused { place });
         };
         self.wants = Wants::Operator(field);
@@ -179,7 +179,7 @@ impl Parser {
     }
 
     fn take_tag(&mut self, alloc: Global, token: Token, place: usize) -> Result<(), QueryFault>
-        requires { self.old.openings ≤ 64 }
+        requires { self.old.openings ≤ MAX_OPENINGS }
         ensures { Leaves result (state_of self.new) (within_limit place (tag_step (state_of self.old) token)) }
     {
         let Token::Quoted(tag) = token else {
@@ -190,7 +190,7 @@ impl Parser {
     }
 
     fn take_operator(&mut self, field: Field, token: Token, place: usize) -> Result<(), QueryFault>
-        requires { self.old.openings ≤ 64 }
+        requires { self.old.openings ≤ MAX_OPENINGS }
         ensures { Leaves result (state_of self.new) (within_limit place (operator_step field (state_of self.old) token)) }
     {
         let Token::Operator(operator) = token else {
@@ -208,7 +208,7 @@ impl Parser {
         token: Token,
         place: usize,
     ) -> Result<(), QueryFault>
-        requires { self.old.openings ≤ 64 }
+        requires { self.old.openings ≤ MAX_OPENINGS }
         ensures { Leaves result (state_of self.new) (within_limit place (literal_step field operator (state_of self.old) token)) }
     {
         let Some(rule) = test_of(alloc, field, operator, token)? else {
@@ -219,7 +219,7 @@ impl Parser {
     }
 
     fn take_joint(&mut self, alloc: Global, token: Token, place: usize) -> Result<(), QueryFault>
-        requires { self.old.openings ≤ 64 }
+        requires { self.old.openings ≤ MAX_OPENINGS }
         ensures { Leaves result (state_of self.new) (within_limit place (joint_step (state_of self.old) token)) }
     {
         match token {
@@ -245,7 +245,7 @@ impl Parser {
 
     /// Begins a group.
     fn open(&mut self, alloc: Global, place: usize) -> Result<(), QueryFault>
-        requires { self.old.openings ≤ 64 }
+        requires { self.old.openings ≤ MAX_OPENINGS }
         ensures { Leaves result (state_of self.new) (within_limit place (Some (opened (state_of self.old)))) }
     {
         self.count_opening(place)?;
@@ -264,7 +264,7 @@ impl Parser {
 
     /// Denies the next operand.
     fn deny_next(&mut self, place: usize) -> Result<(), QueryFault>
-        requires few { self.old.openings ≤ 64 }
+        requires few { self.old.openings ≤ MAX_OPENINGS }
         requires nots { self.old.group.nots ≤ self.old.openings }
         ensures { Leaves result (state_of self.new) (within_limit place (Some (denied (state_of self.old)))) }
     {
@@ -275,9 +275,9 @@ impl Parser {
     }
 
     fn count_opening(&mut self, place: usize) -> Result<(), QueryFault>
-        requires { self.old.openings ≤ 64 }
-        ensures ok { OnOk result ((self.old.openings < 64) × (self.new ≡ record self.old { openings = self.old.openings + 1 })) }
-        ensures err { IfErr result (λ fault. (self.old.openings ≡ 64) × (fault ≡ QueryFault.TooDeep place)) }
+        requires { self.old.openings ≤ MAX_OPENINGS }
+        ensures ok { OnOk result ((self.old.openings < MAX_OPENINGS) × (self.new ≡ record self.old { openings = self.old.openings + 1 })) }
+        ensures err { IfErr result (λ fault. (self.old.openings ≡ MAX_OPENINGS) × (fault ≡ QueryFault.TooDeep place)) }
     {
         if self.openings >= MAX_OPENINGS {
             return Err(QueryFault::TooDeep { place });
@@ -288,7 +288,7 @@ impl Parser {
 
     /// Ends the innermost group, which is an operand of the one around it.
     fn close(&mut self, alloc: Global, place: usize) -> Result<(), QueryFault>
-        requires { self.old.openings ≤ 64 }
+        requires { self.old.openings ≤ MAX_OPENINGS }
         ensures { Leaves result (state_of self.new) (within_limit place (closed (state_of self.old).outer (state_of self.old))) }
     {
         let Some(outer) = self.outer.pop() else {

@@ -6,6 +6,7 @@ ghost use Rattle.query_lang.specs.Parsing.{state_of};
 ghost use Rattle.query_lang.specs.Queries.{IsAnswer, Says};
 ghost use Rattle.query_lang.specs.Reading.{taken, Takes, Reads};
 ghost use Rattle.query_lang.specs.Tokens.{token_at};
+ghost use Rattle.query_lang.specs.declared.parser.TheConstants.{MAX_OPENINGS};
 ghost use Rattle.query_lang.specs.declared.fault.QueryFault.{QueryFault};
 
 use crate::fault::QueryFault;
@@ -14,10 +15,10 @@ use crate::scan::{ScanFault, past_blanks, token_at};
 use pred_eval::Rule;
 use std::alloc::Global;
 
-/// How many bytes a query may have.
-const MAX_BYTES: usize = 4096;
+/// The most bytes of a query.
+pub const MAX_BYTES: usize = 4096;
 
-/// The rule that the text states as a query, or the first place at which it is none. A query has at most 4,096 bytes,
+/// The rule that the text states as a query, or the first place at which it is not valid. A query has at most 4,096 bytes,
 /// and at most 64 tokens that are `(` or `not`.
 pub fn read_query(alloc: Global, text: &[u8]) -> Result<Rule, QueryFault>
     ensures query { IfOk result (λ rule. IsAnswer text.now (Ok (tree_of rule))) }
@@ -43,14 +44,14 @@ fn read_short(alloc: Global, text: &[u8]) -> Result<Rule, QueryFault>
     parser.finish(alloc, text.len())
 }
 
-/// Hands the token at the front on to the parser, and gives the bytes from the next one on.
+/// Gives the first token to the parser, and returns the bytes from the next one on.
 fn take_next<'a>(
     alloc: Global,
     rest: &'a [u8],
     place: usize,
     parser: &mut Parser,
 ) -> Result<&'a [u8], QueryFault>
-    requires few { parser.old.openings ≤ 64 }
+    requires few { parser.old.openings ≤ MAX_OPENINGS }
     requires nots { parser.old.group.nots ≤ parser.old.openings }
     ensures { Takes result (state_of parser.new) (taken place (state_of parser.old) (token_at rest.now)) }
 {

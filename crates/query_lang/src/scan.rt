@@ -1,4 +1,4 @@
-//! The tokens of a text, from the front on.
+//! The tokens of a text, one after the other.
 
 ghost use Rattle.std.specs.Prelude.{◌≡◌, ◌<◌, ◌≤◌, length, take, Some, None, if◌then◌else◌, OnOk, OnSome, IfOk, IfSome, IsTrue};
 ghost use Rattle.std.specs.List.{prefix_len};
@@ -6,7 +6,7 @@ ghost use Rattle.std.specs.Char.{is_ascii_digit};
 ghost use Rattle.std.specs.Str.{is_utf8, bytes_eq};
 ghost use Rattle.std.specs.Option.{option_map};
 ghost use Rattle.query_lang.specs.Answers.{Gives};
-ghost use Rattle.query_lang.specs.Tokens.{is_blank, is_name_byte, is_name_start, is_number_start, past_blanks, goes_on, token_at, name_at, word_of, number_at, number_of, IsLiteral, symbol_at, long_symbol, short_symbol, string_at, quoted, unescape, escaped};
+ghost use Rattle.query_lang.specs.Tokens.{is_blank, is_name_byte, is_name_start, is_number_start, past_blanks, goes_on, token_at, name_at, word_of, number_at, number_of, IsLiteral, symbol_at, long_symbol, short_symbol, string_at, quoted, unescape};
 ghost use Rattle.query_lang.specs.declared.scan.ScanFault.TheVariants.{Memory as out_of_memory};
 
 use crate::token::{Operator, Token};
@@ -14,6 +14,7 @@ use ev_types::{Blob, Memory, Text, TextFault};
 use pred_eval::Ordering;
 use std::alloc::{AllocFailed, Global};
 use std::str;
+use string_literals::escaped;
 
 /// Why no token was read.
 #[derive(Clone, Copy, Debug, PartialEq, Eq)]
@@ -44,7 +45,7 @@ pub(crate) fn past_blanks(bytes: &[u8]) -> &[u8]
     rest
 }
 
-/// The token at the front of the bytes, and the bytes behind it.
+/// The first token of the bytes, and the bytes after it.
 #[tactic(auto, unfolding(crate::specs::Tokens::token_at))]
 pub(crate) fn token_at(alloc: Global, bytes: &[u8]) -> Result<(Token, &[u8]), ScanFault>
     ensures read { Gives (λ x. (x.0, x.1.now)) ScanFault.Unreadable result (token_at bytes.now) }
@@ -82,7 +83,7 @@ fn is_number_start(byte: u8) -> bool
     byte == b'-' || byte.is_ascii_digit()
 }
 
-/// The name at the front, or the word that it is.
+/// The name at the start, or the word that it is.
 #[tactic(auto, using(crate::proofs::ScanLaws::names_are_utf8), unfolding(crate::specs::Tokens::name_at))]
 fn name_at(alloc: Global, bytes: &[u8]) -> Result<(Token, &[u8]), ScanFault>
     ensures { Gives (λ x. (x.0, x.1.now)) ScanFault.Unreadable result (Some (name_at bytes.now)) }
@@ -95,7 +96,7 @@ fn name_at(alloc: Global, bytes: &[u8]) -> Result<(Token, &[u8]), ScanFault>
     Ok((token, rest))
 }
 
-/// How many name bytes stand at the front.
+/// The number of name bytes at the start.
 fn name_len(bytes: &[u8]) -> usize
     ensures value { result ≡ prefix_len is_name_byte bytes.now }
     ensures within { result ≤ length bytes.now }
@@ -103,7 +104,7 @@ fn name_len(bytes: &[u8]) -> usize
     bytes.iter().take_while(|byte| is_name_byte(**byte)).count()
 }
 
-/// How many digits stand at the front.
+/// The number of digits at the start.
 fn digits_len(bytes: &[u8]) -> usize
     ensures value { result ≡ prefix_len is_ascii_digit bytes.now }
     ensures within { result ≤ length bytes.now }
@@ -138,7 +139,7 @@ fn word_of(name: &[u8]) -> Option<Token>
     }
 }
 
-pub(crate) fn is(bytes: &[u8], wanted: &[u8]) -> bool
+fn is(bytes: &[u8], wanted: &[u8]) -> bool
     ensures { result ≡ bytes_eq bytes.now wanted.now }
 {
     bytes == wanted
@@ -156,7 +157,7 @@ fn read_text(alloc: Global, bytes: &[u8]) -> Result<Text, ScanFault>
     }
 }
 
-/// The number at the front.
+/// The number at the start.
 #[tactic(auto, using(crate::proofs::ScanLaws::literal_at), unfolding(crate::specs::Tokens::number_at))]
 fn number_at(bytes: &[u8]) -> Option<(Token, &[u8])>
     requires { IsLiteral (take 1 bytes.now) }
@@ -171,7 +172,7 @@ fn number_at(bytes: &[u8]) -> Option<(Token, &[u8])>
     Some((Token::Number(number), rest))
 }
 
-/// Whether a name byte stands at the front.
+/// Whether the first byte is a name byte.
 fn goes_on(bytes: &[u8]) -> bool
     ensures { result ≡ goes_on bytes.now }
 {
@@ -193,7 +194,7 @@ fn number_of(literal: &[u8]) -> Option<i64>
     literal.parse::<i64>().ok()
 }
 
-/// The string behind its opening quote.
+/// The string after its opening quote.
 #[tactic(auto, unfolding(crate::specs::Tokens::string_at))]
 fn string_at(alloc: Global, bytes: &[u8]) -> Result<(Token, &[u8]), ScanFault>
     ensures { Gives (λ x. (x.0, x.1.now)) ScanFault.Unreadable result (string_at bytes.now) }
@@ -203,7 +204,7 @@ fn string_at(alloc: Global, bytes: &[u8]) -> Result<(Token, &[u8]), ScanFault>
     Ok((Token::Quoted(text), rest))
 }
 
-/// What a string holds, and the bytes behind its closing quote.
+/// What a string holds, and the bytes after its closing quote.
 #[tactic(auto, using(crate::proofs::ScanLaws::behind_more, crate::proofs::ScanLaws::behind_none, crate::proofs::ScanLaws::quoted_stops, crate::proofs::ScanLaws::quoted_more))]
 fn quoted(alloc: Global, bytes: &[u8]) -> Result<(Blob, &[u8]), ScanFault>
     ensures { Gives (λ x. (x.0, x.1.now)) ScanFault.Unreadable result (quoted bytes.now) }
@@ -223,7 +224,7 @@ fn quoted(alloc: Global, bytes: &[u8]) -> Result<(Blob, &[u8]), ScanFault>
     Err(ScanFault::Unreadable)
 }
 
-/// The byte that the byte stands for, with the one behind it where it is a backslash, and the bytes behind these.
+/// The byte that the byte represents, with the one after it where it is a backslash, and the bytes after these.
 fn unescape(byte: u8, after: &[u8]) -> Option<(u8, &[u8])>
     ensures { option_map (λ x. (x.0, x.1.now)) result ≡ unescape byte after.now }
 {
@@ -235,20 +236,7 @@ fn unescape(byte: u8, after: &[u8]) -> Option<(u8, &[u8])>
     Some((meant, after))
 }
 
-/// What a backslash and the letter stand for.
-fn escaped(letter: u8) -> Option<u8>
-    ensures { result ≡ escaped letter }
-{
-    match letter {
-        b'"' | b'\\' => Some(letter),
-        b'n' => Some(b'\n'),
-        b'r' => Some(b'\r'),
-        b't' => Some(b'\t'),
-        _ => None,
-    }
-}
-
-/// The longest symbol at the front.
+/// The longest symbol at the start.
 fn symbol_at(bytes: &[u8]) -> Option<(Token, &[u8])>
     ensures { option_map (λ x. (x.0, x.1.now)) result ≡ symbol_at bytes.now }
 {

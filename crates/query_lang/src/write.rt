@@ -1,18 +1,21 @@
 //! Writing rules as queries.
 
 ghost use Rattle.std.specs.Prelude.{◌≡◌, ◌++◌, ◌∷◌, [], map, OnOk, OnErr, codes, if◌then◌else◌};
-ghost use Rattle.std.specs.List.{flat_map};
 ghost use Rattle.std.specs.Fmt.{signed_decimal};
+ghost use Rattle.list_laws.specs.Prefix.{IsPrefix};
+ghost use Rattle.ev_types.specs.Names.{field_name};
+ghost use Rattle.string_literals.specs.Literals.{string_literal};
 ghost use Rattle.pred_eval.specs.Tree.{tree_of};
 ghost use Rattle.query_lang.specs.Grammar.{listed};
-ghost use Rattle.query_lang.specs.Spelling.{Grew, spelling, spelling_under, joined_spelling, more_spelling, grouped, groups_any, groups_all, field_name, value_spelling, order_symbol, string_spelling, escape};
+ghost use Rattle.query_lang.specs.Spelling.{spelling, spelling_under, joined_spelling, more_spelling, grouped, groups_any, groups_all, value_spelling, order_symbol};
 
 use ev_types::{Blob, Field, Memory, Text, Value};
 use itoa::Buffer;
 use pred_eval::{Ordering, Rule};
 use std::alloc::Global;
+use string_literals::put_literal;
 
-/// What a rule stands under in a query.
+/// What a rule is written under in a query.
 #[derive(Clone, Copy, Debug, PartialEq, Eq)]
 pub(crate) enum Under {
     /// Nothing, or parentheses.
@@ -23,21 +26,21 @@ pub(crate) enum Under {
 }
 
 /// Appends the rule as a query, with single spaces between the tokens and parentheses only where they are needed: round
-/// All and Any under Not and under All, and round Any under Any. An inequality is written with `not`. After a want of
-/// memory `out` begins with what it had.
+/// All and Any under Not and under All, and round Any under Any. An inequality is written with `not`. After
+/// `Memory` the old bytes of `out` are a prefix of it.
 pub fn write_query(alloc: Global, rule: &Rule, out: &mut Blob) -> Result<(), Memory>
     ensures ok { OnOk result (out.new ≡ out.old ++ spelling (tree_of rule.now)) }
-    ensures err { OnErr result (Grew out.old out.new) }
+    ensures err { OnErr result (IsPrefix out.old out.new) }
 {
     put_rule(alloc, rule, Under::Query, out)?;
     Ok(())
 }
 
-/// Appends a rule as it stands under another.
+/// Appends a rule that is written under another.
 #[cycle(spell)]
 fn put_rule(alloc: Global, rule: &Rule, under: Under, out: &mut Blob) -> Result<(), Memory>
     ensures ok { OnOk result (out.new ≡ out.old ++ spelling_under under (tree_of rule.now)) }
-    ensures err { OnErr result (Grew out.old out.new) }
+    ensures err { OnErr result (IsPrefix out.old out.new) }
 {
     match rule {
         Rule::Always => out.append(alloc, b"true")?,
@@ -65,8 +68,9 @@ fn put_rule(alloc: Global, rule: &Rule, under: Under, out: &mut Blob) -> Result<
 #[cycle(spell)]
 #[tactic(auto, using(crate::proofs::SpellingLaws::grouped_parts))]
 fn put_all(alloc: Global, parts: &[Rule], under: Under, out: &mut Blob) -> Result<(), Memory>
-    ensures ok { OnOk result (out.new ≡ out.old ++ grouped (groups_all under) (joined_spelling (codes " and ") Under.All (listed (map tree_of parts.now)))) }
-    ensures err { OnErr result (Grew out.old out.new) }
+    ensures ok { OnOk result
+        (out.new ≡ out.old ++ grouped (groups_all under) (joined_spelling (codes " and ") Under.All (listed (map tree_of parts.now)))) }
+    ensures err { OnErr result (IsPrefix out.old out.new) }
 {
     let group = matches!(under, Under::All | Under::Not);
     put_open(alloc, group, out)?;
@@ -79,8 +83,9 @@ fn put_all(alloc: Global, parts: &[Rule], under: Under, out: &mut Blob) -> Resul
 #[cycle(spell)]
 #[tactic(auto, using(crate::proofs::SpellingLaws::grouped_parts))]
 fn put_any(alloc: Global, parts: &[Rule], under: Under, out: &mut Blob) -> Result<(), Memory>
-    ensures ok { OnOk result (out.new ≡ out.old ++ grouped (groups_any under) (joined_spelling (codes " or ") Under.Any (listed (map tree_of parts.now)))) }
-    ensures err { OnErr result (Grew out.old out.new) }
+    ensures ok { OnOk result
+        (out.new ≡ out.old ++ grouped (groups_any under) (joined_spelling (codes " or ") Under.Any (listed (map tree_of parts.now)))) }
+    ensures err { OnErr result (IsPrefix out.old out.new) }
 {
     let group = !matches!(under, Under::Query);
     put_open(alloc, group, out)?;
@@ -99,8 +104,9 @@ fn put_parts(
     under: Under,
     out: &mut Blob,
 ) -> Result<(), Memory>
-    ensures ok { OnOk result (out.new ≡ out.old ++ joined_spelling word.now under (listed (map tree_of parts.now))) }
-    ensures err { OnErr result (Grew out.old out.new) }
+    ensures ok { OnOk result
+        (out.new ≡ out.old ++ joined_spelling word.now under (listed (map tree_of parts.now))) }
+    ensures err { OnErr result (IsPrefix out.old out.new) }
 {
     let Some((first, rest)) = parts.split_first() else {
         return Ok(());
@@ -115,7 +121,7 @@ fn put_parts(
 
 fn put_open(alloc: Global, group: bool, out: &mut Blob) -> Result<(), Memory>
     ensures ok { OnOk result (out.new ≡ out.old ++ (if group then codes "( " else [])) }
-    ensures err { OnErr result (Grew out.old out.new) }
+    ensures err { OnErr result (IsPrefix out.old out.new) }
 {
     if group {
         out.append(alloc, b"( ")?;
@@ -125,7 +131,7 @@ fn put_open(alloc: Global, group: bool, out: &mut Blob) -> Result<(), Memory>
 
 fn put_close(alloc: Global, group: bool, out: &mut Blob) -> Result<(), Memory>
     ensures ok { OnOk result (out.new ≡ out.old ++ (if group then codes " )" else [])) }
-    ensures err { OnErr result (Grew out.old out.new) }
+    ensures err { OnErr result (IsPrefix out.old out.new) }
 {
     if group {
         out.append(alloc, b" )")?;
@@ -134,24 +140,25 @@ fn put_close(alloc: Global, group: bool, out: &mut Blob) -> Result<(), Memory>
 }
 
 fn put_tagged(alloc: Global, tag: &Text, out: &mut Blob) -> Result<(), Memory>
-    ensures ok { OnOk result (out.new ≡ out.old ++ (codes "tagged " ++ string_spelling tag.now)) }
-    ensures err { OnErr result (Grew out.old out.new) }
+    ensures ok { OnOk result (out.new ≡ out.old ++ (codes "tagged " ++ string_literal tag.now)) }
+    ensures err { OnErr result (IsPrefix out.old out.new) }
 {
     out.append(alloc, b"tagged ")?;
-    put_string(alloc, tag, out)?;
+    put_literal(alloc, tag, out)?;
     Ok(())
 }
 
 fn put_equal(alloc: Global, field: &Field, value: &Value, out: &mut Blob) -> Result<(), Memory>
-    ensures ok { OnOk result (out.new ≡ out.old ++ (field_name field.now ++ (codes " = " ++ value_spelling value.now))) }
-    ensures err { OnErr result (Grew out.old out.new) }
+    ensures ok { OnOk result
+        (out.new ≡ out.old ++ (field_name field.now ++ (codes " = " ++ value_spelling value.now))) }
+    ensures err { OnErr result (IsPrefix out.old out.new) }
 {
-    put_field(alloc, field, out)?;
+    out.append(alloc, field.name())?;
     out.append(alloc, b" = ")?;
     match value {
         Value::Nil => out.append(alloc, b"nil")?,
         Value::Number(number) => put_number(alloc, *number, out)?,
-        Value::Text(text) => put_string(alloc, text, out)?,
+        Value::Text(text) => put_literal(alloc, text, out)?,
     }
     Ok(())
 }
@@ -163,10 +170,11 @@ fn put_order(
     number: i64,
     out: &mut Blob,
 ) -> Result<(), Memory>
-    ensures ok { OnOk result (out.new ≡ out.old ++ (field_name field.now ++ (order_symbol order ++ signed_decimal number))) }
-    ensures err { OnErr result (Grew out.old out.new) }
+    ensures ok { OnOk result
+        (out.new ≡ out.old ++ (field_name field.now ++ (order_symbol order ++ signed_decimal number))) }
+    ensures err { OnErr result (IsPrefix out.old out.new) }
 {
-    put_field(alloc, field, out)?;
+    out.append(alloc, field.name())?;
     match order {
         Ordering::Less => out.append(alloc, b" < ")?,
         Ordering::LessEqual => out.append(alloc, b" <= ")?,
@@ -184,76 +192,21 @@ fn put_pattern(
     pattern: &Text,
     out: &mut Blob,
 ) -> Result<(), Memory>
-    ensures ok { OnOk result (out.new ≡ out.old ++ (field_name field.now ++ (symbol.now ++ string_spelling pattern.now))) }
-    ensures err { OnErr result (Grew out.old out.new) }
+    ensures ok { OnOk result
+        (out.new ≡ out.old ++ (field_name field.now ++ (symbol.now ++ string_literal pattern.now))) }
+    ensures err { OnErr result (IsPrefix out.old out.new) }
 {
-    put_field(alloc, field, out)?;
+    out.append(alloc, field.name())?;
     out.append(alloc, symbol)?;
-    put_string(alloc, pattern, out)?;
-    Ok(())
-}
-
-fn put_field(alloc: Global, field: &Field, out: &mut Blob) -> Result<(), Memory>
-    ensures ok { OnOk result (out.new ≡ out.old ++ field_name field.now) }
-    ensures err { OnErr result (Grew out.old out.new) }
-{
-    match field {
-        Field::Host => out.append(alloc, b"host")?,
-        Field::Service => out.append(alloc, b"service")?,
-        Field::State => out.append(alloc, b"state")?,
-        Field::Description => out.append(alloc, b"description")?,
-        Field::Time => out.append(alloc, b"time")?,
-        Field::Ttl => out.append(alloc, b"ttl")?,
-        Field::Metric => out.append(alloc, b"metric")?,
-        Field::Attribute(key) => out.append(alloc, key.as_bytes())?,
-    }
+    put_literal(alloc, pattern, out)?;
     Ok(())
 }
 
 fn put_number(alloc: Global, number: i64, out: &mut Blob) -> Result<(), Memory>
     ensures ok { OnOk result (out.new ≡ out.old ++ signed_decimal number) }
-    ensures err { OnErr result (Grew out.old out.new) }
+    ensures err { OnErr result (IsPrefix out.old out.new) }
 {
     let mut digits = Buffer::new();
     out.append(alloc, digits.format(number).as_bytes())?;
-    Ok(())
-}
-
-/// Appends the text in double quotes.
-fn put_string(alloc: Global, text: &Text, out: &mut Blob) -> Result<(), Memory>
-    ensures ok { OnOk result (out.new ≡ out.old ++ string_spelling text.now) }
-    ensures err { OnErr result (Grew out.old out.new) }
-{
-    out.push(alloc, b'"')?;
-    put_content(alloc, text.as_bytes(), out)?;
-    out.push(alloc, b'"')?;
-    Ok(())
-}
-
-/// Appends what stands between the quotes.
-#[tactic(auto, using(crate::proofs::SpellingLaws::content_more, crate::proofs::SpellingLaws::content_all, crate::proofs::SpellingLaws::content_none))]
-fn put_content(alloc: Global, bytes: &[u8], out: &mut Blob) -> Result<(), Memory>
-    ensures ok { OnOk result (out.new ≡ out.old ++ flat_map escape bytes.now) }
-    ensures err { OnErr result (Grew out.old out.new) }
-{
-    for byte in bytes {
-        put_escaped(alloc, *byte, out)?;
-    }
-    Ok(())
-}
-
-/// Appends a byte of a string, or its escape.
-fn put_escaped(alloc: Global, byte: u8, out: &mut Blob) -> Result<(), Memory>
-    ensures ok { OnOk result (out.new ≡ out.old ++ escape byte) }
-    ensures err { OnErr result (Grew out.old out.new) }
-{
-    match byte {
-        b'"' => out.append(alloc, b"\\\"")?,
-        b'\\' => out.append(alloc, b"\\\\")?,
-        b'\n' => out.append(alloc, b"\\n")?,
-        b'\r' => out.append(alloc, b"\\r")?,
-        b'\t' => out.append(alloc, b"\\t")?,
-        _ => out.push(alloc, byte)?,
-    }
     Ok(())
 }

@@ -7,7 +7,7 @@ use Rattle.std.specs.Str.Lossy.{utf8_valid_len}
 use Rattle.sexp_read.specs.declared.fault.SexpWhy.TheVariants.{Long, Utf8}
 use Rattle.sexp_read.specs.Tokens.{lexed}
 use Rattle.sexp_read.specs.Tokens as forms
-use Rattle.sexp_read.specs.Grammar.{IsForms, longest, bracket_fault, fault_behind, forms_fault, text_fault, or_else, unclosed, open_behind, Brackets}
+use Rattle.sexp_read.specs.Grammar.{IsForms, longest, bracket_fault, fault_after, forms_fault, text_fault, or_else, unclosed, open_after, Brackets}
 use Rattle.sexp_read.specs.Tree.{FormTrees}
 use Rattle.sexp_read.proofs.FrontLaws.{closed_forms}
 use Rattle.sexp_read.proofs.Spellings.{no_bracket_fault, none_open, one_reading}
@@ -24,12 +24,12 @@ abbrev Told : Type 0
 Told = Option forms.Fault
 
 no_fault : (text : List ℕ) (trees : FormTrees) → IsForms text trees → text_fault text ≡ None
-unfolding forms_fault fault_behind
+unfolding forms_fault fault_after
 no_fault text trees h =
     fault_of_forms text h.short h.utf8
-    ∙ ap (λ (fault : Told). or_else fault (or_else (lexed text).fault (unclosed (open_behind [] (lexed text).tokens)))) (ap (bracket_fault []) h.read.spelled ∙ no_bracket_fault trees h.shallow)
-    ∙ ap (λ (fault : Told). or_else fault (unclosed (open_behind [] (lexed text).tokens))) h.read.faultless
-    ∙ ap unclosed (ap (open_behind []) h.read.spelled ∙ none_open trees)
+    ∙ ap (λ (fault : Told). or_else fault (or_else (lexed text).fault (unclosed (open_after [] (lexed text).tokens)))) (ap (bracket_fault []) h.read.spelled ∙ no_bracket_fault trees h.shallow)
+    ∙ ap (λ (fault : Told). or_else fault (unclosed (open_after [] (lexed text).tokens))) h.read.faultless
+    ∙ ap unclosed (ap (open_after []) h.read.spelled ∙ none_open trees)
 
 same_forms : (text : List ℕ) (trees others : FormTrees) → IsForms text trees → IsForms text others → trees ≡ others
 same_forms text trees others h k = one_reading trees others (sym h.read.spelled ∙ k.read.spelled)
@@ -70,12 +70,12 @@ none_unclosed [] is = refl
 none_unclosed (innermost ∷ stack) is = cc
 
 forms_of : (text : List ℕ) → length text ≤ longest → is_utf8 text ≡ true → forms_fault text ≡ None → (trees : FormTrees) × IsForms text trees
-unfolding forms_fault fault_behind
+unfolding forms_fault fault_after
 forms_of text short utf8 none =
     let tokens = (lexed text).tokens in
-    let outer = or_none (bracket_fault [] tokens) (or_else (lexed text).fault (unclosed (open_behind [] tokens))) none in
-    let inner = or_none (lexed text).fault (unclosed (open_behind [] tokens)) outer.1 in
-    let (trees, spelled) = closed_forms tokens outer.0 (none_unclosed (open_behind [] tokens) inner.1) in
+    let outer = or_none (bracket_fault [] tokens) (or_else (lexed text).fault (unclosed (open_after [] tokens))) none in
+    let inner = or_none (lexed text).fault (unclosed (open_after [] tokens)) outer.1 in
+    let (trees, spelled) = closed_forms tokens outer.0 (none_unclosed (open_after [] tokens) inner.1) in
     (trees, are_forms text trees short (IsUtf8-from_is_utf8 text utf8) (record { spelled = spelled; faultless = inner.0 }) none)
 
 stands_by : (text : List ℕ) (trees : FormTrees) → IsForms text trees → (read : Result Config Fault) → config_of trees ≡ read → IsConfig text ⊎ IsRefused text

@@ -126,11 +126,11 @@ stream_listed s children otherwise first second third other same rest leads belo
     let lead = kind_forms (kind_tree (out-Stream s).kind) in
     let inner = stream_forms (list_trees (out-Stream s).children.items) in
     let outer = else_forms (stream_forms (list_trees (out-Stream s).otherwise.items)) in
-    let behind : second ≡ lead ++ inner =
+    let later : second ≡ lead ++ inner =
     below ∙ ap (λ (forms : List BareTree). forms ++ stream_forms (list_trees children)) leads
     ∙ ap (λ (streams : List Stream). lead ++ stream_forms (list_trees streams)) same in
     let whole : third ≡ lead ++ (inner ++ outer) =
-    all ∙ ap (λ (forms : List BareTree). forms ++ else_forms (stream_forms (list_trees otherwise))) behind
+    all ∙ ap (λ (forms : List BareTree). forms ++ else_forms (stream_forms (list_trees otherwise))) later
     ∙ ap (λ (streams : List Stream). (lead ++ inner) ++ else_forms (stream_forms (list_trees streams))) rest ∙ append_assoc lead inner outer in
     ap list_form whole ∙ sym (stream_formed s ∙ kind_listed (out-Stream s).kind (inner ++ outer) other)
 

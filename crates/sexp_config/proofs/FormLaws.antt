@@ -8,7 +8,7 @@ use Rattle.sexp_read.specs.declared.form.Shape as code
 use Rattle.sexp_read.specs.declared.piece.Bracket.TheVariants.{Round, Square, Curly}
 use Rattle.sexp_read.specs.Tree.{FormTree, FormTrees, Single, Group, none, also, shape_tree, form_tree, form_trees}
 use Rattle.sexp_config.specs.Steps.{start_of, nth}
-use Rattle.sexp_config.specs.Code.{Look, look_of, IsWithin, weight, behind}
+use Rattle.sexp_config.specs.Code.{Look, look_of, IsWithin, weight, later}
 use Rattle.sexp_read.specs.declared.piece.Atom.TheVariants as atom
 
 -- a form between brackets, of whose forms these are the list
@@ -78,25 +78,25 @@ look_is_within (Group Curly forms start last) = tt
 pub same_look_is_within : (look : Look) (form : FormTree) → look ≡ look_of form → IsWithin look form
 same_look_is_within look form e = subst (λ (l : Look). IsWithin l form) (sym e) (look_is_within form)
 
-pub behind_within : (forms : List Form) (n : ℕ) → n < length forms → form_trees (drop n forms) ≡ behind n (form_trees forms)
-behind_within [] n within = absurd (omega arith)
-behind_within (form ∷ forms) zero within = refl
-behind_within (form ∷ []) (suc n) within = absurd (omega arith)
-behind_within (form ∷ second ∷ forms) (suc n) within = behind_within (second ∷ forms) n (omega arith)
+pub later_within : (forms : List Form) (n : ℕ) → n < length forms → form_trees (drop n forms) ≡ later n (form_trees forms)
+later_within [] n within = absurd (omega arith)
+later_within (form ∷ forms) zero within = refl
+later_within (form ∷ []) (suc n) within = absurd (omega arith)
+later_within (form ∷ second ∷ forms) (suc n) within = later_within (second ∷ forms) n (omega arith)
 
-pub behind_past : (forms : List Form) (n : ℕ) → length forms ≤ n → behind n (form_trees forms) ≡ none
-behind_past [] zero past = refl
-behind_past [] (suc n) past = refl
-behind_past (form ∷ forms) zero past = absurd (omega arith)
-behind_past (form ∷ forms) (suc n) past = behind_past forms n (omega arith)
+pub later_past : (forms : List Form) (n : ℕ) → length forms ≤ n → later n (form_trees forms) ≡ none
+later_past [] zero past = refl
+later_past [] (suc n) past = refl
+later_past (form ∷ forms) zero past = absurd (omega arith)
+later_past (form ∷ forms) (suc n) past = later_past forms n (omega arith)
 
-behind_lighter : (n : ℕ) (forms : FormTrees) → weight (behind n forms) ≤ weight forms
-behind_lighter zero forms = omega arith
-behind_lighter (suc n) none = omega arith
-behind_lighter (suc n) (also form forms) = omega (arith, behind_lighter n forms)
+later_lighter : (n : ℕ) (forms : FormTrees) → weight (later n forms) ≤ weight forms
+later_lighter zero forms = omega arith
+later_lighter (suc n) none = omega arith
+later_lighter (suc n) (also form forms) = omega (arith, later_lighter n forms)
 
-pub behind_is_lighter : (n : ℕ) (forms rest : FormTrees) → rest ≡ behind n forms → weight rest ≤ weight forms
-behind_is_lighter n forms rest e = subst (λ (f : FormTrees). weight f ≤ weight forms) (sym e) (behind_lighter n forms)
+pub later_is_lighter : (n : ℕ) (forms rest : FormTrees) → rest ≡ later n forms → weight rest ≤ weight forms
+later_is_lighter n forms rest e = subst (λ (f : FormTrees). weight f ≤ weight forms) (sym e) (later_lighter n forms)
 
-pub behind_taken : (forms : List Form) (n : ℕ) → n < length forms → form_trees (take (length forms - n) (drop n forms)) ≡ behind n (form_trees forms)
-behind_taken forms n within = ap form_trees (take_all (length forms - n) (drop n forms) (omega (arith, length-drop n forms))) ∙ behind_within forms n within
+pub later_taken : (forms : List Form) (n : ℕ) → n < length forms → form_trees (take (length forms - n) (drop n forms)) ≡ later n (form_trees forms)
+later_taken forms n within = ap form_trees (take_all (length forms - n) (drop n forms) (omega (arith, length-drop n forms))) ∙ later_within forms n within

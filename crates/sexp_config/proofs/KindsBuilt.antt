@@ -4,12 +4,12 @@ use Rattle.std.proofs.lemmas.Bool.{and_parts}
 use Rattle.ev_types.specs.declared.field.Field.{Field}
 use Rattle.ev_types.specs.declared.settings.Set.{Set}
 use Rattle.ev_types.specs.declared.value.Value.{Value}
-use Rattle.ev_types.specs.Set.{fits}
+use Rattle.ev_types.specs.Set.{fits, all_fit}
 use Rattle.pred_eval.specs.declared.rule.Ordering.{Ordering}
 use Rattle.pred_eval.specs.declared.rule.Ordering.TheVariants.{Less, Greater}
 use Rattle.sexp_read.specs.declared.piece.Bracket.TheVariants.{Round, Square, Curly}
 use Rattle.sexp_read.specs.Tree.{FormTree, FormTrees, Single, Group, none, also}
-use Rattle.stream_plan.specs.Kinds.{may_have_otherwise, is_count, is_secs, all_fit, is_in_range}
+use Rattle.stream_plan.specs.Kinds.{may_have_otherwise, is_count, is_secs, is_in_range}
 use Rattle.stream_plan.specs.Tree.{KindTree}
 use Rattle.stream_plan.specs.Tree as plan
 use Rattle.sexp_config.specs.declared.word.StreamWord.{StreamWord}

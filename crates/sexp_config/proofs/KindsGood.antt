@@ -24,7 +24,8 @@ use Rattle.sexp_config.specs.declared.binding.Bound.TheVariants as bound
 use Rattle.sexp_config.specs.declared.word.StreamWord.{StreamWord}
 use Rattle.sexp_config.specs.declared.word.StreamWord.TheVariants as word
 use Rattle.sexp_config.specs.Steps.{Fault, ◌>>=◌, start_of, nth, argument, at_most, each}
-use Rattle.sexp_config.specs.Words.{stream_text, stream_word, bare_field, init_text}
+use Rattle.ev_types.specs.Names.{named_field, protocol_field}
+use Rattle.sexp_config.specs.Words.{stream_text, stream_word, init_text}
 use Rattle.sexp_config.specs.Words as words
 use Rattle.sexp_config.specs.Arguments.{Env, bound_value, Argument, Text, Pattern, Number, Keyword, Index, Unbound, Forms, argument_of, text_at, field_at, number_at, value_at, some_of, with_text, texts_by, texts_at, with_field, fields_by, fields_at, fitted, set_at, has_field, new_field, new_field_at, sets_from, is_number, is_ttl_field}
 use Rattle.sexp_config.specs.Rules.{rule_at}
@@ -240,11 +241,11 @@ smap_good env start forms =
     bind_good Any_ GoodKind (fold_at env f) (λ fold. Ok (plan.Smap fold)) (any_good (fold_at env f)) (λ fold _. tt))
 
 state_good : GoodField field.State
-unfolding words.field_of bare_field
+unfolding named_field protocol_field
 state_good = record { named = refl; means = refl }
 
 metric_good : GoodField field.Metric
-unfolding words.field_of bare_field
+unfolding named_field protocol_field
 metric_good = record { named = refl; means = refl }
 
 order_good : (order : Ordering) (env : Env) → GoodEnv env → (start : ℕ) (forms : FormTrees) → AreWritable (bare_trees forms) → OkGood GoodKind (order_kind order env start forms)
@@ -313,7 +314,7 @@ abbrev mutual
 
 abbrev GoodPart : Part → Type 0
 GoodPart (One one place) = HoldsGood one
-GoodPart (Rest placed) = AllHold placed.streams
+GoodPart (Rest located) = AllHold located.streams
 
 abbrev pub GoodBelow : Below → Type 0
 GoodBelow below = AllHold below.children.streams × AllHold below.otherwise.streams
@@ -332,7 +333,7 @@ ended_good below (Some place) good = tt
 
 with_part_good : (below : Below) (part : Part) (next : Option ℕ) → GoodBelow below → GoodPart part → OkGood GoodBelow (with_part below part next)
 with_part_good below (One one place) next good known = (with_stream_good below.children.streams one good.0 known, good.1)
-with_part_good below (Rest placed) next good known = ended_good (record { children = below.children; otherwise = placed }) next (good.0, known)
+with_part_good below (Rest located) next good known = ended_good (record { children = below.children; otherwise = located }) next (good.0, known)
 
 pub all_read_good : (below : Below) (readings : Readings) → GoodBelow below → GoodParts readings → OkGood GoodBelow (all_read below readings)
 unfolding all_read

@@ -12,8 +12,8 @@ use Rattle.sexp_read.specs.declared.piece.Atom.TheVariants as atom
 use Rattle.sexp_read.specs.declared.piece.Bracket.TheVariants.{Round, Square, Curly}
 use Rattle.sexp_read.specs.Tree.{FormTree, FormTrees, Single, Group, none, also}
 use Rattle.sexp_read.specs.Written.{BareTree, Leaf, Branch, no_trees, and_trees, bare_tree, bare_trees, listed}
-use Rattle.ev_types.specs.Set.{fits}
-use Rattle.stream_plan.specs.Kinds.{all_fit, is_count, is_secs, is_in_range}
+use Rattle.ev_types.specs.Set.{fits, all_fit}
+use Rattle.stream_plan.specs.Kinds.{is_count, is_secs, is_in_range}
 use Rattle.stream_plan.specs.Tree.{KindTree}
 use Rattle.stream_plan.specs.Tree as plan
 use Rattle.sexp_config.specs.declared.word.StreamWord.{StreamWord}

@@ -19,7 +19,7 @@ pub mod KindLaws
 pub mod StreamLaws
 pub mod TopLaws
 pub mod ReadLaws
-pub mod SpotLaws
+pub mod SourceLaws
 pub mod PlanLaws
 pub mod AnswerLaws
 pub mod RulesFew

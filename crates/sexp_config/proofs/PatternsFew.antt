@@ -25,14 +25,14 @@ use Rattle.sexp_config.specs.Steps.{Fault, ◌>>=◌, start_of, argument, at_mos
 use Rattle.sexp_config.specs.Words.{stream_text, stream_word, top_word}
 use Rattle.sexp_config.specs.Arguments.{Env, bound_value, text_at, number_at, texts_at, fields_at, some_of}
 use Rattle.sexp_config.specs.Rules.{rule_at}
-use Rattle.sexp_config.specs.Code.{behind}
+use Rattle.sexp_config.specs.Code.{later}
 use Rattle.sexp_config.specs.Kinds.{count_of, secs_of, field_of, sets_of, init_of, fold_at, coalesce_secs, tag_rules, all_tagged, tagged_kind, order_kind, notice_kind, where_kind, tag_kind, by_kind, smap_kind, count_and_secs, changed_kind, runs_kind, stable_kind, window_kind, counting_kind, kind_of, leads}
 use Rattle.sexp_config.specs.Streams.{Below, nothing, Part, One, Rest, with_stream, stream_of, Readings, ended, next_place, with_part, all_read, is_where, is_where_in, is_else, symbol_by, followed, worded, part_at, parts_in}
-use Rattle.sexp_config.specs.Tops.{Draft, fresh_draft, usual_server, or_usual, once, server_in, expiry_in, names_in, Step, run, top_by, top_at, tops_in}
+use Rattle.sexp_config.specs.Tops.{Draft, fresh_draft, default_server, or_default, once, server_in, expiry_in, names_in, Step, run, top_by, top_at, tops_in}
 use Rattle.sexp_config.specs.Config.{plan_fault, faultless, checked, config_from, finished, config_of, IsConfigOf}
 use Rattle.sexp_config.proofs.ReadGood.{OkGood, Any_, bind_good, any_good, weaker, ok_if}
 use Rattle.sexp_config.proofs.RulesFew.{form_brackets, brackets, few_brackets, FewRule, rule_few}
-use Rattle.sexp_config.proofs.StreamLaws.{parts_behind}
+use Rattle.sexp_config.proofs.StreamLaws.{parts_later}
 
 -- ---- kinds
 
@@ -90,18 +90,18 @@ kind_none env word.Tagged start forms h =
 kind_none env word.Over start forms h = order_none Greater env start forms
 kind_none env word.Under start forms h = order_none Less env start forms
 
--- the patterns of a kind, and those that the forms behind its own arguments can have
+-- the patterns of a kind, and those that the forms later its own arguments can have
 abbrev FewKind : Env → StreamWord → FormTrees → KindTree → Type 0
-FewKind env w forms kind = length (kind_patterns kind) + brackets (behind (leads env w forms) forms) ≤ brackets forms
+FewKind env w forms kind = length (kind_patterns kind) + brackets (later (leads env w forms) forms) ≤ brackets forms
 
-behind_less : (n : ℕ) (forms : FormTrees) → brackets (behind n forms) ≤ brackets forms
-behind_less zero forms = omega arith
-behind_less (suc n) none = omega arith
-behind_less (suc n) (also f forms) = omega (arith, behind_less n forms)
+later_less : (n : ℕ) (forms : FormTrees) → brackets (later n forms) ≤ brackets forms
+later_less zero forms = omega arith
+later_less (suc n) none = omega arith
+later_less (suc n) (also f forms) = omega (arith, later_less n forms)
 
 none_few : (env : Env) (w : StreamWord) (start : ℕ) (forms : FormTrees) → is_where w ≡ false → OkGood (FewKind env w forms) (kind_of env w start forms)
 none_few env w start forms h =
-    weaker NoPattern (FewKind env w forms) (kind_of env w start forms) (λ kind is. omega (arith, ap length is, behind_less (leads env w forms) forms)) (kind_none env w start forms h)
+    weaker NoPattern (FewKind env w forms) (kind_of env w start forms) (λ kind is. omega (arith, ap length is, later_less (leads env w forms) forms)) (kind_none env w start forms h)
 
 where_few : (env : Env) (start : ℕ) (forms : FormTrees) → OkGood (FewKind env word.Where forms) (kind_of env word.Where start forms)
 unfolding kind_of where_kind argument leads
@@ -143,11 +143,11 @@ FewStreams n streams = length (plan_patterns streams) ≤ n
 
 abbrev FewPart : ℕ → Part → Type 0
 FewPart n (One one place) = length (stream_patterns one) ≤ n
-FewPart n (Rest placed) = FewStreams n placed.streams
+FewPart n (Rest located) = FewStreams n located.streams
 
 more_few : (n m : ℕ) (part : Part) → FewPart n part → n ≤ m → FewPart m part
 more_few n m (One one place) few h = omega (arith, few, h)
-more_few n m (Rest placed) few h = omega (arith, few, h)
+more_few n m (Rest located) few h = omega (arith, few, h)
 
 abbrev FewBelow : ℕ → Below → Type 0
 FewBelow n below = length (plan_patterns below.children.streams) + length (plan_patterns below.otherwise.streams) ≤ n
@@ -169,7 +169,7 @@ ended_few n below (Some place) few = tt
 
 with_part_few : (a m : ℕ) (below : Below) (part : Part) (next : Option ℕ) → FewBelow a below → FewPart m part → OkGood (FewBelow (a + m)) (with_part below part next)
 with_part_few a m below (One one place) next few known = omega (arith, few, known, with_stream_adds below.children.streams one)
-with_part_few a m below (Rest placed) next few known = ended_few (a + m) (record { children = below.children; otherwise = placed }) next (omega (arith, few, known))
+with_part_few a m below (Rest located) next few known = ended_few (a + m) (record { children = below.children; otherwise = located }) next (omega (arith, few, known))
 
 all_read_few : (a n : ℕ) (below : Below) (readings : Readings) → FewBelow a below → PartsFew n readings → OkGood (FewBelow (a + n)) (all_read below readings)
 unfolding all_read
@@ -209,7 +209,7 @@ symbol_few (Some (bound.Keyword key)) name start = tt
 -- ---- forms
 
 abbrev FewForms : Bool → Env → FormTrees → Type 0
-FewForms may_else env forms = (n : ℕ) → PartsFew (brackets (behind n forms)) (parts_in may_else env (behind n forms))
+FewForms may_else env forms = (n : ℕ) → PartsFew (brackets (later n forms)) (parts_in may_else env (later n forms))
 
 worded_few : (may_else : Bool) (env : Env) (found : Option StreamWord) (start : ℕ) (forms : FormTrees) → FewForms (is_where_in found) env forms
     → OkGood (FewPart (1 + brackets forms)) (worded may_else env found start forms (parts_in (is_where_in found) env forms))
@@ -223,8 +223,8 @@ worded_few may_else env (Some w) start forms all =
     (λ _. bind_good (FewBelow (0 + brackets forms)) (FewPart n) (all_read nothing readings) (λ below. Ok (Rest below.children)) (all_read_few 0 (brackets forms) nothing readings nothing_few (all 0)) (λ below few. omega (arith, few))) (λ _. tt))
     (λ _. bind_good (FewKind env w forms) (FewPart n) (kind_of env w start forms) (λ kind. followed kind start (leads env w forms) forms readings) (kind_few env w start forms) (λ kind few.
     let own = leads env w forms in
-    followed_few n (brackets (behind own forms)) own start kind forms readings (omega (arith, few))
-    (subst (λ (rest : Readings). PartsFew (brackets (behind own forms)) rest) (parts_behind (is_where w) env own forms (behind own forms) refl) (all own))))
+    followed_few n (brackets (later own forms)) own start kind forms readings (omega (arith, few))
+    (subst (λ (rest : Readings). PartsFew (brackets (later own forms)) rest) (parts_later (is_where w) env own forms (later own forms) refl) (all own))))
 
 mutual
   unfolding part_at parts_in
@@ -247,7 +247,7 @@ mutual
   part_few may_else env (Group Square forms start last) = tt
   part_few may_else env (Group Curly forms start last) = tt
 
-  parts_few : (may_else : Bool) (env : Env) (forms : FormTrees) (n : ℕ) → PartsFew (brackets (behind n forms)) (parts_in may_else env (behind n forms))
+  parts_few : (may_else : Bool) (env : Env) (forms : FormTrees) (n : ℕ) → PartsFew (brackets (later n forms)) (parts_in may_else env (later n forms))
   parts_few may_else env none zero = tt
   parts_few may_else env none (suc n) = tt
   parts_few may_else env (also f forms) zero = (form_brackets f, brackets forms, omega arith, part_few may_else env f, parts_few may_else env forms zero)
@@ -337,7 +337,7 @@ passed_few n streams (Some fault) few = tt
 finished_few : (n : ℕ) (draft : Draft) → FewDraft n draft → OkGood (FewConfig n) (finished draft)
 finished_few n draft few =
     let below = draft.below.children in
-    bind_good (FewStreams n) (FewConfig n) (checked below) (λ plan. Ok (config_from draft (or_usual usual_server draft.server) plan))
+    bind_good (FewStreams n) (FewConfig n) (checked below) (λ plan. Ok (config_from draft (or_default default_server draft.server) plan))
     (passed_few n below.streams (plan_fault below) (omega (arith, few))) (λ plan known. known)
 
 config_few : (forms : FormTrees) → OkGood (FewConfig (brackets forms)) (config_of forms)

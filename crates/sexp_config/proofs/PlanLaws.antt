@@ -9,8 +9,8 @@ use Rattle.sexp_config.specs.declared.fault.ConfigFault.{ConfigFault}
 use Rattle.sexp_config.specs.declared.fault.ConfigWhy.{ConfigWhy}
 use Rattle.sexp_config.specs.declared.fault.ConfigWhy.TheVariants as why
 use Rattle.sexp_config.specs.Steps.{Fault, Fails}
-use Rattle.sexp_config.specs.Spots.{SpotTrees, place_along}
-use Rattle.sexp_config.specs.Streams.{Placed}
+use Rattle.sexp_config.specs.Sources.{SourceTrees, place_along}
+use Rattle.sexp_config.specs.Streams.{Located}
 use Rattle.sexp_config.specs.Config.{plan_fault, faultless, checked}
 use Rattle.sexp_config.specs.Code.{fault_by}
 
@@ -23,11 +23,11 @@ told cause at = option_map (λ (s : plan.Placed). let f : plan.Fault = record { 
 abbrev pub first : At → At → At → At → At → Option plan.Fault
 first a b c d e = option_or (told Many a) (option_or (told Deep b) (option_or (told Children c) (option_or (told Range d) (told Kind e))))
 
-abbrev placed_fault : SpotTrees → ConfigWhy → At → Option Fault
-placed_fault places cause at = option_map (λ (s : plan.Placed). (place_along 0 places s.path, cause)) at
+abbrev located_fault : SourceTrees → ConfigWhy → At → Option Fault
+located_fault places cause at = option_map (λ (s : plan.Placed). (place_along 0 places s.path, cause)) at
 
-abbrev both : SpotTrees → At → At → Option Fault
-both places a e = option_or (placed_fault places why.Many a) (placed_fault places why.Kind e)
+abbrev both : SourceTrees → At → At → Option Fault
+both places a e = option_or (located_fault places why.Many a) (located_fault places why.Kind e)
 
 abbrev pub one : List ℕ → PlanWhy → Option plan.Fault
 one path cause = Some (record { path = path; why = cause })
@@ -40,7 +40,7 @@ abbrev path_told : List ℕ → Option plan.Fault → List ℕ
 path_told path None = path
 path_told path (Some fault) = fault.path
 
-no_fault : (places : SpotTrees) (a b c d e : At) → first a b c d e ≡ None → both places a e ≡ None
+no_fault : (places : SourceTrees) (a b c d e : At) → first a b c d e ≡ None → both places a e ≡ None
 no_fault places None None None None None none = refl
 no_fault places (Some s) b c d e none = cc
 no_fault places None (Some s) c d e none = cc
@@ -48,7 +48,7 @@ no_fault places None None (Some s) d e none = cc
 no_fault places None None None (Some s) e none = cc
 no_fault places None None None None (Some s) none = cc
 
-a_fault : (places : SpotTrees) (streams : StreamTrees) (a b c d e : At) (path : List ℕ) (cause : PlanWhy) → first a b c d e ≡ one path cause → Fails (fault_by cause (place_along 0 places path)) (faultless streams (both places a e))
+a_fault : (places : SourceTrees) (streams : StreamTrees) (a b c d e : At) (path : List ℕ) (cause : PlanWhy) → first a b c d e ≡ one path cause → Fails (fault_by cause (place_along 0 places path)) (faultless streams (both places a e))
 a_fault places streams a b c d e path Deep is = tt
 a_fault places streams a b c d e path Children is = tt
 a_fault places streams a b c d e path Range is = tt
@@ -71,16 +71,16 @@ a_fault places streams None None None None (Some s) path Kind is = ap (λ (found
     at_path p = Err (place_along 0 places p, why.Kind)
 a_fault places streams None None None None None path Kind is = cc
 
-abbrev spot_of : PlanWhy → Placed → At
-spot_of cause placed = plan.place_of cause (plan.preorder_of placed.streams)
+abbrev source_of : PlanWhy → Located → At
+source_of cause located = plan.place_of cause (plan.preorder_of located.streams)
 
-pub sound_plan : (placed : Placed) → plan.first_fault placed.streams ≡ None → checked placed ≡ Ok placed.streams
+pub sound_plan : (located : Located) → plan.first_fault located.streams ≡ None → checked located ≡ Ok located.streams
 unfolding plan.first_fault plan_fault
-sound_plan placed none = ap (faultless placed.streams) (no_fault placed.places (spot_of Many placed) (spot_of Deep placed) (spot_of Children placed) (spot_of Range placed) (spot_of Kind placed) none)
+sound_plan located none = ap (faultless located.streams) (no_fault located.places (source_of Many located) (source_of Deep located) (source_of Children located) (source_of Range located) (source_of Kind located) none)
 
-pub refused_plan : (placed : Placed) (path : List ℕ) (cause : PlanWhy) (fault : ConfigFault) (place : ℕ) → plan.first_fault placed.streams ≡ one path cause → place ≡ place_along 0 placed.places path → fault ≡ fault_by cause place →
-    Fails fault (checked placed)
+pub refused_plan : (located : Located) (path : List ℕ) (cause : PlanWhy) (fault : ConfigFault) (place : ℕ) → plan.first_fault located.streams ≡ one path cause → place ≡ place_along 0 located.places path → fault ≡ fault_by cause place →
+    Fails fault (checked located)
 unfolding plan.first_fault plan_fault
-refused_plan placed path cause fault place is at e =
-    subst (λ (f : ConfigFault). Fails f (faultless placed.streams (both placed.places (spot_of Many placed) (spot_of Kind placed)))) (sym (e ∙ ap (fault_by cause) at))
-    (a_fault placed.places placed.streams (spot_of Many placed) (spot_of Deep placed) (spot_of Children placed) (spot_of Range placed) (spot_of Kind placed) path cause is)
+refused_plan located path cause fault place is at e =
+    subst (λ (f : ConfigFault). Fails f (faultless located.streams (both located.places (source_of Many located) (source_of Kind located)))) (sym (e ∙ ap (fault_by cause) at))
+    (a_fault located.places located.streams (source_of Many located) (source_of Deep located) (source_of Children located) (source_of Range located) (source_of Kind located) path cause is)

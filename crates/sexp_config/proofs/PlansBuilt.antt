@@ -23,9 +23,9 @@ use Rattle.sexp_config.specs.declared.word.TopWord.TheVariants as top
 use Rattle.sexp_config.specs.Steps.{Fault}
 use Rattle.sexp_config.specs.Words.{top_word}
 use Rattle.sexp_config.specs.Arguments.{Env}
-use Rattle.sexp_config.specs.Spots.{place_along}
-use Rattle.sexp_config.specs.Streams.{Placed, all_read, parts_in}
-use Rattle.sexp_config.specs.Tops.{usual_server, Draft, fresh_draft, or_usual, once, server_in, expiry_in, names_in, Step, run, top_by, top_at, tops_in}
+use Rattle.sexp_config.specs.Sources.{place_along}
+use Rattle.sexp_config.specs.Streams.{Located, all_read, parts_in}
+use Rattle.sexp_config.specs.Tops.{default_server, Draft, fresh_draft, or_default, once, server_in, expiry_in, names_in, Step, run, top_by, top_at, tops_in}
 use Rattle.sexp_config.specs.Config.{plan_fault, faultless, checked, config_from, finished, config_of}
 use Rattle.sexp_config.specs.Built.{IsWellBuilt, IsLeft, ReadPlansHaveNoFault}
 use Rattle.sexp_config.proofs.ReadGood.{OkGood, Any_, bind_good, any_good, weaker}
@@ -94,7 +94,7 @@ mutual
 
 -- ---- each stream of the plan
 
-abbrev Right : faults.Placed → Type 0
+abbrev Right : faults.Located → Type 0
 Right s = StandsShallow s × HasStreamsThatMayFollow s × IsInRange s
 
 both : {A : Type 0} (P : A → Type 0) (xs ys : List A) → AllByRecursion P xs → AllByRecursion P ys → AllByRecursion P (xs ++ ys)
@@ -193,7 +193,7 @@ is_left streams path cause built is =
 
 -- ---- a plan that passes has no fault
 
-no_first : (many kind : faults.Placed → Fault) (a b c d e : At) → b ≡ None → c ≡ None → d ≡ None → option_or (option_map many a) (option_map kind e) ≡ None → first a b c d e ≡ None
+no_first : (many kind : faults.Located → Fault) (a b c d e : At) → b ≡ None → c ≡ None → d ≡ None → option_or (option_map many a) (option_map kind e) ≡ None → first a b c d e ≡ None
 no_first many kind None None None None None nb nc nd is = refl
 no_first many kind (Some s) b c d e nb nc nd is = cc
 no_first many kind None (Some s) c d e nb nc nd is = cc
@@ -201,12 +201,12 @@ no_first many kind None None (Some s) d e nb nc nd is = cc
 no_first many kind None None None (Some s) e nb nc nd is = cc
 no_first many kind None None None None (Some s) nb nc nd is = cc
 
-passed : (placed : Placed) → IsWellBuilt placed.streams → plan_fault placed ≡ None → first_fault placed.streams ≡ None
+passed : (located : Located) → IsWellBuilt located.streams → plan_fault located ≡ None → first_fault located.streams ≡ None
 unfolding first_fault plan_fault
-passed placed built is =
-    let none = has_none placed.streams built in
-    let all = preorder_of placed.streams in
-    no_first (λ s. (place_along 0 placed.places s.path, why.Many)) (λ s. (place_along 0 placed.places s.path, why.Kind))
+passed located built is =
+    let none = has_none located.streams built in
+    let all = preorder_of located.streams in
+    no_first (λ s. (place_along 0 located.places s.path, why.Many)) (λ s. (place_along 0 located.places s.path, why.Kind))
     (faults.place_of Many all) (faults.place_of Deep all) (faults.place_of Children all) (faults.place_of Range all) (faults.place_of Kind all) none.deep none.children none.range is
 
 abbrev Faultless : StreamTrees → Type 0
@@ -222,7 +222,7 @@ HasFaultless config = Faultless config.plan
 finished_faultless : (draft : Draft) → IsBuiltDraft draft → OkGood HasFaultless (finished draft)
 finished_faultless draft built =
     let below = draft.below.children in
-    bind_good Faultless HasFaultless (checked below) (λ plan. Ok (config_from draft (or_usual usual_server draft.server) plan))
+    bind_good Faultless HasFaultless (checked below) (λ plan. Ok (config_from draft (or_default default_server draft.server) plan))
     (passed_as below.streams (plan_fault below) (passed below built)) (λ plan known. known)
 
 config_faultless : (forms : FormTrees) → depth forms ≤ 64 → OkGood HasFaultless (config_of forms)

@@ -21,9 +21,10 @@ use Rattle.sexp_config.specs.declared.binding.Bound.TheVariants as bound
 use Rattle.sexp_config.specs.declared.word.RuleWord.{RuleWord}
 use Rattle.sexp_config.specs.declared.word.RuleWord.TheVariants as rule
 use Rattle.sexp_config.specs.Steps.{Fault, ◌>>=◌, start_of, nth, present, argument, at_most, each}
-use Rattle.sexp_config.specs.Words.{bare_field, field_of, is_hidden, rule_word, nil_text, true_text, false_text}
+use Rattle.ev_types.specs.Names.{is_hidden, named_field, protocol_field}
+use Rattle.sexp_config.specs.Words.{rule_word, nil_text, true_text, false_text}
 use Rattle.sexp_config.specs.Arguments.{Env, bound_value, Argument, Text, Pattern, Number, Keyword, Index, Unbound, Forms, bound_argument, argument_of, fitting, taken, text_in, keyword_in, field_in, number_in, value_in, text_at, keyword_at, field_at, number_at, value_at, ranged, ranged_at, vector_in, map_in, vector_at, map_at}
-use Rattle.sexp_config.specs.Rules.{symbol_rule, named_field, rule_field_at, Head, Word, Field_, Unknown, field_head, symbol_head, rule_head, Readings, with_rule, all_read, joined, first_read, equal_rule, order_rule, like_rule, tagged_rule, sought, field_rule, word_rule, headed_rule, rule_at, rules_in}
+use Rattle.sexp_config.specs.Rules.{symbol_rule, known_field, rule_field_at, Head, Word, Field_, Unknown, field_head, symbol_head, rule_head, Readings, with_rule, all_read, joined, first_read, equal_rule, order_rule, like_rule, tagged_rule, sought, field_rule, word_rule, headed_rule, rule_at, rules_in}
 use Rattle.sexp_config.proofs.RulesRead.{GoodField, GoodValue, GoodRule, GoodRules}
 use Rattle.sexp_config.proofs.KindsRead.{AllGood, within}
 
@@ -202,25 +203,25 @@ means_or : (name : List ℕ) (x y : Option Field) → Means name x → Means nam
 means_or name (Some a) y first second = first
 means_or name None y first second = second
 
-bare_means : (name : List ℕ) → Means name (bare_field name)
-unfolding bare_field
+bare_means : (name : List ℕ) → Means name (protocol_field name)
+unfolding protocol_field
 bare_means name =
     means_if name (bytes_eq name (codes "host")) _ _ tt (means_if name (bytes_eq name (codes "service")) _ _ tt
     (means_if name (bytes_eq name (codes "state")) _ _ tt (means_if name (bytes_eq name (codes "description")) _ _ tt
     (means_if name (bytes_eq name (codes "time")) _ _ tt (means_if name (bytes_eq name (codes "ttl")) _ _ tt
     (means_if name (bytes_eq name (codes "metric")) _ _ tt tt))))))
 
-pub field_means : (name : List ℕ) → Means name (field_of name)
-unfolding field_of
+pub field_means : (name : List ℕ) → Means name (named_field name)
+unfolding named_field
 field_means name =
-    means_or name (bare_field name) _ (bare_means name)
+    means_or name (protocol_field name) _ (bare_means name)
     (means_if name (bytes_eq name (codes "metric_sint64")) _ _ tt (means_if name (is_hidden name) _ _ tt refl))
 
-pub named_good : (name : List ℕ) (one : Field) → is_name name ≡ true → field_of name ≡ Some one → GoodField one
-unfolding field_of bare_field
+pub named_good : (name : List ℕ) (one : Field) → is_name name ≡ true → named_field name ≡ Some one → GoodField one
+unfolding named_field protocol_field
 named_good name (field.Attribute key) h is =
     let same : key ≡ name = subst (λ (found : Option Field). Means name found) is (field_means name) in
-    record { named = ap is_name same ∙ h; means = ap field_of same ∙ is }
+    record { named = ap is_name same ∙ h; means = ap named_field same ∙ is }
 named_good name field.Host h is = record { named = refl; means = refl }
 named_good name field.Service h is = record { named = refl; means = refl }
 named_good name field.State h is = record { named = refl; means = refl }
@@ -229,8 +230,8 @@ named_good name field.Time h is = record { named = refl; means = refl }
 named_good name field.Ttl h is = record { named = refl; means = refl }
 named_good name field.Metric h is = record { named = refl; means = refl }
 
-pub key_good : (key : List ℕ) → is_name key ≡ true → SomeGood GoodField (field_of key)
-key_good key h = some_from GoodField (field_of key) (λ one is. named_good key one h is)
+pub key_good : (key : List ℕ) → is_name key ≡ true → SomeGood GoodField (named_field key)
+key_good key h = some_from GoodField (named_field key) (λ one is. named_good key one h is)
 
 -- a field without the attributes
 abbrev Bare : Option Field → Type 0
@@ -241,8 +242,8 @@ bare_if : (test : Bool) (x y : Option Field) → Bare x → Bare y → Bare (con
 bare_if true x y first second = first
 bare_if false x y first second = second
 
-bare_is : (name : List ℕ) → Bare (bare_field name)
-unfolding bare_field
+bare_is : (name : List ℕ) → Bare (protocol_field name)
+unfolding protocol_field
 bare_is name =
     bare_if (bytes_eq name (codes "host")) _ _ tt (bare_if (bytes_eq name (codes "service")) _ _ tt
     (bare_if (bytes_eq name (codes "state")) _ _ tt (bare_if (bytes_eq name (codes "description")) _ _ tt
@@ -250,7 +251,7 @@ bare_is name =
     (bare_if (bytes_eq name (codes "metric")) _ _ tt tt))))))
 
 plain_good : (found : Option Field) → Bare found → SomeGood GoodField found
-unfolding field_of bare_field
+unfolding named_field protocol_field
 plain_good None h = tt
 plain_good (Some (field.Attribute key)) h = absurd h
 plain_good (Some field.Host) h = record { named = refl; means = refl }
@@ -261,8 +262,8 @@ plain_good (Some field.Time) h = record { named = refl; means = refl }
 plain_good (Some field.Ttl) h = record { named = refl; means = refl }
 plain_good (Some field.Metric) h = record { named = refl; means = refl }
 
-bare_good : (name : List ℕ) → SomeGood GoodField (bare_field name)
-bare_good name = plain_good (bare_field name) (bare_is name)
+bare_good : (name : List ℕ) → SomeGood GoodField (protocol_field name)
+bare_good name = plain_good (protocol_field name) (bare_is name)
 
 field_in_good : (given : Argument) → GoodArgument given → SomeGood GoodField (field_in given)
 field_in_good (Keyword key) good = key_good key good
@@ -332,9 +333,9 @@ each_good P step one a (also f forms) good w = bind_good P P (step a f) (λ b. e
 
 rule_field_good : (f : FormTree) → Writable f → OkGood GoodField (rule_field_at f)
 unfolding rule_field_at
-rule_field_good (Single (atom.Symbol name) start last) w = named_field_good start (bare_field name) (bare_good name)
+rule_field_good (Single (atom.Symbol name) start last) w = named_field_good start (protocol_field name) (bare_good name)
   where
-    named_field_good : (start : ℕ) (found : Option Field) → SomeGood GoodField found → OkGood GoodField (named_field start found)
+    named_field_good : (start : ℕ) (found : Option Field) → SomeGood GoodField found → OkGood GoodField (known_field start found)
     named_field_good start (Some one) good = good
     named_field_good start None good = tt
 rule_field_good f w = field_good [] tt f w
@@ -354,8 +355,8 @@ symbol_head_good None one good = field_head_good one good
 
 rule_head_good : (f : FormTree) → Writable f → GoodHead (rule_head f)
 unfolding rule_head
-rule_head_good (Single (atom.Symbol name) start last) w = symbol_head_good (rule_word name) (bare_field name) (bare_good name)
-rule_head_good (Single (atom.Keyword key) start last) w = field_head_good (field_of key) (key_good key w)
+rule_head_good (Single (atom.Symbol name) start last) w = symbol_head_good (rule_word name) (protocol_field name) (bare_good name)
+rule_head_good (Single (atom.Keyword key) start last) w = field_head_good (named_field key) (key_good key w)
 rule_head_good (Single (atom.Text text) start last) w = tt
 rule_head_good (Single (atom.Pattern text) start last) w = tt
 rule_head_good (Single (atom.Number number) start last) w = tt

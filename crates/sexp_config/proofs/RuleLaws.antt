@@ -11,21 +11,22 @@ use Rattle.sexp_read.specs.declared.piece.Bracket.TheVariants.{Round, Square, Cu
 use Rattle.sexp_read.specs.Tree.{FormTree, FormTrees, Single, Group, none, also}
 use Rattle.sexp_config.specs.declared.fault.ConfigWhy.TheVariants as why
 use Rattle.sexp_config.specs.Steps.{Fault, start_of}
-use Rattle.sexp_config.specs.Words.{bare_field, field_of, rule_word}
+use Rattle.ev_types.specs.Names.{named_field, protocol_field}
+use Rattle.sexp_config.specs.Words.{rule_word}
 use Rattle.sexp_config.specs.Arguments.{Env, field_at}
-use Rattle.sexp_config.specs.Rules.{named_field, rule_field_at, symbol_rule, field_head, symbol_head, rule_head, headed_rule, rule_at, rules_in, with_rule, all_read, joined}
+use Rattle.sexp_config.specs.Rules.{known_field, rule_field_at, symbol_rule, field_head, symbol_head, rule_head, headed_rule, rule_at, rules_in, with_rule, all_read, joined}
 use Rattle.sexp_config.specs.Tops.{name_in}
 use Rattle.sexp_config.specs.Code.{Look, Symbol, Call, Lookup, Other, look_of}
 
 -- ---- by what a form looks like
 
-pub symbol_field : (form : FormTree) (name : List ℕ) → Some name ≡ name_in form → rule_field_at form ≡ named_field (start_of form) (bare_field name)
+pub symbol_field : (form : FormTree) (name : List ℕ) → Some name ≡ name_in form → rule_field_at form ≡ known_field (start_of form) (protocol_field name)
 unfolding rule_field_at
 symbol_field (Single (atom.Symbol known) start last) name e = ap (λ (found : Option (List ℕ)). found_field found) (sym e)
   where
     found_field : Option (List ℕ) → Result Field Fault
     found_field None = Err (start, why.Name)
-    found_field (Some held) = named_field start (bare_field held)
+    found_field (Some held) = known_field start (protocol_field held)
 symbol_field (Single (atom.Text known) start last) name e = cc
 symbol_field (Single (atom.Pattern known) start last) name e = cc
 symbol_field (Single (atom.Number known) start last) name e = cc
@@ -43,8 +44,8 @@ other_field (Group bracket forms start last) e = refl
 
 abbrev pub rule_by : Env → ℕ → Look → Result Tree Fault
 rule_by env start (Symbol name) = symbol_rule env name start
-rule_by env start (Call name forms) = headed_rule env (symbol_head (rule_word name) (bare_field name)) start forms (rules_in env forms)
-rule_by env start (Lookup name forms) = headed_rule env (field_head (field_of name)) start forms (rules_in env forms)
+rule_by env start (Call name forms) = headed_rule env (symbol_head (rule_word name) (protocol_field name)) start forms (rules_in env forms)
+rule_by env start (Lookup name forms) = headed_rule env (field_head (named_field name)) start forms (rules_in env forms)
 rule_by env start Other = Err (start, why.Form)
 
 rule_looks : (env : Env) (form : FormTree) → rule_at env form ≡ rule_by env (start_of form) (look_of form)

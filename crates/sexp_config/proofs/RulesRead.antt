@@ -18,7 +18,8 @@ use Rattle.sexp_read.specs.Written.{BareTree, BareTrees, Leaf, Branch, no_trees,
 use Rattle.sexp_config.specs.declared.word.RuleWord.{RuleWord}
 use Rattle.sexp_config.specs.declared.word.RuleWord.TheVariants as rule
 use Rattle.sexp_config.specs.Steps.{Fault, argument, at_most}
-use Rattle.sexp_config.specs.Words.{rule_text, rule_word, joining_word, comparing_word, bare_field, field_of, field_text}
+use Rattle.ev_types.specs.Names.{field_name, named_field, protocol_field}
+use Rattle.sexp_config.specs.Words.{rule_text, rule_word, joining_word, comparing_word}
 use Rattle.sexp_config.specs.Arguments.{argument_of, text_at, field_at, number_at, value_at}
 use Rattle.sexp_config.specs.Rules.{Head, Word, Field_, rule_field_at, rule_head, Readings, with_rule, all_read, joined, equal_rule, order_rule, like_rule, tagged_rule, field_rule, word_rule, headed_rule, rule_at, rules_in}
 use Rattle.sexp_config.specs.Canonical.{symbol_form, keyword_form, text_form, number_form, pattern_form, worded_form, value_form, rule_field_form, rule_form, rule_forms}
@@ -28,8 +29,8 @@ use Rattle.sexp_config.proofs.BareForms.{single_of, also_of, none_of, call_of}
 
 -- the name of the field is one of a keyword that means the field
 pub record GoodField (one : Field) : Type 0 where
-  pub named : is_name (field_text one) ≡ true
-  pub means : field_of (field_text one) ≡ Some one
+  pub named : is_name (field_name one) ≡ true
+  pub means : named_field (field_name one) ≡ Some one
 
 abbrev pub GoodValue : Value → Type 0
 GoodValue value.Nil = Unit {0}
@@ -68,9 +69,9 @@ pub number_read : (f : FormTree) (number : ℤ) → bare_tree f ≡ number_form 
 unfolding number_at argument_of
 number_read f number h = let one = single_of f (atom.Number number) h in rw one.is refl
 
-pub field_read : (f : FormTree) (one : Field) → GoodField one → bare_tree f ≡ keyword_form (field_text one) → field_at [] f ≡ Ok one
+pub field_read : (f : FormTree) (one : Field) → GoodField one → bare_tree f ≡ keyword_form (field_name one) → field_at [] f ≡ Ok one
 unfolding field_at argument_of
-field_read f one good h = let single = single_of f (atom.Keyword (field_text one)) h in rw (single.is, good.means) refl
+field_read f one good h = let single = single_of f (atom.Keyword (field_name one)) h in rw (single.is, good.means) refl
 
 pub value_read : (f : FormTree) (held : Value) → bare_tree f ≡ value_form held → value_at [] f ≡ Ok held
 unfolding value_at argument_of
@@ -78,7 +79,7 @@ value_read f value.Nil h = let one = single_of f (atom.Symbol (codes "nil")) h i
 value_read f (value.Number number) h = let one = single_of f (atom.Number number) h in rw one.is refl
 value_read f (value.Text text) h = let one = single_of f (atom.Text text) h in rw one.is refl
 
-bare_field_read : (f : FormTree) (name : List ℕ) (one : Field) → bare_field name ≡ Some one → bare_tree f ≡ symbol_form name → rule_field_at f ≡ Ok one
+bare_field_read : (f : FormTree) (name : List ℕ) (one : Field) → protocol_field name ≡ Some one → bare_tree f ≡ symbol_form name → rule_field_at f ≡ Ok one
 unfolding rule_field_at
 bare_field_read f name one is h = let single = single_of f (atom.Symbol name) h in rw (single.is, is) refl
 
@@ -87,7 +88,7 @@ unfolding rule_field_at field_at argument_of
 key_field_read f key good h = let single = single_of f (atom.Keyword key) h in rw (single.is, good.means) refl
 
 rule_field_read : (f : FormTree) (one : Field) → GoodField one → bare_tree f ≡ rule_field_form one → rule_field_at f ≡ Ok one
-unfolding bare_field
+unfolding protocol_field
 rule_field_read f field.Host good h = bare_field_read f (codes "host") field.Host refl h
 rule_field_read f field.Service good h = bare_field_read f (codes "service") field.Service refl h
 rule_field_read f field.State good h = bare_field_read f (codes "state") field.State refl h
@@ -215,11 +216,11 @@ tagged_read f text h =
     let one = one_of word.forms (text_form text) word.forms_are in
     word.read ∙ ap (tagged_rule [] word.start) one.are ∙ tagged_one word.start one.a text (text_read one.a text one.a_is)
 
-bare_head : (name : List ℕ) (one : Field) (begin end : ℕ) → rule_word name ≡ None → bare_field name ≡ Some one → rule_head (Single (atom.Symbol name) begin end) ≡ Field_ one
+bare_head : (name : List ℕ) (one : Field) (begin end : ℕ) → rule_word name ≡ None → protocol_field name ≡ Some one → rule_head (Single (atom.Symbol name) begin end) ≡ Field_ one
 unfolding rule_head
 bare_head name one begin end no_word is = rw (no_word, is) refl
 
-key_head : (key : List ℕ) (one : Field) (begin end : ℕ) → field_of key ≡ Some one → rule_head (Single (atom.Keyword key) begin end) ≡ Field_ one
+key_head : (key : List ℕ) (one : Field) (begin end : ℕ) → named_field key ≡ Some one → rule_head (Single (atom.Keyword key) begin end) ≡ Field_ one
 unfolding rule_head
 key_head key one begin end is = rw is refl
 
@@ -229,7 +230,7 @@ record FieldHead (one : Field) : Type 0 where
   is : (begin end : ℕ) → rule_head (Single head begin end) ≡ Field_ one
 
 field_head : (one : Field) → GoodField one → FieldHead one
-unfolding rule_word joining_word comparing_word bare_field
+unfolding rule_word joining_word comparing_word protocol_field
 field_head field.Host good = record { head = atom.Symbol (codes "host"); form_is = refl; is = λ begin end. bare_head (codes "host") field.Host begin end refl refl }
 field_head field.Service good = record { head = atom.Symbol (codes "service"); form_is = refl; is = λ begin end. bare_head (codes "service") field.Service begin end refl refl }
 field_head field.State good = record { head = atom.Symbol (codes "state"); form_is = refl; is = λ begin end. bare_head (codes "state") field.State begin end refl refl }

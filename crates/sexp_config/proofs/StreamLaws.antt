@@ -9,17 +9,17 @@ use Rattle.stream_plan.specs.Search.{opened}
 use Rattle.stream_plan.specs.Tree.{KindTree, StreamTree, stream, StreamTrees, kind_tree, stream_tree, list_trees}
 use Rattle.stream_plan.specs.Tree as plan
 use Rattle.stream_plan.proofs.Trees.{stream_tree-opened}
-use Rattle.sexp_config.specs.declared.spot.Spot.{Spot, Row_of-Spot, end_of-Spot, more_of-Spot, out-Spot, is-Spot', items-the_row-Spot, items_hidden-the_row-Spot-0}
-use Rattle.sexp_config.specs.declared.spot.Spot.TheBlock.{hidden-the_row-Spot-0}
+use Rattle.sexp_config.specs.declared.source.Source.{Source, Row_of-Source, end_of-Source, more_of-Source, out-Source, is-Source', items-the_row-Source, items_hidden-the_row-Source-0}
+use Rattle.sexp_config.specs.declared.source.Source.TheBlock.{hidden-the_row-Source-0}
 use Rattle.sexp_config.specs.declared.fault.ConfigWhy.TheVariants as why
 use Rattle.sexp_config.specs.Steps.{Fault, start_of}
 use Rattle.sexp_config.specs.Words.{stream_word}
 use Rattle.sexp_config.specs.Arguments.{Env, bound_value}
-use Rattle.sexp_config.specs.Spots.{SpotTree, SpotTrees, spot, with_spot}
-use Rattle.sexp_config.specs.Spots as spots
+use Rattle.sexp_config.specs.Sources.{SourceTree, SourceTrees, source, with_source}
+use Rattle.sexp_config.specs.Sources as sources
 use Rattle.sexp_config.specs.Streams.{Below, Part, next_place, with_stream, with_part, all_read, is_where_in, symbol_by, worded, part_at, parts_in}
-use Rattle.sexp_config.specs.Code.{Look, Symbol, Call, Lookup, Other, look_of, behind, next_of}
-use Rattle.sexp_config.specs.Made.{spot_tree, spot_trees, spot_list}
+use Rattle.sexp_config.specs.Code.{Look, Symbol, Call, Lookup, Other, look_of, later, next_of}
+use Rattle.sexp_config.specs.Made.{source_tree, source_trees, source_list}
 
 -- ---- one more at the end
 
@@ -27,24 +27,24 @@ pub stream_pushed : (streams : List Stream) (one : Stream) → list_trees (strea
 stream_pushed [] one = refl
 stream_pushed (first ∷ streams) one = ap (λ more. plan.also (stream_tree first) more) (stream_pushed streams one)
 
-pub spot_pushed : (places : List Spot) (one : Spot) → spot_list (places ++ one ∷ []) ≡ with_spot (spot_list places) (spot_tree one)
-spot_pushed [] one = refl
-spot_pushed (first ∷ places) one = ap (λ more. spots.also (spot_tree first) more) (spot_pushed places one)
+pub source_pushed : (places : List Source) (one : Source) → source_list (places ++ one ∷ []) ≡ with_source (source_list places) (source_tree one)
+source_pushed [] one = refl
+source_pushed (first ∷ places) one = ap (λ more. sources.also (source_tree first) more) (source_pushed places one)
 
 -- ---- one level
 
-pub spot_trees-list : {m : _} (row : Row_of-Spot m) → spot_trees row ≡ spot_list (items-the_row-Spot m row)
-spot_trees-list end_of-Spot = refl
-spot_trees-list (more_of-Spot s rest) = ap (λ more. spots.also (spot_tree s) more) (spot_trees-list rest)
+pub source_trees-list : {m : _} (row : Row_of-Source m) → source_trees row ≡ source_list (items-the_row-Source m row)
+source_trees-list end_of-Source = refl
+source_trees-list (more_of-Source s rest) = ap (λ more. sources.also (source_tree s) more) (source_trees-list rest)
 
-pub spot_trees-hidden : (places : Vec Spot Global) → spot_trees (hidden-the_row-Spot-0 places) ≡ spot_list places.items
-spot_trees-hidden places = spot_trees-list (hidden-the_row-Spot-0 places) ∙ ap spot_list (items_hidden-the_row-Spot-0 places)
+pub source_trees-hidden : (places : Vec Source Global) → source_trees (hidden-the_row-Source-0 places) ≡ source_list places.items
+source_trees-hidden places = source_trees-list (hidden-the_row-Source-0 places) ∙ ap source_list (items_hidden-the_row-Source-0 places)
 
-pub spot_tree-opened : (s : Spot) → spot_tree s ≡ spot (out-Spot s).place (spot_list (out-Spot s).children.items) (spot_list (out-Spot s).otherwise.items)
-spot_tree-opened s =
-    ap spot_tree (is-Spot' s)
-    ∙ ap (λ (children : SpotTrees). spot (out-Spot s).place children (spot_trees (hidden-the_row-Spot-0 (out-Spot s).otherwise))) (spot_trees-hidden (out-Spot s).children)
-    ∙ ap (λ (otherwise : SpotTrees). spot (out-Spot s).place (spot_list (out-Spot s).children.items) otherwise) (spot_trees-hidden (out-Spot s).otherwise)
+pub source_tree-opened : (s : Source) → source_tree s ≡ source (out-Source s).place (source_list (out-Source s).children.items) (source_list (out-Source s).otherwise.items)
+source_tree-opened s =
+    ap source_tree (is-Source' s)
+    ∙ ap (λ (children : SourceTrees). source (out-Source s).place children (source_trees (hidden-the_row-Source-0 (out-Source s).otherwise))) (source_trees-hidden (out-Source s).children)
+    ∙ ap (λ (otherwise : SourceTrees). source (out-Source s).place (source_list (out-Source s).children.items) otherwise) (source_trees-hidden (out-Source s).otherwise)
 
 -- ---- by what a form looks like
 
@@ -74,16 +74,16 @@ part_looks m env (Group Curly forms start last) = refl
 pub part_by_look : (may_else : Bool) (env : Env) (form : FormTree) (look : Look) → look ≡ look_of form → part_at may_else env form ≡ part_by may_else env (start_of form) look
 part_by_look m env form look e = part_looks m env form ∙ ap (part_by m env (start_of form)) (sym e)
 
--- ---- the forms behind some
+-- ---- the forms later some
 
-parts_in-behind : (m : Bool) (env : Env) (n : ℕ) (forms : FormTrees) → parts_in m env (behind n forms) ≡ drop n (parts_in m env forms)
+parts_in-later : (m : Bool) (env : Env) (n : ℕ) (forms : FormTrees) → parts_in m env (later n forms) ≡ drop n (parts_in m env forms)
 unfolding parts_in
-parts_in-behind m env zero forms = refl
-parts_in-behind m env (suc n) none = refl
-parts_in-behind m env (suc n) (also form forms) = parts_in-behind m env n forms
+parts_in-later m env zero forms = refl
+parts_in-later m env (suc n) none = refl
+parts_in-later m env (suc n) (also form forms) = parts_in-later m env n forms
 
-pub parts_behind : (may_else : Bool) (env : Env) (n : ℕ) (forms rest : FormTrees) → rest ≡ behind n forms → parts_in may_else env rest ≡ drop n (parts_in may_else env forms)
-parts_behind m env n forms rest e = ap (parts_in m env) e ∙ parts_in-behind m env n forms
+pub parts_later : (may_else : Bool) (env : Env) (n : ℕ) (forms rest : FormTrees) → rest ≡ later n forms → parts_in may_else env rest ≡ drop n (parts_in may_else env forms)
+parts_later m env n forms rest e = ap (parts_in m env) e ∙ parts_in-later m env n forms
 
 pub next_of_parts : (may_else : Bool) (env : Env) (forms : FormTrees) → next_place (parts_in may_else env forms) ≡ next_of forms
 unfolding parts_in
@@ -108,13 +108,13 @@ parts_fail m env below left forms form one next fault at read is put =
     let told : with_part below one (next_place (parts_in m env forms)) ≡ Err fault = rw (next_of_parts m env forms, sym is) put in
     rw (at, read, told) refl
 
--- ---- a stream and a spot that are put together
+-- ---- a stream and a source that are put together
 
 pub stream_is : (s : Stream) (kind : Kind) (children otherwise : Vec Stream Global) → (out-Stream s).kind ≡ kind → (out-Stream s).children ≡ children → (out-Stream s).otherwise ≡ otherwise →
     stream_tree s ≡ stream (kind_tree kind) (list_trees children.items) (list_trees otherwise.items)
 unfolding opened
 stream_is s kind children otherwise k c o = stream_tree-opened s ∙ rw (k, c, o) refl
 
-pub spot_is : (s : Spot) (place : ℕ) (children otherwise : Vec Spot Global) → (out-Spot s).place ≡ place → (out-Spot s).children ≡ children → (out-Spot s).otherwise ≡ otherwise →
-    spot_tree s ≡ spot place (spot_list children.items) (spot_list otherwise.items)
-spot_is s place children otherwise p c o = spot_tree-opened s ∙ rw (p, c, o) refl
+pub source_is : (s : Source) (place : ℕ) (children otherwise : Vec Source Global) → (out-Source s).place ≡ place → (out-Source s).children ≡ children → (out-Source s).otherwise ≡ otherwise →
+    source_tree s ≡ source place (source_list children.items) (source_list otherwise.items)
+source_is s place children otherwise p c o = source_tree-opened s ∙ rw (p, c, o) refl

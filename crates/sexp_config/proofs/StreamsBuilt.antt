@@ -35,7 +35,7 @@ abbrev mutual
 -- streams that get the rest stand only where they may
 abbrev StandsPart : Bool → ℕ → Part → Type 0
 StandsPart may_else n (One one place) = Stands n one
-StandsPart may_else n (Rest placed) = (may_else ≡ true) × AllStand n placed.streams
+StandsPart may_else n (Rest located) = (may_else ≡ true) × AllStand n located.streams
 
 abbrev pub StandBelow : Bool → ℕ → Below → Type 0
 StandBelow may_else n below =
@@ -61,8 +61,8 @@ ended_stands may_else n below (Some place) stands = tt
 
 with_part_stands : (may_else : Bool) (n : ℕ) (below : Below) (part : Part) (next : Option ℕ) → StandBelow may_else n below → StandsPart may_else n part → OkGood (StandBelow may_else n) (with_part below part next)
 with_part_stands may_else n below (One one place) next stands known = (with_stream_stands n below.children.streams one stands.0 known, stands.1, stands.2)
-with_part_stands may_else n below (Rest placed) next stands known =
-    ended_stands may_else n (record { children = below.children; otherwise = placed }) next (stands.0, known.1, λ other. absurd (true_false may_else known.0 other))
+with_part_stands may_else n below (Rest located) next stands known =
+    ended_stands may_else n (record { children = below.children; otherwise = located }) next (stands.0, known.1, λ other. absurd (true_false may_else known.0 other))
 
 pub all_read_stand : (may_else : Bool) (n : ℕ) (below : Below) (readings : Readings) → StandBelow may_else n below → StandParts may_else n readings → OkGood (StandBelow may_else n) (all_read below readings)
 unfolding all_read

@@ -15,9 +15,9 @@ use Rattle.sexp_config.specs.declared.word.StreamWord.TheVariants as word
 use Rattle.sexp_config.specs.Steps.{Fault, ◌>>=◌, start_of, at_most}
 use Rattle.sexp_config.specs.Words.{stream_text, stream_word, passing_word, counting_word, window_word}
 use Rattle.sexp_config.specs.Kinds.{kind_of, leads}
-use Rattle.sexp_config.specs.Spots.{SpotTree, SpotTrees, spot}
-use Rattle.sexp_config.specs.Spots as spots
-use Rattle.sexp_config.specs.Streams.{Placed, nowhere, Below, nothing, Part, One, Rest, with_stream, with_one, stream_of, Readings, all_read, is_where, is_where_in, followed, worded, part_at, parts_in}
+use Rattle.sexp_config.specs.Sources.{SourceTree, SourceTrees, source}
+use Rattle.sexp_config.specs.Sources as sources
+use Rattle.sexp_config.specs.Streams.{Located, nowhere, Below, nothing, Part, One, Rest, with_stream, with_one, stream_of, Readings, all_read, is_where, is_where_in, followed, worded, part_at, parts_in}
 use Rattle.sexp_config.specs.Canonical.{symbol_form, text_form, list_form, worded_form, kind_forms, else_forms, stream_form, stream_forms}
 use Rattle.sexp_config.proofs.BareForms.{single_of, also_of, none_of, call_of}
 use Rattle.sexp_config.proofs.KindsRead.{NoMap, GoodKind, word_of, kind_led}
@@ -49,15 +49,15 @@ pub join_first : (later : StreamTrees) → join none later ≡ later
 unfolding join
 join_first later = refl
 
-abbrev pub grown : Below → StreamTrees → SpotTrees → Below
+abbrev pub grown : Below → StreamTrees → SourceTrees → Below
 grown below streams places = record { children = record { streams = join below.children.streams streams; places = places }; otherwise = below.otherwise }
 
 record PartRead (may_else : Bool) (f : FormTree) (one : StreamTree) : Type 0 where
-  place : SpotTree
+  place : SourceTree
   is : part_at may_else [] f ≡ Ok (One one place)
 
 pub record BelowRead (streams : StreamTrees) (more : List BareTree) (may_else : Bool) (below : Below) (forms : FormTrees) : Type 0 where
-  pub places : SpotTrees
+  pub places : SourceTrees
   pub rest : FormTrees
   pub rest_are : bare_trees rest ≡ listed more
   pub is : all_read below (parts_in may_else [] forms) ≡ all_read (grown below streams places) (parts_in may_else [] rest)
@@ -75,14 +75,14 @@ no_parts : (may_else : Bool) → parts_in may_else [] form.none ≡ []
 unfolding part_at parts_in
 no_parts may_else = refl
 
-one_read : (below : Below) (n : ℕ) (one : StreamTree) (place : SpotTree) (readings : Readings)
+one_read : (below : Below) (n : ℕ) (one : StreamTree) (place : SourceTree) (readings : Readings)
     → all_read below ((n, Ok (One one place)) ∷ readings) ≡ all_read (record { children = with_one below.children one place; otherwise = below.otherwise }) readings
 unfolding all_read
 one_read below n one place readings = refl
 
-rest_read : (below : Below) (n : ℕ) (placed : Placed) → all_read below ((n, Ok (Rest placed)) ∷ []) ≡ Ok (record { children = below.children; otherwise = placed })
+rest_read : (below : Below) (n : ℕ) (located : Located) → all_read below ((n, Ok (Rest located)) ∷ []) ≡ Ok (record { children = below.children; otherwise = located })
 unfolding all_read
-rest_read below n placed = refl
+rest_read below n located = refl
 
 pub done_read : (below : Below) → all_read below [] ≡ Ok below
 unfolding all_read
@@ -141,7 +141,7 @@ unfolding worded
 else_worded start forms readings below is = rw is refl
 
 record RestRead (below : Below) (may_else : Bool) (forms : FormTrees) (otherwise : StreamTrees) : Type 0 where
-  places : SpotTrees
+  places : SourceTrees
   is : all_read below (parts_in may_else [] forms) ≡ Ok (record { children = below.children; otherwise = record { streams = otherwise; places = places } })
 
 else_read : (below : Below) (forms : FormTrees) (one : StreamTree) (streams : StreamTrees) → ReadsStreams (also one streams) → bare_trees forms ≡ listed (else_forms (stream_forms (also one streams)))
@@ -183,19 +183,19 @@ list_read kind children otherwise may_else f good range may free reads rest h =
       is = part.read ∙ worded_is kind may_else part.start part.forms (parts_in else_too [] part.forms)
           ∙ ap (λ (known : Result KindTree Fault). known >>= λ k. followed k part.start (leads [] (word_of kind) part.forms) part.forms (parts_in else_too [] part.forms)) led.is
           ∙ followed_all kind part.start (leads [] (word_of kind) part.forms) part.forms (parts_in else_too [] part.forms) below may all
-          ∙ ap (λ (streams : StreamTrees). Ok (One (stream kind streams otherwise) (spot part.start inner.places outer.places))) (join_first children);
+          ∙ ap (λ (streams : StreamTrees). Ok (One (stream kind streams otherwise) (source part.start inner.places outer.places))) (join_first children);
     }
 
 -- ---- streams without streams
 
-index_part : (may_else : Bool) (start last : ℕ) → part_at may_else [] (Single (atom.Symbol (codes "index")) start last) ≡ Ok (One (stream plan.Index none none) (spot start spots.none spots.none))
+index_part : (may_else : Bool) (start last : ℕ) → part_at may_else [] (Single (atom.Symbol (codes "index")) start last) ≡ Ok (One (stream plan.Index none none) (source start sources.none sources.none))
 unfolding part_at
 index_part may_else start last = refl
 
 index_read : (may_else : Bool) (f : FormTree) → bare_tree f ≡ symbol_form (stream_text word.Index) → PartRead may_else f (stream plan.Index none none)
 index_read may_else f h =
     let single = single_of f (atom.Symbol (stream_text word.Index)) h in
-    record { place = spot single.start spots.none spots.none; is = ap (part_at may_else []) single.is ∙ index_part may_else single.start single.last }
+    record { place = source single.start sources.none sources.none; is = ap (part_at may_else []) single.is ∙ index_part may_else single.start single.last }
 
 notice_followed : (name : List ℕ) (start : ℕ) (f : FormTree) (readings : Readings) → followed (plan.Notice name) start 1 (form.also f form.none) readings ≡ Ok (stream_of (plan.Notice name) start nothing)
 unfolding at_most
@@ -213,7 +213,7 @@ notice_read name may_else f good h =
     let led = kind_led (plan.Notice name) good refl part.start part.forms [] tt part.forms_are in
     let readings = parts_in false [] part.forms in
     record {
-      place = spot part.start spots.none spots.none;
+      place = source part.start sources.none sources.none;
       is = part.read ∙ worded_is (plan.Notice name) may_else part.start part.forms readings
           ∙ ap (λ (known : Result KindTree Fault). known >>= λ k. followed k part.start (leads [] word.Notice part.forms) part.forms readings) led.is
           ∙ ap (λ (own : ℕ). followed (plan.Notice name) part.start own part.forms readings) (notice_leads part.forms)
@@ -237,8 +237,8 @@ below_free (also one streams) otherwise = stream_free one (stream_forms streams 
 
 no_rest : (may_else : Bool) (below : Below) (forms : FormTrees) → below.otherwise ≡ nowhere → bare_trees forms ≡ listed (else_forms (stream_forms none)) → RestRead below may_else forms none
 no_rest may_else below forms empty h = record {
-  places = spots.none;
-  is = all_done below may_else forms h ∙ ap (λ (rest : Placed). Ok (record { children = below.children; otherwise = rest })) empty;
+  places = sources.none;
+  is = all_done below may_else forms h ∙ ap (λ (rest : Located). Ok (record { children = below.children; otherwise = rest })) empty;
 }
 
 some_rest : (otherwise : StreamTrees) → ReadsStreams otherwise → (below : Below) (forms : FormTrees) → below.otherwise ≡ nowhere → bare_trees forms ≡ listed (else_forms (stream_forms otherwise)) → RestRead below true forms otherwise

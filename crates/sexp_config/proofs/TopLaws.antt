@@ -12,7 +12,7 @@ use Rattle.sexp_config.specs.Words.{top_word}
 use Rattle.sexp_config.specs.Arguments.{Env, bound_value, argument_of, misfit, vector_at}
 use Rattle.sexp_config.specs.Rules.{no_form}
 use Rattle.sexp_config.specs.Tops.{Draft, Listens, listen_key_at, with_entry, listens_from, name_at, bound_by, index_by, bound_at, names_from, names_at, let_by, run, top_by, top_at, tops_in}
-use Rattle.sexp_config.specs.Code.{Look, Symbol, Call, Lookup, Other, look_of, behind, vector_in_form}
+use Rattle.sexp_config.specs.Code.{Look, Symbol, Call, Lookup, Other, look_of, later, vector_in_form}
 
 -- ---- by what a form looks like
 
@@ -109,36 +109,36 @@ pub names_more : (place : ℕ) (env more : Env) (left rest forms : FormTrees) (k
     left ≡ also key rest → rest ≡ also form forms → name_at key ≡ Ok name → bound_at env form ≡ Ok value → more ≡ env ++ record { name = name; value = value } ∷ [] →
     names_from place env left ≡ names_from place more forms
 unfolding names_from
-names_more place env more left rest forms key form name value at behind named read pushed = rw (at, behind, named, read, pushed) refl
+names_more place env more left rest forms key form name value at later named read pushed = rw (at, later, named, read, pushed) refl
 
 pub listens_more : (place : ℕ) (env : Env) (listens more : Listens) (left rest forms : FormTrees) (key form : FormTree) (is_host : Bool) →
     left ≡ also key rest → rest ≡ also form forms → listen_key_at env listens key ≡ Ok is_host → with_entry env listens is_host form ≡ Ok more →
     listens_from place env listens left ≡ listens_from place env more forms
 unfolding listens_from
-listens_more place env listens more left rest forms key form is_host at behind known read = rw (at, behind, known, read) refl
+listens_more place env listens more left rest forms key form is_host at later known read = rw (at, later, known, read) refl
 
 -- ---- one more form at the top
 
-pub steps-behind : (n : ℕ) (forms : FormTrees) → tops_in (behind n forms) ≡ drop n (tops_in forms)
+pub steps-later : (n : ℕ) (forms : FormTrees) → tops_in (later n forms) ≡ drop n (tops_in forms)
 unfolding tops_in
-steps-behind zero forms = refl
-steps-behind (suc n) none = refl
-steps-behind (suc n) (also form forms) = steps-behind n forms
+steps-later zero forms = refl
+steps-later (suc n) none = refl
+steps-later (suc n) (also form forms) = steps-later n forms
 
-pub steps_behind : (n : ℕ) (forms rest : FormTrees) → rest ≡ behind n forms → tops_in rest ≡ drop n (tops_in forms)
-steps_behind n forms rest e = ap tops_in e ∙ steps-behind n forms
+pub steps_later : (n : ℕ) (forms rest : FormTrees) → rest ≡ later n forms → tops_in rest ≡ drop n (tops_in forms)
+steps_later n forms rest e = ap tops_in e ∙ steps-later n forms
 
 pub run_more : (env : Env) (draft more : Draft) (left forms : FormTrees) (form : FormTree) → left ≡ also form forms → top_at form env draft ≡ Ok more →
     run env draft (tops_in left) ≡ run env more (tops_in forms)
 unfolding run tops_in
 run_more env draft more left forms form at read = rw (at, read) refl
 
-pub let_is : (env inner : Env) (start : ℕ) (forms rest : FormTrees) (first : FormTree) (draft : Draft) → argument start 0 forms ≡ Ok first → names_at env first ≡ Ok inner → rest ≡ behind 1 forms →
+pub let_is : (env inner : Env) (start : ℕ) (forms rest : FormTrees) (first : FormTree) (draft : Draft) → argument start 0 forms ≡ Ok first → names_at env first ≡ Ok inner → rest ≡ later 1 forms →
     let_by env start forms (tops_in forms) draft ≡ run inner draft (tops_in rest)
 let_is env inner start forms rest first draft at named e =
     ap (λ (found : Result FormTree Fault). found >>= names_at env >>= (λ more. run more draft (drop 1 (tops_in forms)))) at
     ∙ ap (λ (found : Result Env Fault). found >>= (λ more. run more draft (drop 1 (tops_in forms)))) named
-    ∙ ap (run inner draft) (sym (steps_behind 1 forms rest e))
+    ∙ ap (run inner draft) (sym (steps_later 1 forms rest e))
 
 -- ---- names that are added
 

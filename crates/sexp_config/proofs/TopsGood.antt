@@ -28,11 +28,12 @@ use Rattle.sexp_config.specs.declared.word.StreamWord.TheVariants as word
 use Rattle.sexp_config.specs.declared.word.TopWord.{TopWord}
 use Rattle.sexp_config.specs.declared.word.TopWord.TheVariants as top
 use Rattle.sexp_config.specs.Steps.{Fault, start_of, nth, argument, at_most, each}
-use Rattle.sexp_config.specs.Words.{stream_text, top_word, bare_field, field_of, tags_text, keep_text}
+use Rattle.ev_types.specs.Names.{named_field, protocol_field}
+use Rattle.sexp_config.specs.Words.{stream_text, top_word, tags_text, keep_text}
 use Rattle.sexp_config.specs.Arguments.{Env, Argument, Text, Pattern, Number, Keyword, Index, Unbound, Forms, argument_of, text_at, port_at, vector_at, map_at}
 use Rattle.sexp_config.specs.Kinds.{one_entry}
 use Rattle.sexp_config.specs.Streams.{all_read, parts_in}
-use Rattle.sexp_config.specs.Tops.{Server, usual_server, Draft, fresh_draft, once, Listens, or_usual, server_of, listen_key_at, with_entry, listens_from, no_listens, server_by, server_in, keep_field, keep_in, keep_at, with_keep, keys_at, usual_keys, interval_by, keys_by, expiry_in, name_at, bound_by, index_by, bound_at, names_from, names_in, Step, run, top_by, top_at, tops_in}
+use Rattle.sexp_config.specs.Tops.{Server, default_server, Draft, fresh_draft, once, Listens, or_default, server_of, listen_key_at, with_entry, listens_from, no_listens, server_by, server_in, keep_field, keep_in, keep_at, with_keep, keys_at, default_keys, interval_by, keys_by, expiry_in, name_at, bound_by, index_by, bound_at, names_from, names_in, Step, run, top_by, top_at, tops_in}
 use Rattle.sexp_config.specs.Config.{plan_fault, faultless, checked, config_from, finished, config_of}
 use Rattle.sexp_config.proofs.KindsRead.{AllGood, within}
 use Rattle.sexp_config.proofs.StreamsRead.{GoodStream, GoodStreams}
@@ -49,8 +50,8 @@ small_ascii : (text : List ℕ) → list_all small text ≡ true → IsAscii tex
 small_ascii [] h = IsAscii-nil
 small_ascii (b ∷ text) h = let parts = and_parts (small b) (list_all small text) h in IsAscii-cons b text (ltb-true b 128 parts.0) (small_ascii text parts.1)
 
-usual_host : IsUtf8 (codes "127.0.0.1")
-usual_host = IsUtf8-from_ascii (codes "127.0.0.1") (small_ascii (codes "127.0.0.1") refl)
+default_host : IsUtf8 (codes "127.0.0.1")
+default_host = IsUtf8-from_ascii (codes "127.0.0.1") (small_ascii (codes "127.0.0.1") refl)
 
 -- ---- the server
 
@@ -76,16 +77,16 @@ listens_good place env e listens good (also key (also f forms)) w =
     bind_good Any_ GoodListens (listen_key_at env listens key) _ (any_good (listen_key_at env listens key)) (λ is_host _.
     bind_good GoodListens GoodListens (with_entry env listens is_host f) (λ more. listens_from place env more forms) (with_entry_good env e listens is_host f good w.1.0) (λ more known. listens_good place env e more known forms w.1.1))
 
-host_or : (host : Option (List ℕ)) → SomeGood IsText host → IsUtf8 (or_usual usual_server.host host)
-host_or None good = usual_host
+host_or : (host : Option (List ℕ)) → SomeGood IsText host → IsUtf8 (or_default default_server.host host)
+host_or None good = default_host
 host_or (Some host) good = good
 
-port_or : (port : Option ℕ) → SomeGood IsPort port → IsPort (or_usual usual_server.port port)
+port_or : (port : Option ℕ) → SomeGood IsPort port → IsPort (or_default default_server.port port)
 port_or None good = refl
 port_or (Some port) good = good
 
 server_by_good : (env : Env) → GoodEnv env → (found : Option FormTree) → SomeGood Writable found → OkGood GoodServer (server_by env found)
-server_by_good env e None w = (usual_host, refl)
+server_by_good env e None w = (default_host, refl)
 server_by_good env e (Some f) w =
     bind_good AreForms GoodServer (map_at env f) _ (map_good env e f w) (λ entries ws.
     bind_good GoodListens GoodServer (listens_from (start_of f) env no_listens entries) (λ listens. Ok (server_of listens)) (listens_good (start_of f) env e no_listens (tt, tt) entries ws)
@@ -99,7 +100,7 @@ server_good env e forms w =
 
 -- ---- the expiry
 
-keep_named : (key : List ℕ) (one : Field) → is_name key ≡ true → bytes_eq key tags_text ≡ false → field_of key ≡ Some one → GoodKeep (keep.Field one)
+keep_named : (key : List ℕ) (one : Field) → is_name key ≡ true → bytes_eq key tags_text ≡ false → named_field key ≡ Some one → GoodKeep (keep.Field one)
 keep_named key (field.Attribute name) h other is =
     let same : name ≡ key = subst (λ (found : Option Field). Means key found) is (field_means key) in
     (named_good key (field.Attribute name) h is, ap (λ (text : List ℕ). bytes_eq text tags_text) same ∙ other)
@@ -117,7 +118,7 @@ keep_field_good (Some one) h = h one refl
 
 keep_in_good : (given : Argument) → GoodArgument given → SomeGood GoodKeep (keep_in given)
 keep_in_good (Keyword key) good =
-    some_if GoodKeep (bytes_eq key tags_text) (Some keep.Tags) (keep_field (field_of key)) (λ _. tt) (λ other. keep_field_good (field_of key) (λ one is. keep_named key one good other is))
+    some_if GoodKeep (bytes_eq key tags_text) (Some keep.Tags) (keep_field (named_field key)) (λ _. tt) (λ other. keep_field_good (named_field key) (λ one is. keep_named key one good other is))
 keep_in_good (Text text) good = tt
 keep_in_good (Pattern text) good = tt
 keep_in_good (Number number) good = tt
@@ -139,12 +140,12 @@ keys_good : (env : Env) → GoodEnv env → (f : FormTree) → Writable f → Ok
 unfolding keys_at
 keys_good env e f w = bind_good AreForms Keys (vector_at env f) (each (with_keep env) []) (vector_good env e f w) (λ forms ws. each_good Keys (with_keep env) (with_keep_good env e) [] forms tt ws)
 
-usual_good : Keys usual_keys
-unfolding field_of bare_field
-usual_good = ((record { named = refl; means = refl }, refl), ((record { named = refl; means = refl }, refl), tt))
+default_good : Keys default_keys
+unfolding named_field protocol_field
+default_good = ((record { named = refl; means = refl }, refl), ((record { named = refl; means = refl }, refl), tt))
 
 keys_by_good : (env : Env) → GoodEnv env → (found : Option FormTree) → SomeGood Writable found → OkGood Keys (keys_by env found)
-keys_by_good env e None w = usual_good
+keys_by_good env e None w = default_good
 keys_by_good env e (Some f) w =
     bind_good AreForms Keys (map_at env f) (one_entry keep_text keys_at (start_of f) env None) (map_good env e f w) (λ forms ws. one_entry_good Keys keep_text keys_at (start_of f) env (keys_good env e) None tt forms ws)
 
@@ -269,8 +270,8 @@ record Holds (config : Config) : Type 0 where
   expiry : GoodExpiry config.expiry
   streams : AllHold config.plan
 
-server_or : (server : Option Server) → SomeGood GoodServer server → GoodServer (or_usual usual_server server)
-server_or None good = (usual_host, refl)
+server_or : (server : Option Server) → SomeGood GoodServer server → GoodServer (or_default default_server server)
+server_or None good = (default_host, refl)
 server_or (Some server) good = good
 
 expiry_or : (expiry : Option Expiry) → SomeGood IsExpiry expiry → GoodExpiry expiry
@@ -280,7 +281,7 @@ expiry_or (Some expiry) good = good
 finished_good : (draft : Draft) → GoodDraft draft → OkGood Holds (finished draft)
 finished_good draft good =
     let server = server_or draft.server good.server in
-    bind_good AllHold Holds (checked draft.below.children) (λ plan. Ok (config_from draft (or_usual usual_server draft.server) plan))
+    bind_good AllHold Holds (checked draft.below.children) (λ plan. Ok (config_from draft (or_default default_server draft.server) plan))
     (faultless_good draft.below.children.streams (plan_fault draft.below.children) good.below.0)
     (λ plan known. record { host = server.0; port = server.1; expiry = expiry_or draft.expiry good.expiry; streams = known })
   where
@@ -305,10 +306,10 @@ all_rest : {A : Type 0} (P : A → Type 0) (xs ys : List A) → AllByRecursion P
 all_rest P [] ys all = all
 all_rest P (x ∷ xs) ys all = all_rest P xs ys all.1
 
-abbrev Follow : List faults.Placed → Type 0
+abbrev Follow : List faults.Located → Type 0
 Follow = AllByRecursion HasStreamsThatMayFollow
 
-abbrev Range : List faults.Placed → Type 0
+abbrev Range : List faults.Located → Type 0
 Range = AllByRecursion IsInRange
 
 mutual

@@ -19,11 +19,12 @@ use Rattle.sexp_config.specs.declared.fault.ConfigWhy.TheVariants as why
 use Rattle.sexp_config.specs.declared.word.TopWord.{TopWord}
 use Rattle.sexp_config.specs.declared.word.TopWord.TheVariants as top
 use Rattle.sexp_config.specs.Steps.{at_most, each}
-use Rattle.sexp_config.specs.Words.{top_text, top_word, field_text, tags_text, keep_text, host_text, port_text}
+use Rattle.ev_types.specs.Names.{field_name}
+use Rattle.sexp_config.specs.Words.{top_text, top_word, tags_text, keep_text, host_text, port_text}
 use Rattle.sexp_config.specs.Arguments.{argument_of, text_at, keyword_at, port_at, ranged_at, vector_at, map_at}
 use Rattle.sexp_config.specs.Kinds.{only_key_at, one_entry}
-use Rattle.sexp_config.specs.Streams.{Placed, Below, nothing, all_read, parts_in}
-use Rattle.sexp_config.specs.Tops.{Server, usual_server, or_usual, Draft, fresh_draft, listen_key_at, with_entry, listens_from, server_in, keep_at, with_keep, keys_at, expiry_in, Step, run, top_by, top_at, tops_in}
+use Rattle.sexp_config.specs.Streams.{Located, Below, nothing, all_read, parts_in}
+use Rattle.sexp_config.specs.Tops.{Server, default_server, or_default, Draft, fresh_draft, listen_key_at, with_entry, listens_from, server_in, keep_at, with_keep, keys_at, expiry_in, Step, run, top_by, top_at, tops_in}
 use Rattle.sexp_config.specs.Config.{fault_for, plan_fault, config_from, config_of}
 use Rattle.sexp_config.specs.Canonical.{keyword_form, text_form, number_form, vector_form, map_form, worded_form, stream_forms, keep_form, server_form, expiry_form, expiry_forms, streams_form, config_forms}
 use Rattle.sexp_config.proofs.BareForms.{single_of, group_of, also_of, none_of, call_of}
@@ -122,12 +123,12 @@ server_top f server draft range new h =
 
 abbrev pub GoodKeep : KeepKey → Type 0
 GoodKeep keep.Tags = Unit {0}
-GoodKeep (keep.Field one) = GoodField one × (bytes_eq (field_text one) tags_text ≡ false)
+GoodKeep (keep.Field one) = GoodField one × (bytes_eq (field_name one) tags_text ≡ false)
 
 keep_read : (f : FormTree) (key : KeepKey) → GoodKeep key → bare_tree f ≡ keep_form key → keep_at [] f ≡ Ok key
 unfolding keep_at argument_of
 keep_read f keep.Tags good h = let single = single_of f (atom.Keyword tags_text) h in rw single.is refl
-keep_read f (keep.Field one) good h = let single = single_of f (atom.Keyword (field_text one)) h in rw (single.is, good.1, good.0.means) refl
+keep_read f (keep.Field one) good h = let single = single_of f (atom.Keyword (field_name one)) h in rw (single.is, good.1, good.0.means) refl
 
 one_keep : (before : List KeepKey) (key : KeepKey) (f : FormTree) → GoodKeep key → bare_tree f ≡ keep_form key → with_keep [] before f ≡ Ok (before ++ key ∷ [])
 one_keep before key f good h = rw (keep_read f key good h) refl
@@ -205,24 +206,24 @@ no_place : {A B : Type 0} (f : A → B) (place : Option A) → option_map f plac
 no_place f None h = refl
 no_place f (Some a) h = cc
 
-fault_none : (cause : PlanWhy) (w : ConfigWhy) (placed : Placed) → plan.fault_for cause (plan.preorder_of placed.streams) ≡ None → fault_for cause w placed ≡ None
-fault_none cause w placed h =
-    let none_there : plan.place_of cause (plan.preorder_of placed.streams) ≡ None = no_place _ (plan.place_of cause (plan.preorder_of placed.streams)) h in
+fault_none : (cause : PlanWhy) (w : ConfigWhy) (located : Located) → plan.fault_for cause (plan.preorder_of located.streams) ≡ None → fault_for cause w located ≡ None
+fault_none cause w located h =
+    let none_there : plan.place_of cause (plan.preorder_of located.streams) ≡ None = no_place _ (plan.place_of cause (plan.preorder_of located.streams)) h in
     rw none_there refl
 
 or_none : {A : Type 0} (first second : Option A) → option_or first second ≡ None → (first ≡ None) × (second ≡ None)
 or_none None second h = (refl, h)
 or_none (Some a) second h = cc
 
-plan_none : (placed : Placed) → plan.first_fault placed.streams ≡ None → plan_fault placed ≡ None
+plan_none : (located : Located) → plan.first_fault located.streams ≡ None → plan_fault located ≡ None
 unfolding plan_fault plan.first_fault
-plan_none placed h =
-    let all = plan.preorder_of placed.streams in
+plan_none located h =
+    let all = plan.preorder_of located.streams in
     let many = or_none (plan.fault_for plan_why.Many all) _ h in
     let deep = or_none (plan.fault_for plan_why.Deep all) _ many.1 in
     let children = or_none (plan.fault_for plan_why.Children all) _ deep.1 in
     let range = or_none (plan.fault_for plan_why.Range all) (plan.fault_for plan_why.Kind all) children.1 in
-    rw (fault_none plan_why.Many why.Many placed many.0, fault_none plan_why.Kind why.Kind placed range.1) refl
+    rw (fault_none plan_why.Many why.Many located many.0, fault_none plan_why.Kind why.Kind located range.1) refl
 
 -- ---- configurations
 
@@ -259,7 +260,7 @@ expiries_run (Some expiry) good forms last draft new h =
     )
 
 abbrev drafted : Draft → Config
-drafted draft = config_from draft (or_usual usual_server draft.server) draft.below.children.streams
+drafted draft = config_from draft (or_default default_server draft.server) draft.below.children.streams
 
 config_steps : (forms : FormTrees) (draft : Draft) → run [] fresh_draft (tops_in forms) ≡ Ok draft → plan_fault draft.below.children ≡ None → config_of forms ≡ Ok (drafted draft)
 unfolding config_of

@@ -1,4 +1,4 @@
--- What stands as an argument of a form, and what fits there.
+-- The arguments of a form, and what fits there.
 use Rattle.std.specs.Prelude.{ℕ, ℤ, pos, nat_abs, int_le, Bool, true, false, ◌&&◌, if◌then◌else◌, List, [], ◌∷◌, ◌++◌, Option, Some, None, reverse, Result, Ok, Err}
 use Rattle.std.specs.List.{find, list_any}
 use Rattle.std.specs.Option.{option_map}
@@ -13,13 +13,16 @@ use Rattle.sexp_read.specs.Tree.{FormTree, FormTrees, Single, Group, none, also}
 use Rattle.sexp_read.specs.declared.piece.Atom.TheVariants as form
 use Rattle.ev_types.specs.Set.{fits}
 use Rattle.ev_types.specs.declared.field.Field.TheVariants as field
+use Rattle.stream_plan.specs.declared.kinds.TheConstants.{MAX_COUNT, MAX_SECS}
+use Rattle.sexp_config.specs.declared.server.TheConstants.{MAX_PORT}
 use Rattle.sexp_config.specs.declared.binding.Binding.{Binding}
 use Rattle.sexp_config.specs.declared.binding.Bound.{Bound}
 use Rattle.sexp_config.specs.declared.binding.Bound.TheVariants as bound
 use Rattle.sexp_config.specs.declared.fault.ConfigWhy.{ConfigWhy}
 use Rattle.sexp_config.specs.declared.fault.ConfigWhy.TheVariants as why
 use Rattle.sexp_config.specs.Steps.{Fault, ◌>>=◌, start_of, each}
-use Rattle.sexp_config.specs.Words.{nil_text, field_of, same_field}
+use Rattle.ev_types.specs.Names.{named_field}
+use Rattle.sexp_config.specs.Words.{nil_text, same_field}
 
 -- names and their values, the innermost last
 abbrev pub Env : Type 0
@@ -56,7 +59,7 @@ argument_of env (Single (form.Symbol name) start last) = bound_argument name (bo
 argument_of env (Group bracket forms start last) = Forms bracket forms
 
 -- for what an argument is refused where it does not fit: a symbol that is bound to nothing has no meaning there, and a
--- list is a form of no kind that stands there, as is the stream that a symbol is bound to
+-- list is a form that is not allowed there, as is the stream that a symbol is bound to
 abbrev pub misfit : Argument → ConfigWhy
 misfit (Text text) = why.Arguments
 misfit (Pattern text) = why.Arguments
@@ -87,7 +90,7 @@ keyword_in (Keyword key) = Some key
 keyword_in _ = None
 
 abbrev pub field_in : Argument → Option Field
-field_in (Keyword key) = field_of key
+field_in (Keyword key) = named_field key
 field_in _ = None
 
 abbrev pub number_in : Argument → Option ℤ
@@ -125,13 +128,13 @@ unfoldable pub ranged_at : ℕ → ℕ → Env → FormTree → Result ℕ Fault
 ranged_at least most env f = number_at env f >>= ranged least most (start_of f)
 
 abbrev pub count_at : Env → FormTree → Result ℕ Fault
-count_at = ranged_at 1 1000000
+count_at = ranged_at 1 MAX_COUNT
 
 abbrev pub secs_at : Env → FormTree → Result ℕ Fault
-secs_at = ranged_at 1 604800
+secs_at = ranged_at 1 MAX_SECS
 
 abbrev pub port_at : Env → FormTree → Result ℕ Fault
-port_at = ranged_at 0 65535
+port_at = ranged_at 0 MAX_PORT
 
 -- ---- vectors and maps
 

@@ -9,7 +9,7 @@ use Rattle.stream_plan.specs.Tree.{StreamTrees}
 use Rattle.sexp_config.specs.declared.config.Config.{Config}
 use Rattle.sexp_config.specs.Config.{IsConfigOf}
 
--- no stream stands too deep, has streams that may not follow it, or has a number or a set outside its range
+-- no stream is too deep, has streams that may not follow it, or has a number or a set outside its range
 pub record IsWellBuilt (streams : StreamTrees) : Type 0 where
   pub shallow : AllByRecursion StandsShallow (preorder_of streams)
   pub followed : AllByRecursion HasStreamsThatMayFollow (preorder_of streams)

@@ -21,7 +21,8 @@ use Rattle.sexp_config.specs.declared.config.Config.{Config}
 use Rattle.sexp_config.specs.declared.word.RuleWord.TheVariants as rule
 use Rattle.sexp_config.specs.declared.word.StreamWord.TheVariants as word
 use Rattle.sexp_config.specs.declared.word.TopWord.TheVariants as top
-use Rattle.sexp_config.specs.Words.{top_text, stream_text, rule_text, true_text, false_text, nil_text, field_text, tags_text, fold_text, init_text, keep_text, host_text, port_text}
+use Rattle.ev_types.specs.Names.{field_name}
+use Rattle.sexp_config.specs.Words.{top_text, stream_text, rule_text, true_text, false_text, nil_text, tags_text, fold_text, init_text, keep_text, host_text, port_text}
 
 -- ---- forms
 
@@ -66,14 +67,14 @@ value_form (value.Number number) = number_form number
 value_form (value.Text text) = text_form text
 
 abbrev pub field_form : Field → BareTree
-field_form field = keyword_form (field_text field)
+field_form field = keyword_form (field_name field)
 
 -- ---- predicates
 
 -- attributes are keywords, and the other fields are bare
 abbrev pub rule_field_form : Field → BareTree
 rule_field_form (Attribute key) = keyword_form key
-rule_field_form field = symbol_form (field_text field)
+rule_field_form field = symbol_form (field_name field)
 
 abbrev mutual
   pub rule_form : Tree → BareTree

@@ -1,4 +1,4 @@
--- What values of the code stand for.
+-- What values of the code represent.
 use Rattle.std.specs.Prelude.{ℕ, zero, suc, ◌+◌, ◌≤◌, List, Option, Some, None}
 use Rattle.sexp_read.specs.declared.piece.Atom.TheVariants as atom
 use Rattle.sexp_read.specs.declared.piece.Bracket.TheVariants.{Round, Square, Curly}
@@ -15,7 +15,7 @@ use Rattle.sexp_config.specs.declared.argument.Argument as code
 use Rattle.sexp_config.specs.declared.argument.Argument.TheVariants as given
 use Rattle.sexp_config.specs.Arguments.{Argument, Text, Pattern, Number, Keyword, Index, Unbound, Forms}
 
--- what a form looks like where forms with heads stand
+-- a form by its head
 pub data Look : Type 0 where
   Symbol : List ℕ → Look
   Call : List ℕ → FormTrees → Look
@@ -28,7 +28,7 @@ look_of (Group Round (also (Single (atom.Symbol name) begin end) forms) start la
 look_of (Group Round (also (Single (atom.Keyword name) begin end) forms) start last) = Lookup name forms
 look_of _ = Other
 
--- how many forms stand in a form, and how many brackets
+-- the number of forms in a form, and of brackets
 abbrev mutual
   pub form_weight : FormTree → ℕ
   form_weight (Single atom start last) = 0
@@ -38,7 +38,7 @@ abbrev mutual
   weight none = 0
   weight (also form forms) = form_weight form + weight forms + 1
 
--- what stands behind a head is less than the whole
+-- the forms after a head weigh less than the whole
 abbrev pub IsWithin : Look → FormTree → Type 0
 IsWithin (Call name forms) form = weight forms + 2 ≤ form_weight form
 IsWithin (Lookup name forms) form = weight forms + 2 ≤ form_weight form
@@ -66,11 +66,11 @@ abbrev pub map_in : FormTree → Option FormTrees
 map_in (Group Curly forms start last) = Some forms
 map_in _ = None
 
--- the forms behind the first so many
-abbrev pub behind : ℕ → FormTrees → FormTrees
-behind zero forms = forms
-behind (suc n) none = none
-behind (suc n) (also form forms) = behind n forms
+-- the forms after the first n
+abbrev pub later : ℕ → FormTrees → FormTrees
+later zero forms = forms
+later (suc n) none = none
+later (suc n) (also form forms) = later n forms
 
 -- the place of the first form
 abbrev pub next_of : FormTrees → Option ℕ
@@ -81,7 +81,7 @@ abbrev pub vector_in_form : FormTree → Option FormTrees
 vector_in_form (Group Square forms start last) = Some forms
 vector_in_form _ = None
 
--- the refusal of a stream for a cause; streams that are read are refused for the first two alone
+-- the refusal of a stream for a cause; of streams that were read only Many and Kind can still come
 abbrev pub fault_by : PlanWhy → ℕ → ConfigFault
 fault_by plan_why.Many place = Refused place too_many
 fault_by plan_why.Kind place = Refused place unfit_kind

@@ -17,26 +17,26 @@ use Rattle.sexp_config.specs.declared.fault.ConfigFault.TheVariants.{Refused, Me
 use Rattle.sexp_config.specs.declared.fault.ConfigWhy.{ConfigWhy}
 use Rattle.sexp_config.specs.declared.fault.ConfigWhy.TheVariants as why
 use Rattle.sexp_config.specs.Steps.{Fault, ◌>>=◌}
-use Rattle.sexp_config.specs.Spots.{place_along}
-use Rattle.sexp_config.specs.Streams.{Placed}
-use Rattle.sexp_config.specs.Tops.{Server, Draft, usual_server, fresh_draft, or_usual, run, tops_in}
+use Rattle.sexp_config.specs.Sources.{place_along}
+use Rattle.sexp_config.specs.Streams.{Located}
+use Rattle.sexp_config.specs.Tops.{Server, Draft, default_server, fresh_draft, or_default, run, tops_in}
 
 -- ---- the streams together
 
 -- the first stream that is one too many for a cause
-abbrev pub fault_for : PlanWhy → ConfigWhy → Placed → Option Fault
-fault_for cause why placed = option_map (λ s. (place_along 0 placed.places s.path, why)) (plan.place_of cause (plan.preorder_of placed.streams))
+abbrev pub fault_for : PlanWhy → ConfigWhy → Located → Option Fault
+fault_for cause why located = option_map (λ s. (place_along 0 located.places s.path, why)) (plan.place_of cause (plan.preorder_of located.streams))
 
 -- a stream too many counts before one that does not take what comes
-unfoldable pub plan_fault : Placed → Option Fault
-plan_fault placed = option_or (fault_for plan_why.Many why.Many placed) (fault_for plan_why.Kind why.Kind placed)
+unfoldable pub plan_fault : Located → Option Fault
+plan_fault located = option_or (fault_for plan_why.Many why.Many located) (fault_for plan_why.Kind why.Kind located)
 
 abbrev pub faultless : {A : Type 0} → A → Option Fault → Result A Fault
 faultless a None = Ok a
 faultless a (Some fault) = Err fault
 
-abbrev pub checked : Placed → Result StreamTrees Fault
-checked placed = faultless placed.streams (plan_fault placed)
+abbrev pub checked : Located → Result StreamTrees Fault
+checked located = faultless located.streams (plan_fault located)
 
 -- ---- a configuration
 
@@ -44,15 +44,15 @@ abbrev pub config_from : Draft → Server → StreamTrees → Config
 config_from draft server plan = record { host = server.host; port = server.port; expiry = draft.expiry; plan = plan }
 
 abbrev pub finished : Draft → Result Config Fault
-finished draft = checked draft.below.children >>= λ plan. Ok (config_from draft (or_usual usual_server draft.server) plan)
+finished draft = checked draft.below.children >>= λ plan. Ok (config_from draft (or_default default_server draft.server) plan)
 
--- what the forms of a text stand for
+-- what the forms of a text represent
 unfoldable pub config_of : FormTrees → Result Config Fault
 config_of forms = run [] fresh_draft (tops_in forms) >>= λ draft. finished draft
 
 -- ---- texts
 
--- the text is forms that stand for this
+-- the text is forms that represent this
 pub record IsConfigOf (text : List ℕ) (config : Config) : Type 0 where
   pub forms : FormTrees
   pub read : IsForms text forms
@@ -78,7 +78,7 @@ pub record IsFormsFault (text : List ℕ) (place : ℕ) (why : ConfigWhy) : Type
   pub fault : text_fault text ≡ Some (place, cause)
   pub is : why_of cause ≡ why
 
--- the text is forms that stand for nothing, for this cause at the place
+-- the text is forms that represent nothing, for this cause at the place
 pub record IsReadingFault (text : List ℕ) (place : ℕ) (why : ConfigWhy) : Type 0 where
   pub forms : FormTrees
   pub read : IsForms text forms
@@ -91,12 +91,12 @@ abbrev pub IsRefusedFor : List ℕ → ConfigFault → Type 0
 IsRefusedFor text (Refused place why) = IsConfigFault text place why
 IsRefusedFor text Memory = Unit {0}
 
--- this very configuration is read, or there was no memory
+-- this very configuration is read, or the call is out of memory
 abbrev pub IsReadAs : Config → Result Config ConfigFault → Type 0
 IsReadAs config (Ok read) = read ≡ config
 IsReadAs config (Err fault) = fault ≡ Memory
 
--- the text is refused for this very cause at the place, or there was no memory
+-- the text is refused for this very cause at the place, or the call is out of memory
 abbrev pub IsRefusedAs : ℕ → ConfigWhy → Result Config ConfigFault → Type 0
 IsRefusedAs place why (Ok read) = ⊥
 IsRefusedAs place why (Err (Refused at cause)) = (at ≡ place) × (cause ≡ why)

@@ -58,7 +58,7 @@ sets_of env start forms = argument start 0 forms >>= sets_by env start forms
 
 -- ---- what a field was before the first event
 
--- a map with the one key: another keyword is refused, and the key where it stands again
+-- a map with the one key: another keyword is refused, and the key where it comes again
 abbrev pub only_key : List ℕ → Bool → ℕ → List ℕ → Result (Unit {0}) Fault
 only_key wanted twice place name =
     if bytes_eq name wanted then (if twice then Err (place, why.Twice) else Ok tt) else Err (place, why.Arguments)
@@ -113,7 +113,7 @@ abbrev pub is_number_in : Env → Option FormTree → Bool
 is_number_in env None = false
 is_number_in env (Some f) = is_number (argument_of env f)
 
--- whether seconds stand first
+-- whether seconds come first
 unfoldable pub has_secs : Env → FormTrees → Bool
 has_secs env forms = is_number_in env (nth 0 forms)
 
@@ -129,7 +129,7 @@ abbrev pub tag_rules : List (List ℕ) → Trees
 tag_rules [] = pred.none
 tag_rules (tag ∷ tags) = pred.also (Tagged tag) (tag_rules tags)
 
--- one tag stands for itself
+-- one tag represents itself
 abbrev pub all_tagged : List (List ℕ) → Tree
 all_tagged [] = All pred.none
 all_tagged (tag ∷ []) = Tagged tag
@@ -244,7 +244,7 @@ kind_of env word.Tag start forms = tag_kind env start forms
 kind_of env word.By start forms = by_kind env start forms
 kind_of env word start forms = counting_kind env word start forms
 
--- ---- how many arguments stand before the streams
+-- ---- the number of arguments before the streams
 
 abbrev pub is_map_in : Option FormTree → Bool
 is_map_in None = false

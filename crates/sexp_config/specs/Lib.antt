@@ -1,9 +1,10 @@
+pub mod Names
 pub mod Steps
 pub mod Words
 pub mod Arguments
 pub mod Rules
 pub mod Kinds
-pub mod Spots
+pub mod Sources
 pub mod Streams
 pub mod Tops
 pub mod Config

@@ -1,32 +1,32 @@
--- What streams of the code, with their places, stand for.
+-- What streams of the code, with their places, represent.
 use Rattle.std.specs.Prelude.{List, [], ◌∷◌}
 use Rattle.stream_plan.specs.Tree.{stream_tree, list_trees}
-use Rattle.sexp_config.specs.declared.spot.Spot.{Spot, Spot', Row_of-Spot, end_of-Spot, more_of-Spot}
-use Rattle.sexp_config.specs.declared.streams.Placed as code_placed
+use Rattle.sexp_config.specs.declared.source.Source.{Source, Source', Row_of-Source, end_of-Source, more_of-Source}
+use Rattle.sexp_config.specs.declared.streams.Located as code_located
 use Rattle.sexp_config.specs.declared.streams.Below as code_below
 use Rattle.sexp_config.specs.declared.streams.Part as code_part
 use Rattle.sexp_config.specs.declared.streams.Part.TheVariants as part
-use Rattle.sexp_config.specs.Spots.{SpotTree, SpotTrees, spot, none, also}
-use Rattle.sexp_config.specs.Streams.{Placed, Below, Part, One, Rest}
+use Rattle.sexp_config.specs.Sources.{SourceTree, SourceTrees, source, none, also}
+use Rattle.sexp_config.specs.Streams.{Located, Below, Part, One, Rest}
 
 abbrev mutual
-  pub spot_tree : Spot → SpotTree
-  spot_tree (Spot' place shape children shape' otherwise) = spot place (spot_trees children) (spot_trees otherwise)
+  pub source_tree : Source → SourceTree
+  source_tree (Source' place shape children shape' otherwise) = source place (source_trees children) (source_trees otherwise)
 
-  pub spot_trees : {m : _} → Row_of-Spot m → SpotTrees
-  spot_trees end_of-Spot = none
-  spot_trees (more_of-Spot s spots) = also (spot_tree s) (spot_trees spots)
+  pub source_trees : {m : _} → Row_of-Source m → SourceTrees
+  source_trees end_of-Source = none
+  source_trees (more_of-Source s sources) = also (source_tree s) (source_trees sources)
 
-abbrev pub spot_list : List Spot → SpotTrees
-spot_list [] = none
-spot_list (s ∷ spots) = also (spot_tree s) (spot_list spots)
+abbrev pub source_list : List Source → SourceTrees
+source_list [] = none
+source_list (s ∷ sources) = also (source_tree s) (source_list sources)
 
-abbrev pub placed_in : code_placed.Placed → Placed
-placed_in placed = record { streams = list_trees placed.streams.items; places = spot_list placed.places.items }
+abbrev pub located_in : code_located.Located → Located
+located_in located = record { streams = list_trees located.streams.items; places = source_list located.places.items }
 
 abbrev pub below_in : code_below.Below → Below
-below_in below = record { children = placed_in below.children; otherwise = placed_in below.otherwise }
+below_in below = record { children = located_in below.children; otherwise = located_in below.otherwise }
 
 abbrev pub part_in : code_part.Part → Part
-part_in (part.One one place) = One (stream_tree one) (spot_tree place)
-part_in (part.Rest placed) = Rest (placed_in placed)
+part_in (part.One one place) = One (stream_tree one) (source_tree place)
+part_in (part.Rest located) = Rest (located_in located)

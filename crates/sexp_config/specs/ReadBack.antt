@@ -6,7 +6,7 @@ use Rattle.sexp_config.specs.declared.config.Config.{Config}
 use Rattle.sexp_config.specs.Config.{IsConfigOf}
 use Rattle.sexp_config.specs.Canonical.{canonical_text, config_forms}
 
--- a text stands for the configuration
+-- a text represents the configuration
 abbrev pub IsReadable : Config → Type 0
 IsReadable config = (text : List ℕ) × IsConfigOf text config
 
@@ -15,6 +15,6 @@ pub record IsWithinLimits (config : Config) : Type 0 where
   pub short : length (canonical_text config) ≤ longest
   pub shallow : bare_depth (listed (config_forms config)) ≤ deepest
 
--- the canonical text of a configuration that was read stands for it
+-- the canonical text of a configuration that was read represents it
 abbrev pub CanonicalIsRead : Type 0
 CanonicalIsRead = (config : Config) → IsReadable config → IsWithinLimits config → IsConfigOf (canonical_text config) config

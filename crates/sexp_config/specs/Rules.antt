@@ -13,7 +13,8 @@ use Rattle.sexp_config.specs.declared.fault.ConfigWhy.TheVariants as why
 use Rattle.sexp_config.specs.declared.word.RuleWord.{RuleWord}
 use Rattle.sexp_config.specs.declared.word.RuleWord.TheVariants as rule
 use Rattle.sexp_config.specs.Steps.{Fault, ◌>>=◌, start_of, argument, at_most}
-use Rattle.sexp_config.specs.Words.{true_text, false_text, nil_text, bare_field, field_of, rule_word}
+use Rattle.ev_types.specs.Names.{named_field, protocol_field}
+use Rattle.sexp_config.specs.Words.{true_text, false_text, nil_text, rule_word}
 use Rattle.sexp_config.specs.Arguments.{Env, bound_value, Argument, Pattern, argument_of, text_at, field_at, number_at, value_at}
 
 -- ---- a predicate of one word
@@ -32,12 +33,12 @@ symbol_rule env name start =
 -- ---- the field that a predicate speaks of
 
 -- a symbol there is the name of a field, whatever it is bound to
-abbrev pub named_field : ℕ → Option Field → Result Field Fault
-named_field start None = Err (start, why.Name)
-named_field start (Some field) = Ok field
+abbrev pub known_field : ℕ → Option Field → Result Field Fault
+known_field start None = Err (start, why.Name)
+known_field start (Some field) = Ok field
 
 unfoldable pub rule_field_at : FormTree → Result Field Fault
-rule_field_at (Single (form.Symbol name) start last) = named_field start (bare_field name)
+rule_field_at (Single (form.Symbol name) start last) = known_field start (protocol_field name)
 rule_field_at f = field_at [] f
 
 -- ---- what a predicate begins with
@@ -56,8 +57,8 @@ symbol_head (Some word) field = Word word
 symbol_head None field = field_head field
 
 unfoldable pub rule_head : FormTree → Head
-rule_head (Single (form.Symbol name) start last) = symbol_head (rule_word name) (bare_field name)
-rule_head (Single (form.Keyword name) start last) = field_head (field_of name)
+rule_head (Single (form.Symbol name) start last) = symbol_head (rule_word name) (protocol_field name)
+rule_head (Single (form.Keyword name) start last) = field_head (named_field name)
 rule_head _ = Unknown
 
 -- ---- predicates of predicates
@@ -73,7 +74,7 @@ unfoldable pub all_read : Trees → Readings → Result Trees Fault
 all_read rules [] = Ok rules
 all_read rules (reading ∷ readings) = reading >>= λ one. all_read (with_rule rules one) readings
 
--- one part stands for itself, and some part has to be there
+-- one part is itself, and some part has to be there
 abbrev pub joined : (Trees → Tree) → ℕ → Trees → Result Tree Fault
 joined join start pred.none = Err (start, why.Arguments)
 joined join start (pred.also one pred.none) = Ok one
@@ -133,7 +134,7 @@ field_rule env field start forms =
 
 -- ---- all predicates
 
--- a predicate of the word at the place, with these arguments, which are these where predicates stand
+-- a predicate of the word at the place, with these arguments, which are these as predicates
 unfoldable pub word_rule : Env → RuleWord → ℕ → FormTrees → Readings → Result Tree Fault
 word_rule env rule.And start forms readings = all_read pred.none readings >>= joined All start
 word_rule env rule.Or start forms readings = all_read pred.none readings >>= joined Any start

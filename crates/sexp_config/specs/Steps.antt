@@ -18,17 +18,17 @@ Err fault >>= next = Err fault
 
 -- ---- what a call answers, beside what is read
 
--- the call failed for this fault, or for want of memory
+-- the call failed for this fault, or is out of memory
 abbrev pub Fails : {A : Type 0} → ConfigFault → Result A Fault → Type 0
 Fails Memory read = Unit {0}
 Fails (Refused place why) read = read ≡ Err (place, why)
 
--- the call answers what is read, or there was no memory
+-- the call answers what is read, or the call is out of memory
 abbrev pub Gives : {A : Type 0} → Result A ConfigFault → Result A Fault → Type 0
 Gives (Ok a) read = read ≡ Ok a
 Gives (Err fault) read = Fails fault read
 
--- the same of what a value of the code stands for
+-- the same of what a value of the code represents
 abbrev pub GivesAs : {A B : Type 0} → (A → B) → Result A ConfigFault → Result B Fault → Type 0
 GivesAs plain (Ok a) read = read ≡ Ok (plain a)
 GivesAs plain (Err fault) read = Fails fault read

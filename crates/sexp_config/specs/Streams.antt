@@ -15,47 +15,47 @@ use Rattle.sexp_config.specs.declared.word.StreamWord.TheVariants as word
 use Rattle.sexp_config.specs.Steps.{Fault, ◌>>=◌, start_of, at_most}
 use Rattle.sexp_config.specs.Words.{stream_text, stream_word}
 use Rattle.sexp_config.specs.Arguments.{Env, bound_value}
-use Rattle.sexp_config.specs.Spots.{SpotTree, SpotTrees, spot, with_spot}
-use Rattle.sexp_config.specs.Spots as spots
+use Rattle.sexp_config.specs.Sources.{SourceTree, SourceTrees, source, with_source}
+use Rattle.sexp_config.specs.Sources as sources
 use Rattle.sexp_config.specs.Kinds.{kind_of, leads}
 
--- ---- what a form gives where streams stand
+-- ---- what a form is in the place of a stream
 
 -- streams, and the places of their forms
-pub record Placed : Type 0 where
+pub record Located : Type 0 where
   pub streams : StreamTrees
-  pub places : SpotTrees
+  pub places : SourceTrees
 
-abbrev pub nowhere : Placed
-nowhere = record { streams = plan.none; places = spots.none }
+abbrev pub nowhere : Located
+nowhere = record { streams = plan.none; places = sources.none }
 
 -- the streams of a stream: its children, and those that get the rest
 pub record Below : Type 0 where
-  pub children : Placed
-  pub otherwise : Placed
+  pub children : Located
+  pub otherwise : Located
 
 abbrev pub nothing : Below
 nothing = record { children = nowhere; otherwise = nowhere }
 
 -- a stream with its place, or the streams that get the rest
 pub data Part : Type 0 where
-  One : StreamTree → SpotTree → Part
-  Rest : Placed → Part
+  One : StreamTree → SourceTree → Part
+  Rest : Located → Part
 
 abbrev pub with_stream : StreamTrees → StreamTree → StreamTrees
 with_stream plan.none one = plan.also one plan.none
 with_stream (plan.also first streams) one = plan.also first (with_stream streams one)
 
-abbrev pub with_one : Placed → StreamTree → SpotTree → Placed
-with_one placed one place = record { streams = with_stream placed.streams one; places = with_spot placed.places place }
+abbrev pub with_one : Located → StreamTree → SourceTree → Located
+with_one located one place = record { streams = with_stream located.streams one; places = with_source located.places place }
 
 abbrev pub stream_of : KindTree → ℕ → Below → Part
 stream_of kind start below =
-    One (stream kind below.children.streams below.otherwise.streams) (spot start below.children.places below.otherwise.places)
+    One (stream kind below.children.streams below.otherwise.streams) (source start below.children.places below.otherwise.places)
 
--- ---- what stands behind a stream's own arguments
+-- ---- the forms after a stream's own arguments
 
--- each form, by its place, and what it is where streams stand
+-- each form, by its place, and what it is in the place of a stream
 abbrev pub Readings : Type 0
 Readings = List (ℕ × Result Part Fault)
 
@@ -64,17 +64,17 @@ abbrev pub next_place : Readings → Option ℕ
 next_place [] = None
 next_place (reading ∷ readings) = Some reading.0
 
-abbrev pub with_child : Below → StreamTree → SpotTree → Below
+abbrev pub with_child : Below → StreamTree → SourceTree → Below
 with_child below one place = record { children = with_one below.children one place; otherwise = below.otherwise }
 
--- nothing may stand behind the streams that get the rest
+-- nothing may follow the streams that get the rest
 abbrev pub ended : Below → Option ℕ → Result Below Fault
 ended below None = Ok below
 ended below (Some place) = Err (place, why.Arguments)
 
 abbrev pub with_part : Below → Part → Option ℕ → Result Below Fault
 with_part below (One one place) next = Ok (with_child below one place)
-with_part below (Rest placed) next = ended (record { children = below.children; otherwise = placed }) next
+with_part below (Rest located) next = ended (record { children = below.children; otherwise = located }) next
 
 unfoldable pub all_read : Below → Readings → Result Below Fault
 all_read below [] = Ok below
@@ -99,8 +99,8 @@ is_else _ = false
 
 -- a symbol is the stream `index`, by that word or as its value
 abbrev pub symbol_by : Option Bound → List ℕ → ℕ → Result Part Fault
-symbol_by None name start = if bytes_eq name (stream_text word.Index) then Ok (One (stream plan.Index plan.none plan.none) (spot start spots.none spots.none)) else Err (start, why.Name)
-symbol_by (Some bound.Index) name start = Ok (One (stream plan.Index plan.none plan.none) (spot start spots.none spots.none))
+symbol_by None name start = if bytes_eq name (stream_text word.Index) then Ok (One (stream plan.Index plan.none plan.none) (source start sources.none sources.none)) else Err (start, why.Name)
+symbol_by (Some bound.Index) name start = Ok (One (stream plan.Index plan.none plan.none) (source start sources.none sources.none))
 symbol_by (Some _) name start = Err (start, why.Form)
 
 -- a stream of the kind at the place; what has no streams has no more arguments than its own
@@ -110,7 +110,7 @@ followed kind start own forms readings =
     then (all_read nothing (drop own readings) >>= λ below. Ok (stream_of kind start below))
     else (at_most own forms >>= λ over. Ok (stream_of kind start nothing))
 
--- the streams that get the rest, where they may stand
+-- the streams that get the rest, where they are allowed
 abbrev pub else_part : Bool → ℕ → Readings → Result Part Fault
 else_part may_else start readings =
     if may_else then (all_read nothing readings >>= λ below. Ok (Rest below.children)) else Err (start, why.Form)
@@ -122,7 +122,7 @@ worded may_else env (Some one) start forms readings =
     if is_else one then else_part may_else start readings
     else (kind_of env one start forms >>= λ kind. followed kind start (leads env one forms) forms readings)
 
--- what a form gives where streams stand, and the same of each of some forms
+-- what a form is in the place of a stream, and the same of each of some forms
 unfoldable mutual
   pub part_at : Bool → Env → FormTree → Result Part Fault
   part_at may_else env (Single (form.Symbol name) start last) = symbol_by (bound_value name env) name start

@@ -9,6 +9,9 @@ use Rattle.ev_types.specs.declared.settings.KeepKey.TheVariants as keep
 use Rattle.sexp_read.specs.declared.piece.Bracket.TheVariants.{Round}
 use Rattle.sexp_read.specs.Tree.{FormTree, FormTrees, Single, Group, none, also}
 use Rattle.sexp_read.specs.declared.piece.Atom.TheVariants as form
+use Rattle.stream_plan.specs.declared.kinds.TheConstants.{MAX_SECS}
+use Rattle.sexp_config.specs.declared.server.TheConstants.{DEFAULT_PORT}
+use Rattle.sexp_config.specs.declared.expiry.TheConstants.{DEFAULT_INTERVAL}
 use Rattle.sexp_config.specs.declared.binding.Bound.{Bound}
 use Rattle.sexp_config.specs.declared.binding.Bound.TheVariants as bound
 use Rattle.sexp_config.specs.declared.fault.ConfigWhy.TheVariants as why
@@ -16,7 +19,8 @@ use Rattle.sexp_config.specs.declared.word.StreamWord.TheVariants as word
 use Rattle.sexp_config.specs.declared.word.TopWord.{TopWord}
 use Rattle.sexp_config.specs.declared.word.TopWord.TheVariants as top
 use Rattle.sexp_config.specs.Steps.{Fault, ◌>>=◌, start_of, nth, argument, at_most, each}
-use Rattle.sexp_config.specs.Words.{stream_text, top_word, field_of, tags_text, keep_text, host_text, port_text}
+use Rattle.ev_types.specs.Names.{named_field}
+use Rattle.sexp_config.specs.Words.{stream_text, top_word, tags_text, keep_text, host_text, port_text}
 use Rattle.sexp_config.specs.Arguments.{Env, bound_value, Argument, Text, Pattern, Number, Keyword, Index, argument_of, misfit, fitting, keyword_at, text_at, port_at, ranged_at, vector_at, map_at}
 use Rattle.sexp_config.specs.Kinds.{one_entry}
 use Rattle.sexp_config.specs.Rules.{no_form}
@@ -28,8 +32,8 @@ pub record Server : Type 0 where
   pub host : List ℕ
   pub port : ℕ
 
-abbrev pub usual_server : Server
-usual_server = record { host = codes "127.0.0.1"; port = 5555 }
+abbrev pub default_server : Server
+default_server = record { host = codes "127.0.0.1"; port = DEFAULT_PORT }
 
 pub record Draft : Type 0 where
   pub server : Option Server
@@ -39,7 +43,7 @@ pub record Draft : Type 0 where
 abbrev pub fresh_draft : Draft
 fresh_draft = record { server = None; expiry = None; below = nothing }
 
--- a form that may stand once
+-- a form that may come once
 abbrev pub once : {A : Type 0} → ℕ → Option A → Result (Unit {0}) Fault
 once start None = Ok tt
 once start (Some a) = Err (start, why.Twice)
@@ -51,12 +55,12 @@ pub record Listens : Type 0 where
   pub host : Option (List ℕ)
   pub port : Option ℕ
 
-abbrev pub or_usual : {A : Type 0} → A → Option A → A
-or_usual usual None = usual
-or_usual usual (Some a) = a
+abbrev pub or_default : {A : Type 0} → A → Option A → A
+or_default default None = default
+or_default default (Some a) = a
 
 abbrev pub server_of : Listens → Server
-server_of listens = record { host = or_usual usual_server.host listens.host; port = or_usual usual_server.port listens.port }
+server_of listens = record { host = or_default default_server.host listens.host; port = or_default default_server.port listens.port }
 
 -- the key of an entry: the first is that of the host
 abbrev pub listen_key : ℕ → Listens → List ℕ → Result Bool Fault
@@ -90,7 +94,7 @@ server_at env f =
     Ok (server_of listens)
 
 abbrev pub server_by : Env → Option FormTree → Result Server Fault
-server_by env None = Ok usual_server
+server_by env None = Ok default_server
 server_by env (Some f) = server_at env f
 
 unfoldable pub server_in : Env → FormTrees → Result Server Fault
@@ -106,7 +110,7 @@ keep_field None = None
 keep_field (Some field) = Some (keep.Field field)
 
 abbrev pub keep_in : Argument → Option KeepKey
-keep_in (Keyword key) = if bytes_eq key tags_text then Some keep.Tags else keep_field (field_of key)
+keep_in (Keyword key) = if bytes_eq key tags_text then Some keep.Tags else keep_field (named_field key)
 keep_in _ = None
 
 unfoldable pub keep_at : Env → FormTree → Result KeepKey Fault
@@ -118,18 +122,18 @@ with_keep env keys f = keep_at env f >>= λ key. Ok (keys ++ key ∷ [])
 unfoldable pub keys_at : Env → FormTree → Result (List KeepKey) Fault
 keys_at env f = vector_at env f >>= each (with_keep env) []
 
-abbrev pub usual_keys : List KeepKey
-usual_keys = keep.Field Host ∷ keep.Field Service ∷ []
+abbrev pub default_keys : List KeepKey
+default_keys = keep.Field Host ∷ keep.Field Service ∷ []
 
 abbrev pub interval_by : Env → Option FormTree → Result ℕ Fault
-interval_by env None = Ok 10
-interval_by env (Some f) = ranged_at 1 604800 env f
+interval_by env None = Ok DEFAULT_INTERVAL
+interval_by env (Some f) = ranged_at 1 MAX_SECS env f
 
 abbrev pub keys_of_map : Env → FormTree → Result (List KeepKey) Fault
 keys_of_map env f = map_at env f >>= λ entries. one_entry keep_text keys_at (start_of f) env None entries
 
 abbrev pub keys_by : Env → Option FormTree → Result (List KeepKey) Fault
-keys_by env None = Ok usual_keys
+keys_by env None = Ok default_keys
 keys_by env (Some f) = keys_of_map env f
 
 unfoldable pub expiry_in : Env → FormTrees → Result Expiry Fault
@@ -208,11 +212,11 @@ with_expiry env start forms draft =
 abbrev pub with_streams : Env → FormTrees → Draft → Result Draft Fault
 with_streams env forms draft = all_read draft.below (parts_in false env forms) >>= λ below. Ok (record draft { below = below })
 
--- the forms behind the names, where these are bound
+-- the forms after the names, where these are bound
 abbrev pub let_by : Env → ℕ → FormTrees → List Step → Draft → Result Draft Fault
 let_by env start forms steps draft = names_in env start forms >>= λ inner. run inner draft (drop 1 steps)
 
--- a form of the word, with these arguments, which are these steps where forms at the top stand
+-- a form of the word, with these arguments, which are these steps as forms at the top
 unfoldable pub top_by : Option TopWord → Env → ℕ → FormTrees → List Step → Draft → Result Draft Fault
 top_by None env start forms steps draft = Err (start, why.Form)
 top_by (Some top.TcpServer) env start forms steps draft = with_server env start forms draft

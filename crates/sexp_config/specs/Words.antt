@@ -1,9 +1,9 @@
 -- The words of configurations.
-use Rattle.std.specs.Prelude.{ℕ, Bool, ◌||◌, if◌then◌else◌, List, Option, Some, None, codes}
+use Rattle.std.specs.Prelude.{ℕ, Bool, if◌then◌else◌, List, Option, Some, None, codes}
 use Rattle.std.specs.Option.{option_or}
 use Rattle.std.specs.Str.{bytes_eq}
 use Rattle.ev_types.specs.declared.field.Field.{Field}
-use Rattle.ev_types.specs.declared.field.Field.TheVariants.{Host, Service, State, Description, Time, Ttl, Metric, Attribute}
+use Rattle.ev_types.specs.Names.{field_name}
 use Rattle.ev_types.specs.declared.settings.Fold.{Fold}
 use Rattle.ev_types.specs.declared.settings.Fold.TheVariants.{Sum, Minimum, Maximum, Count}
 use Rattle.pred_eval.specs.declared.rule.Ordering.TheVariants.{Less, LessEqual, Greater, GreaterEqual}
@@ -158,48 +158,12 @@ nil_text = codes "nil"
 
 -- ---- fields
 
-abbrev pub field_text : Field → List ℕ
-field_text Host = codes "host"
-field_text Service = codes "service"
-field_text State = codes "state"
-field_text Description = codes "description"
-field_text Time = codes "time"
-field_text Ttl = codes "ttl"
-field_text Metric = codes "metric"
-field_text (Attribute key) = key
-
-abbrev is_field : List ℕ → Field → Option Field → Option Field
-is_field name field = where_named name (field_text field) field
-
--- the fields that are no attributes, by their names
-unfoldable pub bare_field : List ℕ → Option Field
-bare_field name =
-    is_field name Host
-    (is_field name Service
-    (is_field name State
-    (is_field name Description
-    (is_field name Time
-    (is_field name Ttl
-    (is_field name Metric None))))))
-
 abbrev pub tags_text : List ℕ
 tags_text = codes "tags"
 
--- these are no fields that a configuration may name
-abbrev pub is_hidden : List ℕ → Bool
-is_hidden name = bytes_eq name (codes "metric_f") || bytes_eq name (codes "metric_d") || bytes_eq name (codes "time_micros") || bytes_eq name tags_text
-
--- the field that a keyword names
-unfoldable pub field_of : List ℕ → Option Field
-field_of name =
-    option_or (bare_field name)
-    (if bytes_eq name (codes "metric_sint64") then Some Metric
-    else (if is_hidden name then None
-    else Some (Attribute name)))
-
 -- two fields are the same where their names are
 abbrev pub same_field : Field → Field → Bool
-same_field a b = bytes_eq (field_text a) (field_text b)
+same_field a b = bytes_eq (field_name a) (field_name b)
 
 -- ---- folds
 

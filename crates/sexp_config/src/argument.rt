@@ -1,4 +1,4 @@
-//! Arguments, and what fits where they stand.
+//! Arguments, and what fits in their places.
 
 ghost use Rattle.std.specs.Prelude.{◌≡◌, ◌≤◌, option_copied, IfOk};
 ghost use Rattle.std.specs.Option.{option_map};

@@ -8,7 +8,7 @@ ghost use Rattle.sexp_config.specs.Words.{rule_text, fold_text};
 ghost use Rattle.sexp_config.specs.declared.word.RuleWord.TheVariants.{Order as order_word};
 
 use crate::Config;
-use crate::unplaced::{
+use crate::bare::{
     field, keyword, list, map, number, pair, pattern, put, symbol, text, value, vector, word,
     word_with, word_with_two,
 };
@@ -45,7 +45,7 @@ fn order_name(order: Ordering) -> &'static str
     }
 }
 
-/// A test of a field against what stands behind it.
+/// A test of a field against the form after it.
 fn test_form(alloc: Global, name: &str, named: &Field, against: Form) -> Result<Form, Memory>
     ensures { IfOk result (λ form. bare_form form ≡ worded_form name.now (rule_field_form named.now ∷ bare_form against ∷ [])) }
 {
@@ -98,7 +98,7 @@ fn rule_form(alloc: Global, rule: &Rule) -> Result<Form, Memory>
     }
 }
 
-/// Predicates behind the word that joins them.
+/// Predicates after the word that joins them.
 #[cycle(canonical_rule)]
 #[tactic(auto, using(crate::proofs::CanonicalLaws::rules_more, crate::proofs::CanonicalLaws::rules_all))]
 fn joined(alloc: Global, name: &str, parts: &[Rule]) -> Result<Form, Memory>
@@ -298,7 +298,7 @@ fn keep_key(alloc: Global, key: &KeepKey) -> Result<Form, Memory>
     }
 }
 
-/// The vector of what is kept.
+/// The vector of the keys to keep.
 #[tactic(auto, using(crate::proofs::CanonicalLaws::keys_more, crate::proofs::CanonicalLaws::keys_all))]
 fn keys_form(alloc: Global, keys: &[KeepKey]) -> Result<Form, Memory>
     ensures { IfOk result (λ form. bare_form form ≡ vector_form (each_of keep_form keys.now)) }

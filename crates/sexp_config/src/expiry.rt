@@ -5,8 +5,8 @@ ghost use Rattle.sexp_read.specs.Tree.{form_tree, form_trees};
 ghost use Rattle.sexp_config.specs.Words.{keep_text};
 ghost use Rattle.sexp_config.specs.Steps.{Gives, GivesAs, each, nth as nth_of};
 ghost use Rattle.sexp_config.specs.Kinds.{one_entry};
-ghost use Rattle.sexp_config.specs.Tops.{keep_in as keep_of, keep_field, keep_at as keep_from, with_keep, keys_at as keys_read, usual_keys as usual_keys_of, interval_by as interval_of, keys_of_map as keys_of_map_at, keys_by as keys_by_form, expiry_in as expiry_of};
-ghost use Rattle.sexp_config.specs.Words.{field_of as field_of_name};
+ghost use Rattle.sexp_config.specs.Tops.{keep_in as keep_of, keep_field, keep_at as keep_from, with_keep, keys_at as keys_read, default_keys as default_keys_of, interval_by as interval_of, keys_of_map as keys_of_map_at, keys_by as keys_by_form, expiry_in as expiry_of};
+ghost use Rattle.ev_types.specs.Names.{named_field};
 ghost use Rattle.sexp_config.specs.Code.{argument_in};
 
 use crate::argument::{Argument, argument_of, map_at, ranged_at, unfit, vector_at};
@@ -19,10 +19,10 @@ use sexp_read::Form;
 use std::alloc::Global;
 use stream_plan::MAX_SECS;
 
-const USUAL_INTERVAL: u32 = 10;
+const DEFAULT_INTERVAL: u32 = 10;
 
 fn kept_field(alloc: Global, name: &Text) -> Result<Option<KeepKey>, Memory>
-    ensures { IfOk result (λ key. key ≡ keep_field (field_of_name name.now)) }
+    ensures { IfOk result (λ key. key ≡ keep_field (named_field name.now)) }
 {
     match field_of(alloc, name)? {
         Some(field) => Ok(Some(KeepKey::Field(field))),
@@ -88,11 +88,11 @@ fn keys_from(
     let mut left = entries;
     'entries: while let Some((key, rest)) = first(left) {
         only_key_at(env, b"keep-keys", keys.is_some(), key)?;
-        let Some((form, behind)) = first(rest) else {
+        let Some((form, later)) = first(rest) else {
             return Err(refused(place, ConfigWhy::Arguments));
         };
         keys = Some(keys_at(alloc, env, form)?);
-        left = behind;
+        left = later;
     }
     match keys {
         Some(keys) => Ok(keys),
@@ -100,8 +100,8 @@ fn keys_from(
     }
 }
 
-fn usual_keys(alloc: Global) -> Result<KeepKeys, ConfigFault>
-    ensures { Gives result (Ok usual_keys_of) }
+fn default_keys(alloc: Global) -> Result<KeepKeys, ConfigFault>
+    ensures { Gives result (Ok default_keys_of) }
 {
     let mut keys = KeepKeys::fresh(alloc);
     keys.push(alloc, KeepKey::Field(Field::Host))?;
@@ -113,7 +113,7 @@ fn interval_of(env: &[Binding], forms: &[Form]) -> Result<u32, ConfigFault>
     ensures { Gives result (interval_of env.now (nth_of 0 (form_trees forms.now))) }
 {
     match nth(forms, 0) {
-        None => Ok(USUAL_INTERVAL),
+        None => Ok(DEFAULT_INTERVAL),
         Some(form) => ranged_at(env, form, 1, MAX_SECS),
     }
 }
@@ -130,7 +130,7 @@ fn keys_by(alloc: Global, env: &[Binding], forms: &[Form]) -> Result<KeepKeys, C
     ensures { Gives result (keys_by_form env.now (nth_of 1 (form_trees forms.now))) }
 {
     match nth(forms, 1) {
-        None => usual_keys(alloc),
+        None => default_keys(alloc),
         Some(form) => keys_of_map(alloc, env, form),
     }
 }

@@ -1,4 +1,5 @@
 ghost use Rattle.std.specs.Prelude.{◌≡◌};
+ghost use Rattle.sexp_config.specs.Names.{why_name};
 ghost use Rattle.sexp_config.specs.declared.fault.ConfigFault.TheVariants.{Memory as out_of_memory};
 
 use ev_types::Memory;
@@ -11,7 +12,7 @@ pub enum ConfigFault {
     /// The text is refused at `place`, counted in bytes from its start.
     #[error("config refused at {place}: {why}")]
     Refused { place: usize, why: ConfigWhy },
-    /// Memory was wanted and none was left.
+    /// Out of memory.
     #[error("out of memory")]
     Memory,
 }
@@ -31,19 +32,19 @@ pub enum ConfigWhy {
     /// A closing bracket without an opening one of its kind before it.
     #[error("close")]
     Close,
-    /// A run of bytes that is no number, keyword or symbol, or a `#` without a quote behind it.
+    /// A run of bytes that is not a number, a keyword or a symbol, or a `#` without a quote after it.
     #[error("token")]
     Token,
-    /// A run of bytes that begins as a number and is none of 64 signed bits.
+    /// A run of bytes that begins as a number and is not one of 64 signed bits.
     #[error("number")]
     Number,
-    /// A backslash in a string, before a byte with which it is no escape.
+    /// A backslash in a string, before a byte with which it is not an escape.
     #[error("escape")]
     Escape,
     /// More than 64 brackets are open at once.
     #[error("deep")]
     Deep,
-    /// A form of no kind that may stand at the place.
+    /// A form of a kind that is not allowed at the place.
     #[error("form")]
     Form,
     /// An argument that does not fit, or a form that lacks one.
@@ -55,7 +56,7 @@ pub enum ConfigWhy {
     /// A symbol that is bound to nothing, and no word of its place.
     #[error("name")]
     Name,
-    /// What may stand once stands again.
+    /// A form, key or field that may come once comes again.
     #[error("twice")]
     Twice,
     /// Stream number 4,097.
@@ -64,6 +65,32 @@ pub enum ConfigWhy {
     /// A stream that does not take what its parent passes on.
     #[error("kind")]
     Kind,
+}
+
+impl ConfigWhy {
+    /// The name of the cause, in lower case, as the texts of refusals have it.
+    #[tactic(auto, unfolding(crate::specs::Names::why_name))]
+    pub fn name(self) -> &'static str
+        ensures { result.now ≡ why_name self }
+    {
+        match self {
+            ConfigWhy::Long => "long",
+            ConfigWhy::Utf8 => "utf8",
+            ConfigWhy::Open => "open",
+            ConfigWhy::Close => "close",
+            ConfigWhy::Token => "token",
+            ConfigWhy::Number => "number",
+            ConfigWhy::Escape => "escape",
+            ConfigWhy::Deep => "deep",
+            ConfigWhy::Form => "form",
+            ConfigWhy::Arguments => "arguments",
+            ConfigWhy::Range => "range",
+            ConfigWhy::Name => "name",
+            ConfigWhy::Twice => "twice",
+            ConfigWhy::Many => "many",
+            ConfigWhy::Kind => "kind",
+        }
+    }
 }
 
 impl From<Memory> for ConfigFault {

@@ -6,17 +6,17 @@ ghost use Rattle.sexp_read.specs.Tree.{form_trees};
 ghost use Rattle.sexp_read.specs.Grammar.{depth, deepest};
 ghost use Rattle.sexp_config.specs.Code.{fault_by};
 ghost use Rattle.sexp_config.specs.Steps.{Gives, GivesAs};
-ghost use Rattle.sexp_config.specs.Spots.{place_along as place_by, nth_spot, with_spots};
-ghost use Rattle.sexp_config.specs.Tops.{usual_server as usual_server_of, or_usual};
+ghost use Rattle.sexp_config.specs.Sources.{place_along as place_by, nth_source, with_sources};
+ghost use Rattle.sexp_config.specs.Tops.{default_server as default_server_of, or_default};
 ghost use Rattle.sexp_config.specs.Config.{config_of as config_read, checked as checked_plan, finished};
 ghost use Rattle.sexp_config.specs.Built.{IsWellBuilt, IsLeft};
-ghost use Rattle.sexp_config.specs.Made.{placed_in, spot_list, spot_tree};
+ghost use Rattle.sexp_config.specs.Made.{located_in, source_list, source_tree};
 ghost use Rattle.sexp_config.specs.Drafts.{draft_in, server_made};
 
 use crate::forms::refused;
-use crate::server::{Server, usual_server};
-use crate::spot::Spot;
-use crate::streams::Placed;
+use crate::server::{Server, default_server};
+use crate::source::Source;
+use crate::streams::Located;
 use crate::tops::{Draft, run};
 use crate::{Config, ConfigFault, ConfigWhy};
 use sexp_read::Form;
@@ -24,47 +24,47 @@ use std::alloc::Global;
 use stream_plan::{CheckedPlan, Plan, PlanFault, PlanWhy, check_kinds};
 
 /// The place of the form of the stream to which the path leads.
-fn place_along(spots: &[Spot], path: &[usize]) -> usize
-    ensures { result ≡ place_by 0 (spot_list spots.now) path.now }
+fn place_along(sources: &[Source], path: &[usize]) -> usize
+    ensures { result ≡ place_by 0 (source_list sources.now) path.now }
 {
     let mut place = 0;
-    let mut children = spots;
-    let mut otherwise: &[Spot] = &[];
+    let mut children = sources;
+    let mut otherwise: &[Source] = &[];
     'path: for number in path {
-        let Some(spot) = follow(children, otherwise, *number) else {
+        let Some(source) = follow(children, otherwise, *number) else {
             return place;
         };
-        place = spot.place;
-        children = &spot.children;
-        otherwise = &spot.otherwise;
+        place = source.place;
+        children = &source.children;
+        otherwise = &source.otherwise;
     }
     place
 }
 
-/// The spot of a number: the children's come first.
-fn follow<'a>(children: &'a [Spot], otherwise: &'a [Spot], number: usize) -> Option<&'a Spot>
-    ensures { option_map (λ found. spot_tree found.now) result ≡ nth_spot number (with_spots (spot_list children.now) (spot_list otherwise.now)) }
+/// The source of a number: the children's come first.
+fn follow<'a>(children: &'a [Source], otherwise: &'a [Source], number: usize) -> Option<&'a Source>
+    ensures { option_map (λ found. source_tree found.now) result ≡ nth_source number (with_sources (source_list children.now) (source_list otherwise.now)) }
 {
     if number < children.len() {
         return Some(&children[number]);
     }
-    let behind = number - children.len();
-    if behind < otherwise.len() {
-        return Some(&otherwise[behind]);
+    let later = number - children.len();
+    if later < otherwise.len() {
+        return Some(&otherwise[later]);
     }
     None
 }
 
 /// The plan of the streams, where it has no fault.
-fn checked(alloc: Global, placed: Placed) -> Result<CheckedPlan, ConfigFault>
-    requires { IsWellBuilt (placed_in placed).streams }
-    ensures { Gives result (checked_plan (placed_in placed)) }
+fn checked(alloc: Global, located: Located) -> Result<CheckedPlan, ConfigFault>
+    requires { IsWellBuilt (located_in located).streams }
+    ensures { Gives result (checked_plan (located_in located)) }
 {
-    let places = placed.places;
+    let places = located.places;
     match check_kinds(
         alloc,
         Plan {
-            streams: placed.streams,
+            streams: located.streams,
         },
     ) {
         Ok(plan) => Ok(plan),
@@ -75,8 +75,8 @@ fn checked(alloc: Global, placed: Placed) -> Result<CheckedPlan, ConfigFault>
     }
 }
 
-/// The refusal of the stream at the place. What is read has no fault of the last three causes: only `where` gets other
-/// streams, what takes no streams has none, numbers are in their ranges, and brackets are at most 64 deep.
+/// The refusal of the stream at the place. Of the five causes only Many and Kind can still come: only `where` gets other
+/// streams, what takes no streams has none, numbers are in their ranges, and at most 64 brackets are open at once.
 fn fault_of(place: usize, why: PlanWhy) -> ConfigFault
     requires { IsLeft why }
     ensures { result ≡ fault_by why place }
@@ -89,11 +89,11 @@ fn fault_of(place: usize, why: PlanWhy) -> ConfigFault
 }
 
 fn server_of(alloc: Global, server: Option<Server>) -> Result<Server, ConfigFault>
-    ensures { GivesAs server_made result (Ok (or_usual usual_server_of (option_map server_made server))) }
+    ensures { GivesAs server_made result (Ok (or_default default_server_of (option_map server_made server))) }
 {
     match server {
         Some(server) => Ok(server),
-        None => usual_server(alloc),
+        None => default_server(alloc),
     }
 }
 
@@ -112,7 +112,7 @@ fn finish(alloc: Global, draft: Draft) -> Result<Config, ConfigFault>
     })
 }
 
-/// The configuration that the forms stand for.
+/// The configuration that the forms represent.
 #[tactic(auto, unfolding(crate::specs::Config::config_of))]
 pub(crate) fn config_of(alloc: Global, forms: &[Form]) -> Result<Config, ConfigFault>
     requires { depth (form_trees forms.now) ≤ deepest }

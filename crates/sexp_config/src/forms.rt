@@ -5,19 +5,19 @@ ghost use Rattle.sexp_read.specs.declared.piece.Bracket.TheVariants.{Round};
 ghost use Rattle.sexp_read.specs.Tree.{form_tree, form_trees, none, also, Group};
 ghost use Rattle.sexp_config.specs.Steps.{nth, argument as argument_at, absent, at_most, start_of, GivesAs};
 ghost use Rattle.sexp_config.specs.Tops.{name_in};
-ghost use Rattle.sexp_config.specs.Code.{behind as behind_of, next_of, look_of, look_in, IsWithin, weight, form_weight};
+ghost use Rattle.sexp_config.specs.Code.{later as later_of, next_of, look_of, look_in, IsWithin, weight, form_weight};
 
 use crate::{ConfigFault, ConfigWhy};
 use ev_types::Text;
 use sexp_read::{Form, Shape};
 
-/// A form, where forms with heads stand.
+/// A form, by its head.
 #[derive(Clone, Copy)]
 pub(crate) enum View<'a> {
     Symbol(&'a Text),
-    /// A list that a symbol begins, and what stands behind it.
+    /// A list that a symbol begins, and the forms after it.
     Call(&'a Text, &'a [Form]),
-    /// A list that a keyword begins, and what stands behind it.
+    /// A list that a keyword begins, and the forms after it.
     Lookup(&'a Text, &'a [Form]),
     Other,
 }
@@ -57,7 +57,7 @@ pub(crate) fn symbol_of(form: &Form) -> Option<&Text>
     }
 }
 
-/// The first form, and those behind it.
+/// The first form, and those after it.
 pub(crate) fn first(forms: &[Form]) -> Option<(&Form, &[Form])>
     ensures split { MatchOption result (form_trees forms.now ≡ none)
         (λ pair. form_trees forms.now ≡ also (form_tree pair.0.now) (form_trees pair.1.now)) }
@@ -91,7 +91,7 @@ pub(crate) fn argument(start: usize, n: usize, forms: &[Form]) -> Result<&Form, 
     }
 }
 
-/// No more than so many forms may be there.
+/// There may be no more than n forms.
 #[tactic(auto, using(crate::proofs::FormLaws::start_of_form), unfolding(crate::specs::Steps::at_most))]
 pub(crate) fn at_most(n: usize, forms: &[Form]) -> Result<(), ConfigFault>
     ensures { GivesAs (λ _. tt) result (at_most n (form_trees forms.now)) }
@@ -116,10 +116,10 @@ fn view_list(forms: &[Form]) -> View<'_>
     }
 }
 
-/// The forms behind the first so many.
-#[tactic(auto, using(crate::proofs::FormLaws::behind_within, crate::proofs::FormLaws::behind_past, crate::proofs::FormLaws::behind_is_lighter))]
-pub(crate) fn behind(forms: &[Form], n: usize) -> &[Form]
-    ensures rest { form_trees result.now ≡ behind_of n (form_trees forms.now) }
+/// The forms after the first n.
+#[tactic(auto, using(crate::proofs::FormLaws::later_within, crate::proofs::FormLaws::later_past, crate::proofs::FormLaws::later_is_lighter))]
+pub(crate) fn later(forms: &[Form], n: usize) -> &[Form]
+    ensures rest { form_trees result.now ≡ later_of n (form_trees forms.now) }
     ensures lighter { weight (form_trees result.now) ≤ weight (form_trees forms.now) }
 {
     if n < forms.len() { &forms[n..] } else { &[] }

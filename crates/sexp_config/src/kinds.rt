@@ -142,7 +142,7 @@ fn fold_named(form: &Form) -> Option<Fold>
     }
 }
 
-/// Whether seconds stand first.
+/// Whether seconds come first.
 #[tactic(auto, unfolding(crate::specs::Kinds::has_secs))]
 fn has_secs(env: &[Binding], forms: &[Form]) -> bool
     ensures { result ≡ secs_stand env.now (form_trees forms.now) }
@@ -191,7 +191,7 @@ fn tag_rules(alloc: Global, tags: &[Text]) -> Result<Rules, ConfigFault>
     Ok(rules)
 }
 
-/// The rule that an event has all the tags; one tag stands for itself.
+/// The rule that an event has all the tags; one tag represents itself.
 #[tactic(auto, using(crate::proofs::KindLaws::one_tag, crate::proofs::KindLaws::many_tags))]
 fn all_tagged(alloc: Global, tags: &[Text]) -> Result<Rule, ConfigFault>
     ensures { GivesAs tree_of result (Ok (all_tagged_by tags.now)) }
@@ -361,7 +361,7 @@ fn stable_kind(
     Ok(Kind::Stable { secs, field })
 }
 
-/// The kind of a stream that begins with the word at `start`, by the arguments behind it.
+/// The kind of a stream that begins with the word at `start`, by the arguments after it.
 #[tactic(auto, unfolding(crate::specs::Kinds::kind_of))]
 pub(crate) fn kind_of(
     alloc: Global,
@@ -482,7 +482,7 @@ fn is_map(form: &Form) -> bool
     map_of(form).is_some()
 }
 
-/// How many arguments stand before the streams.
+/// The number of arguments before the streams.
 #[tactic(auto, unfolding(crate::specs::Kinds::leads))]
 pub(crate) fn leads(env: &[Binding], word: StreamWord, forms: &[Form]) -> usize
     ensures { result ≡ leads_of env.now word (form_trees forms.now) }

@@ -2,6 +2,7 @@
 #![tactic(auto)]
 
 mod argument;
+mod bare;
 mod binding;
 mod canonical;
 mod config;
@@ -16,10 +17,9 @@ mod names;
 mod read;
 mod rules;
 mod server;
-mod spot;
+mod source;
 mod streams;
 mod tops;
-mod unplaced;
 mod word;
 mod write;
 
@@ -30,8 +30,3 @@ pub use law::{read_plans_have_no_fault, texts_have_one_answer, written_is_read};
 pub use read::read_config;
 pub use word::{RuleWord, StreamWord, TopWord};
 pub use write::write_config;
-
-#[cfg(test)]
-mod canonical_tests;
-#[cfg(test)]
-mod tests;

@@ -13,10 +13,9 @@ use crate::argument::{Argument, argument_of, field_at, keyword_at, text_at, unfi
 use crate::forms::{first, refused};
 use crate::word::{is, same_field};
 use crate::{Binding, ConfigFault, ConfigWhy};
-use ev_types::{Field, Fields, Set, Sets, Text, Texts, Value};
+use ev_types::{Field, Fields, Set, Sets, Text, Texts, Value, fits};
 use sexp_read::Form;
 use std::alloc::Global;
-use stream_plan::fits;
 
 /// The texts of the vector that the form is, or the one text that it is.
 #[tactic(auto, unfolding(crate::specs::Arguments::texts_at))]
@@ -173,17 +172,17 @@ pub(crate) fn sets_from(
     let mut left = entries;
     'sets: while let Some((key, rest)) = first(left) {
         let field = new_field_at(alloc, env, &sets, key)?;
-        let Some((form, behind)) = first(rest) else {
+        let Some((form, later)) = first(rest) else {
             return Err(refused(place, ConfigWhy::Arguments));
         };
         let set = set_at(alloc, env, field, form)?;
         sets.push(alloc, set)?;
-        left = behind;
+        left = later;
     }
     Ok(sets)
 }
 
-/// Refuses a key that is not the wanted one, or is it again.
+/// Refuses a key that is not `wanted`, and one that was read before.
 #[tactic(auto, using(crate::proofs::FormLaws::start_of_form), unfolding(crate::specs::Kinds::only_key_at))]
 pub(crate) fn only_key_at(
     env: &[Binding],
@@ -217,11 +216,11 @@ pub(crate) fn init_from(
     let mut left = entries;
     'entries: while let Some((key, rest)) = first(left) {
         only_key_at(env, b"init", init.is_some(), key)?;
-        let Some((form, behind)) = first(rest) else {
+        let Some((form, later)) = first(rest) else {
             return Err(refused(place, ConfigWhy::Arguments));
         };
         init = Some(value_at(alloc, env, form)?);
-        left = behind;
+        left = later;
     }
     match init {
         Some(value) => Ok(value),

@@ -106,7 +106,7 @@ fn names_from(
     let mut left = entries;
     'names: while let Some((key, rest)) = first(left) {
         let name = name_at(key)?;
-        let Some((form, behind)) = first(rest) else {
+        let Some((form, later)) = first(rest) else {
             return Err(refused(place, ConfigWhy::Arguments));
         };
         let value = bound_at(alloc, env, form)?;
@@ -114,7 +114,7 @@ fn names_from(
             name: name.copy(alloc)?,
             value,
         })?;
-        left = behind;
+        left = later;
     }
     Ok(())
 }

@@ -4,20 +4,21 @@ ghost use Rattle.std.specs.Prelude.{◌≡◌, ◌≢◌, ◌∷◌, [], length,
 ghost use Rattle.pred_eval.specs.Tree.{tree_of, trees_in, Not, All, Any, none};
 ghost use Rattle.sexp_read.specs.Tree.{form_tree, form_trees};
 ghost use Rattle.sexp_config.specs.Steps.{Gives, GivesAs};
-ghost use Rattle.sexp_config.specs.Words.{bare_field as bare_field_of, rule_word as rule_word_of, field_of as field_of_name};
-ghost use Rattle.sexp_config.specs.Rules.{named_field as named_field_of, symbol_rule as symbol_rule_of, rule_field_at as rule_field_from, equal_rule as equal_rule_of, order_rule as order_rule_of, like_rule as like_rule_of, tagged_rule as tagged_rule_of, sought as sought_in, field_rule as field_rule_of, field_head, symbol_head, headed_rule, word_rule as word_rule_of, all_read, joined, first_read, rules_in as readings_of, rule_at as rule_from, no_form as no_form_at};
+ghost use Rattle.ev_types.specs.Names.{protocol_field, named_field};
+ghost use Rattle.sexp_config.specs.Words.{rule_word as rule_word_of};
+ghost use Rattle.sexp_config.specs.Rules.{known_field as known_field_of, symbol_rule as symbol_rule_of, rule_field_at as rule_field_from, equal_rule as equal_rule_of, order_rule as order_rule_of, like_rule as like_rule_of, tagged_rule as tagged_rule_of, sought as sought_in, field_rule as field_rule_of, field_head, symbol_head, headed_rule, word_rule as word_rule_of, all_read, joined, first_read, rules_in as readings_of, rule_at as rule_from, no_form as no_form_at};
 ghost use Rattle.sexp_config.specs.Arguments.{bound_value, argument_of as argument_from};
 
 use crate::argument::{Argument, argument_of, field_at, number_at, text_at, value_at, value_of};
 use crate::forms::{View, argument, at_most, first, refused, symbol_of, view_of};
-use crate::word::{bare_field, field_of, is, rule_word};
+use crate::word::{field_of, is, rule_word};
 use crate::{Binding, ConfigFault, ConfigWhy, RuleWord};
 use ev_types::{Field, Text};
 use pred_eval::{Ordering, Rule, Rules};
 use sexp_read::Form;
 use std::alloc::Global;
 
-/// The refusal of a symbol where a form stands that is none.
+/// The refusal of a symbol that is not a form of its place.
 pub(crate) fn no_form(env: &[Binding], name: &Text, place: usize) -> ConfigFault
     ensures { result ≡ ConfigFault.Refused (no_form_at place (bound_value name.now env.now)).0 (no_form_at place (bound_value name.now env.now)).1 }
 {
@@ -46,15 +47,15 @@ fn rule_field_at(alloc: Global, form: &Form) -> Result<Field, ConfigFault>
     ensures { Gives result (rule_field_from (form_tree form.now)) }
 {
     match symbol_of(form) {
-        Some(name) => named_field(form.start, name),
+        Some(name) => known_field(form.start, name),
         None => field_at(alloc, &[], form),
     }
 }
 
-fn named_field(start: usize, name: &Text) -> Result<Field, ConfigFault>
-    ensures { Gives result (named_field_of start (bare_field_of name.now)) }
+fn known_field(start: usize, name: &Text) -> Result<Field, ConfigFault>
+    ensures { Gives result (known_field_of start (protocol_field name.now)) }
 {
-    match bare_field(name) {
+    match Field::of_protocol(name) {
         Some(field) => Ok(field),
         None => Err(refused(start, ConfigWhy::Name)),
     }
@@ -76,7 +77,7 @@ fn equal_rule(
     Ok(Rule::Equal { field, value })
 }
 
-/// The rule that the number in the field stands so to another.
+/// The rule that the number in the field compares in this way with another.
 #[tactic(auto, unfolding(crate::specs::Rules::order_rule))]
 fn order_rule(
     alloc: Global,
@@ -223,7 +224,7 @@ fn keyed_rule(
     start: usize,
     forms: &[Form],
 ) -> Result<Rule, ConfigFault>
-    ensures { GivesAs tree_of result (headed_rule env.now (field_head (field_of_name name.now)) start (form_trees forms.now) (readings_of env.now (form_trees forms.now))) }
+    ensures { GivesAs tree_of result (headed_rule env.now (field_head (named_field name.now)) start (form_trees forms.now) (readings_of env.now (form_trees forms.now))) }
 {
     match field_of(alloc, name)? {
         Some(field) => field_rule(alloc, env, field, start, forms),
@@ -240,12 +241,12 @@ fn call_rule(
     start: usize,
     forms: &[Form],
 ) -> Result<Rule, ConfigFault>
-    ensures { GivesAs tree_of result (headed_rule env.now (symbol_head (rule_word_of name.now) (bare_field_of name.now)) start (form_trees forms.now) (readings_of env.now (form_trees forms.now))) }
+    ensures { GivesAs tree_of result (headed_rule env.now (symbol_head (rule_word_of name.now) (protocol_field name.now)) start (form_trees forms.now) (readings_of env.now (form_trees forms.now))) }
 {
     if let Some(word) = rule_word(name) {
         return word_rule(alloc, env, word, start, forms);
     }
-    match bare_field(name) {
+    match Field::of_protocol(name) {
         Some(field) => field_rule(alloc, env, field, start, forms),
         None => Err(refused(start, ConfigWhy::Form)),
     }

@@ -4,7 +4,7 @@ ghost use Rattle.std.specs.Prelude.{◌≡◌, Ok};
 ghost use Rattle.sexp_read.specs.Tree.{form_tree, form_trees};
 ghost use Rattle.sexp_config.specs.Steps.{Gives, GivesAs, nth as nth_of};
 ghost use Rattle.sexp_config.specs.Arguments.{port_at as port_from};
-ghost use Rattle.sexp_config.specs.Tops.{usual_server as usual_server_of, or_usual, server_by as server_by_form, server_of as server_from, no_listens, listen_key_at as listen_key_from, with_entry as entry_read, listens_from as listens_in, server_at as server_read, server_in as server_of_forms};
+ghost use Rattle.sexp_config.specs.Tops.{default_server as default_server_of, or_default, server_by as server_by_form, server_of as server_from, no_listens, listen_key_at as listen_key_from, with_entry as entry_read, listens_from as listens_in, server_at as server_read, server_in as server_of_forms};
 ghost use Rattle.sexp_config.specs.Drafts.{server_made, listens_made};
 
 use crate::argument::{keyword_at, map_at, ranged_at, text_at};
@@ -29,39 +29,43 @@ pub(crate) struct Listens {
     port: Option<u16>,
 }
 
-const USUAL_PORT: u16 = 5555;
+/// The port where none is given.
+const DEFAULT_PORT: u16 = 5555;
 
-fn usual_host(alloc: Global) -> Result<Text, ConfigFault>
-    ensures { Gives result (Ok usual_server_of.host) }
+/// The greatest port. The least is 0.
+const MAX_PORT: u32 = 65_535;
+
+fn default_host(alloc: Global) -> Result<Text, ConfigFault>
+    ensures { Gives result (Ok default_server_of.host) }
 {
     Ok(Text::from_str(alloc, "127.0.0.1")?)
 }
 
-pub(crate) fn usual_server(alloc: Global) -> Result<Server, ConfigFault>
-    ensures { GivesAs server_made result (Ok usual_server_of) }
+pub(crate) fn default_server(alloc: Global) -> Result<Server, ConfigFault>
+    ensures { GivesAs server_made result (Ok default_server_of) }
 {
-    let host = usual_host(alloc)?;
+    let host = default_host(alloc)?;
     Ok(Server {
         host,
-        port: USUAL_PORT,
+        port: DEFAULT_PORT,
     })
 }
 
 fn host_of(alloc: Global, host: Option<Text>) -> Result<Text, ConfigFault>
-    ensures { Gives result (Ok (or_usual usual_server_of.host host)) }
+    ensures { Gives result (Ok (or_default default_server_of.host host)) }
 {
     match host {
         Some(host) => Ok(host),
-        None => usual_host(alloc),
+        None => default_host(alloc),
     }
 }
 
 fn port_of(port: Option<u16>) -> u16
-    ensures { result ≡ or_usual usual_server_of.port port }
+    ensures { result ≡ or_default default_server_of.port port }
 {
     match port {
         Some(port) => port,
-        None => USUAL_PORT,
+        None => DEFAULT_PORT,
     }
 }
 
@@ -122,7 +126,7 @@ fn with_entry(
 fn port_at(env: &[Binding], form: &Form) -> Result<u16, ConfigFault>
     ensures { Gives result (port_from env.now (form_tree form.now)) }
 {
-    let port = ranged_at(env, form, 0, 65_535)?;
+    let port = ranged_at(env, form, 0, MAX_PORT)?;
     Ok(port as u16)
 }
 
@@ -143,11 +147,11 @@ fn listens_from(
     let mut left = entries;
     'entries: while let Some((key, rest)) = first(left) {
         let is_host = listen_key_at(env, &listens, key)?;
-        let Some((form, behind)) = first(rest) else {
+        let Some((form, later)) = first(rest) else {
             return Err(refused(place, ConfigWhy::Arguments));
         };
         listens = with_entry(alloc, env, listens, is_host, form)?;
-        left = behind;
+        left = later;
     }
     Ok(listens)
 }
@@ -165,7 +169,7 @@ fn server_by(alloc: Global, env: &[Binding], forms: &[Form]) -> Result<Server, C
     ensures { GivesAs server_made result (server_by_form env.now (nth_of 0 (form_trees forms.now))) }
 {
     match nth(forms, 0) {
-        None => usual_server(alloc),
+        None => default_server(alloc),
         Some(form) => server_at(alloc, env, form),
     }
 }

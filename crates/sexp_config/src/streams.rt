@@ -9,12 +9,12 @@ ghost use Rattle.sexp_config.specs.Words.{stream_word as stream_word_of};
 ghost use Rattle.sexp_config.specs.Arguments.{bound_value};
 ghost use Rattle.sexp_config.specs.Kinds.{kind_of as kind_from};
 ghost use Rattle.sexp_config.specs.Streams.{nothing, nowhere, stream_of as stream_made, with_part, all_read, is_where as is_where_of, is_where_in, with_one, is_else as is_else_of, symbol_by, followed as followed_by, worded, else_part as else_part_of, part_at as part_from, parts_in as readings_of};
-ghost use Rattle.sexp_config.specs.Made.{placed_in, below_in, part_in, spot_tree};
+ghost use Rattle.sexp_config.specs.Made.{located_in, below_in, part_in, source_tree};
 
 use crate::argument::value_of;
-use crate::forms::{View, at_most, behind, first, next_start, refused, view_of};
+use crate::forms::{View, at_most, first, later, next_start, refused, view_of};
 use crate::kinds::{kind_of, leads};
-use crate::spot::{Spot, Spots};
+use crate::source::{Source, Sources};
 use crate::word::{is, stream_word};
 use crate::{Binding, Bound, ConfigFault, ConfigWhy, StreamWord};
 use ev_types::{Memory, Text};
@@ -24,45 +24,45 @@ use stream_plan::{Kind, Stream, Streams};
 
 /// Streams, and the places of their forms.
 #[derive(Drop)]
-pub(crate) struct Placed {
+pub(crate) struct Located {
     pub(crate) streams: Streams,
-    pub(crate) places: Spots,
+    pub(crate) places: Sources,
 }
 
 /// The streams of a stream.
 #[derive(Drop)]
 pub(crate) struct Below {
-    pub(crate) children: Placed,
+    pub(crate) children: Located,
     /// Those that get the rest.
-    pub(crate) otherwise: Placed,
+    pub(crate) otherwise: Located,
 }
 
-/// What a form gives where streams stand.
+/// What a form is in the place of a stream.
 #[derive(Drop)]
 pub(crate) enum Part {
     /// A stream with its place.
-    One(Stream, Spot),
+    One(Stream, Source),
     /// The streams that get the rest.
-    Rest(Placed),
+    Rest(Located),
 }
 
-impl Placed {
-    fn fresh(alloc: Global) -> Placed
-        ensures { placed_in result ≡ nowhere }
+impl Located {
+    fn fresh(alloc: Global) -> Located
+        ensures { located_in result ≡ nowhere }
     {
-        Placed {
+        Located {
             streams: Vec::new(alloc),
             places: Vec::new(alloc),
         }
     }
 
-    #[tactic(auto, using(crate::proofs::StreamLaws::stream_pushed, crate::proofs::StreamLaws::spot_pushed))]
-    fn push(&mut self, stream: Stream, spot: Spot) -> Result<(), ConfigFault>
-        ensures ok { OnOk result (placed_in self.new ≡ with_one (placed_in self.old) (stream_tree stream) (spot_tree spot)) }
+    #[tactic(auto, using(crate::proofs::StreamLaws::stream_pushed, crate::proofs::StreamLaws::source_pushed))]
+    fn push(&mut self, stream: Stream, source: Source) -> Result<(), ConfigFault>
+        ensures ok { OnOk result (located_in self.new ≡ with_one (located_in self.old) (stream_tree stream) (source_tree source)) }
         ensures err { IfErr result (λ fault. fault ≡ ConfigFault.Memory) }
     {
         self.streams.push(stream)?;
-        self.places.push(spot)?;
+        self.places.push(source)?;
         Ok(())
     }
 }
@@ -72,8 +72,8 @@ impl Below {
         ensures { below_in result ≡ nothing }
     {
         Below {
-            children: Placed::fresh(alloc),
-            otherwise: Placed::fresh(alloc),
+            children: Located::fresh(alloc),
+            otherwise: Located::fresh(alloc),
         }
     }
 }
@@ -83,15 +83,15 @@ fn put(mut below: Below, part: Part, next: Option<usize>) -> Result<Below, Confi
     ensures { GivesAs below_in result (with_part (below_in below) (part_in part) next) }
 {
     match part {
-        Part::One(stream, spot) => {
-            below.children.push(stream, spot)?;
+        Part::One(stream, source) => {
+            below.children.push(stream, source)?;
             Ok(below)
         }
-        Part::Rest(placed) => match next {
+        Part::Rest(located) => match next {
             Some(place) => Err(refused(place, ConfigWhy::Arguments)),
             None => Ok(Below {
                 children: below.children,
-                otherwise: placed,
+                otherwise: located,
             }),
         },
     }
@@ -107,12 +107,12 @@ fn stream_of(kind: Kind, start: usize, below: Below) -> Part
         children: children.streams,
         otherwise: otherwise.streams,
     };
-    let spot = Spot {
+    let source = Source {
         place: start,
         children: children.places,
         otherwise: otherwise.places,
     };
-    Part::One(stream, spot)
+    Part::One(stream, source)
 }
 
 fn may_have_children(kind: &Kind) -> bool
@@ -152,7 +152,7 @@ fn symbol_part(
     }
 }
 
-/// What the form gives where streams stand.
+/// What the form is in the place of a stream.
 #[cycle(parts)]
 fn part_at(alloc: Global, env: &[Binding], form: &Form, may_else: bool) -> Result<Part, ConfigFault>
     ensures { GivesAs part_in result (part_from may_else env.now (form_tree form.now)) }
@@ -208,9 +208,9 @@ fn else_part(
     Ok(Part::Rest(below.children))
 }
 
-/// The stream of the kind, with the streams that stand behind its own arguments.
+/// The stream of the kind, with the streams after its own arguments.
 #[cycle(parts)]
-#[tactic(auto, using(crate::proofs::StreamLaws::parts_behind))]
+#[tactic(auto, using(crate::proofs::StreamLaws::parts_later))]
 fn followed(
     alloc: Global,
     env: &[Binding],
@@ -226,13 +226,7 @@ fn followed(
         at_most(own, forms)?;
         return Ok(stream_of(kind, start, Below::fresh(alloc)));
     }
-    let below = parts_onto(
-        alloc,
-        env,
-        behind(forms, own),
-        may_else,
-        Below::fresh(alloc),
-    )?;
+    let below = parts_onto(alloc, env, later(forms, own), may_else, Below::fresh(alloc))?;
     Ok(stream_of(kind, start, below))
 }
 

@@ -8,7 +8,7 @@ ghost use Rattle.sexp_config.specs.Tops.{fresh_draft, with_server, with_expiry, 
 ghost use Rattle.sexp_config.specs.Drafts.{draft_in};
 
 use crate::expiry::expiry_in;
-use crate::forms::{View, argument, behind, first, refused, view_of};
+use crate::forms::{View, argument, first, later, refused, view_of};
 use crate::names::names_at;
 use crate::rules::no_form;
 use crate::server::{Server, server_in};
@@ -137,7 +137,7 @@ fn call_top(
     }
 }
 
-/// The draft with what the forms say behind a vector of names, where these are bound.
+/// The draft with what the forms say after a vector of names, where these are bound.
 #[cycle(tops)]
 fn let_in(
     alloc: Global,
@@ -152,7 +152,7 @@ fn let_in(
     let names = argument(start, 0, forms)?;
     let count = env.len();
     names_at(alloc, env, names)?;
-    let result = run(alloc, env, behind(forms, 1), draft);
+    let result = run(alloc, env, later(forms, 1), draft);
     env.truncate(count);
     result
 }

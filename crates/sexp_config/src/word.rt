@@ -2,7 +2,8 @@
 
 ghost use Rattle.std.specs.Prelude.{◌≡◌, IfOk};
 ghost use Rattle.std.specs.Str.{bytes_eq};
-ghost use Rattle.sexp_config.specs.Words.{top_word, passing_word, counting_word, window_word, stream_word, joining_word, comparing_word, rule_word, bare_field, is_hidden, field_of, field_text, same_field, fold_word};
+ghost use Rattle.ev_types.specs.Names.{named_field};
+ghost use Rattle.sexp_config.specs.Words.{top_word, passing_word, counting_word, window_word, stream_word, joining_word, comparing_word, rule_word, same_field, fold_word};
 
 use ev_types::{Field, Fold, Memory, Text};
 use pred_eval::Ordering;
@@ -226,75 +227,19 @@ fn comparing_word(name: &[u8]) -> Option<RuleWord>
     }
 }
 
-/// The field that is no attribute, by its name.
-#[tactic(auto, unfolding(crate::specs::Words::bare_field))]
-pub(crate) fn bare_field(name: &Text) -> Option<Field>
-    ensures { result ≡ bare_field name.now }
-{
-    let name = name.as_bytes();
-    if is(name, b"host") {
-        Some(Field::Host)
-    } else if is(name, b"service") {
-        Some(Field::Service)
-    } else if is(name, b"state") {
-        Some(Field::State)
-    } else if is(name, b"description") {
-        Some(Field::Description)
-    } else if is(name, b"time") {
-        Some(Field::Time)
-    } else if is(name, b"ttl") {
-        Some(Field::Ttl)
-    } else if is(name, b"metric") {
-        Some(Field::Metric)
-    } else {
-        None
-    }
-}
-
-/// Whether no configuration may name the field.
-fn is_hidden(name: &[u8]) -> bool
-    ensures { result ≡ is_hidden name.now }
-{
-    is(name, b"metric_f") || is(name, b"metric_d") || is(name, b"time_micros") || is(name, b"tags")
-}
-
 /// The field that a keyword of this name means. Some names mean none.
-#[tactic(auto, unfolding(crate::specs::Words::field_of))]
 pub(crate) fn field_of(alloc: Global, name: &Text) -> Result<Option<Field>, Memory>
-    ensures { IfOk result (λ field. field ≡ field_of name.now) }
+    ensures { IfOk result (λ field. field ≡ named_field name.now) }
 {
-    if let Some(field) = bare_field(name) {
-        return Ok(Some(field));
-    }
-    if is(name.as_bytes(), b"metric_sint64") {
-        return Ok(Some(Field::Metric));
-    }
-    if is_hidden(name.as_bytes()) {
-        return Ok(None);
-    }
-    Ok(Some(Field::Attribute(name.copy(alloc)?)))
+    let name = name.copy(alloc)?;
+    Ok(Field::named(name))
 }
 
-/// The name of the field.
-fn field_text(field: &Field) -> &[u8]
-    ensures { result.now ≡ field_text field.now }
-{
-    match field {
-        Field::Host => b"host",
-        Field::Service => b"service",
-        Field::State => b"state",
-        Field::Description => b"description",
-        Field::Time => b"time",
-        Field::Ttl => b"ttl",
-        Field::Metric => b"metric",
-        Field::Attribute(key) => key.as_bytes(),
-    }
-}
-
+/// Whether the two fields have one name.
 pub(crate) fn same_field(a: &Field, b: &Field) -> bool
     ensures { result ≡ same_field a.now b.now }
 {
-    is(field_text(a), field_text(b))
+    is(a.name(), b.name())
 }
 
 #[tactic(auto, unfolding(crate::specs::Words::fold_word))]

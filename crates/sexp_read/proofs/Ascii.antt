@@ -14,9 +14,6 @@ use Rattle.sexp_read.specs.Bytes.{is_letter, is_name_byte, is_symbol_byte, is_na
 pub not_utf8 : (bytes : List ℕ) (place : ℕ) → IsValidUpTo bytes place → IsUtf8 bytes → ⊥
 not_utf8 bytes place h u = h.longest (length bytes) h.short (subst (λ (text : List ℕ). IsUtf8 text) (sym (take-length bytes)) u)
 
-letter_small : (b : ℕ) → is_letter b ≡ true → b < 128
-letter_small b h = grind (arith, nat_tests)
-
 name_byte_small : (b : ℕ) → is_name_byte b ≡ true → b < 128
 name_byte_small b h = grind (arith, nat_tests)
 
@@ -51,8 +48,8 @@ keyword_name_is_utf8 (b ∷ bytes) h =
 word_is_ascii : (bytes : List ℕ) → is_word bytes ≡ true → IsAscii bytes
 word_is_ascii [] h = IsAscii-nil
 word_is_ascii (b ∷ bytes) h =
-    let parts = and_parts (is_letter b) (list_all is_symbol_byte bytes) h in
-    IsAscii-cons b bytes (letter_small b parts.0) (all_small is_symbol_byte symbol_byte_small bytes parts.1)
+    let parts = and_parts _ (list_all is_symbol_byte bytes) h in
+    IsAscii-cons b bytes (name_head_small b parts.0) (all_small is_symbol_byte symbol_byte_small bytes parts.1)
 
 abbrev small : ℕ → Bool
 small b = nat_lt b 128

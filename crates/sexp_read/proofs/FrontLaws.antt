@@ -5,9 +5,9 @@ use Rattle.std.proofs.lemmas.List.{append-nil}
 use Rattle.sexp_read.specs.declared.piece.Piece.TheVariants.{Opening, Closing, Whole}
 use Rattle.sexp_read.specs.Tree.{Bracket, FormTree, FormTrees, Single, Group, none, also}
 use Rattle.sexp_read.specs.Tokens.{Token, Opened, Closed, Stood, Fault}
-use Rattle.sexp_read.specs.Grammar.{form_spelling, spelling, deepest, same_bracket, Brackets, bracket_fault, open_behind}
+use Rattle.sexp_read.specs.Grammar.{form_spelling, spelling, deepest, same_bracket, Brackets, bracket_fault, open_after}
 use Rattle.sexp_read.specs.Reading.{Frame, Reading, brackets_of, with_form}
-use Rattle.sexp_read.specs.Fronts.{IsFront, IsFirstFault}
+use Rattle.sexp_read.specs.Prefixes.{IsPrefixOfForms, IsFirstFault}
 use Rattle.sexp_read.proofs.ReadingLaws.{stack_tokens, read_tokens, piece_tokens, same_bracket_refl, brackets_length}
 use Rattle.sexp_read.proofs.Spellings.{inside, forms_open}
 
@@ -41,7 +41,7 @@ front_matched (innermost ∷ stack) (Closed bracket last ∷ front) more h =
     and_from (same_bracket innermost.0 bracket) (matched stack front) parts.0 (front_matched stack front more parts.1)
 front_matched stack (Stood atom start last ∷ front) more h = front_matched stack front more h
 
-matched_front : (tokens : List Token) → IsFront tokens → matched [] tokens ≡ true
+matched_front : (tokens : List Token) → IsPrefixOfForms tokens → matched [] tokens ≡ true
 matched_front tokens front = front_matched [] tokens front.more
     (ap (matched []) front.whole ∙ ap (matched []) (sym (append-nil (spelling front.forms))) ∙ forms_matched front.forms [] [])
 
@@ -60,15 +60,15 @@ reading_matched : (reading : Reading) (tokens : List Token) → matched [] (read
 reading_matched reading tokens = ap (matched []) (append_assoc (stack_tokens reading.stack) (spelling reading.forms) tokens)
     ∙ stack_matched reading.stack (spelling reading.forms ++ tokens) ∙ forms_matched reading.forms (brackets_of reading.stack) tokens
 
-stack_open : (stack : List Frame) (tokens : List Token) → open_behind [] (stack_tokens stack ++ tokens) ≡ open_behind (brackets_of stack) tokens
+stack_open : (stack : List Frame) (tokens : List Token) → open_after [] (stack_tokens stack ++ tokens) ≡ open_after (brackets_of stack) tokens
 stack_open [] tokens = refl
-stack_open (frame ∷ stack) tokens = ap (open_behind []) (frame_apart stack frame tokens)
+stack_open (frame ∷ stack) tokens = ap (open_after []) (frame_apart stack frame tokens)
     ∙ stack_open stack (spelling frame.before ++ (Opened frame.bracket frame.place ∷ tokens))
     ∙ forms_open frame.before (brackets_of stack) (Opened frame.bracket frame.place ∷ tokens)
 
-reading_open : (reading : Reading) → open_behind [] (read_tokens reading) ≡ brackets_of reading.stack
+reading_open : (reading : Reading) → open_after [] (read_tokens reading) ≡ brackets_of reading.stack
 reading_open reading = stack_open reading.stack (spelling reading.forms)
-    ∙ ap (open_behind (brackets_of reading.stack)) (sym (append-nil (spelling reading.forms)))
+    ∙ ap (open_after (brackets_of reading.stack)) (sym (append-nil (spelling reading.forms)))
     ∙ forms_open reading.forms (brackets_of reading.stack) []
 
 -- with closing brackets for all that are open it is forms
@@ -90,7 +90,7 @@ closed_front (frame ∷ stack) forms =
     sym (append_assoc (read_tokens before) (Closed frame.bracket 0 ∷ []) (closers stack))
     ∙ ap (λ tokens. tokens ++ closers stack) (sym same) ∙ closed_front stack after.forms
 
-reading_front : (reading : Reading) → IsFront (read_tokens reading)
+reading_front : (reading : Reading) → IsPrefixOfForms (read_tokens reading)
 reading_front reading = record { more = closers reading.stack; forms = all_closed reading.stack reading.forms; whole = closed_front reading.stack reading.forms }
 
 -- one more token
@@ -102,7 +102,7 @@ more_read : (reading after : Reading) (token : Token) (tokens : List Token) → 
 more_read reading after token tokens e = ap (λ front. front ++ tokens) e ∙ append_assoc (read_tokens reading) (token ∷ []) tokens
 
 not_front : (reading : Reading) (bracket : Bracket) (last : ℕ) → matched (brackets_of reading.stack) (Closed bracket last ∷ []) ≡ false
-    → IsFront (read_tokens reading ++ Closed bracket last ∷ []) → ⊥
+    → IsPrefixOfForms (read_tokens reading ++ Closed bracket last ∷ []) → ⊥
 not_front reading bracket last e front =
     let one = matched_front (read_tokens reading ++ Closed bracket last ∷ []) front in
     let two = reading_matched reading (Closed bracket last ∷ []) in
@@ -168,7 +168,7 @@ first_closed bracket last tokens (frame ∷ stack) forms known h = first_matched
 
 first_from : (tokens : List Token) (reading : Reading) → length reading.stack ≤ deepest
     → IsFirstFault (read_tokens reading ++ tokens) (bracket_fault (brackets_of reading.stack) tokens)
-first_from [] reading h = subst (λ (tokens : List Token). IsFront tokens) (sym (append-nil (read_tokens reading))) (reading_front reading)
+first_from [] reading h = subst (λ (tokens : List Token). IsPrefixOfForms tokens) (sym (append-nil (read_tokens reading))) (reading_front reading)
 first_from (Stood atom start last ∷ tokens) reading h =
     let after : Reading = record { stack = reading.stack; forms = with_form reading.forms (Single atom start last) } in
     front_same _ _ _ (more_read reading after (Stood atom start last) tokens (piece_tokens reading start last (Whole atom) after refl)) (first_from tokens after h)
@@ -191,10 +191,10 @@ no_frames (frame ∷ stack) h = cc
 
 abbrev KnownForms : List Token → Type 0
 KnownForms tokens = (reading : Reading) → bracket_fault (brackets_of reading.stack) tokens ≡ None
-    → open_behind (brackets_of reading.stack) tokens ≡ [] → AreForms (read_tokens reading ++ tokens)
+    → open_after (brackets_of reading.stack) tokens ≡ [] → AreForms (read_tokens reading ++ tokens)
 
 closed_behind : (bracket : Bracket) (last : ℕ) (tokens : List Token) (stack : List Frame) (forms : FormTrees) → KnownForms tokens
-    → bracket_fault (brackets_of stack) (Closed bracket last ∷ tokens) ≡ None → open_behind (brackets_of stack) (Closed bracket last ∷ tokens) ≡ []
+    → bracket_fault (brackets_of stack) (Closed bracket last ∷ tokens) ≡ None → open_after (brackets_of stack) (Closed bracket last ∷ tokens) ≡ []
     → AreForms ((stack_tokens stack ++ spelling forms) ++ (Closed bracket last ∷ tokens))
 closed_behind bracket last tokens [] forms known e o = cc
 closed_behind bracket last tokens (frame ∷ stack) forms known e o = elim (cases_Bool (same_bracket frame.bracket bracket)) [
@@ -207,7 +207,7 @@ closed_behind bracket last tokens (frame ∷ stack) forms known e o = elim (case
 ]
 
 closed_from : (tokens : List Token) (reading : Reading) → bracket_fault (brackets_of reading.stack) tokens ≡ None
-    → open_behind (brackets_of reading.stack) tokens ≡ [] → AreForms (read_tokens reading ++ tokens)
+    → open_after (brackets_of reading.stack) tokens ≡ [] → AreForms (read_tokens reading ++ tokens)
 closed_from [] reading e o = (reading.forms, append-nil (read_tokens reading) ∙ ap (λ stack. stack_tokens stack ++ spelling reading.forms) (no_frames reading.stack o))
 closed_from (Stood atom start last ∷ tokens) reading e o =
     let after : Reading = record { stack = reading.stack; forms = with_form reading.forms (Single atom start last) } in
@@ -222,5 +222,5 @@ closed_from (Opened bracket place ∷ tokens) reading e o = elim (cases_Bool (na
 ]
 closed_from (Closed bracket last ∷ tokens) reading e o = closed_behind bracket last tokens reading.stack reading.forms (closed_from tokens) e o
 
-pub closed_forms : (tokens : List Token) → bracket_fault [] tokens ≡ None → open_behind [] tokens ≡ [] → (forms : FormTrees) × (tokens ≡ spelling forms)
+pub closed_forms : (tokens : List Token) → bracket_fault [] tokens ≡ None → open_after [] tokens ≡ [] → (forms : FormTrees) × (tokens ≡ spelling forms)
 closed_forms tokens e o = closed_from tokens (record { stack = []; forms = none }) e o

@@ -4,7 +4,7 @@ use Rattle.std.proofs.lemmas.List.{append-nil}
 use Rattle.sexp_read.specs.declared.piece.Piece.{Piece}
 use Rattle.sexp_read.specs.Tree.{FormTrees, none}
 use Rattle.sexp_read.specs.Tokens.{Fault, Lexed, lexed, tokens_in, piece_at}
-use Rattle.sexp_read.specs.Grammar.{AreRead, fault_behind, forms_fault, unclosed}
+use Rattle.sexp_read.specs.Grammar.{AreRead, fault_after, forms_fault, unclosed}
 use Rattle.sexp_read.specs.Reading.{Reading, brackets_of, with_piece}
 use Rattle.sexp_read.proofs.Lexing.{rest, rest_more, rest_fault, rest_none, rest_all}
 use Rattle.sexp_read.proofs.ReadingLaws.{read_tokens, piece_tokens, piece_fault, piece_refused}
@@ -14,7 +14,7 @@ pub record IsReadTo (text : List ℕ) (place : ℕ) (reading : Reading) : Type 0
   pub within : place ≤ length text
   pub tokens : (lexed text).tokens ≡ read_tokens reading ++ (rest text place).tokens
   pub fault : (lexed text).fault ≡ (rest text place).fault
-  pub refused : forms_fault text ≡ fault_behind (brackets_of reading.stack) (rest text place)
+  pub refused : forms_fault text ≡ fault_after (brackets_of reading.stack) (rest text place)
 
 pub read_none : (text : List ℕ) → IsReadTo text 0 (record { stack = []; forms = none })
 unfolding forms_fault
@@ -22,7 +22,7 @@ read_none text = record {
   within = omega arith;
   tokens = ap (λ (l : Lexed). l.tokens) (rest_all text);
   fault = ap (λ (l : Lexed). l.fault) (rest_all text);
-  refused = ap (fault_behind []) (rest_all text);
+  refused = ap (fault_after []) (rest_all text);
 }
 
 pub read_more : (text : List ℕ) (place last : ℕ) (piece : Piece) (reading after : Reading) → IsReadTo text place reading
@@ -37,7 +37,7 @@ read_more text place last piece reading after so h more within e r =
           ∙ sym (append_assoc (read_tokens reading) (tokens_in place piece last) (rest text last).tokens)
           ∙ ap (λ tokens. tokens ++ (rest text last).tokens) (sym (piece_tokens reading place last piece after r));
       fault = so.fault ∙ ap (λ (l : Lexed). l.fault) step;
-      refused = so.refused ∙ ap (fault_behind (brackets_of reading.stack)) step ∙ piece_fault reading place last piece after (rest text last) r;
+      refused = so.refused ∙ ap (fault_after (brackets_of reading.stack)) step ∙ piece_fault reading place last piece after (rest text last) r;
     }
 
 pub read_refused : (text : List ℕ) (place last : ℕ) (piece : Piece) (reading : Reading) (fault : Fault) → IsReadTo text place reading
@@ -45,18 +45,18 @@ pub read_refused : (text : List ℕ) (place last : ℕ) (piece : Piece) (reading
     → piece_at place (get_or text place 0) (drop (place + 1) text) ≡ Ok (piece, last)
     → with_piece reading place piece last ≡ Err fault → forms_fault text ≡ Some fault
 read_refused text place last piece reading fault so h more e r =
-    so.refused ∙ ap (fault_behind (brackets_of reading.stack)) (rest_more text place last piece h more e)
+    so.refused ∙ ap (fault_after (brackets_of reading.stack)) (rest_more text place last piece h more e)
     ∙ piece_refused reading place last piece fault (rest text last) r
 
 pub read_faulty : (text : List ℕ) (place : ℕ) (reading : Reading) (fault : Fault) → IsReadTo text place reading
     → place < length text → piece_at place (get_or text place 0) (drop (place + 1) text) ≡ Err fault → forms_fault text ≡ Some fault
-unfolding fault_behind
-read_faulty text place reading fault so h e = so.refused ∙ ap (fault_behind (brackets_of reading.stack)) (rest_fault text place fault h e)
+unfolding fault_after
+read_faulty text place reading fault so h e = so.refused ∙ ap (fault_after (brackets_of reading.stack)) (rest_fault text place fault h e)
 
 pub read_to_end : (text : List ℕ) (place : ℕ) (reading : Reading) → IsReadTo text place reading → length text ≤ place
     → forms_fault text ≡ unclosed (brackets_of reading.stack)
-unfolding fault_behind
-read_to_end text place reading so h = so.refused ∙ ap (fault_behind (brackets_of reading.stack)) (rest_none text place h)
+unfolding fault_after
+read_to_end text place reading so h = so.refused ∙ ap (fault_after (brackets_of reading.stack)) (rest_none text place h)
 
 pub read_all : (text : List ℕ) (place : ℕ) (reading : Reading) (forms : FormTrees) → IsReadTo text place reading → length text ≤ place
     → reading.stack ≡ [] → forms ≡ reading.forms → AreRead (lexed text) forms

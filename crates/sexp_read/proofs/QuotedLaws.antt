@@ -6,18 +6,18 @@ use Rattle.std.specs.Option.{option_map}
 use Rattle.sexp_read.specs.declared.fault.SexpWhy.TheVariants.{Open}
 use Rattle.sexp_read.specs.declared.piece.Quoted.{Quoted}
 use Rattle.sexp_read.specs.Bytes.{escape_of}
-use Rattle.sexp_read.specs.Tokens.{Fault, quoted_from, with_front, with_escape}
+use Rattle.sexp_read.specs.Tokens.{Fault, quoted_from, with_prefix, with_escape}
 
-pub with_no_front : (read : Result (List ℕ × ℕ) Fault) → with_front [] read ≡ read
+pub with_no_front : (read : Result (List ℕ × ℕ) Fault) → with_prefix [] read ≡ read
 with_no_front (Ok read) = refl
 with_no_front (Err fault) = refl
 
-pub with_fronts : (a b : List ℕ) (read : Result (List ℕ × ℕ) Fault) → with_front a (with_front b read) ≡ with_front (a ++ b) read
+pub with_fronts : (a b : List ℕ) (read : Result (List ℕ × ℕ) Fault) → with_prefix a (with_prefix b read) ≡ with_prefix (a ++ b) read
 with_fronts a b (Ok read) = ap (λ text. Ok (text, read.1)) (sym (append_assoc a b read.0))
 with_fronts a b (Err fault) = refl
 
 pub plain_byte : (kind : Quoted) (start place b : ℕ) (bytes : List ℕ) → b ≢ 34 → b ≢ 92
-    → quoted_from kind start place (b ∷ bytes) ≡ with_front (b ∷ []) (quoted_from kind start (place + 1) bytes)
+    → quoted_from kind start place (b ∷ bytes) ≡ with_prefix (b ∷ []) (quoted_from kind start (place + 1) bytes)
 plain_byte kind start place b [] q s = rw (ne_eqb b 34 q) refl
 plain_byte kind start place b (c ∷ bytes) q s = rw (ne_eqb b 34 q, ne_eqb b 92 s) refl
 
@@ -36,7 +36,7 @@ pub quoted_closes : (kind : Quoted) (text : List ℕ) (start place : ℕ) → pl
 quoted_closes kind text start place h e = rw (byte_at text place 34 h e) (closing_quote kind start place _)
 
 pub quoted_byte : (kind : Quoted) (text : List ℕ) (start place : ℕ) → place < length text → get_or text place 0 ≢ 34 → get_or text place 0 ≢ 92
-    → quoted_from kind start place (drop place text) ≡ with_front (get_or text place 0 ∷ []) (quoted_from kind start (place + 1) (drop (place + 1) text))
+    → quoted_from kind start place (drop place text) ≡ with_prefix (get_or text place 0 ∷ []) (quoted_from kind start (place + 1) (drop (place + 1) text))
 quoted_byte kind text start place h q s = rw (byte_at text place _ h refl) (plain_byte kind start place _ _ q s)
 
 pub quoted_last : (kind : Quoted) (text : List ℕ) (start place : ℕ) → place + 1 ≡ length text → get_or text place 0 ≡ 92
@@ -54,20 +54,20 @@ quoted_escape kind text start place h e =
 
 pub byte_taken : (kind : Quoted) (text old new : List ℕ) (start place b : ℕ) → place < length text → get_or text place 0 ≢ 34 → get_or text place 0 ≢ 92
     → new ≡ old ++ get_or text place 0 ∷ []
-    → with_front old (quoted_from kind start place (drop place text)) ≡ with_front new (quoted_from kind start (place + 1) (drop (place + 1) text))
-byte_taken kind text old new start place b h q s e = ap (with_front old) (quoted_byte kind text start place h q s)
+    → with_prefix old (quoted_from kind start place (drop place text)) ≡ with_prefix new (quoted_from kind start (place + 1) (drop (place + 1) text))
+byte_taken kind text old new start place b h q s e = ap (with_prefix old) (quoted_byte kind text start place h q s)
     ∙ with_fronts old (get_or text place 0 ∷ []) (quoted_from kind start (place + 1) (drop (place + 1) text))
-    ∙ ap (λ bytes. with_front bytes (quoted_from kind start (place + 1) (drop (place + 1) text))) (sym e)
+    ∙ ap (λ bytes. with_prefix bytes (quoted_from kind start (place + 1) (drop (place + 1) text))) (sym e)
 
 escaped : (old new : List ℕ) (escape : Option (List ℕ)) (place : ℕ) (read : Result (List ℕ × ℕ) Fault)
-    → option_map (λ front. old ++ front) escape ≡ Some new → with_front old (with_escape place escape read) ≡ with_front new read
-escaped old new (Some front) place read e = let same : old ++ front ≡ new = cc in with_fronts old front read ∙ ap (λ bytes. with_front bytes read) same
+    → option_map (λ front. old ++ front) escape ≡ Some new → with_prefix old (with_escape place escape read) ≡ with_prefix new read
+escaped old new (Some front) place read e = let same : old ++ front ≡ new = cc in with_fronts old front read ∙ ap (λ bytes. with_prefix bytes read) same
 escaped old new None place read e = cc
 
 pub escape_taken : (kind : Quoted) (text old new : List ℕ) (start place : ℕ) → place + 1 < length text → get_or text place 0 ≡ 92
     → option_map (λ front. old ++ front) (escape_of kind (get_or text (place + 1) 0)) ≡ Some new
-    → with_front old (quoted_from kind start place (drop place text)) ≡ with_front new (quoted_from kind start (place + 2) (drop (place + 2) text))
-escape_taken kind text old new start place h b e = ap (with_front old) (quoted_escape kind text start place h b)
+    → with_prefix old (quoted_from kind start place (drop place text)) ≡ with_prefix new (quoted_from kind start (place + 2) (drop (place + 2) text))
+escape_taken kind text old new start place h b e = ap (with_prefix old) (quoted_escape kind text start place h b)
     ∙ escaped old new (escape_of kind (get_or text (place + 1) 0)) place _ e
 
 pub ruleset quoted_steps = (quoted_ends, quoted_closes, quoted_byte, quoted_last, quoted_escape)

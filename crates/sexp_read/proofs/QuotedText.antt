@@ -10,8 +10,9 @@ use Rattle.std.specs.Option.{option_map}
 use Rattle.std.specs.Str.{IsUtf8}
 use Rattle.sexp_read.specs.declared.piece.Quoted.{Quoted}
 use Rattle.sexp_read.specs.declared.piece.Quoted.TheVariants.{Text as in_text, Pattern as in_pattern}
-use Rattle.sexp_read.specs.Bytes.{text_escape, escape_of}
-use Rattle.sexp_read.specs.Tokens.{Fault, quoted_from, with_front, with_escape}
+use Rattle.string_literals.specs.Literals.{escaped as escaped_byte}
+use Rattle.sexp_read.specs.Bytes.{escape_of}
+use Rattle.sexp_read.specs.Tokens.{Fault, quoted_from, with_prefix, with_escape}
 
 abbrev utf8 : List ℕ → Type 0
 utf8 bytes = IsUtf8 bytes
@@ -35,7 +36,7 @@ behind_ascii front bytes b u low =
     (IsCharBoundary-after_ascii (front ++ b ∷ bytes) (length front) u (shorter front bytes b) (omega (arith, at_seam front bytes b))) in
     subst (λ (text : List ℕ). IsUtf8 text) (drop-append-add front (b ∷ bytes) 1) cut
 
-escape_small : (c e : ℕ) → text_escape c ≡ Some e → (c < 128) × (e < 128)
+escape_small : (c e : ℕ) → escaped_byte c ≡ Some e → (c < 128) × (e < 128)
 escape_small c e h = (grind (arith, nat_tests), grind (arith, nat_tests))
 
 text_escape_keeps : (c : ℕ) (front bytes more : List ℕ) (o : Option ℕ) → ((e : ℕ) → o ≡ Some e → (c < 128) × (e < 128))
@@ -52,7 +53,7 @@ text_escape_keeps c front bytes more (Some e) low h u =
 
 escape_keeps : (kind : Quoted) (c : ℕ) (front bytes more : List ℕ) → escape_of kind c ≡ Some more
     → IsUtf8 (front ++ 92 ∷ c ∷ bytes) → IsUtf8 ((front ++ more) ++ bytes)
-escape_keeps in_text c front bytes more h u = text_escape_keeps c front bytes more (text_escape c) (escape_small c) h u
+escape_keeps in_text c front bytes more h u = text_escape_keeps c front bytes more (escaped_byte c) (escape_small c) h u
 escape_keeps in_pattern c front bytes more h u =
     let two : more ≡ 92 ∷ c ∷ [] = cc in
     rw two (subst (λ (text : List ℕ). IsUtf8 text) (sym (append_assoc front (92 ∷ c ∷ []) bytes)) u)
@@ -65,7 +66,7 @@ pub record Fronted (front text : List ℕ) (last : ℕ) (read : Result (List ℕ
   pub is : read ≡ Ok (rest, last)
   pub whole : text ≡ front ++ rest
 
-pub fronted : (front text : List ℕ) (last : ℕ) (read : Result (List ℕ × ℕ) Fault) → with_front front read ≡ Ok (text, last) → Fronted front text last read
+pub fronted : (front text : List ℕ) (last : ℕ) (read : Result (List ℕ × ℕ) Fault) → with_prefix front read ≡ Ok (text, last) → Fronted front text last read
 fronted front text last (Ok read) h =
     let parts = ok_parts (front ++ read.0, read.1) (text, last) h in
     record { rest = read.0; is = ap (λ place. Ok (read.0, place)) (sym parts.1); whole = parts.0 }

@@ -6,7 +6,7 @@ use Rattle.sexp_read.specs.declared.piece.Piece.{Piece}
 use Rattle.sexp_read.specs.declared.piece.Piece.TheVariants.{Blank, Opening, Closing, Whole}
 use Rattle.sexp_read.specs.Tree.{Bracket, Round, Square, Curly, FormTree, FormTrees, Single, Group, none, also}
 use Rattle.sexp_read.specs.Tokens.{Token, Opened, Closed, Stood, Fault, Lexed, with_tokens, tokens_in}
-use Rattle.sexp_read.specs.Grammar.{form_spelling, spelling, same_bracket, deepest, fault_behind}
+use Rattle.sexp_read.specs.Grammar.{form_spelling, spelling, same_bracket, deepest, fault_after}
 use Rattle.sexp_read.specs.Reading.{Frame, Reading, brackets_of, with_form, closed, with_piece}
 
 -- the tokens of what is read
@@ -75,32 +75,32 @@ brackets_length stack = length-map stack _
 
 closed_fault : (stack : List Frame) (forms : FormTrees) (bracket : Bracket) (last : ℕ) (after : Reading) (more : Lexed)
     → closed stack forms bracket last ≡ Ok after
-    → fault_behind (brackets_of stack) (with_tokens (Closed bracket last ∷ []) more) ≡ fault_behind (brackets_of after.stack) more
-unfolding fault_behind
+    → fault_after (brackets_of stack) (with_tokens (Closed bracket last ∷ []) more) ≡ fault_after (brackets_of after.stack) more
+unfolding fault_after
 closed_fault [] forms bracket last after more h = cc
 closed_fault (frame ∷ stack) forms bracket last after more h = elim (cases_Bool (same_bracket frame.bracket bracket)) [
   | inl same ↦ let e = ok_is _ after (rw same at h) in
-      rw same (ap (λ (reading : Reading). fault_behind (brackets_of reading.stack) more) e)
+      rw same (ap (λ (reading : Reading). fault_after (brackets_of reading.stack) more) e)
   | inr other ↦ let e = rw other at h in cc
 ]
 
 pub piece_fault : (reading : Reading) (start last : ℕ) (piece : Piece) (after : Reading) (more : Lexed)
     → with_piece reading start piece last ≡ Ok after
-    → fault_behind (brackets_of reading.stack) (with_tokens (tokens_in start piece last) more) ≡ fault_behind (brackets_of after.stack) more
-unfolding fault_behind
-piece_fault reading start last Blank after more h = ap (λ (reading : Reading). fault_behind (brackets_of reading.stack) more) (ok_is reading after h)
+    → fault_after (brackets_of reading.stack) (with_tokens (tokens_in start piece last) more) ≡ fault_after (brackets_of after.stack) more
+unfolding fault_after
+piece_fault reading start last Blank after more h = ap (λ (reading : Reading). fault_after (brackets_of reading.stack) more) (ok_is reading after h)
 piece_fault reading start last (Opening bracket) after more h = elim (cases_Bool (nat_le deepest (length reading.stack))) [
   | inl deep ↦ let e = rw deep at h in cc
   | inr shallow ↦ rw (brackets_length reading.stack, shallow)
-      (ap (λ (reading : Reading). fault_behind (brackets_of reading.stack) more) (ok_is _ after (rw shallow at h)))
+      (ap (λ (reading : Reading). fault_after (brackets_of reading.stack) more) (ok_is _ after (rw shallow at h)))
 ]
 piece_fault reading start last (Closing bracket) after more h = closed_fault reading.stack reading.forms bracket last after more h
-piece_fault reading start last (Whole atom) after more h = ap (λ (reading : Reading). fault_behind (brackets_of reading.stack) more) (ok_is _ after h)
+piece_fault reading start last (Whole atom) after more h = ap (λ (reading : Reading). fault_after (brackets_of reading.stack) more) (ok_is _ after h)
 
 closed_refused : (stack : List Frame) (forms : FormTrees) (bracket : Bracket) (last : ℕ) (fault : Fault) (more : Lexed)
     → closed stack forms bracket last ≡ Err fault
-    → fault_behind (brackets_of stack) (with_tokens (Closed bracket last ∷ []) more) ≡ Some fault
-unfolding fault_behind
+    → fault_after (brackets_of stack) (with_tokens (Closed bracket last ∷ []) more) ≡ Some fault
+unfolding fault_after
 closed_refused [] forms bracket last fault more h = cc
 closed_refused (frame ∷ stack) forms bracket last fault more h = elim (cases_Bool (same_bracket frame.bracket bracket)) [
   | inl same ↦ let e = rw same at h in cc
@@ -109,8 +109,8 @@ closed_refused (frame ∷ stack) forms bracket last fault more h = elim (cases_B
 
 pub piece_refused : (reading : Reading) (start last : ℕ) (piece : Piece) (fault : Fault) (more : Lexed)
     → with_piece reading start piece last ≡ Err fault
-    → fault_behind (brackets_of reading.stack) (with_tokens (tokens_in start piece last) more) ≡ Some fault
-unfolding fault_behind
+    → fault_after (brackets_of reading.stack) (with_tokens (tokens_in start piece last) more) ≡ Some fault
+unfolding fault_after
 piece_refused reading start last Blank fault more h = cc
 piece_refused reading start last (Opening bracket) fault more h = elim (cases_Bool (nat_le deepest (length reading.stack))) [
   | inl deep ↦ let e = rw deep at h in rw (brackets_length reading.stack, deep) cc

@@ -4,7 +4,7 @@ use Rattle.std.proofs.lemmas.Bool.{cases_Bool, leb-false, lt-leb}
 use Rattle.std.proofs.lemmas.List.{append-nil}
 use Rattle.sexp_read.specs.Tree.{Bracket, FormTree, FormTrees, Single, Group, none, also}
 use Rattle.sexp_read.specs.Tokens.{Token, Closed}
-use Rattle.sexp_read.specs.Grammar.{form_spelling, spelling, form_depth, depth, deepest, Brackets, bracket_fault, open_behind}
+use Rattle.sexp_read.specs.Grammar.{form_spelling, spelling, form_depth, depth, deepest, Brackets, bracket_fault, open_after}
 use Rattle.sexp_read.proofs.ReadingLaws.{same_bracket_refl}
 
 -- the tokens inside a group, and those behind it
@@ -63,19 +63,19 @@ shallow_forms forms e =
     let known = forms_shallow forms [] [] (omega arith) (ap (bracket_fault []) (append-nil (spelling forms)) ∙ e) in omega arith
 
 mutual
-  form_opens : (form : FormTree) (stack : Brackets) (more : List Token) → open_behind stack (form_spelling form ++ more) ≡ open_behind stack more
+  form_opens : (form : FormTree) (stack : Brackets) (more : List Token) → open_after stack (form_spelling form ++ more) ≡ open_after stack more
   form_opens (Single atom start last) stack more = refl
   form_opens (Group bracket forms start last) stack more =
-      ap (open_behind ((bracket, start) ∷ stack)) (inside forms (Closed bracket last) more) ∙ forms_open forms ((bracket, start) ∷ stack) (Closed bracket last ∷ more)
+      ap (open_after ((bracket, start) ∷ stack)) (inside forms (Closed bracket last) more) ∙ forms_open forms ((bracket, start) ∷ stack) (Closed bracket last ∷ more)
 
-  pub forms_open : (forms : FormTrees) (stack : Brackets) (more : List Token) → open_behind stack (spelling forms ++ more) ≡ open_behind stack more
+  pub forms_open : (forms : FormTrees) (stack : Brackets) (more : List Token) → open_after stack (spelling forms ++ more) ≡ open_after stack more
   forms_open none stack more = refl
   forms_open (also form forms) stack more =
-      ap (open_behind stack) (append_assoc (form_spelling form) (spelling forms) more) ∙ form_opens form stack (spelling forms ++ more) ∙ forms_open forms stack more
+      ap (open_after stack) (append_assoc (form_spelling form) (spelling forms) more) ∙ form_opens form stack (spelling forms ++ more) ∙ forms_open forms stack more
 
 -- forms leave no bracket open
-pub none_open : (forms : FormTrees) → open_behind [] (spelling forms) ≡ []
-none_open forms = ap (open_behind []) (sym (append-nil (spelling forms))) ∙ forms_open forms [] []
+pub none_open : (forms : FormTrees) → open_after [] (spelling forms) ≡ []
+none_open forms = ap (open_after []) (sym (append-nil (spelling forms))) ∙ forms_open forms [] []
 
 -- the first token of a form is no closing bracket
 closed_apart : (bracket : Bracket) (last : ℕ) (form : FormTree) (more rest : List Token) → Closed bracket last ∷ rest ≡ form_spelling form ++ more → ⊥

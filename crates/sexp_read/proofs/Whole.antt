@@ -10,7 +10,7 @@ use Rattle.sexp_read.specs.declared.fault.SexpFault.TheVariants.{Refused, Memory
 use Rattle.sexp_read.specs.declared.fault.SexpWhy.TheVariants.{Long, Utf8}
 use Rattle.sexp_read.specs.Tree.{FormTrees, form_trees}
 use Rattle.sexp_read.specs.Tokens.{Fault, lexed}
-use Rattle.sexp_read.specs.Grammar.{AreRead, IsForms, IsReadAs, longest, bracket_fault, fault_behind, forms_fault, text_fault, or_else, unclosed, open_behind}
+use Rattle.sexp_read.specs.Grammar.{AreRead, IsForms, IsReadAs, longest, bracket_fault, fault_after, forms_fault, text_fault, or_else, unclosed, open_after}
 use Rattle.sexp_read.specs.Gives.{IsFault}
 use Rattle.sexp_read.proofs.Spellings.{no_bracket_fault, shallow_forms, none_open, one_reading}
 
@@ -19,7 +19,7 @@ first_none (Some fault) b h = cc
 first_none None b h = refl
 
 pub are_forms : (text : List ℕ) (forms : FormTrees) → length text ≤ longest → IsUtf8 text → AreRead (lexed text) forms → forms_fault text ≡ None → IsForms text forms
-unfolding forms_fault fault_behind
+unfolding forms_fault fault_after
 are_forms text forms short utf8 read e = record {
   short = short;
   utf8 = utf8;
@@ -28,11 +28,11 @@ are_forms text forms short utf8 read e = record {
 }
 
 forms_no_fault : (text : List ℕ) (forms : FormTrees) → IsForms text forms → forms_fault text ≡ None
-unfolding forms_fault fault_behind
+unfolding forms_fault fault_after
 forms_no_fault text forms h =
-    ap (λ fault. or_else fault (or_else (lexed text).fault (unclosed (open_behind [] (lexed text).tokens)))) (ap (bracket_fault []) h.read.spelled ∙ no_bracket_fault forms h.shallow)
-    ∙ ap (λ fault. or_else fault (unclosed (open_behind [] (lexed text).tokens))) h.read.faultless
-    ∙ ap unclosed (ap (open_behind []) h.read.spelled ∙ none_open forms)
+    ap (λ fault. or_else fault (or_else (lexed text).fault (unclosed (open_after [] (lexed text).tokens)))) (ap (bracket_fault []) h.read.spelled ∙ no_bracket_fault forms h.shallow)
+    ∙ ap (λ fault. or_else fault (unclosed (open_after [] (lexed text).tokens))) h.read.faultless
+    ∙ ap unclosed (ap (open_after []) h.read.spelled ∙ none_open forms)
 
 pub read_as : (text : List ℕ) (trees : FormTrees) (result : Result (Vec Form Global) SexpFault) → IsForms text trees
     → IfOk result (λ forms. AreRead (lexed text) (form_trees forms.items)) → IfErr result (λ fault. IsFault fault (forms_fault text)) → IsReadAs trees result

@@ -1,26 +1,14 @@
 -- Writing forms piece by piece.
 use Rattle.std.proofs.Common.{◌≡◌, ℕ, ◌+◌, ◌<◌, List, [], ◌∷◌, ◌++◌, length, get_or, take, Vec, Global, refl, ap, sym, ◌∙◌, append_assoc}
 use Rattle.std.proofs.Math.Seq.{take-length}
-use Rattle.std.proofs.lemmas.Grind.{flat_map-append}
 use Rattle.std.proofs.lemmas.List.{take_more, append-nil}
-use Rattle.std.specs.List.{flat_map}
+use Rattle.list_laws.specs.Prefix.{IsPrefix}
 use Rattle.sexp_read.specs.declared.form.Form.{Form}
 use Rattle.sexp_read.specs.declared.form.Shape.{Shape}
 use Rattle.sexp_read.specs.declared.form.Shape as code
 use Rattle.sexp_read.specs.Tree.{Round, Square, Curly, FormTree, shape_tree, form_tree, form_trees}
-use Rattle.sexp_read.specs.Written.{Grew, Branch, bare_tree, bare_trees, byte_text, tree_text, behind_text, lines_text}
+use Rattle.sexp_read.specs.Written.{Branch, bare_tree, bare_trees, tree_text, later_text, lines_text}
 use Rattle.sexp_read.proofs.Forms.{list_tree, vector_tree, map_tree}
-
-pub content_none : (bytes : List ℕ) → flat_map byte_text (take 0 bytes) ≡ []
-content_none bytes = refl
-
-pub content_all : (bytes : List ℕ) → flat_map byte_text (take (length bytes) bytes) ≡ flat_map byte_text bytes
-content_all bytes = ap (flat_map byte_text) (take-length bytes)
-
-pub content_more : (bytes : List ℕ) (i : ℕ) → i < length bytes → flat_map byte_text (take (i + 1) bytes) ≡ flat_map byte_text (take i bytes) ++ byte_text (get_or bytes i 0)
-content_more bytes i inside =
-    ap (flat_map byte_text) (take_more bytes i 0 inside) ∙ flat_map-append byte_text (take i bytes) (get_or bytes i 0 ∷ [])
-    ∙ ap (λ (last : List ℕ). flat_map byte_text (take i bytes) ++ last) (append-nil (byte_text (get_or bytes i 0)))
 
 -- a group's forms
 
@@ -51,7 +39,7 @@ abbrev written : Form → List ℕ
 written form = tree_text (bare_tree (form_tree form))
 
 abbrev behind : List Form → List ℕ
-behind forms = behind_text (bare_trees (form_trees forms))
+behind forms = later_text (bare_trees (form_trees forms))
 
 abbrev lines : List Form → List ℕ
 lines forms = lines_text (bare_trees (form_trees forms))
@@ -89,18 +77,18 @@ lines_step first out put final forms i form before wrote ended inside is =
     ∙ ap (λ (text : List ℕ). first ++ text) (sym (ap lines (taken_more forms i form inside is) ∙ lines_push (take i forms) form))
 
 pub behind_step : (first initial out put final : List ℕ) (forms : List Form) (i : ℕ) (form : Form)
-    → Grew first out × (out ≡ initial ++ behind (take i forms)) → put ≡ out ++ 32 ∷ [] → final ≡ put ++ written form
+    → IsPrefix first out × (out ≡ initial ++ behind (take i forms)) → put ≡ out ++ 32 ∷ [] → final ≡ put ++ written form
     → i < length forms → form ≡ get_or forms i form
-    → Grew first final × (final ≡ initial ++ behind (take (i + 1) forms))
+    → IsPrefix first final × (final ≡ initial ++ behind (take (i + 1) forms))
 behind_step first initial out put final forms i form before blank wrote inside is =
     let so_far = behind (take i forms) in
     let all : final ≡ (out ++ 32 ∷ []) ++ written form = wrote ∙ ap (λ (text : List ℕ). text ++ written form) blank in
-    let grown : final ≡ first ++ ((before.0.more ++ 32 ∷ []) ++ written form) =
-    all ∙ ap (λ (text : List ℕ). (text ++ 32 ∷ []) ++ written form) before.0.added
-    ∙ ap (λ (text : List ℕ). text ++ written form) (append_assoc first before.0.more (32 ∷ [])) ∙ append_assoc first (before.0.more ++ 32 ∷ []) (written form) in
+    let grown : final ≡ first ++ ((before.0.0 ++ 32 ∷ []) ++ written form) =
+    all ∙ ap (λ (text : List ℕ). (text ++ 32 ∷ []) ++ written form) before.0.1
+    ∙ ap (λ (text : List ℕ). text ++ written form) (append_assoc first before.0.0 (32 ∷ [])) ∙ append_assoc first (before.0.0 ++ 32 ∷ []) (written form) in
     let same : final ≡ initial ++ ((so_far ++ 32 ∷ []) ++ written form) =
     all ∙ ap (λ (text : List ℕ). (text ++ 32 ∷ []) ++ written form) before.1
     ∙ ap (λ (text : List ℕ). text ++ written form) (append_assoc initial so_far (32 ∷ [])) ∙ append_assoc initial (so_far ++ 32 ∷ []) (written form) in (
-      record { more = (before.0.more ++ 32 ∷ []) ++ written form; added = grown },
+      ((before.0.0 ++ 32 ∷ []) ++ written form, grown),
       same ∙ ap (λ (text : List ℕ). initial ++ text) (sym (ap behind (taken_more forms i form inside is) ∙ behind_push (take i forms) form)),
     )

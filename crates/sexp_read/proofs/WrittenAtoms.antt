@@ -16,8 +16,9 @@ use Rattle.sexp_read.specs.declared.piece.Piece.TheVariants.{Whole}
 use Rattle.sexp_read.specs.declared.piece.Quoted.TheVariants.{Text as in_text, Pattern as in_pattern}
 use Rattle.sexp_read.specs.Tree.{Atom, Text, Pattern, Number, Keyword, Symbol}
 use Rattle.sexp_read.specs.Bytes.{class_of, runs_on, run_of, is_digit, is_letter, is_name_byte, is_name, is_keyword, is_symbol_byte, is_word, is_comparison, is_symbol, begins_number, number_of, atom_of, magnitude, signed}
-use Rattle.sexp_read.specs.Tokens.{Token, Stood, lexed_from, with_tokens, tokens_in, piece_at, run_at, quoted_at, quoted_from, quoted_piece, with_front}
-use Rattle.sexp_read.specs.Written.{byte_text, atom_text, is_pattern, IsWithin64, IsWritable}
+use Rattle.sexp_read.specs.Tokens.{Token, Stood, lexed_from, with_tokens, tokens_in, piece_at, run_at, quoted_at, quoted_from, quoted_piece, with_prefix}
+use Rattle.string_literals.specs.Literals.{escape as byte_text}
+use Rattle.sexp_read.specs.Written.{atom_text, is_pattern, IsWithin64, IsWritable}
 use Rattle.sexp_read.proofs.Lexing.{skipped}
 use Rattle.sexp_read.proofs.Numbers.{digits_model}
 use Rattle.sexp_read.proofs.QuotedLaws.{plain_byte, closing_quote}
@@ -88,9 +89,6 @@ all_go p each (b ∷ bytes) h =
     let parts = and_parts (p b) (list_all p bytes) h in
     and_from (goes_on b) (list_all goes_on bytes) (each b parts.0) (all_go p each bytes parts.1)
 
-letter_class : (b : ℕ) → is_letter b ≡ true → class_of b ≡ Run
-letter_class b h = grind (arith, nat_tests)
-
 name_byte_goes : (b : ℕ) → is_name_byte b ≡ true → goes_on b ≡ true
 name_byte_goes b h = grind (arith, nat_tests)
 
@@ -99,6 +97,9 @@ symbol_byte_goes b h = grind (arith, nat_tests)
 
 name_head_goes : (b : ℕ) → (is_letter b || nat_eq b 95) ≡ true → goes_on b ≡ true
 name_head_goes b h = grind (arith, nat_tests)
+
+name_head_class : (b : ℕ) → (is_letter b || nat_eq b 95) ≡ true → class_of b ≡ Run
+name_head_class b h = grind (arith, nat_tests)
 
 digit_class : (b : ℕ) → is_digit b ≡ true → class_of b ≡ Run
 digit_class b h = grind (arith, nat_tests)
@@ -123,11 +124,11 @@ keyword_run name h = record { first = 58; more = name; run_as = refl; begins = r
 
 -- symbols
 
-word_no_number : (b : ℕ) (bytes : List ℕ) → is_letter b ≡ true → begins_number (b ∷ bytes) ≡ false
+word_no_number : (b : ℕ) (bytes : List ℕ) → (is_letter b || nat_eq b 95) ≡ true → begins_number (b ∷ bytes) ≡ false
 word_no_number b [] h = grind (arith, nat_tests)
 word_no_number b (c ∷ bytes) h = grind (arith, nat_tests)
 
-word_no_keyword : (b : ℕ) (bytes : List ℕ) → is_letter b ≡ true → is_keyword (b ∷ bytes) ≡ false
+word_no_keyword : (b : ℕ) (bytes : List ℕ) → (is_letter b || nat_eq b 95) ≡ true → is_keyword (b ∷ bytes) ≡ false
 word_no_keyword b bytes h = let other : nat_eq b 58 ≡ false = grind (arith, nat_tests) in rw other refl
 
 symbol_atom : (run : List ℕ) → begins_number run ≡ false → is_keyword run ≡ false → is_symbol run ≡ true → atom_of run ≡ Ok (Symbol run)
@@ -137,13 +138,13 @@ symbol_atom run number keyword symbol = rw (number, keyword, symbol) refl
 word_run : (run : List ℕ) → is_word run ≡ true → is_symbol run ≡ true → IsRun run (Symbol run)
 word_run [] h symbol = cc
 word_run (b ∷ bytes) h symbol =
-    let parts = and_parts (is_letter b) (list_all is_symbol_byte bytes) h in
-    let goes : goes_on b ≡ true = rw (letter_class b parts.0) refl in
+    let parts = and_parts (is_letter b || nat_eq b 95) (list_all is_symbol_byte bytes) h in
+    let goes : goes_on b ≡ true = name_head_goes b parts.0 in
     record {
       first = b;
       more = bytes;
       run_as = refl;
-      begins = letter_class b parts.0;
+      begins = name_head_class b parts.0;
       goes = and_from (goes_on b) (list_all goes_on bytes) goes (all_go is_symbol_byte symbol_byte_goes bytes parts.1);
       is = symbol_atom (b ∷ bytes) (word_no_number b bytes parts.0) (word_no_keyword b bytes parts.0) symbol;
     }
@@ -241,7 +242,7 @@ number_run (negsuc n) fits =
 -- texts
 
 abbrev Escapes : ℕ → ℕ → List ℕ → ℕ → Type 0
-Escapes start place rest b = quoted_from in_text start place (byte_text b ++ rest) ≡ with_front (b ∷ []) (quoted_from in_text start (place + length (byte_text b)) rest)
+Escapes start place rest b = quoted_from in_text start place (byte_text b ++ rest) ≡ with_prefix (b ∷ []) (quoted_from in_text start (place + length (byte_text b)) rest)
 
 same_escape : (start place : ℕ) (rest : List ℕ) (b c : ℕ) → Escapes start place rest c → b ≡ c → Escapes start place rest b
 same_escape start place rest b c is same = subst (λ (b : ℕ). Escapes start place rest b) (sym same) is
@@ -251,7 +252,7 @@ byte_plain b quote slash line return tab = rw (quote, slash, line, return, tab) 
 
 plain_escape : (start place : ℕ) (rest : List ℕ) (b : ℕ) → b ≢ 34 → b ≢ 92 → b ≢ 10 → b ≢ 13 → b ≢ 9 → Escapes start place rest b
 plain_escape start place rest b quote slash line return tab =
-    subst (λ (text : List ℕ). quoted_from in_text start place (text ++ rest) ≡ with_front (b ∷ []) (quoted_from in_text start (place + length text) rest))
+    subst (λ (text : List ℕ). quoted_from in_text start place (text ++ rest) ≡ with_prefix (b ∷ []) (quoted_from in_text start (place + length text) rest))
     (sym (byte_plain b (ne_eqb b 34 quote) (ne_eqb b 92 slash) (ne_eqb b 10 line) (ne_eqb b 13 return) (ne_eqb b 9 tab)))
     (plain_byte in_text start place b rest quote slash)
 
@@ -264,7 +265,7 @@ text_byte start place rest b =
     ⊎_elim (λ same. same_escape start place rest b 9 refl same.1) (λ tab. plain_escape start place rest b quote.1 slash.1 line.1 return.1 tab.1)
     (eqb_tells b 9)) (eqb_tells b 13)) (eqb_tells b 10)) (eqb_tells b 92)) (eqb_tells b 34)
 
-fronted : (front text : List ℕ) (last next : ℕ) → last ≡ next → with_front front (Ok (text, last)) ≡ Ok (front ++ text, next)
+fronted : (front text : List ℕ) (last next : ℕ) → last ≡ next → with_prefix front (Ok (text, last)) ≡ Ok (front ++ text, next)
 fronted front text last next e = ap (λ (n : ℕ). Ok (front ++ text, n)) e
 
 text_content : (text rest : List ℕ) (start place : ℕ) → quoted_from in_text start place (flat_map byte_text text ++ 34 ∷ rest) ≡ Ok (text, place + length (flat_map byte_text text) + 1)
@@ -272,7 +273,7 @@ text_content [] rest start place = closing_quote in_text start place rest ∙ ap
 text_content (b ∷ text) rest start place =
     ap (quoted_from in_text start place) (append_assoc (byte_text b) (flat_map byte_text text) (34 ∷ rest))
     ∙ text_byte start place (flat_map byte_text text ++ 34 ∷ rest) b
-    ∙ ap (with_front (b ∷ [])) (text_content text rest start (place + length (byte_text b)))
+    ∙ ap (with_prefix (b ∷ [])) (text_content text rest start (place + length (byte_text b)))
     ∙ fronted (b ∷ []) text _ _ (omega (arith, length-append (byte_text b) (flat_map byte_text text)))
 
 text_piece : (text rest : List ℕ) (place : ℕ) → piece_at place 34 ((flat_map byte_text text ++ 34 ∷ []) ++ rest) ≡ Ok (Whole (Text text), place + length (atom_text (Text text)))
@@ -290,7 +291,7 @@ pattern_content (b ∷ []) rest start place h = elim (eqb_tells b 34) [
   | inl quote ↦ let h' = rw quote.0 at h in cc
   | inr quote ↦ elim (eqb_tells b 92) [
     | inl slash ↦ let h' = rw (quote.0, slash.0) at h in cc
-    | inr slash ↦ plain_byte in_pattern start place b (34 ∷ rest) quote.1 slash.1 ∙ ap (with_front (b ∷ [])) (closing_quote in_pattern start (place + 1) rest)
+    | inr slash ↦ plain_byte in_pattern start place b (34 ∷ rest) quote.1 slash.1 ∙ ap (with_prefix (b ∷ [])) (closing_quote in_pattern start (place + 1) rest)
         ∙ fronted (b ∷ []) [] _ _ (omega arith)
   ]
 ]
@@ -299,10 +300,10 @@ pattern_content (b ∷ c ∷ text) rest start place h = elim (eqb_tells b 34) [
   | inr quote ↦ elim (eqb_tells b 92) [
     | inl slash ↦ let h' = rw (quote.0, slash.0) at h in
         let is : quoted_from in_pattern start place (92 ∷ c ∷ (text ++ 34 ∷ rest)) ≡ Ok (92 ∷ c ∷ text, place + length (b ∷ c ∷ text) + 1) =
-        ap (with_front (92 ∷ c ∷ [])) (pattern_content text rest start (place + 2) h') ∙ fronted (92 ∷ c ∷ []) text _ _ (omega arith) in
+        ap (with_prefix (92 ∷ c ∷ [])) (pattern_content text rest start (place + 2) h') ∙ fronted (92 ∷ c ∷ []) text _ _ (omega arith) in
         subst (λ (x : ℕ). quoted_from in_pattern start place (x ∷ c ∷ (text ++ 34 ∷ rest)) ≡ Ok (x ∷ c ∷ text, place + length (b ∷ c ∷ text) + 1)) (sym slash.1) is
     | inr slash ↦ let h' = rw (quote.0, slash.0) at h in
-        plain_byte in_pattern start place b (c ∷ (text ++ 34 ∷ rest)) quote.1 slash.1 ∙ ap (with_front (b ∷ [])) (pattern_content (c ∷ text) rest start (place + 1) h')
+        plain_byte in_pattern start place b (c ∷ (text ++ 34 ∷ rest)) quote.1 slash.1 ∙ ap (with_prefix (b ∷ [])) (pattern_content (c ∷ text) rest start (place + 1) h')
         ∙ fronted (b ∷ []) (c ∷ text) _ _ (omega arith)
   ]
 ]

@@ -12,7 +12,8 @@ use Rattle.sexp_read.specs.declared.piece.Piece.TheVariants.{Blank, Opening, Clo
 use Rattle.sexp_read.specs.Tree.{Bracket, Round, Square, Curly, Atom, Text, Pattern, Number, Keyword, Symbol, FormTree, FormTrees, Single, Group, none, also}
 use Rattle.sexp_read.specs.Tokens.{Token, Opened, Closed, Lexed, lexed_from, lexed, with_tokens, piece_at}
 use Rattle.sexp_read.specs.Grammar.{form_spelling, spelling, form_depth, depth, deepest, longest}
-use Rattle.sexp_read.specs.Written.{BareTree, BareTrees, Leaf, Branch, no_trees, and_trees, bare_tree, bare_trees, bare_tree_depth, bare_depth, byte_text, atom_text, opening, closing, tree_text, between_text, behind_text, lines_text, IsWithin64, IsWritable, IsWritableTree, AreWritable, IsReadBack}
+use Rattle.string_literals.specs.Literals.{escape as byte_text}
+use Rattle.sexp_read.specs.Written.{BareTree, BareTrees, Leaf, Branch, no_trees, and_trees, bare_tree, bare_trees, bare_tree_depth, bare_depth, atom_text, opening, closing, tree_text, between_text, later_text, lines_text, IsWithin64, IsWritable, IsWritableTree, AreWritable, IsReadBack}
 use Rattle.sexp_read.proofs.Ascii.{symbol_is_utf8, keyword_is_utf8}
 use Rattle.sexp_read.proofs.QuotedText.{before_ascii, behind_ascii}
 use Rattle.sexp_read.proofs.WrittenAtoms.{Ends, Reads, piece_read, atom_read}
@@ -60,7 +61,7 @@ closing_ends Round rest = refl
 closing_ends Square rest = refl
 closing_ends Curly rest = refl
 
-behind_ends : (trees : BareTrees) (rest : List ℕ) → Ends rest → Ends (behind_text trees ++ rest)
+behind_ends : (trees : BareTrees) (rest : List ℕ) → Ends rest → Ends (later_text trees ++ rest)
 behind_ends no_trees rest ends = ends
 behind_ends (and_trees tree trees) rest ends = refl
 
@@ -116,14 +117,14 @@ mutual
   between_read : (trees : BareTrees) → AreWritable trees → (place : ℕ) (rest : List ℕ) → Ends rest → TreesRead place (between_text trees) rest trees
   between_read no_trees w place rest ends = none_read place rest
   between_read (and_trees tree trees) w place rest ends =
-      and_read place (behind_text trees) rest tree trees (tree_read tree w.0 place (behind_text trees ++ rest) (behind_ends trees rest ends))
+      and_read place (later_text trees) rest tree trees (tree_read tree w.0 place (later_text trees ++ rest) (behind_ends trees rest ends))
       (others_read trees w.1 (place + length (tree_text tree)) rest ends)
 
-  others_read : (trees : BareTrees) → AreWritable trees → (place : ℕ) (rest : List ℕ) → Ends rest → TreesRead place (behind_text trees) rest trees
+  others_read : (trees : BareTrees) → AreWritable trees → (place : ℕ) (rest : List ℕ) → Ends rest → TreesRead place (later_text trees) rest trees
   others_read no_trees w place rest ends = none_read place rest
   others_read (and_trees tree trees) w place rest ends =
-      behind_read place 32 (tree_text tree ++ behind_text trees) rest (and_trees tree trees) (blank_piece place _)
-      (and_read (place + 1) (behind_text trees) rest tree trees (tree_read tree w.0 (place + 1) (behind_text trees ++ rest) (behind_ends trees rest ends))
+      behind_read place 32 (tree_text tree ++ later_text trees) rest (and_trees tree trees) (blank_piece place _)
+      (and_read (place + 1) (later_text trees) rest tree trees (tree_read tree w.0 (place + 1) (later_text trees ++ rest) (behind_ends trees rest ends))
       (others_read trees w.1 (place + 1 + length (tree_text tree)) rest ends))
 
 lines_read : (trees : BareTrees) → AreWritable trees → (place : ℕ) → TreesRead place (lines_text trees) [] trees
@@ -200,12 +201,12 @@ mutual
 
   trees_utf8 : (trees : BareTrees) → AreWritable trees → IsUtf8 (between_text trees)
   trees_utf8 no_trees w = nothing_utf8
-  trees_utf8 (and_trees tree trees) w = IsUtf8-append (tree_text tree) (behind_text trees) (tree_utf8 tree w.0) (others_utf8 trees w.1)
+  trees_utf8 (and_trees tree trees) w = IsUtf8-append (tree_text tree) (later_text trees) (tree_utf8 tree w.0) (others_utf8 trees w.1)
 
-  others_utf8 : (trees : BareTrees) → AreWritable trees → IsUtf8 (behind_text trees)
+  others_utf8 : (trees : BareTrees) → AreWritable trees → IsUtf8 (later_text trees)
   others_utf8 no_trees w = nothing_utf8
   others_utf8 (and_trees tree trees) w =
-      IsUtf8-append (32 ∷ []) (tree_text tree ++ behind_text trees) (one_utf8 32 (omega arith)) (IsUtf8-append (tree_text tree) (behind_text trees) (tree_utf8 tree w.0) (others_utf8 trees w.1))
+      IsUtf8-append (32 ∷ []) (tree_text tree ++ later_text trees) (one_utf8 32 (omega arith)) (IsUtf8-append (tree_text tree) (later_text trees) (tree_utf8 tree w.0) (others_utf8 trees w.1))
 
 lines_utf8 : (trees : BareTrees) → AreWritable trees → IsUtf8 (lines_text trees)
 lines_utf8 no_trees w = nothing_utf8

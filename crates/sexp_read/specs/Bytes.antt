@@ -10,6 +10,7 @@ use Rattle.sexp_read.specs.declared.piece.Class.{Class}
 use Rattle.sexp_read.specs.declared.piece.Class.TheVariants.{Separator, Comment, Opens, Closes, Quote, Hash, Run}
 use Rattle.sexp_read.specs.declared.piece.Quoted.{Quoted}
 use Rattle.sexp_read.specs.declared.piece.Quoted.TheVariants.{Text as in_text, Pattern as in_pattern}
+use Rattle.string_literals.specs.Literals.{escaped}
 use Rattle.sexp_read.specs.Tree.{Atom, Number, Keyword, Symbol, Round, Square, Curly}
 
 -- space, tab, CR, LF, comma
@@ -50,25 +51,29 @@ is_digit b = nat_le 48 b && nat_le b 57
 abbrev pub is_letter : ℕ → Bool
 is_letter b = nat_le 65 b && nat_le b 90 || nat_le 97 b && nat_le b 122
 
+-- names begin with a letter or `_`
+abbrev pub is_name_start : ℕ → Bool
+is_name_start b = is_letter b || b == 95
+
 -- the names of keywords: a letter or `_`, and then letters, digits, `_` `-` `.`
 abbrev pub is_name_byte : ℕ → Bool
 is_name_byte b = is_letter b || is_digit b || b == 95 || b == 45 || b == 46
 
 abbrev pub is_name : List ℕ → Bool
 is_name [] = false
-is_name (b ∷ bytes) = (is_letter b || b == 95) && list_all is_name_byte bytes
+is_name (b ∷ bytes) = is_name_start b && list_all is_name_byte bytes
 
 abbrev pub is_keyword : List ℕ → Bool
 is_keyword [] = false
 is_keyword (b ∷ bytes) = b == 58 && is_name bytes
 
--- symbols: a letter, and then letters, digits, `_` `.` `/` `?` `!` `*` `-`
+-- symbols: a letter or `_`, and then letters, digits, `_` `.` `/` `?` `!` `*` `-`
 abbrev pub is_symbol_byte : ℕ → Bool
 is_symbol_byte b = is_letter b || is_digit b || b == 95 || b == 46 || b == 47 || b == 63 || b == 33 || b == 42 || b == 45
 
 abbrev pub is_word : List ℕ → Bool
 is_word [] = false
-is_word (b ∷ bytes) = is_letter b && list_all is_symbol_byte bytes
+is_word (b ∷ bytes) = is_name_start b && list_all is_symbol_byte bytes
 
 -- and the comparisons
 abbrev pub is_comparison : List ℕ → Bool
@@ -112,16 +117,7 @@ atom_of run =
     else (if is_symbol run then Ok (Symbol run)
     else Err Token))
 
--- What a backslash and the byte behind it stand for: in a text `\"` `\\` `\n` `\r` `\t` and no other, in a pattern
--- themselves.
-abbrev pub text_escape : ℕ → Option ℕ
-text_escape b =
-    if b == 34 || b == 92 then Some b
-    else (if b == 110 then Some 10
-    else (if b == 114 then Some 13
-    else (if b == 116 then Some 9
-    else None)))
-
+-- the bytes that a backslash and the byte after it represent: in a text its escape, in a pattern themselves
 abbrev pub escape_of : Quoted → ℕ → Option (List ℕ)
-escape_of in_text b = option_map (λ e. e ∷ []) (text_escape b)
+escape_of in_text b = option_map (λ e. e ∷ []) (escaped b)
 escape_of in_pattern b = Some (92 ∷ b ∷ [])

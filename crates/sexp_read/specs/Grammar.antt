@@ -8,6 +8,7 @@ use Rattle.sexp_read.specs.declared.fault.SexpWhy.TheVariants.{Long, Utf8, Open,
 use Rattle.std.specs.declared.alloc.Global.{Global}
 use Rattle.std.specs.declared.vec.Vec.{Vec}
 use Rattle.sexp_read.specs.declared.form.Form.{Form}
+use Rattle.sexp_read.specs.declared.read.TheConstants.{LONGEST, DEEPEST}
 use Rattle.sexp_read.specs.Tree.{form_trees, Bracket, Round, Square, Curly, FormTree, FormTrees, Single, Group, none, also}
 use Rattle.sexp_read.specs.Tokens.{Token, Opened, Closed, Stood, Fault, Lexed, lexed}
 
@@ -32,12 +33,12 @@ abbrev mutual
   depth (also form forms) = max (form_depth form) (depth forms)
 
 abbrev pub longest : ℕ
-longest = 1048576
+longest = LONGEST
 
 abbrev pub deepest : ℕ
-deepest = 64
+deepest = DEEPEST
 
--- the tokens are those of the forms, and no faulty one stands behind them
+-- the tokens are those of the forms, and there is no faulty one after them
 pub record AreRead (text : Lexed) (forms : FormTrees) : Type 0 where
   pub spelled : text.tokens ≡ spelling forms
   pub faultless : text.fault ≡ None
@@ -49,7 +50,7 @@ pub record IsForms (text : List ℕ) (forms : FormTrees) : Type 0 where
   pub read : AreRead (lexed text) forms
   pub shallow : depth forms ≤ deepest
 
--- these very forms are read, or there was no memory
+-- these very forms are read, or the call is out of memory
 abbrev pub IsReadAs : FormTrees → Result (Vec Form Global) SexpFault → Type 0
 IsReadAs trees (Ok forms) = form_trees forms.items ≡ trees
 IsReadAs trees (Err fault) = fault ≡ Memory
@@ -64,13 +65,13 @@ same_bracket _ _ = false
 abbrev pub Brackets : Type 0
 Brackets = List (Bracket × ℕ)
 
--- those that are open behind the tokens, where each closing bracket of these closes one
-abbrev pub open_behind : Brackets → List Token → Brackets
-open_behind stack [] = stack
-open_behind stack (Opened bracket place ∷ tokens) = open_behind ((bracket, place) ∷ stack) tokens
-open_behind [] (Closed bracket last ∷ tokens) = []
-open_behind (innermost ∷ stack) (Closed bracket last ∷ tokens) = open_behind stack tokens
-open_behind stack (Stood atom start last ∷ tokens) = open_behind stack tokens
+-- those that are open after the tokens, where each closing bracket of these closes one
+abbrev pub open_after : Brackets → List Token → Brackets
+open_after stack [] = stack
+open_after stack (Opened bracket place ∷ tokens) = open_after ((bracket, place) ∷ stack) tokens
+open_after [] (Closed bracket last ∷ tokens) = []
+open_after (innermost ∷ stack) (Closed bracket last ∷ tokens) = open_after stack tokens
+open_after stack (Stood atom start last ∷ tokens) = open_after stack tokens
 
 -- the first closing bracket that closes none of its kind, or the first opening one too many
 abbrev pub bracket_fault : Brackets → List Token → Option Fault
@@ -91,14 +92,14 @@ abbrev pub or_else : Option Fault → Option Fault → Option Fault
 or_else (Some fault) other = Some fault
 or_else None other = other
 
--- a bracket's fault comes before the faulty token behind it, and a bracket that stays open last
-unfoldable pub fault_behind : Brackets → Lexed → Option Fault
-fault_behind stack rest = or_else (bracket_fault stack rest.tokens) (or_else rest.fault (unclosed (open_behind stack rest.tokens)))
+-- a bracket's fault comes before the faulty token after it, and a bracket that stays open last
+unfoldable pub fault_after : Brackets → Lexed → Option Fault
+fault_after stack rest = or_else (bracket_fault stack rest.tokens) (or_else rest.fault (unclosed (open_after stack rest.tokens)))
 
 unfoldable pub forms_fault : List ℕ → Option Fault
-forms_fault text = fault_behind [] (lexed text)
+forms_fault text = fault_after [] (lexed text)
 
--- for what a text is refused: it is too long, or not UTF-8 behind its longest front that is, or its forms have a fault
+-- for what a text is refused: it is too long, or not UTF-8 after its longest prefix that is, or its forms have a fault
 unfoldable pub text_fault : List ℕ → Option Fault
 text_fault text =
     if nat_lt longest (length text) then Some (longest, Long)

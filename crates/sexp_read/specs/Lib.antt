@@ -2,7 +2,8 @@ pub mod Tree
 pub mod Bytes
 pub mod Tokens
 pub mod Gives
+pub mod Names
 pub mod Grammar
 pub mod Reading
-pub mod Fronts
+pub mod Prefixes
 pub mod Written

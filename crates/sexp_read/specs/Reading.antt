@@ -15,7 +15,7 @@ pub record Frame : Type 0 where
   pub place : ℕ
   pub before : FormTrees
 
--- the open brackets, the innermost first, and the forms behind the innermost
+-- the open brackets, the innermost first, and the forms after the innermost
 pub record Reading : Type 0 where
   pub stack : List Frame
   pub forms : FormTrees

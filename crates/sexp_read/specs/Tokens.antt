@@ -16,16 +16,16 @@ abbrev pub Fault : Type 0
 Fault = ℕ × SexpWhy
 
 -- what is read, with more bytes before it
-abbrev pub with_front : List ℕ → Result (List ℕ × ℕ) Fault → Result (List ℕ × ℕ) Fault
-with_front front (Ok read) = Ok (front ++ read.0, read.1)
-with_front front (Err fault) = Err fault
+abbrev pub with_prefix : List ℕ → Result (List ℕ × ℕ) Fault → Result (List ℕ × ℕ) Fault
+with_prefix front (Ok read) = Ok (front ++ read.0, read.1)
+with_prefix front (Err fault) = Err fault
 
--- the same, behind a backslash at the place
+-- the same, after a backslash at the place
 abbrev pub with_escape : ℕ → Option (List ℕ) → Result (List ℕ × ℕ) Fault → Result (List ℕ × ℕ) Fault
-with_escape place (Some front) read = with_front front read
+with_escape place (Some front) read = with_prefix front read
 with_escape place None read = Err (place, Escape)
 
--- What is quoted from a place on, behind the opening quote of a text or pattern that begins at `start`, and the place
+-- What is quoted from a place on, after the opening quote of a text or pattern that begins at `start`, and the place
 -- just past its closing quote. A backslash that is the last byte of all is no escape.
 abbrev pub quoted_from : Quoted → ℕ → ℕ → List ℕ → Result (List ℕ × ℕ) Fault
 quoted_from kind start place [] = Err (start, Open)
@@ -33,7 +33,7 @@ quoted_from kind start place (b ∷ []) = if b == 34 then Ok ([], place + 1) els
 quoted_from kind start place (b ∷ c ∷ bytes) =
     if b == 34 then Ok ([], place + 1)
     else (if b == 92 then with_escape place (escape_of kind c) (quoted_from kind start (place + 2) bytes)
-    else with_front (b ∷ []) (quoted_from kind start (place + 1) (c ∷ bytes)))
+    else with_prefix (b ∷ []) (quoted_from kind start (place + 1) (c ∷ bytes)))
 
 -- a piece of the text, and the place just past it
 abbrev pub atom_in : Quoted → List ℕ → Atom
@@ -88,7 +88,7 @@ tokens_in start (Opening bracket) last = Opened bracket start ∷ []
 tokens_in start (Closing bracket) last = Closed bracket last ∷ []
 tokens_in start (Whole atom) last = Stood atom start last ∷ []
 
--- tokens, and the fault behind them where a faulty one stands there
+-- tokens, and the fault after them where there is a faulty one
 pub record Lexed : Type 0 where
   pub tokens : List Token
   pub fault : Option Fault
@@ -100,7 +100,7 @@ abbrev pub and_then : ℕ → Result (Piece × ℕ) Fault → (ℕ → Lexed) �
 and_then place (Ok read) more = with_tokens (tokens_in place read.0 read.1) (more read.1)
 and_then place (Err fault) more = record { tokens = []; fault = Some fault }
 
--- what stands from `next` on, in the bytes of a text that begin at a place
+-- what is from `next` on, in the bytes of a text that begin at a place
 unfoldable pub lexed_from : ℕ → ℕ → List ℕ → Lexed
 lexed_from next place [] = record { tokens = []; fault = None }
 lexed_from next place (b ∷ bytes) =

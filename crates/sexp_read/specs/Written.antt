@@ -1,18 +1,13 @@
 -- Forms without their places, and how they are written.
 use Rattle.std.specs.Prelude.{◌≡◌, ℕ, ℤ, pos, negsuc, ◌+◌, ◌<◌, ◌≤◌, ◌^◌, ◌==◌, ◌||◌, max, if◌then◌else◌, Bool, true, false, List, [], ◌∷◌, ◌++◌, length}
 use Rattle.std.specs.Fmt.{signed_decimal}
-use Rattle.std.specs.List.{flat_map}
 use Rattle.std.specs.Str.{IsUtf8}
+use Rattle.string_literals.specs.Literals.{string_literal}
 use Rattle.sexp_read.specs.Tree.{Bracket, Round, Square, Curly, Atom, Text, Pattern, Number, Keyword, Symbol, FormTree, FormTrees, Single, Group, none, also}
 use Rattle.sexp_read.specs.Bytes.{is_name, is_symbol}
 use Rattle.sexp_read.specs.Grammar.{IsForms, longest, deepest}
 
--- some bytes were added behind the old ones
-pub record Grew (old new : List ℕ) : Type 0 where
-  pub more : List ℕ
-  pub added : new ≡ old ++ more
-
--- a form apart from where it stands
+-- a form without its places
 mutual
   pub data BareTree : Type 0 where
     Leaf : Atom → BareTree
@@ -46,19 +41,9 @@ abbrev mutual
   bare_depth no_trees = 0
   bare_depth (and_trees tree trees) = max (bare_tree_depth tree) (bare_depth trees)
 
--- a byte of a text: an escape for `"`, `\`, LF, CR and tab, and itself else
-abbrev pub byte_text : ℕ → List ℕ
-byte_text b =
-    if b == 34 then 92 ∷ 34 ∷ []
-    else (if b == 92 then 92 ∷ 92 ∷ []
-    else (if b == 10 then 92 ∷ 110 ∷ []
-    else (if b == 13 then 92 ∷ 114 ∷ []
-    else (if b == 9 then 92 ∷ 116 ∷ []
-    else b ∷ []))))
-
--- a text and a pattern in quotes, a number in decimal, a keyword behind a colon
+-- a text as a literal, a pattern in quotes after a `#`, a number in decimal, a keyword after a colon
 abbrev pub atom_text : Atom → List ℕ
-atom_text (Text text) = 34 ∷ (flat_map byte_text text ++ 34 ∷ [])
+atom_text (Text text) = string_literal text
 atom_text (Pattern text) = 35 ∷ 34 ∷ (text ++ 34 ∷ [])
 atom_text (Number number) = signed_decimal number
 atom_text (Keyword name) = 58 ∷ name
@@ -79,21 +64,21 @@ abbrev mutual
   tree_text (Leaf atom) = atom_text atom
   tree_text (Branch bracket trees) = opening bracket ∷ (between_text trees ++ closing bracket ∷ [])
 
-  -- single spaces stand between
+  -- single spaces between
   pub between_text : BareTrees → List ℕ
   between_text no_trees = []
-  between_text (and_trees tree trees) = tree_text tree ++ behind_text trees
+  between_text (and_trees tree trees) = tree_text tree ++ later_text trees
 
-  pub behind_text : BareTrees → List ℕ
-  behind_text no_trees = []
-  behind_text (and_trees tree trees) = 32 ∷ (tree_text tree ++ behind_text trees)
+  pub later_text : BareTrees → List ℕ
+  later_text no_trees = []
+  later_text (and_trees tree trees) = 32 ∷ (tree_text tree ++ later_text trees)
 
 -- each on a line of its own
 abbrev pub lines_text : BareTrees → List ℕ
 lines_text no_trees = []
 lines_text (and_trees tree trees) = tree_text tree ++ 10 ∷ lines_text trees
 
--- every backslash has a byte behind it, and every quote such a backslash before it
+-- every backslash has a byte after it, and every quote such a backslash before it
 abbrev pub is_pattern : List ℕ → Bool
 is_pattern [] = true
 is_pattern (b ∷ []) = if b == 34 || b == 92 then false else true

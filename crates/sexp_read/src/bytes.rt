@@ -2,7 +2,7 @@
 
 ghost use Rattle.std.specs.Prelude.{◌≡◌};
 ghost use Rattle.std.specs.List.{list_all};
-ghost use Rattle.sexp_read.specs.Bytes.{class_of as byte_class, runs_on as class_runs_on, is_letter as letter, is_digit as digit, is_name_byte as name_byte, is_symbol_byte as symbol_byte, is_name as name_of_bytes, is_keyword as keyword_of_bytes, is_symbol as symbol_of_bytes, is_word as word_of_bytes, is_comparison as comparison_of_bytes, begins_number as number_begins, text_escape as escape_in_text};
+ghost use Rattle.sexp_read.specs.Bytes.{class_of as byte_class, runs_on as class_runs_on, is_letter as letter, is_digit as digit, is_name_byte as name_byte, is_symbol_byte as symbol_byte, is_name_start as name_start, is_name as name_of_bytes, is_keyword as keyword_of_bytes, is_symbol as symbol_of_bytes, is_word as word_of_bytes, is_comparison as comparison_of_bytes, begins_number as number_begins};
 
 use crate::piece::{Bracket, Class};
 
@@ -54,6 +54,12 @@ fn is_digit(byte: u8) -> bool
     }
 }
 
+fn is_name_start(byte: u8) -> bool
+    ensures { result ≡ name_start byte }
+{
+    is_letter(byte) || byte == b'_'
+}
+
 fn is_name_byte(byte: u8) -> bool
     ensures { result ≡ name_byte byte }
 {
@@ -89,7 +95,7 @@ fn is_name(bytes: &[u8]) -> bool
 {
     match bytes {
         [] => false,
-        [first, rest @ ..] => { (is_letter(*first) || *first == b'_') && are_name_bytes(rest) }
+        [first, rest @ ..] => { is_name_start(*first) && are_name_bytes(rest) }
     }
 }
 
@@ -108,7 +114,7 @@ fn is_word(run: &[u8]) -> bool
 {
     match run {
         [] => false,
-        [first, rest @ ..] => { is_letter(*first) && are_symbol_bytes(rest) }
+        [first, rest @ ..] => { is_name_start(*first) && are_symbol_bytes(rest) }
     }
 }
 
@@ -138,18 +144,5 @@ pub(crate) fn begins_number(run: &[u8]) -> bool
         [] => false,
         [b'-' | b'+', second, ..] => is_digit(*second),
         [first, ..] => is_digit(*first),
-    }
-}
-
-/// What a backslash and the byte behind it stand for in a text.
-pub(crate) fn text_escape(byte: u8) -> Option<u8>
-    ensures { result ≡ escape_in_text byte }
-{
-    match byte {
-        b'"' | b'\\' => Some(byte),
-        b'n' => Some(b'\n'),
-        b'r' => Some(b'\r'),
-        b't' => Some(b'\t'),
-        _ => None,
     }
 }

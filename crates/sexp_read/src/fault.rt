@@ -1,4 +1,5 @@
 ghost use Rattle.std.specs.Prelude.{◌≡◌};
+ghost use Rattle.sexp_read.specs.Names.{why_name};
 ghost use Rattle.sexp_read.specs.declared.fault.SexpFault.TheVariants.{Memory as out_of_memory};
 
 use ev_types::Memory;
@@ -11,7 +12,7 @@ pub enum SexpFault {
     /// The text is refused at `place`, counted in bytes from its start.
     #[error("text refused at {place}: {why}")]
     Refused { place: usize, why: SexpWhy },
-    /// Memory was wanted and none was left.
+    /// Out of memory.
     #[error("out of memory")]
     Memory,
 }
@@ -31,18 +32,37 @@ pub enum SexpWhy {
     /// A closing bracket without an opening one of its kind before it.
     #[error("close")]
     Close,
-    /// A run of bytes that is no number, keyword or symbol, or a `#` without a quote behind it.
+    /// A run of bytes that is not a number, a keyword or a symbol, or a `#` without a quote after it.
     #[error("token")]
     Token,
-    /// A run of bytes that begins as a number and is none of 64 signed bits.
+    /// A run of bytes that begins as a number and is not one of 64 signed bits.
     #[error("number")]
     Number,
-    /// A backslash in a string, before a byte with which it is no escape.
+    /// A backslash in a string, before a byte with which it is not an escape.
     #[error("escape")]
     Escape,
     /// More than 64 brackets are open at once.
     #[error("deep")]
     Deep,
+}
+
+impl SexpWhy {
+    /// The name of the cause, in lower case, as the texts of refusals have it.
+    #[tactic(auto, unfolding(crate::specs::Names::why_name))]
+    pub fn name(self) -> &'static str
+        ensures { result.now ≡ why_name self }
+    {
+        match self {
+            SexpWhy::Long => "long",
+            SexpWhy::Utf8 => "utf8",
+            SexpWhy::Open => "open",
+            SexpWhy::Close => "close",
+            SexpWhy::Token => "token",
+            SexpWhy::Number => "number",
+            SexpWhy::Escape => "escape",
+            SexpWhy::Deep => "deep",
+        }
+    }
 }
 
 impl From<Memory> for SexpFault {

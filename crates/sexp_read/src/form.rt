@@ -1,6 +1,6 @@
 use ev_types::Text;
 
-/// A form, and where it stands in its text.
+/// A form, and its place in the text.
 #[derive(Drop)]
 #[cycle(forms)]
 pub struct Form {
@@ -21,15 +21,15 @@ pub enum Shape {
     Vector(Forms),
     /// `{..}`
     Map(Forms),
-    /// `".."`, with its escapes replaced by what they stand for.
+    /// `".."`, with its escapes replaced by the bytes that they represent.
     Text(Text),
     /// `#".."`, as it is written between the quotes.
     Pattern(Text),
     Number(i64),
-    /// The name behind a `:`.
+    /// The name after a `:`.
     Keyword(Text),
     Symbol(Text),
 }
 
-/// Forms, in the order in which they stand in the text.
+/// Forms, in their order in the text.
 pub type Forms = Vec<Form>;

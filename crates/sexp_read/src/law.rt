@@ -1,6 +1,6 @@
 //! What the definitions of tokens and forms owe, apart from how a text is read.
 
-ghost use Rattle.sexp_read.specs.Fronts.{FaultsAreFirst, ClosedAreForms, FormsAreClosed, FormsAreOne};
+ghost use Rattle.sexp_read.specs.Prefixes.{FaultsAreFirst, ClosedAreForms, FormsAreClosed, FormsAreOne};
 ghost use Rattle.sexp_read.specs.Written.{WrittenIsRead, ReadIsWritable};
 
 /// The fault of the brackets comes at the first token with which the tokens so far begin no forms, however they go on,

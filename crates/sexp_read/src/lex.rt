@@ -55,14 +55,14 @@ fn run_at(alloc: Global, text: &[u8], place: usize) -> Result<(Piece, usize), Se
     Ok((Piece::Whole(atom), place + size))
 }
 
-/// How many bytes at the front are one run.
+/// The length of the run at the start of the bytes.
 fn run_len(bytes: &[u8]) -> usize
     ensures { result ≡ length (run_of bytes.now) }
 {
     bytes.iter().take_while(|byte| runs_on(**byte)).count()
 }
 
-/// How many bytes at the front are a comment that has begun.
+/// The length of the rest of a comment at the start of the bytes.
 fn comment_len(bytes: &[u8]) -> usize
     ensures { result ≡ length (comment_of bytes.now) }
 {

@@ -18,8 +18,5 @@ pub use form::{Form, Forms, Shape};
 pub use law::{faults_are_first, written_is_read};
 pub use made::{atom_form, group_form};
 pub use piece::{Atom, Bracket};
-pub use read::read_forms;
+pub use read::{DEEPEST, LONGEST, read_forms};
 pub use write::write_forms;
-
-#[cfg(test)]
-mod tests;

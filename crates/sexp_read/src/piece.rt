@@ -45,7 +45,7 @@ pub(crate) enum Class {
     Run,
 }
 
-/// What stands between quotes.
+/// What is quoted.
 #[derive(Clone, Copy, Debug, PartialEq, Eq)]
 pub(crate) enum Quoted {
     Text,

@@ -4,15 +4,15 @@ ghost use Rattle.std.specs.Prelude.{◌≡◌, ◌≢◌, ◌<◌, ◌≤◌, �
 ghost use Rattle.std.specs.Option.{option_map};
 ghost use Rattle.std.specs.Str.{IsUtf8};
 ghost use Rattle.sexp_read.specs.Bytes.{escape_of};
-ghost use Rattle.sexp_read.specs.Tokens.{quoted_from, quoted_at as quoted_piece_at, with_front};
+ghost use Rattle.sexp_read.specs.Tokens.{quoted_from, quoted_at as quoted_piece_at, with_prefix};
 ghost use Rattle.sexp_read.specs.Gives.{Gives, Fails, IsEscapeFault};
 
 use crate::atom::text_of;
-use crate::bytes::text_escape;
 use crate::fault::{SexpFault, SexpWhy};
 use crate::piece::{Atom, Piece, Quoted};
 use ev_types::Blob;
 use std::alloc::Global;
+use string_literals::escaped;
 
 const QUOTE: u8 = b'"';
 
@@ -68,7 +68,7 @@ fn quoted_bytes(
     Ok((bytes, next + 1))
 }
 
-/// Adds what stands at `place` between the quotes: a byte, or what a backslash and the byte behind it stand for. It
+/// Adds what is at `place` between the quotes: a byte, or what a backslash and the byte after it represent. It
 /// gives the place to go on at.
 #[tactic(auto, using(crate::proofs::QuotedLaws::quoted_steps))]
 fn take_one(
@@ -82,8 +82,8 @@ fn take_one(
     requires within { place < length text.now }
     requires inside { slice_index text.now place ≢ QUOTE }
     ensures moves { IfOk result (λ next. (place < next) × (next ≤ length text.now)) }
-    ensures takes { IfOk result (λ next. with_front bytes.old (quoted_from kind start place (drop place text.now))
-        ≡ with_front bytes.new (quoted_from kind start next (drop next text.now))) }
+    ensures takes { IfOk result (λ next. with_prefix bytes.old (quoted_from kind start place (drop place text.now))
+        ≡ with_prefix bytes.new (quoted_from kind start next (drop next text.now))) }
     ensures refused { IfErr result (λ fault. Fails fault (quoted_from kind start place (drop place text.now))) }
 {
     let byte = text[place];
@@ -101,7 +101,7 @@ fn take_one(
     Ok(place + 2)
 }
 
-/// Adds what a backslash at `place` and the byte behind it stand for.
+/// Adds what a backslash at `place` and the byte after it represent.
 fn put_escape(
     alloc: Global,
     kind: Quoted,
@@ -113,7 +113,7 @@ fn put_escape(
     ensures refused { IfErr result (λ fault. IsEscapeFault fault place (escape_of kind byte)) }
 {
     match kind {
-        Quoted::Text => match text_escape(byte) {
+        Quoted::Text => match escaped(byte) {
             Some(escape) => bytes.push(alloc, escape)?,
             None => {
                 return Err(SexpFault::Refused {

@@ -17,23 +17,23 @@ use simdutf8::compat::from_utf8;
 use std::alloc::Global;
 use std::mem;
 
-/// How many brackets may be open at once.
-const DEEPEST: usize = 64;
+/// The most brackets that are open at once.
+pub const DEEPEST: usize = 64;
 
-/// How many bytes a text may have.
-const LONGEST: usize = 1_048_576;
+/// The most bytes of a text.
+pub const LONGEST: usize = 1_048_576;
 
 /// The forms of the text, in order, each with its place. It reads the text once, from its start on.
 ///
 /// A text is refused for the first of these that it has:
 /// - Long: it has more than 1,048,576 bytes; the place is 1,048,576.
-/// - Utf8: it is not UTF-8; the place is the length of its longest front that is.
+/// - Utf8: it is not UTF-8; the place is the length of its longest prefix that is.
 /// - At the first place in the text: a closing bracket that closes none of its kind (Close), a run that begins as a
-///   number and is none (Number), another run that is no keyword and no symbol (Token), a backslash in a string before
+///   number and is not one (Number), another run that is neither a keyword nor a symbol (Token), a backslash in a string before
 ///   another byte than `"` `\\` `n` `r` `t` (Escape), or the 65th bracket that is open at once (Deep).
 /// - Open: at its end a string or pattern is unclosed, at its place, or a bracket, at that of the innermost.
 ///
-/// `Memory`: memory was wanted and none was left.
+/// `Memory`: out of memory.
 pub fn read_forms(alloc: Global, text: &[u8]) -> Result<Forms, SexpFault>
     ensures forms { IfOk result (λ forms. IsForms text.now (form_trees forms.items)) }
     ensures only { (trees : FormTrees) → IsForms text.now trees → IsReadAs trees result }
@@ -85,7 +85,7 @@ pub(crate) struct Open {
 pub(crate) struct Reader {
     /// The open brackets, the innermost last.
     open: Vec<Open>,
-    /// The forms behind the innermost of them.
+    /// The forms after the innermost of them.
     forms: Forms,
 }
 
@@ -100,7 +100,7 @@ impl Reader {
         }
     }
 
-    /// Reads one more piece, which stands from `start` to just before `end`.
+    /// Reads one more piece, from `start` to just before `end`.
     fn put(
         &mut self,
         alloc: Global,

@@ -4,6 +4,7 @@ use Rattle.std.proofs.Common.{length-append, arith, min, ◌≡◌, ℕ, ◌+◌
 use Rattle.std.proofs.Math.Seq.{drop-cons}
 use Rattle.stream_plan.specs.declared.plan.Stream.{Stream, out-Stream}
 use Rattle.list_laws.specs.Counts.{greatest}
+use Rattle.list_laws.specs.Prefix.{IsPrefix}
 use Rattle.stream_plan.specs.Ready.{kind_patterns, stream_patterns, plan_patterns}
 use Rattle.stream_plan.specs.Search.{opened}
 use Rattle.stream_plan.specs.Tree.{kind_tree, list_trees}
@@ -38,6 +39,10 @@ stream_appended s children otherwise first second third fourth children_is other
     let third_is : third ≡ (first ++ own') ++ below' = (rw (own, children_is) at below) in
     let fourth_is : fourth ≡ ((first ++ own') ++ below') ++ beside' = (rw (third_is, otherwise_is) at beside) in
     fourth_is ∙ append_assoc (first ++ own') below' beside' ∙ append_assoc first own' (below' ++ beside') ∙ ap (λ (texts : Texts). first ++ texts) (sym (stream_patterns-opened s))
+
+-- a prefix stays one when more is added at the end
+pub prefix_added : (front before more after : Texts) → IsPrefix front before → after ≡ before ++ more → IsPrefix front after
+prefix_added front before more after (rest, is) added = (rest ++ more, added ∙ ap (λ (texts : Texts). texts ++ more) is ∙ append_assoc front rest more)
 
 -- one more stream's are appended
 pub one_more_appended : (streams : List Stream) (i : ℕ) (s : Stream) (before after whole : Texts) → i < length streams → s ≡ get_or streams i s →

@@ -14,7 +14,7 @@ use Rattle.std.specs.Option.{option_map}
 use Rattle.stream_plan.specs.declared.kinds.Flow.TheVariants.{Event}
 use Rattle.stream_plan.specs.Faults.{Placed, preorder_at, preorder_in, preorder_of, counts, allowed, place_of}
 use Rattle.stream_plan.specs.Kinds.{passes_on}
-use Rattle.stream_plan.specs.Search.{opened, spot, Passes, Searches}
+use Rattle.stream_plan.specs.Search.{opened, ends_at, Passes, Searches}
 use Rattle.stream_plan.specs.Tree.{kind_tree, list_trees}
 use Rattle.stream_plan.proofs.Trees.{count_of-list_trees, preorder_in-drop}
 
@@ -22,15 +22,15 @@ use Rattle.stream_plan.proofs.Trees.{count_of-list_trees, preorder_in-drop}
 
 pub passes_then : (found : Bool) (a b c : Search) (front streams : List Placed) →
     Searches false a b front → Searches found b c streams → Searches found a c (front ++ streams)
-passes_then true a b c front streams first second = λ later. ap (spot a) (append_assoc front streams later) ∙ first.spot (streams ++ later) ∙ second later
+passes_then true a b c front streams first second = λ later. ap (ends_at a) (append_assoc front streams later) ∙ first.ends_at (streams ++ later) ∙ second later
 passes_then false a b c front streams first second = record {
   path = second.path ∙ first.path;
   why = second.why ∙ first.why;
-  spot = λ later. ap (spot a) (append_assoc front streams later) ∙ first.spot (streams ++ later) ∙ second.spot later;
+  ends_at = λ later. ap (ends_at a) (append_assoc front streams later) ∙ first.ends_at (streams ++ later) ∙ second.ends_at later;
 }
 
 pub found_first : (a b : Search) (front streams : List Placed) → Searches true a b front → Searches true a b (front ++ streams)
-found_first a b front streams found = λ later. ap (spot a) (append_assoc front streams later) ∙ found (streams ++ later)
+found_first a b front streams found = λ later. ap (ends_at a) (append_assoc front streams later) ∙ found (streams ++ later)
 
 -- ---- a stream and those below it
 
@@ -108,8 +108,8 @@ pub ends_in : (a b c : Search) (whole : List Placed) (number : ℕ) (flow : Flow
 ends_in a b c whole number flow streams i s path within passed pushed is found =
     let found' : Searches true (moved b path) c (at (moved b path) flow (get_or streams i s)) = subst (λ (t : Stream). Searches true (moved b path) c (at (moved b path) flow t)) is found in
     let rest = found_first (moved b path) c (at (moved b path) flow (get_or streams i s)) (from a number flow streams (i + 1)) found' in
-    λ later. passed.spot later
-    ∙ ap (λ (left : List Placed). spot b (left ++ later)) (next_at a b number flow streams i s path within passed.path pushed)
+    λ later. passed.ends_at later
+    ∙ ap (λ (left : List Placed). ends_at b (left ++ later)) (next_at a b number flow streams i s path within passed.path pushed)
     ∙ rest later
 
 pub goes_on : (a b c : Search) (whole : List Placed) (number : ℕ) (flow : Flow) (streams : List Stream) (i : ℕ) (s : Stream) (path popped : Vec ℕ Global) →
@@ -122,10 +122,10 @@ goes_on a b c whole number flow streams i s path popped within passed pushed is 
     record {
       path = back ∙ passed.path;
       why = second.why ∙ passed.why;
-      spot = λ later. passed.spot later
-          ∙ ap (λ (left : List Placed). spot b (left ++ later)) (next_at a b number flow streams i s path within passed.path pushed)
-          ∙ ap (spot b) (append_assoc (at (moved b path) flow (get_or streams i s)) (from a number flow streams (i + 1)) later)
-          ∙ second'.spot (from a number flow streams (i + 1) ++ later);
+      ends_at = λ later. passed.ends_at later
+          ∙ ap (λ (left : List Placed). ends_at b (left ++ later)) (next_at a b number flow streams i s path within passed.path pushed)
+          ∙ ap (ends_at b) (append_assoc (at (moved b path) flow (get_or streams i s)) (from a number flow streams (i + 1)) later)
+          ∙ second'.ends_at (from a number flow streams (i + 1) ++ later);
     }
 
 -- the number that was pushed last is popped
@@ -148,16 +148,16 @@ all_of streams = preorder_of (list_trees streams)
 whole_at : (a : Search) (streams : List Stream) → a.path.items ≡ [] → preorder_in a.path.items 0 Event (list_trees streams) ≡ all_of streams
 whole_at a streams top = ap (λ (path : List ℕ). preorder_in path 0 Event (list_trees streams)) top
 
-spot_is : (a : Search) (streams : List Placed) → a.allowed ≡ allowed a.why → spot a streams ≡ option_map (λ s. s.path) (place_of a.why streams)
-spot_is a streams is = ap (λ (n : ℕ). option_map (λ (s : Placed). s.path) (slice_get (filter (counts a.why) streams) n)) is
+end_is : (a : Search) (streams : List Placed) → a.allowed ≡ allowed a.why → ends_at a streams ≡ option_map (λ s. s.path) (place_of a.why streams)
+end_is a streams is = ap (λ (n : ℕ). option_map (λ (s : Placed). s.path) (slice_get (filter (counts a.why) streams) n)) is
 
 module _ (a b : Search) (streams held : List Stream) (held_is : held ≡ streams) (top : a.path.items ≡ []) (is : a.allowed ≡ allowed a.why) where
   pub found_whole : Searches true a b (preorder_in a.path.items 0 Event (list_trees held)) →
       Some b.path.items ≡ option_map (λ s. s.path) (place_of a.why (all_of streams))
   found_whole found =
-      sym (found []) ∙ ap (spot a) (append-nil (preorder_in a.path.items 0 Event (list_trees held)) ∙ whole_at a held top ∙ ap all_of held_is) ∙ spot_is a (all_of streams) is
+      sym (found []) ∙ ap (ends_at a) (append-nil (preorder_in a.path.items 0 Event (list_trees held)) ∙ whole_at a held top ∙ ap all_of held_is) ∙ end_is a (all_of streams) is
 
   pub passed_whole : Searches false a b (preorder_in a.path.items 0 Event (list_trees held)) →
       None ≡ option_map (λ s. s.path) (place_of a.why (all_of streams))
   passed_whole passed =
-      sym (passed.spot []) ∙ ap (spot a) (append-nil (preorder_in a.path.items 0 Event (list_trees held)) ∙ whole_at a held top ∙ ap all_of held_is) ∙ spot_is a (all_of streams) is
+      sym (passed.ends_at []) ∙ ap (ends_at a) (append-nil (preorder_in a.path.items 0 Event (list_trees held)) ∙ whole_at a held top ∙ ap all_of held_is) ∙ end_is a (all_of streams) is

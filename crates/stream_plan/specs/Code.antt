@@ -1,4 +1,4 @@
--- Trees are told apart by the marks that they are written down as, front to back. A value that contracts see has to
+-- Trees are compared by the marks that they are written as, in order. A value that contracts see has to
 -- come with such a way, beside which they don't look at it.
 use Rattle.std.specs.Prelude.{◌≡◌, List, [], ◌∷◌, ◌++◌, refl}
 use Rattle.std.proofs.Common.{ap, ◌∙◌, append_assoc}

@@ -6,6 +6,7 @@ use Rattle.stream_plan.specs.declared.fault.PlanFault.{PlanFault}
 use Rattle.stream_plan.specs.declared.fault.PlanFault.TheVariants.{Refused, Memory}
 use Rattle.stream_plan.specs.declared.fault.PlanWhy.{PlanWhy}
 use Rattle.stream_plan.specs.declared.fault.PlanWhy.TheVariants.{Many, Deep, Children, Range, Kind}
+use Rattle.stream_plan.specs.declared.search.TheConstants.{MAX_STREAMS, MAX_DEPTH}
 use Rattle.stream_plan.specs.declared.kinds.Flow.{Flow}
 use Rattle.stream_plan.specs.declared.kinds.Flow.TheVariants.{Event}
 use Rattle.stream_plan.specs.Kinds.{takes, passes_on, may_have_children, may_have_otherwise, is_in_range}
@@ -13,7 +14,7 @@ use Rattle.stream_plan.specs.Tree.{KindTree, StreamTree, stream, StreamTrees, no
 
 -- ---- the streams of a plan
 
--- a stream where it stands: the child numbers from the top down to it, what comes to it, and what it is
+-- a stream with its path, which are the child numbers from the top down to it, and with what its parent passes on
 pub record Placed : Type 0 where
   pub path : List ℕ
   pub flow : Flow
@@ -57,14 +58,14 @@ has_wrong_streams (stream kind children otherwise) =
 -- a stream counts against a cause
 abbrev pub counts : PlanWhy → Placed → Bool
 counts Many s = true
-counts Deep s = nat_lt 64 (length s.path)
+counts Deep s = nat_lt MAX_DEPTH (length s.path)
 counts Children s = has_wrong_streams s.tree
 counts Range s = not (is_in_range (kind_of s.tree))
 counts Kind s = not (takes (kind_of s.tree) s.flow)
 
 -- how many streams that count against the cause a plan may have
 abbrev pub allowed : PlanWhy → ℕ
-allowed Many = 4096
+allowed Many = MAX_STREAMS
 allowed Deep = 0
 allowed Children = 0
 allowed Range = 0
@@ -81,7 +82,7 @@ place_of why streams = slice_get (filter (counts why) streams) (allowed why)
 abbrev pub fault_for : PlanWhy → List Placed → Option Fault
 fault_for why streams = option_map (λ s. record { path = s.path; why = why }) (place_of why streams)
 
--- the first cause, in this order, that stands anywhere in the plan
+-- the first cause, in this order, that is anywhere in the plan
 abbrev pub first_among : List Placed → Option Fault
 first_among streams =
     option_or (fault_for Many streams)
@@ -93,7 +94,7 @@ first_among streams =
 unfoldable pub first_fault : StreamTrees → Option Fault
 first_fault streams = first_among (preorder_of streams)
 
--- a refusal is for this fault; memory may be wanted at any time
+-- a refusal is for this fault; it may be out of memory at any time
 abbrev pub IsRefusedFor : Option Fault → PlanFault → Type 0
 IsRefusedFor fault (Refused path why) = fault ≡ Some (record { path = path; why = why })
 IsRefusedFor fault Memory = Unit {0}

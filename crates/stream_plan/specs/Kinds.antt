@@ -1,13 +1,12 @@
 -- What a stream of a kind takes, what it passes on, which streams may follow it, and the ranges of its numbers.
-use Rattle.std.specs.Prelude.{ℕ, Bool, true, false, ◌&&◌, nat_le, List}
-use Rattle.std.specs.List.{list_all}
-use Rattle.ev_types.specs.declared.settings.Set.{Set}
-use Rattle.ev_types.specs.Set.{fits}
+use Rattle.std.specs.Prelude.{ℕ, Bool, true, false, ◌&&◌, nat_le}
+use Rattle.ev_types.specs.Set.{all_fit}
+use Rattle.stream_plan.specs.declared.kinds.TheConstants.{MAX_COUNT, MAX_SECS}
 use Rattle.stream_plan.specs.declared.kinds.Flow.{Flow}
 use Rattle.stream_plan.specs.declared.kinds.Flow.TheVariants.{Nothing, Event, Vector}
 use Rattle.stream_plan.specs.Tree.{KindTree, Index, Notice, Sdo, Where, With, Default, Runs, Throttle, Rollup, Batch, Stable, FixedEvent, MovingEvent, FixedTime, MovingTime, Coalesce, Smap}
 
--- ---- what comes and what is passed on
+-- ---- what is taken and what is passed on
 
 -- a stream that takes either takes events and vectors
 abbrev pub either : Flow → Bool
@@ -31,7 +30,7 @@ takes Sdo = either
 takes (Smap fold) = only_vectors
 takes _ = only_events
 
--- what a stream of the kind passes on of what comes
+-- what a stream of the kind passes on of such items
 abbrev pub passes_on : KindTree → Flow → Flow
 passes_on Index flow = Nothing
 passes_on (Notice name) flow = Nothing
@@ -59,14 +58,10 @@ may_have_otherwise _ = false
 -- ---- ranges
 
 abbrev pub is_count : ℕ → Bool
-is_count count = nat_le 1 count && nat_le count 1000000
+is_count count = nat_le 1 count && nat_le count MAX_COUNT
 
 abbrev pub is_secs : ℕ → Bool
-is_secs secs = nat_le 1 secs && nat_le secs 604800
-
--- each value fits its field
-abbrev pub all_fit : List Set → Bool
-all_fit = list_all (λ set. fits set.field set.value)
+is_secs secs = nat_le 1 secs && nat_le secs MAX_SECS
 
 -- the numbers and the sets of the kind are in their ranges
 abbrev pub is_in_range : KindTree → Bool

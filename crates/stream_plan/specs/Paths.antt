@@ -9,7 +9,7 @@ abbrev pub listed : StreamTrees → List StreamTree
 listed none = []
 listed (also s streams) = s ∷ listed streams
 
--- the streams that follow a stream: its children, and behind them the others
+-- the streams that follow a stream: its children, and after them the others
 abbrev pub following : StreamTree → List StreamTree
 following (stream kind children otherwise) = listed children ++ listed otherwise
 

@@ -13,16 +13,16 @@ opened s =
     stream (kind_tree (out-Stream s).kind) (list_trees (out-Stream s).children.items) (list_trees (out-Stream s).otherwise.items)
 
 -- where a search ends that has these streams before it
-abbrev pub spot : Search → List Placed → Option (List ℕ)
-spot search streams = option_map (λ s. s.path) (slice_get (filter (counts search.why) streams) search.allowed)
+abbrev pub ends_at : Search → List Placed → Option (List ℕ)
+ends_at search streams = option_map (λ s. s.path) (slice_get (filter (counts search.why) streams) search.allowed)
 
 -- a search that had some streams before it has the others now, and ends where it would have ended
 pub record Passes (old new : Search) (streams left : List Placed) : Type 0 where
   pub path : new.path.items ≡ old.path.items
   pub why : new.why ≡ old.why
-  pub spot : (later : List Placed) → spot old (streams ++ later) ≡ spot new (left ++ later)
+  pub ends_at : (later : List Placed) → ends_at old (streams ++ later) ≡ ends_at new (left ++ later)
 
 -- a search has ended among the streams, or has passed them all
 abbrev pub Searches : Bool → Search → Search → List Placed → Type 0
-Searches true old new streams = (later : List Placed) → spot old (streams ++ later) ≡ Some new.path.items
+Searches true old new streams = (later : List Placed) → ends_at old (streams ++ later) ≡ Some new.path.items
 Searches false old new streams = Passes old new streams []

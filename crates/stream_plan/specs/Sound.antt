@@ -1,12 +1,13 @@
 -- A plan without faults, cause by cause.
 use Rattle.std.specs.Prelude.{◌≡◌, ◌↔◌, ◌≤◌, true, false, length, None}
 use Rattle.std.specs.List.{AllByRecursion}
+use Rattle.stream_plan.specs.declared.search.TheConstants.{MAX_STREAMS, MAX_DEPTH}
 use Rattle.stream_plan.specs.Faults.{Placed, preorder_of, has_wrong_streams, kind_of, first_fault}
 use Rattle.stream_plan.specs.Kinds.{takes, is_in_range}
 use Rattle.stream_plan.specs.Tree.{StreamTrees}
 
 abbrev pub StandsShallow : Placed → Type 0
-StandsShallow s = length s.path ≤ 64
+StandsShallow s = length s.path ≤ MAX_DEPTH
 
 abbrev pub HasStreamsThatMayFollow : Placed → Type 0
 HasStreamsThatMayFollow s = has_wrong_streams s.tree ≡ false
@@ -18,7 +19,7 @@ abbrev pub TakesWhatComes : Placed → Type 0
 TakesWhatComes s = takes (kind_of s.tree) s.flow ≡ true
 
 pub record IsSound (streams : StreamTrees) : Type 0 where
-  pub few : length (preorder_of streams) ≤ 4096
+  pub few : length (preorder_of streams) ≤ MAX_STREAMS
   pub shallow : AllByRecursion StandsShallow (preorder_of streams)
   pub followed : AllByRecursion HasStreamsThatMayFollow (preorder_of streams)
   pub in_range : AllByRecursion IsInRange (preorder_of streams)

@@ -15,19 +15,19 @@ pub enum PlanFault {
     /// The stream at the path is refused.
     #[error("stream refused: {why}")]
     Refused { path: Path, why: PlanWhy },
-    /// Memory was wanted and none was left.
+    /// Out of memory.
     #[error("out of memory")]
     Memory,
 }
 
 /// For what a stream is refused. The causes are tried in this order over the whole plan, and of each the first stream
-/// counts, where a stream stands before those below it.
+/// counts, where a stream comes before those below it.
 #[derive(Clone, Copy, Debug, PartialEq, Eq, Error)]
 pub enum PlanWhy {
     /// It is stream number 4,097.
     #[error("many")]
     Many,
-    /// It stands below 64 others.
+    /// It is below 64 others.
     #[error("deep")]
     Deep,
     /// It is an `Index` or a `Notice` and has children, or it has streams in `otherwise` and is no `Where`.

@@ -2,11 +2,10 @@
 
 ghost use Rattle.std.specs.Prelude.{◌≡◌};
 ghost use Rattle.stream_plan.specs.Tree.{kind_tree};
-ghost use Rattle.stream_plan.specs.Kinds.{takes, passes_on, may_have_children, may_have_otherwise, is_in_range, is_count, is_secs, all_fit};
-ghost use Rattle.ev_types.specs.Set.{fits};
+ghost use Rattle.stream_plan.specs.Kinds.{takes, passes_on, may_have_children, may_have_otherwise, is_in_range, is_count, is_secs};
 
 use crate::Kind;
-use ev_types::{Field, Sets, Value};
+use ev_types::all_fit;
 
 /// The greatest count of a stream. The least is 1.
 pub const MAX_COUNT: u32 = 1_000_000;
@@ -14,10 +13,7 @@ pub const MAX_COUNT: u32 = 1_000_000;
 /// The most seconds of a stream, a week. The fewest are 1.
 pub const MAX_SECS: u32 = 604_800;
 
-/// The greatest ttl that a field is set to, in seconds. The least is 0.
-pub const MAX_TTL: i64 = 16_777_216;
-
-/// What comes to a stream.
+/// What a stream is given.
 #[derive(Clone, Copy, Debug, PartialEq, Eq)]
 pub(crate) enum Flow {
     Nothing,
@@ -28,7 +24,7 @@ pub(crate) enum Flow {
 }
 
 impl Kind {
-    /// Whether a stream of this kind takes what comes.
+    /// Whether a stream of this kind takes such items.
     pub(crate) fn takes(&self, flow: Flow) -> bool
         ensures { result ≡ takes (kind_tree self.now) flow }
     {
@@ -39,7 +35,7 @@ impl Kind {
         }
     }
 
-    /// What a stream of this kind passes on of what comes.
+    /// What a stream of this kind passes on of such items.
     pub(crate) fn passes_on(&self, flow: Flow) -> Flow
         ensures { result ≡ passes_on (kind_tree self.now) flow }
     {
@@ -58,13 +54,13 @@ impl Kind {
     }
 
     /// Whether streams may follow a stream of this kind.
-    pub(crate) fn may_have_children(&self) -> bool
+    pub fn may_have_children(&self) -> bool
         ensures { result ≡ may_have_children (kind_tree self.now) }
     {
         !matches!(self, Kind::Index | Kind::Notice(_))
     }
 
-    /// Whether streams may get what a stream of this kind does not pass to its children.
+    /// Whether streams may be given what a stream of this kind does not pass on to its children.
     pub(crate) fn may_have_otherwise(&self) -> bool
         ensures { result ≡ may_have_otherwise (kind_tree self.now) }
     {
@@ -101,28 +97,4 @@ fn is_secs(secs: u32) -> bool
     ensures { result ≡ is_secs secs }
 {
     1 <= secs && secs <= MAX_SECS
-}
-
-/// Whether each value fits the field that it is set to.
-pub fn all_fit(sets: &Sets) -> bool
-    ensures { result ≡ all_fit sets.now }
-{
-    sets.as_slice()
-        .iter()
-        .all(|set| fits(&set.field, &set.value))
-}
-
-/// Whether the field may be set to the value: a text or nothing for a text or an attribute, a number for the time, a ttl
-/// from 0 to 16,777,216 or nothing, a number or nothing for the metric.
-pub fn fits(field: &Field, value: &Value) -> bool
-    ensures { result ≡ fits field.now value.now }
-{
-    match (field, value) {
-        (Field::Time, Value::Nil) => false,
-        (_, Value::Nil) => true,
-        (Field::Time | Field::Metric, Value::Number(_)) => true,
-        (Field::Ttl, Value::Number(ttl)) => 0 <= *ttl && *ttl <= MAX_TTL,
-        (_, Value::Number(_)) => false,
-        (field, Value::Text(_)) => !matches!(field, Field::Time | Field::Ttl | Field::Metric),
-    }
 }

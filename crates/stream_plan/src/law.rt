@@ -4,7 +4,7 @@ ghost use Rattle.stream_plan.specs.Paths.{PathsLeadToStreams};
 ghost use Rattle.stream_plan.specs.Sound.{SoundPlansHaveNoFault};
 
 /// A plan has no fault exactly where it has at most 4,096 streams, at most 64 of them in a row from the top down, and
-/// each has no streams but those that may follow it, its numbers and sets in their ranges, and takes what comes to it.
+/// each has no streams but those that may follow it, its numbers and sets in their ranges, and takes what its parent passes on.
 pub fn sound_plans_have_no_fault()
     ensures { SoundPlansHaveNoFault }
 {}

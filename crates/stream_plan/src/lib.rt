@@ -13,11 +13,8 @@ mod search;
 pub use checked::{CheckedPlan, check_kinds};
 pub use count::stream_pattern_count;
 pub use fault::{Path, PlanFault, PlanWhy};
-pub use kinds::{MAX_COUNT, MAX_SECS, MAX_TTL, all_fit, fits};
+pub use kinds::{MAX_COUNT, MAX_SECS};
 pub use law::{paths_lead_to_their_streams, sound_plans_have_no_fault};
 pub use plan::{Kind, Plan, Stream, Streams};
 pub use ready::{ReadyPlan, build_plan};
 pub use search::{MAX_DEPTH, MAX_STREAMS};
-
-#[cfg(test)]
-mod tests;

@@ -12,14 +12,14 @@ pub struct Plan {
 pub struct Stream {
     pub kind: Kind,
     pub children: Streams,
-    /// What a `Where` passes on of events that don't meet its rule; empty at every other kind.
+    /// The streams that get the events that do not meet the rule of a `Where`; empty at every other kind.
     pub otherwise: Streams,
 }
 
-/// Streams, in the order in which they get what comes.
+/// Streams, in the order in which they get their items.
 pub type Streams = Vec<Stream>;
 
-/// What a stream does with what comes. A count is from 1 to 1,000,000, seconds are from 1 to 604,800.
+/// What a stream does with its items. A count is from 1 to 1,000,000, seconds are from 1 to 604,800.
 #[derive(Drop)]
 pub enum Kind {
     /// Writes each event into the index.
@@ -44,7 +44,8 @@ pub enum Kind {
     Runs { count: u32, field: Field },
     /// Passes on the first `count` events of each window.
     Throttle { count: u32, secs: u32 },
-    /// Passes on at most `count` vectors in each window, and the events behind them in one more.
+    /// Passes on at most `count` vectors in each window: events one by one, each as a vector, and at the start of the
+    /// next window, which it counts in, one vector of the events for which there was no room.
     Rollup { count: u32, secs: u32 },
     /// Passes on vectors of `count` events, and what is left at the end of each window.
     Batch { count: u32, secs: u32 },
@@ -56,9 +57,9 @@ pub enum Kind {
     MovingEvent { count: u32 },
     /// Passes on the events of each stretch of this many seconds of event time as a vector.
     FixedTime { secs: u32 },
-    /// Passes on at each event those of the last so many seconds of event time as a vector.
+    /// Passes on at each event those of the last `secs` seconds of event time as a vector.
     MovingTime { secs: u32 },
-    /// Passes on every so many seconds the last event of each host and service as a vector.
+    /// Passes on every `secs` seconds the last event of each host and service as a vector.
     Coalesce { secs: u32 },
     /// Passes on one event that is folded of each vector.
     Smap(Fold),

@@ -1,8 +1,9 @@
 //! Plans whose regular expressions are built.
 
-ghost use Rattle.std.specs.Prelude.{◌≡◌, ◌<◌, ◌≤◌, ◌^◌, ◌++◌, length, OnOk, IfOk, None};
+ghost use Rattle.std.specs.Prelude.{◌≡◌, ◌<◌, ◌≤◌, ◌^◌, ◌++◌, length, OnOk, OnErr, IfOk, None};
 ghost use Rattle.std.specs.Option.{option_map};
 ghost use Rattle.list_laws.specs.Counts.{greatest};
+ghost use Rattle.list_laws.specs.Prefix.{IsPrefix};
 ghost use Rattle.pred_eval.specs.Building.{texts_of, HasCause, refused_of};
 ghost use Rattle.pred_eval.specs.Search.{AreReadFrom};
 ghost use Rattle.stream_plan.specs.Tree.{kind_tree, list_trees, plan_tree};
@@ -18,7 +19,7 @@ use regex::Regex;
 use std::alloc::Global;
 use std::marker::Model;
 
-/// A plan without faults whose regular expressions are built. They stand in one list, in the order of the streams, each
+/// A plan without faults whose regular expressions are built. They are in one list, in the order of the streams, each
 /// before those below it, and within a stream in the order in which its rule is written.
 #[derive(Drop)]
 pub struct ReadyPlan {
@@ -63,7 +64,7 @@ impl ReadyPlan {
 }
 
 /// Builds the regular expressions of the plan, of which there are fewer than 2^32. They are numbered from 0, in the order
-/// that is said of [`ReadyPlan`].
+/// of [`ReadyPlan`].
 pub fn build_plan<P: Patterns>(
     alloc: Global,
     plan: CheckedPlan,
@@ -71,9 +72,11 @@ pub fn build_plan<P: Patterns>(
 ) -> Result<ReadyPlan, BuildFault>
     requires { length (plan_patterns plan) < 2 ^ 32 }
     ensures plan { IfOk result (λ ready. ready ≡ plan) }
-    ensures cause { HasCause (plan_patterns plan) (P.refusals patterns.old) (P.refusals patterns.new) result }
-    ensures told { P.refused patterns.new ≡
-        option_map (λ texts. texts ++ refused_of (plan_patterns plan) result) (P.refused patterns.old) }
+    ensures cause { HasCause (plan_patterns plan) (P.refusals patterns.old) (P.refusals patterns.new)
+        result }
+    ensures told { P.refused patterns.new ≡ option_map
+        (λ texts. texts ++ refused_of (plan_patterns plan) result) (P.refused patterns.old) }
+    ensures refusals { P.refusals patterns.old ≤ P.refusals patterns.new }
 {
     let plan = plan.into_plan();
     let patterns = build_patterns(alloc, &plan, patterns)?;
@@ -86,10 +89,14 @@ fn build_patterns<P: Patterns>(
     patterns: &mut P,
 ) -> Result<Vec<Regex>, BuildFault>
     requires { length (plan_patterns (plan_tree plan.now)) < 2 ^ 32 }
-    ensures built { IfOk result (λ regexes. AreReadFrom (plan_patterns (plan_tree plan.now)) regexes.items) }
-    ensures cause { HasCause (plan_patterns (plan_tree plan.now)) (P.refusals patterns.old) (P.refusals patterns.new) result }
-    ensures told { P.refused patterns.new ≡
-        option_map (λ texts. texts ++ refused_of (plan_patterns (plan_tree plan.now)) result) (P.refused patterns.old) }
+    ensures built { IfOk result
+        (λ regexes. AreReadFrom (plan_patterns (plan_tree plan.now)) regexes.items) }
+    ensures cause { HasCause (plan_patterns (plan_tree plan.now)) (P.refusals patterns.old)
+        (P.refusals patterns.new) result }
+    ensures told { P.refused patterns.new ≡ option_map
+        (λ texts. texts ++ refused_of (plan_patterns (plan_tree plan.now)) result)
+        (P.refused patterns.old) }
+    ensures refusals { P.refusals patterns.old ≤ P.refusals patterns.new }
 {
     let mut texts = Vec::new(alloc);
     append_streams(alloc, &plan.streams, &mut texts)?;
@@ -103,7 +110,9 @@ fn append_streams<'a>(
     streams: &'a [Stream],
     texts: &mut Vec<&'a Text>,
 ) -> Result<(), Memory>
-    ensures { OnOk result (texts_of texts.new.items ≡ texts_of texts.old.items ++ plan_patterns (list_trees streams.now)) }
+    ensures ok { OnOk result
+        (texts_of texts.new.items ≡ texts_of texts.old.items ++ plan_patterns (list_trees streams.now)) }
+    ensures err { OnErr result (IsPrefix (texts_of texts.old.items) (texts_of texts.new.items)) }
 {
     for stream in streams {
         append_stream(alloc, stream, texts)?;
@@ -118,7 +127,9 @@ fn append_stream<'a>(
     stream: &'a Stream,
     texts: &mut Vec<&'a Text>,
 ) -> Result<(), Memory>
-    ensures { OnOk result (texts_of texts.new.items ≡ texts_of texts.old.items ++ stream_patterns (opened stream.now)) }
+    ensures ok { OnOk result
+        (texts_of texts.new.items ≡ texts_of texts.old.items ++ stream_patterns (opened stream.now)) }
+    ensures err { OnErr result (IsPrefix (texts_of texts.old.items) (texts_of texts.new.items)) }
 {
     append_kind(alloc, &stream.kind, texts)?;
     append_streams(alloc, &stream.children, texts)?;
@@ -127,7 +138,9 @@ fn append_stream<'a>(
 }
 
 fn append_kind<'a>(alloc: Global, kind: &'a Kind, texts: &mut Vec<&'a Text>) -> Result<(), Memory>
-    ensures { OnOk result (texts_of texts.new.items ≡ texts_of texts.old.items ++ kind_patterns (kind_tree kind.now)) }
+    ensures ok { OnOk result
+        (texts_of texts.new.items ≡ texts_of texts.old.items ++ kind_patterns (kind_tree kind.now)) }
+    ensures err { OnErr result (IsPrefix (texts_of texts.old.items) (texts_of texts.new.items)) }
 {
     if let Kind::Where(rule) = kind {
         append_texts(alloc, rule, texts)?;

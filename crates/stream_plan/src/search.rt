@@ -83,7 +83,7 @@ impl Search {
         Ok(found)
     }
 
-    /// Whether the search ends at the stream, which stands at the path.
+    /// Whether the search ends at the stream, which is at the path.
     fn ends_at(&mut self, stream: &Stream, flow: Flow) -> bool
         ensures { Searches result self.old self.new
             (record { path = self.old.path.items; flow = flow; tree = opened stream.now } ∷ []) }

@@ -24,5 +24,5 @@ top_at-returns-in-Other-clause-gives t c =
 
 pub let_in-returns-clause-gives : goal.let_in-returns-clause-gives
 let_in-returns-clause-gives t c =
-    rw (let_is c.args.env.now.items c.names_at.new.env.items c.args.start (form_trees c.args.forms.now) (form_trees c.behind.result.now) (form_tree c.in_ok-names.names.now) (draft_in c.args.draft)
-    c.in_ok-names.ensures c.in_ok-names_at.ensures.ok c.behind.ensures.rest) c.run-result.ensures.gives
+    rw (let_is c.args.env.now.items c.names_at.new.env.items c.args.start (form_trees c.args.forms.now) (form_trees c.later.result.now) (form_tree c.in_ok-names.names.now) (draft_in c.args.draft)
+    c.in_ok-names.ensures c.in_ok-names_at.ensures.ok c.later.ensures.rest) c.run-result.ensures.gives
