@@ -1,0 +1,9 @@
+//! Streams whose rate is bounded or evened out: `throttle`, `batch`, `stable` and `rollup`. Each state keeps what the
+//! stream needs of the events that came, and says what it passes on at an event or at a second.
+#![tactic(auto)]
+
+mod send;
+mod throttle;
+mod windows;
+
+pub use throttle::{ThrottleParams, ThrottleState};
