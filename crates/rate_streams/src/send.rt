@@ -51,3 +51,15 @@ pub(crate) fn send_each(alloc: Global, events: Events, out: &mut Emissions) -> R
     }
     Ok(())
 }
+
+/// Appends the event as a vector of its own, for the children.
+pub(crate) fn send_alone(alloc: Global, event: Event, out: &mut Emissions) -> Result<(), Memory>
+    ensures ok { OnOk result (out.new ≡ out.old ++ emitted (vector (event ∷ []))) }
+    ensures err { OnErr result (out.new ≡ out.old) }
+    ensures prefix { IsPrefix out.old out.new }
+{
+    let mut events = Events::fresh(alloc);
+    events.push(alloc, event)?;
+    send_vector(alloc, events, out)?;
+    Ok(())
+}

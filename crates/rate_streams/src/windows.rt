@@ -1,4 +1,4 @@
-ghost use Rattle.std.specs.Prelude.{◌≡◌, ◌<◌};
+ghost use Rattle.std.specs.Prelude.{◌≡◌, ◌<◌, ◌^◌};
 
 /// The windows in which a stream counts its events: each has `secs` seconds, and the first one begins at the moment
 /// `start`, in seconds since 1970. Windows are numbered from 0.
@@ -7,10 +7,10 @@ pub(crate) struct Windows {
     start: u64,
     secs: u32,
     ghost positive: { 0 < secs },
+    ghost bounded: { secs < 2 ^ 32 },
 }
 
 impl Windows {
-    ghost use Rattle.std.specs.Prelude.{◌+◌, ◌*◌, ◌^◌};
     ghost use Rattle.rate_streams.specs.Windows.{number_at, end_at};
 
     pub(crate) fn new(start: u64, secs: u32) -> Windows
