@@ -83,18 +83,18 @@ module _ (n : ℕ) (es : List Event) (event : Event) (positive : 0 < n) where
 
   pub sends : cond (nat_le n (length waiting)) (vector waiting) [] ≡ cond (length (es ++ event ∷ []) % n == 0) (vector (last_of n (es ++ event ∷ []))) []
   sends = elim ways [
-      inl full ↦ ap (λ t. cond t (vector waiting) []) (is_full full) ∙ ap vector (sym (last_full full))
+    | inl full ↦ ap (λ t. cond t (vector waiting) []) (is_full full) ∙ ap vector (sym (last_full full))
         ∙ sym (ap (λ t. cond t (vector (last_of n (es ++ event ∷ []))) []) (eq-zero (length (es ++ event ∷ []) % n) (rest_after_full full)))
     | inr below ↦ ap (λ t. cond t (vector waiting) []) (is_not_full below)
         ∙ sym (ap (λ t. cond t (vector (last_of n (es ++ event ∷ []))) []) (ne-zero (length (es ++ event ∷ []) % n) (let after = rest_after below in omega arith)))
-    ]
+  ]
 
   pub keeps : cond (nat_le n (length waiting)) [] waiting ≡ last_of (length (es ++ event ∷ []) % n) (es ++ event ∷ [])
   keeps = elim ways [
-      inl full ↦ ap (λ t. cond t [] waiting) (is_full full) ∙ sym (last_none (length (es ++ event ∷ []) % n) (es ++ event ∷ []) (rest_after_full full))
+    | inl full ↦ ap (λ t. cond t [] waiting) (is_full full) ∙ sym (last_none (length (es ++ event ∷ []) % n) (es ++ event ∷ []) (rest_after_full full))
     | inr below ↦ ap (λ t. cond t [] waiting) (is_not_full below)
         ∙ sym (ap (λ k. last_of k (es ++ event ∷ [])) (rest_after below) ∙ last_more (length es % n) es event (mod-le (length es) n))
-    ]
+  ]
 
 pub fresh_represents : (state : BatchState) (h : History) → state.poisoned ≡ false → 0 < state.count → state.windows.start ≡ begun h → state.waiting ≡ [] → TicksAlone h → BatchRepresents state h
 fresh_represents state h sound positive start nothing alone = record {
@@ -125,8 +125,8 @@ module _ (old : BatchState) (h : History) (event : Event) (now : ℕ) (before : 
     positive = before.positive;
     start = before.start;
     waiting =
-      ap (λ l. cond (nat_le old.count (length l)) [] l) (pushed_is pushed is) ∙ keeps old.count es event before.positive
-      ∙ sym (ap (λ l. last_of (length l % old.count) l) (now_more old.windows.secs h event));
+        ap (λ l. cond (nat_le old.count (length l)) [] l) (pushed_is pushed is) ∙ keeps old.count es event before.positive
+        ∙ sym (ap (λ l. last_of (length l % old.count) l) (now_more old.windows.secs h event));
     window = λ some. here ∙ number_now old.windows h now before.start moment;
   }
 
@@ -184,15 +184,15 @@ module _ (old : BatchState) (h : History) (now : ℕ) (before : BatchRepresents 
 
   pub quiet_passes : is_batch_due old now ≡ false → batch_passes old (h ▸ Tick) ≡ []
   quiet_passes idle = elim (tick_ways old.windows h) [
-      inl same ↦ passes_same same
+    | inl same ↦ passes_same same
     | inr later ↦ passes_later later ∙ ap vector (none_waits idle later)
-    ]
+  ]
 
   pub quiet_represents : is_batch_due old now ≡ false → BatchRepresents old (h ▸ Tick)
   quiet_represents idle = elim (tick_ways old.windows h) [
-      inl same ↦ represents_same same
+    | inl same ↦ represents_same same
     | inr later ↦ represents_later old (ap (λ (l : List Event). record old { waiting = l }) (none_waits idle later)) later
-    ]
+  ]
 
   turns : is_batch_due old now ≡ true → window_of secs h < window_of secs (h ▸ Tick)
   turns due =
@@ -200,8 +200,8 @@ module _ (old : BatchState) (h : History) (now : ℕ) (before : BatchRepresents 
       let here = before.window parts.0 in
       let there = ahead in
       elim (tick_ways old.windows h) [
-        inl same ↦ absurd (parts.1 (there ∙ same ∙ sym here))
-      | inr later ↦ later
+        | inl same ↦ absurd (parts.1 (there ∙ same ∙ sym here))
+        | inr later ↦ later
       ]
 
   pub due_passes : is_batch_due old now ≡ true → batch_passes old (h ▸ Tick) ≡ vector old.waiting

@@ -123,7 +123,7 @@ module _ (old : RollupState) (h : History) (event : Event) (now : ℕ) (before :
         window = number_at old.windows now;
         room = room_in old (number_at old.windows now) - one_if passes;
         waiting = cond passes old.waiting (old.waiting ++ event ∷ []);
-        poisoned = false
+        poisoned = false;
       }) (h ▸ In (One event))
   item_represents passes test = record {
     sound = refl;
@@ -131,12 +131,12 @@ module _ (old : RollupState) (h : History) (event : Event) (now : ℕ) (before :
     start = before.start;
     reached = let is = here in omega arith;
     room =
-      ap (λ t. cond t (room_in old (number_at old.windows now) - one_if passes) n) (eq-eqb w (number_at old.windows now) (sym here))
-      ∙ ap (λ m. m - one_if passes) room_here ∙ less_room passes n (length es + o) (passes_is passes test) ∙ ap (λ m. n - m) (sym one_call_more);
+        ap (λ t. cond t (room_in old (number_at old.windows now) - one_if passes) n) (eq-eqb w (number_at old.windows now) (sym here))
+        ∙ ap (λ m. m - one_if passes) room_here ∙ less_room passes n (length es + o) (passes_is passes test) ∙ ap (λ m. n - m) (sym one_call_more);
     waiting =
-      ap (λ l. cond passes l (l ++ event ∷ [])) before.waiting
-      ∙ kept_step passes n o es event (one_if-≤ (rolls_into n secs w h) n before.positive) (passes_is passes test)
-      ∙ sym (ap (λ t. drop (n - one_if t) (events_now secs (h ▸ In (One event)))) same_rolls ∙ ap (drop (n - o)) (now_more secs h event));
+        ap (λ l. cond passes l (l ++ event ∷ [])) before.waiting
+        ∙ kept_step passes n o es event (one_if-≤ (rolls_into n secs w h) n before.positive) (passes_is passes test)
+        ∙ sym (ap (λ t. drop (n - one_if t) (events_now secs (h ▸ In (One event)))) same_rolls ∙ ap (drop (n - o)) (now_more secs h event));
     window = λ some. here;
   }
 
@@ -152,8 +152,8 @@ loud_rolls n o es least some =
     grind (arith, nat_tests)
 
 either_vector : (t : Bool) (es : List Event) → (t ≡ false → es ≡ []) → cond t (vector es) [] ≡ vector es
-either_vector true es none = refl
-either_vector false es none = sym (ap vector (none refl))
+either_vector true events none = refl
+either_vector false events none = sym (ap vector (none refl))
 
 -- a tick comes
 module _ (old : RollupState) (h : History) (now : ℕ) (before : RollupRepresents old h) (moment : moment_of h + 1 ≡ now) where
@@ -266,22 +266,22 @@ module _ (old : RollupState) (h : History) (now : ℕ) (before : RollupRepresent
 
   pub quiet_passes : is_rollup_due old now ≡ false → rollup_passes old (h ▸ Tick) ≡ []
   quiet_passes idle = elim (tick_ways old.windows h) [
-      inl same ↦ ap (λ t. cond t [] (cond (rolls_into count seconds (suc here_at) h) (vector (drop (count - one_if rolled) came)) [])) (eq-eqb next here_at same)
+    | inl same ↦ ap (λ t. cond t [] (cond (rolls_into count seconds (suc here_at) h) (vector (drop (count - one_if rolled) came)) [])) (eq-eqb next here_at same)
     | inr later ↦ passes_later later ∙ ap vector (none_waits idle later)
-    ]
+  ]
 
   pub quiet_represents : is_rollup_due old now ≡ false → RollupRepresents old (h ▸ Tick)
   quiet_represents idle = elim (tick_ways old.windows h) [
-      inl same ↦ represents_same same
+    | inl same ↦ represents_same same
     | inr later ↦ represents_idle (none_waits idle later) later
-    ]
+  ]
 
   turns : is_rollup_due old now ≡ true → here_at < next
   turns due =
       let parts = due_parts (length old.waiting) (number_at old.windows now) old.window due in
       elim (tick_ways old.windows h) [
-        inl same ↦ absurd (parts.1 (ahead ∙ same ∙ sym (before.window parts.0)))
-      | inr later ↦ later
+        | inl same ↦ absurd (parts.1 (ahead ∙ same ∙ sym (before.window parts.0)))
+        | inr later ↦ later
       ]
 
   pub due_passes : is_rollup_due old now ≡ true → rollup_passes old (h ▸ Tick) ≡ vector old.waiting
@@ -317,6 +317,6 @@ due_at state h due before bound some is =
     let here = before.window some in
     let rolled : Bool = rolls_into state.count state.windows.secs (window_of state.windows.secs h) h in
     let loud : nat_lt state.count (calls_now state.count state.windows.secs h) ≡ true =
-        loud_rolls state.count (one_if rolled) (events_now state.windows.secs h) (one_if-≤ rolled state.count before.positive) (subst (λ (es : List Event). 0 < length es) before.waiting some) in
+    loud_rolls state.count (one_if rolled) (events_now state.windows.secs h) (one_if-≤ rolled state.count before.positive) (subst (λ (es : List Event). 0 < length es) before.waiting some) in
     ap (λ (m : ℕ). Some m) (is (end_bound state.windows h state.window before.start here bound) ∙ end_now state.windows h state.window before.start here)
     ∙ sym (ap (λ t. some_if t (next_window state.windows.secs h)) loud)

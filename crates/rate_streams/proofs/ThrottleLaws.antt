@@ -53,9 +53,9 @@ module _ (n secs : ℕ) (positive : 0 < secs) (h : History) (event : Event) (pas
   counted window from =
       let way : (window ≡ window_of secs h) ⊎ (window_of secs h < window) = grind arith in
       elim way [
-        inl same ↦ subst (λ (w : ℕ). cond (w == window_of secs h) (passed + one_if (nat_lt passed n)) 0 ≡ min (count_in secs w (h ▸ In (One event))) n) (sym same)
-          (ap (λ t. cond t (passed + one_if (nat_lt passed n)) 0) (eq-eqb (window_of secs h) (window_of secs h) refl) ∙ now_more (window_of secs h == window_of secs h) (eq-eqb (window_of secs h) (window_of secs h) refl))
-      | inr later ↦ none_later window (window == window_of secs h) (window_of secs h == window) (passed + one_if (nat_lt passed n)) later (let apart : (window == window_of secs h) ≡ false = grind (arith, nat_tests) in apart) (ne-test (window_of secs h) window later)
+        | inl same ↦ subst (λ (w : ℕ). cond (w == window_of secs h) (passed + one_if (nat_lt passed n)) 0 ≡ min (count_in secs w (h ▸ In (One event))) n) (sym same)
+            (ap (λ t. cond t (passed + one_if (nat_lt passed n)) 0) (eq-eqb (window_of secs h) (window_of secs h) refl) ∙ now_more (window_of secs h == window_of secs h) (eq-eqb (window_of secs h) (window_of secs h) refl))
+        | inr later ↦ none_later window (window == window_of secs h) (window_of secs h == window) (passed + one_if (nat_lt passed n)) later (let apart : (window == window_of secs h) ≡ false = grind (arith, nat_tests) in apart) (ne-test (window_of secs h) window later)
       ]
 
 below_min : (came n : ℕ) → nat_lt (min came n) n ≡ nat_lt came n
@@ -83,7 +83,7 @@ module _ (old : ThrottleState) (h : History) (event : Event) (now : ℕ) (before
     sound = refl;
     start = before.start;
     passed = λ w from.
-      ap (λ v. cond (w == v) (passed_in old window + one_if passes) 0) here
-      ∙ ap (λ t. cond (w == window_of old.windows.secs h) (passed_in old window + one_if t) 0) test
-      ∙ counted old.count old.windows.secs old.windows.positive h event (passed_in old window) passed_here w from;
+        ap (λ v. cond (w == v) (passed_in old window + one_if passes) 0) here
+        ∙ ap (λ t. cond (w == window_of old.windows.secs h) (passed_in old window + one_if t) 0) test
+        ∙ counted old.count old.windows.secs old.windows.positive h event (passed_in old window) passed_here w from;
   }

@@ -1,5 +1,5 @@
 -- What a `batch` keeps of what came.
-use Rattle.std.specs.Prelude.{◌≡◌, ℕ, ◌%◌, ◌<◌, ◌==◌, Bool, false, not, ◌&&◌, nat_lt, List, length}
+use Rattle.std.specs.Prelude.{◌≡◌, ℕ, ◌%◌, ◌<◌, ◌==◌, Bool, false, not, ◌&&◌, nat_lt, nat_le, List, length}
 use Rattle.ev_types.specs.declared.item.Item.{Item}
 use Rattle.stream_meaning.specs.Came.{last_of}
 use Rattle.stream_meaning.specs.History.{History, begun, window_of}
@@ -17,6 +17,10 @@ batch_poisoned state = state.poisoned
 -- what a stream of the state's kind passes on at the last entry
 abbrev pub batch_passes : BatchState → History → List Item
 batch_passes state = batch_items state.count state.windows.secs
+
+-- as many events are waiting as a batch has
+abbrev pub is_batch_full : BatchState → Bool
+is_batch_full state = nat_le state.count (length state.waiting)
 
 -- events are waiting, and their window has ended by this moment
 abbrev pub is_batch_due : BatchState → ℕ → Bool

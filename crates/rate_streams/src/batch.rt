@@ -8,7 +8,7 @@ ghost use Rattle.stream_meaning.specs.declared.entry.Entry.TheVariants.{Tick, It
 ghost use Rattle.stream_meaning.specs.History.{History, ◌▸◌, begun, moment_of, TicksAlone};
 ghost use Rattle.stream_plan.specs.Kinds.{is_in_range};
 ghost use Rattle.stream_plan.specs.Tree.{Batch};
-ghost use Rattle.rate_streams.specs.Batch.{batch_kind, batch_passes, batch_poisoned, is_batch_due, BatchRepresents};
+ghost use Rattle.rate_streams.specs.Batch.{batch_kind, batch_passes, batch_poisoned, is_batch_due, is_batch_full, BatchRepresents};
 
 use crate::send::send_vector;
 use crate::windows::Windows;
@@ -61,9 +61,11 @@ impl BatchState {
         out: &mut Emissions,
     ) -> Result<(), Memory>
         ensures kind { batch_kind self.new ≡ batch_kind self.old }
-        ensures emits { OnOk result ((h : History) → BatchRepresents self.old h → moment_of h ≡ now →
+        ensures emits { OnOk result ((h : History) →
+            BatchRepresents self.old h → moment_of h ≡ now →
             out.new ≡ out.old ++ emitted (batch_passes self.old (h ▸ In (One event)))) }
-        ensures represents { OnOk result ((h : History) → BatchRepresents self.old h → moment_of h ≡ now →
+        ensures represents { OnOk result ((h : History) →
+            BatchRepresents self.old h → moment_of h ≡ now →
             BatchRepresents self.new (h ▸ In (One event))) }
         ensures poisoned { IsTrue (batch_poisoned self.old) → IsErr result }
         ensures sound { OnOk result (batch_poisoned self.new ≡ false) }
@@ -85,9 +87,11 @@ impl BatchState {
     /// to `out` as a vector; else it takes no memory.
     pub fn tick(&mut self, alloc: Global, now: u64, out: &mut Emissions) -> Result<(), Memory>
         ensures kind { batch_kind self.new ≡ batch_kind self.old }
-        ensures emits { OnOk result ((h : History) → BatchRepresents self.old h → moment_of h + 1 ≡ now →
+        ensures emits { OnOk result ((h : History) →
+            BatchRepresents self.old h → moment_of h + 1 ≡ now →
             out.new ≡ out.old ++ emitted (batch_passes self.old (h ▸ Tick))) }
-        ensures represents { OnOk result ((h : History) → BatchRepresents self.old h → moment_of h + 1 ≡ now →
+        ensures represents { OnOk result ((h : History) →
+            BatchRepresents self.old h → moment_of h + 1 ≡ now →
             BatchRepresents self.new (h ▸ Tick)) }
         ensures quiet { (h : History) → BatchRepresents self.old h → moment_of h + 1 ≡ now →
             batch_passes self.old (h ▸ Tick) ≡ [] → IsOk result }
@@ -133,9 +137,10 @@ impl BatchState {
     // Appends the events that wait, where they fill a vector.
     fn send_if_full(&mut self, alloc: Global, out: &mut Emissions) -> Result<(), Memory>
         ensures kept { self.new ≡ record self.old {
-            waiting = if nat_le self.old.count (length self.old.waiting) then [] else self.old.waiting } }
+          waiting = if is_batch_full self.old then [] else self.old.waiting;
+        } }
         ensures sent { OnOk result (out.new ≡ out.old ++ emitted
-            (if nat_le self.old.count (length self.old.waiting) then vector self.old.waiting else [])) }
+            (if is_batch_full self.old then vector self.old.waiting else [])) }
         ensures prefix { IsPrefix out.old out.new }
     {
         if self.waiting.len() >= self.count as usize {

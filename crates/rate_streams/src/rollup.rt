@@ -68,9 +68,11 @@ impl RollupState {
         out: &mut Emissions,
     ) -> Result<(), Memory>
         ensures kind { rollup_kind self.new ≡ rollup_kind self.old }
-        ensures emits { OnOk result ((h : History) → RollupRepresents self.old h → moment_of h ≡ now →
+        ensures emits { OnOk result ((h : History) →
+            RollupRepresents self.old h → moment_of h ≡ now →
             out.new ≡ out.old ++ emitted (rollup_passes self.old (h ▸ In (One event)))) }
-        ensures represents { OnOk result ((h : History) → RollupRepresents self.old h → moment_of h ≡ now →
+        ensures represents { OnOk result ((h : History) →
+            RollupRepresents self.old h → moment_of h ≡ now →
             RollupRepresents self.new (h ▸ In (One event))) }
         ensures poisoned { IsTrue (rollup_poisoned self.old) → IsErr result }
         ensures sound { OnOk result (rollup_poisoned self.new ≡ false) }
@@ -91,9 +93,11 @@ impl RollupState {
     /// to `out` as one vector; else it takes no memory.
     pub fn tick(&mut self, alloc: Global, now: u64, out: &mut Emissions) -> Result<(), Memory>
         ensures kind { rollup_kind self.new ≡ rollup_kind self.old }
-        ensures emits { OnOk result ((h : History) → RollupRepresents self.old h → moment_of h + 1 ≡ now →
+        ensures emits { OnOk result ((h : History) →
+            RollupRepresents self.old h → moment_of h + 1 ≡ now →
             out.new ≡ out.old ++ emitted (rollup_passes self.old (h ▸ Tick))) }
-        ensures represents { OnOk result ((h : History) → RollupRepresents self.old h → moment_of h + 1 ≡ now →
+        ensures represents { OnOk result ((h : History) →
+            RollupRepresents self.old h → moment_of h + 1 ≡ now →
             RollupRepresents self.new (h ▸ Tick)) }
         ensures quiet { (h : History) → RollupRepresents self.old h → moment_of h + 1 ≡ now →
             rollup_passes self.old (h ▸ Tick) ≡ [] → IsOk result }
@@ -150,8 +154,9 @@ impl RollupState {
     fn admit(&mut self, now: u64) -> bool
         ensures test { result ≡ nat_lt 0 (room_in self.old (number_at self.old.windows now)) }
         ensures counted { self.new ≡ record self.old {
-            window = number_at self.old.windows now;
-            room = room_in self.old (number_at self.old.windows now) - one_if result } }
+          window = number_at self.old.windows now;
+          room = room_in self.old (number_at self.old.windows now) - one_if result;
+        } }
     {
         let window = self.windows.number(now);
         self.enter(window);
@@ -166,7 +171,10 @@ impl RollupState {
     fn roll(&mut self, alloc: Global, now: u64) -> Events
         ensures rolled { result ≡ self.old.waiting }
         ensures turned { self.new ≡ record self.old {
-            window = number_at self.old.windows now; room = self.old.count - 1; waiting = [] } }
+          window = number_at self.old.windows now;
+          room = self.old.count - 1;
+          waiting = [];
+        } }
     {
         self.window = self.windows.number(now);
         self.room = self.count.saturating_sub(1);
@@ -182,9 +190,11 @@ impl RollupState {
         out: &mut Emissions,
     ) -> Result<(), Memory>
         ensures kept { OnOk result (self.new ≡ record self.old {
-            waiting = if passes then self.old.waiting else self.old.waiting ++ event ∷ [] }) }
+          waiting = if passes then self.old.waiting else self.old.waiting ++ event ∷ [];
+        }) }
         ensures err { OnErr result (self.new ≡ self.old) }
-        ensures sent { OnOk result (out.new ≡ out.old ++ emitted (if passes then vector (event ∷ []) else [])) }
+        ensures sent { OnOk result (out.new ≡
+            out.old ++ emitted (if passes then vector (event ∷ []) else [])) }
         ensures prefix { IsPrefix out.old out.new }
     {
         if passes {

@@ -21,11 +21,7 @@ pub(crate) fn send_event(alloc: Global, event: Event, out: &mut Emissions) -> Re
 }
 
 /// Appends the events as one vector, for the children, and nothing where there is none.
-pub(crate) fn send_vector(
-    alloc: Global,
-    events: Events,
-    out: &mut Emissions,
-) -> Result<(), Memory>
+pub(crate) fn send_vector(alloc: Global, events: Events, out: &mut Emissions) -> Result<(), Memory>
     ensures ok { OnOk result (out.new ≡ out.old ++ emitted (vector events)) }
     ensures err { OnErr result (out.new ≡ out.old) }
     ensures prefix { IsPrefix out.old out.new }

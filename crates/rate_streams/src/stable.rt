@@ -13,7 +13,9 @@ ghost use Rattle.stream_plan.specs.Tree.{Stable};
 ghost use Rattle.rate_streams.specs.Stable.{stable_kind, stable_passes, stable_poisoned, is_stable_due, StableRepresents};
 
 use crate::send::{send_each, send_event};
-use ev_types::{Emissions, Event, Events, Field, Memory, Value, field_is, field_number, field_text};
+use ev_types::{
+    Emissions, Event, Events, Field, Memory, Value, field_is, field_number, field_text,
+};
 use std::alloc::Global;
 use std::mem;
 
@@ -64,9 +66,11 @@ impl StableState {
         out: &mut Emissions,
     ) -> Result<(), Memory>
         ensures kind { stable_kind self.new ≡ stable_kind self.old }
-        ensures emits { OnOk result ((h : History) → StableRepresents self.old h → moment_of h ≡ now →
+        ensures emits { OnOk result ((h : History) →
+            StableRepresents self.old h → moment_of h ≡ now →
             out.new ≡ out.old ++ emitted (stable_passes self.old (h ▸ In (One event)))) }
-        ensures represents { OnOk result ((h : History) → StableRepresents self.old h → moment_of h ≡ now →
+        ensures represents { OnOk result ((h : History) →
+            StableRepresents self.old h → moment_of h ≡ now →
             StableRepresents self.new (h ▸ In (One event))) }
         ensures poisoned { IsTrue (stable_poisoned self.old) → IsErr result }
         ensures sound { OnOk result (stable_poisoned self.new ≡ false) }
@@ -87,9 +91,11 @@ impl StableState {
     /// event that waits is appended to `out`; else it takes no memory.
     pub fn tick(&mut self, alloc: Global, now: u64, out: &mut Emissions) -> Result<(), Memory>
         ensures kind { stable_kind self.new ≡ stable_kind self.old }
-        ensures emits { OnOk result ((h : History) → StableRepresents self.old h → moment_of h + 1 ≡ now →
+        ensures emits { OnOk result ((h : History) →
+            StableRepresents self.old h → moment_of h + 1 ≡ now →
             out.new ≡ out.old ++ emitted (stable_passes self.old (h ▸ Tick))) }
-        ensures represents { OnOk result ((h : History) → StableRepresents self.old h → moment_of h + 1 ≡ now →
+        ensures represents { OnOk result ((h : History) →
+            StableRepresents self.old h → moment_of h + 1 ≡ now →
             StableRepresents self.new (h ▸ Tick)) }
         ensures quiet { (h : History) → StableRepresents self.old h → moment_of h + 1 ≡ now →
             stable_passes self.old (h ▸ Tick) ≡ [] → IsOk result }
@@ -135,10 +141,13 @@ impl StableState {
     // Begins a new run with the event that comes at the moment `now`, where its field differs from that of the last.
     fn follow(&mut self, alloc: Global, event: &Event, now: u64) -> Result<(), Memory>
         ensures kind { stable_kind self.new ≡ stable_kind self.old }
-        ensures followed { OnOk result (self.new ≡ record self.old {
-            last = Some (field_value event.now self.old.field);
-            began = if differs_from self.old.field self.old.last event.now then now else self.old.began;
-            waiting = if differs_from self.old.field self.old.last event.now then [] else self.old.waiting }) }
+        ensures followed { OnOk result (
+            let differs = differs_from self.old.field self.old.last event.now in
+            self.new ≡ record self.old {
+              last = Some (field_value event.now self.old.field);
+              began = if differs then now else self.old.began;
+              waiting = if differs then [] else self.old.waiting;
+            }) }
         ensures err { OnErr result (self.new ≡ self.old) }
     {
         if self.differs(event) {
@@ -152,7 +161,8 @@ impl StableState {
     // Whether the event's field differs from that of the last event, or there was none.
     fn differs(&self, event: &Event) -> bool
         ensures test { result ≡ differs_from self.now.field self.now.last event.now }
-        ensures same { result ≡ false → self.now.last ≡ Some (field_value event.now self.now.field) }
+        ensures same { result ≡ false →
+            self.now.last ≡ Some (field_value event.now self.now.field) }
     {
         match &self.last {
             Some(value) => !field_is(event, &self.field, value),
@@ -169,8 +179,9 @@ impl StableState {
         out: &mut Emissions,
     ) -> Result<(), Memory>
         ensures kept { OnOk result (self.new ≡ record self.old {
-            waiting = if nat_le self.old.secs (now - self.old.began) then self.old.waiting
-                else self.old.waiting ++ event ∷ [] }) }
+          waiting = if nat_le self.old.secs (now - self.old.began) then self.old.waiting
+              else self.old.waiting ++ event ∷ [];
+        }) }
         ensures err { OnErr result (self.new ≡ self.old) }
         ensures sent { OnOk result (out.new ≡ out.old ++ emitted
             (if nat_le self.old.secs (now - self.old.began) then each (event ∷ []) else [])) }

@@ -38,9 +38,14 @@ pub struct ThrottleState {
 
 impl ThrottleState {
     /// The state to which nothing has come, at the moment `start`, in seconds since 1970. It takes no memory.
-    pub fn fresh(_alloc: Global, params: ThrottleParams, start: u64) -> Result<ThrottleState, Memory>
+    pub fn fresh(
+        _alloc: Global,
+        params: ThrottleParams,
+        start: u64,
+    ) -> Result<ThrottleState, Memory>
         requires { IsTrue (is_in_range (Throttle params.count params.secs)) }
-        ensures kind { IfOk result (λ state. throttle_kind state ≡ Throttle params.count params.secs) }
+        ensures kind { IfOk result (λ state.
+            throttle_kind state ≡ Throttle params.count params.secs) }
         ensures represents { IfOk result (λ state. (h : History) →
             TicksAlone h → begun h ≡ start → ThrottleRepresents state h) }
     {
@@ -62,9 +67,11 @@ impl ThrottleState {
         out: &mut Emissions,
     ) -> Result<(), Memory>
         ensures kind { throttle_kind self.new ≡ throttle_kind self.old }
-        ensures emits { OnOk result ((h : History) → ThrottleRepresents self.old h → moment_of h ≡ now →
+        ensures emits { OnOk result ((h : History) →
+            ThrottleRepresents self.old h → moment_of h ≡ now →
             out.new ≡ out.old ++ emitted (throttle_passes self.old (h ▸ In (One event)))) }
-        ensures represents { OnOk result ((h : History) → ThrottleRepresents self.old h → moment_of h ≡ now →
+        ensures represents { OnOk result ((h : History) →
+            ThrottleRepresents self.old h → moment_of h ≡ now →
             ThrottleRepresents self.new (h ▸ In (One event))) }
         ensures poisoned { IsTrue (throttle_poisoned self.old) → IsErr result }
         ensures sound { OnOk result (throttle_poisoned self.new ≡ false) }
@@ -82,18 +89,20 @@ impl ThrottleState {
     }
 
     /// A second passes, which brings the moment `now`. Nothing passes at it.
-    pub fn tick(&mut self, _alloc: Global, _now: u64, _out: &mut Emissions) -> Result<(), Memory>
+    pub fn tick(&mut self, _alloc: Global, now: u64, out: &mut Emissions) -> Result<(), Memory>
         ensures kind { throttle_kind self.new ≡ throttle_kind self.old }
-        ensures emits { OnOk result ((h : History) → ThrottleRepresents self.old h → moment_of h + 1 ≡ _now →
-            _out.new ≡ _out.old ++ emitted (throttle_passes self.old (h ▸ Tick))) }
-        ensures represents { OnOk result ((h : History) → ThrottleRepresents self.old h → moment_of h + 1 ≡ _now →
+        ensures emits { OnOk result ((h : History) →
+            ThrottleRepresents self.old h → moment_of h + 1 ≡ now →
+            out.new ≡ out.old ++ emitted (throttle_passes self.old (h ▸ Tick))) }
+        ensures represents { OnOk result ((h : History) →
+            ThrottleRepresents self.old h → moment_of h + 1 ≡ now →
             ThrottleRepresents self.new (h ▸ Tick)) }
-        ensures quiet { (h : History) → ThrottleRepresents self.old h → moment_of h + 1 ≡ _now →
+        ensures quiet { (h : History) → ThrottleRepresents self.old h → moment_of h + 1 ≡ now →
             throttle_passes self.old (h ▸ Tick) ≡ [] → IsOk result }
         ensures poisoned { IsTrue (throttle_poisoned self.old) → IsErr result }
         ensures sound { OnOk result (throttle_poisoned self.new ≡ false) }
         ensures err { OnErr result (IsTrue (throttle_poisoned self.new)) }
-        ensures prefix { IsPrefix _out.old _out.new }
+        ensures prefix { IsPrefix out.old out.new }
     {
         if self.poisoned {
             return Err(Memory);
@@ -113,7 +122,8 @@ impl ThrottleState {
 
     // Turns to the window in which an event comes.
     fn enter(&mut self, window: u64)
-        ensures { self.new ≡ record self.old { window = window; passed = passed_in self.old window } }
+        ensures { self.new ≡
+            record self.old { window = window; passed = passed_in self.old window } }
     {
         if window != self.window {
             self.window = window;
@@ -123,10 +133,12 @@ impl ThrottleState {
 
     // Counts an event that comes at the moment `now`, and says whether it passes.
     fn admit(&mut self, now: u64) -> bool
-        ensures test { result ≡ nat_lt (passed_in self.old (number_at self.old.windows now)) self.old.count }
+        ensures test { result ≡
+            nat_lt (passed_in self.old (number_at self.old.windows now)) self.old.count }
         ensures counted { self.new ≡ record self.old {
-            window = number_at self.old.windows now;
-            passed = passed_in self.old (number_at self.old.windows now) + one_if result } }
+          window = number_at self.old.windows now;
+          passed = passed_in self.old (number_at self.old.windows now) + one_if result;
+        } }
     {
         let window = self.windows.number(now);
         self.enter(window);
@@ -139,13 +151,9 @@ impl ThrottleState {
 }
 
 // Appends the event where it passes.
-fn send_if(
-    alloc: Global,
-    passes: bool,
-    event: Event,
-    out: &mut Emissions,
-) -> Result<(), Memory>
-    ensures ok { OnOk result (out.new ≡ out.old ++ emitted (if passes then each (event ∷ []) else [])) }
+fn send_if(alloc: Global, passes: bool, event: Event, out: &mut Emissions) -> Result<(), Memory>
+    ensures ok { OnOk result (out.new ≡
+        out.old ++ emitted (if passes then each (event ∷ []) else [])) }
     ensures prefix { IsPrefix out.old out.new }
 {
     if passes {
