@@ -1,0 +1,6 @@
+pub mod SendLaws
+pub mod WindowEvents
+pub mod ThrottleLaws
+pub mod BatchLaws
+pub mod StableLaws
+pub mod RollupLaws

@@ -1,0 +1,5 @@
+pub mod Windows
+pub mod Throttle
+pub mod Batch
+pub mod Stable
+pub mod Rollup
