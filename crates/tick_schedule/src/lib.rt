@@ -1,0 +1,6 @@
+//! When numbered things are due.
+#![tactic(auto)]
+
+mod queue;
+
+pub use queue::DueQueue;
