@@ -4,3 +4,5 @@ pub mod Writing
 pub mod Files
 pub mod MemStore
 pub mod MemSink
+pub mod Links
+pub mod Playing

@@ -2,16 +2,22 @@
 //! the real thing.
 #![tactic(auto)]
 
+mod entry;
 mod file_store;
+mod links;
 mod mem_sink;
 mod mem_store;
+mod script;
 mod sink;
 mod store;
 mod stream_sink;
 
+pub use entry::{Entries, Entry};
 pub use file_store::FileStore;
+pub use links::{Links, ListenAnswer, PIECE_LIMIT, SendAnswer, Turn, Want, Wants, What};
 pub use mem_sink::MemSink;
 pub use mem_store::MemStore;
+pub use script::{LinkEvent, Piece, Script, Step, Steps};
 pub use sink::{Failed, Sink};
 pub use store::{ReadAnswer, Reads, Store, StoreRead};
 pub use stream_sink::StreamSink;

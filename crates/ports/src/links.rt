@@ -1,0 +1,131 @@
+ghost use Rattle.std.specs.Prelude.{◌≡◌, ◌<◌, ◌≤◌, [], ◌∷◌, length};
+ghost use Rattle.ports.specs.Links.{grown, listen_entries, next_entries, send_entries, HasListenCause, HasNextCause, IsPieceWithin, IsWithin, MayClose};
+ghost use Rattle.ports.specs.Playing.{Plays};
+
+use ev_types::{Items, Text};
+use std::alloc::Global;
+
+/// How many bytes one read of a link gives at most, and how long the buffer of [`Links::next`] is.
+pub const PIECE_LIMIT: usize = 65_536;
+
+/// The links to clients, and the clock. One turn is one event: a reading of the clock, and what happened on one link.
+pub trait Links {
+    ghost use Rattle.std.specs.Prelude.{ℕ, List, Option};
+    ghost use Rattle.ports.specs.declared.entry.Entry.{Entry};
+    ghost use Rattle.ports.specs.declared.entry.Entry.TheVariants.{Close};
+    ghost use Rattle.ports.specs.declared.script.Script.{Script};
+
+    /// Every call so far that did not answer out of memory, in order, with its arguments and its answer, where the
+    /// links report it.
+    ghost log: { Self → Option (List Entry) };
+
+    /// The script that the links play, where they play one. It never changes.
+    ghost script: { Self → Option Script };
+
+    /// The number of calls of [`Links::listen`] and [`Links::next`] that failed.
+    ghost faults: { Self → ℕ };
+
+    /// Starts to listen on `address`, a text `HOST:PORT`.
+    fn listen(&mut self, alloc: Global, address: &Text) -> ListenAnswer
+        ensures log { log self.new ≡ grown (log self.old) (listen_entries address.now result) }
+        ensures cause { HasListenCause (faults self.old) (faults self.new) result }
+        ensures faults { faults self.old ≤ faults self.new }
+        ensures script { script self.new ≡ script self.old }
+        ensures plays { Plays (script self.old) (log self.old) → Plays (script self.new) (log self.new) };
+
+    /// Waits for the next turn. `wants` has one entry for each connected link, by rising number. The bytes of a read
+    /// are the first ones of `buf`.
+    fn next(&mut self, alloc: Global, wants: &Wants, buf: &mut [u8]) -> Turn
+        requires { length buf.old ≡ PIECE_LIMIT }
+        ensures within { IsPieceWithin PIECE_LIMIT result.what }
+        ensures log { log self.new ≡ grown (log self.old) (next_entries wants.now buf.new result) }
+        ensures cause { HasNextCause (faults self.old) (faults self.new) result.what }
+        ensures faults { faults self.old ≤ faults self.new }
+        ensures script { script self.new ≡ script self.old }
+        ensures plays { Plays (script self.old) (log self.old) → Plays (script self.new) (log self.new) };
+
+    /// Offers the bytes to the link. A send that fails concerns that link alone, and is not a fault.
+    fn send(&mut self, alloc: Global, link: u64, bytes: &[u8]) -> SendAnswer
+        requires { 0 < length bytes.now }
+        ensures within { IsWithin (length bytes.now) result }
+        ensures log { log self.new ≡ grown (log self.old) (send_entries link bytes.now result) }
+        ensures faults { faults self.new ≡ faults self.old }
+        ensures script { script self.new ≡ script self.old }
+        ensures plays { Plays (script self.old) (log self.old) → Plays (script self.new) (log self.new) };
+
+    /// Closes the link. It always succeeds and takes no memory.
+    fn close(&mut self, link: u64)
+        requires { MayClose (log self.old) link }
+        ensures log { log self.new ≡ grown (log self.old) (Close link ∷ []) }
+        ensures faults { faults self.new ≡ faults self.old }
+        ensures script { script self.new ≡ script self.old }
+        ensures plays { Plays (script self.old) (log self.old) → Plays (script self.new) (log self.new) };
+}
+
+/// What [`Links::listen`] answers.
+#[derive(Clone, Copy, Debug, PartialEq, Eq)]
+pub enum ListenAnswer {
+    /// The first reading of the clock, in seconds since 1970.
+    Ready { secs: u64 },
+    /// The address cannot be listened on.
+    Failed,
+    /// Out of memory.
+    Memory,
+}
+
+/// One event: a reading of the clock, and what happened.
+#[derive(Clone, Copy, Debug, PartialEq, Eq)]
+pub struct Turn {
+    /// The reading of the clock, in seconds since 1970.
+    pub secs: u64,
+    pub what: What,
+}
+
+/// What happened in a turn.
+#[derive(Clone, Copy, Debug, PartialEq, Eq)]
+pub enum What {
+    /// Nothing.
+    Idle,
+    /// A client connected. Numbers of links rise.
+    Opened { link: u64 },
+    /// `count` bytes came, from 1 to [`PIECE_LIMIT`].
+    Read { link: u64, count: usize },
+    /// The client sends nothing more.
+    Ended { link: u64 },
+    /// The link broke.
+    Broken { link: u64 },
+    /// The link may be sent to again.
+    Room { link: u64 },
+    /// No turn comes after this one.
+    Stopped,
+    /// The links failed. This is not a turn.
+    Failed,
+    /// Out of memory. This is not a turn.
+    Memory,
+}
+
+/// What [`Links::send`] answers.
+#[derive(Clone, Copy, Debug, PartialEq, Eq)]
+pub enum SendAnswer {
+    /// The first `count` bytes were taken.
+    Took { count: usize },
+    /// The link takes nothing now.
+    Later,
+    /// The link is broken.
+    Failed,
+    /// Out of memory. No byte was taken.
+    Memory,
+}
+
+/// What the server waits for on one link.
+#[derive(Clone, Copy, Debug, PartialEq, Eq)]
+pub struct Want {
+    pub link: u64,
+    /// Bytes to read.
+    pub read: bool,
+    /// Room to send.
+    pub room: bool,
+}
+
+/// What the server waits for on each connected link, by rising number.
+pub type Wants = Items<Want>;
