@@ -4,7 +4,7 @@ use Rattle.std.specs.Borrow.{Bor}
 use Rattle.std.specs.List.{flat_map}
 use Rattle.std.specs.Fmt.{decimal}
 use Rattle.sexp_config.specs.declared.fault.ConfigWhy.{ConfigWhy}
-use Rattle.sexp_config.specs.declared.fault.ConfigWhy.TheVariants.{Long, Utf8, Open, Close, Token, Number, Escape, Deep, Form, Arguments, Range, Name, Twice, Many, Kind}
+use Rattle.sexp_config.specs.Names.{why_name}
 use Rattle.riemann_server.specs.declared.outcome.ConfigRefusal.{ConfigRefusal}
 use Rattle.riemann_server.specs.declared.outcome.ConfigRefusal.TheVariants.{Refused, Pattern, NotBuilt}
 
@@ -14,26 +14,8 @@ usage_line = codes "riemann: usage: feed CONFIG FILE, check CONFIG, replay CONFI
 abbrev pub not_built_line : List ℕ
 not_built_line = codes "riemann: config not built yet" ++ 10 ∷ []
 
--- the name of a cause
-unfoldable pub why_text : ConfigWhy → List ℕ
-why_text Long = codes "long"
-why_text Utf8 = codes "utf8"
-why_text Open = codes "open"
-why_text Close = codes "close"
-why_text Token = codes "token"
-why_text Number = codes "number"
-why_text Escape = codes "escape"
-why_text Deep = codes "deep"
-why_text Form = codes "form"
-why_text Arguments = codes "arguments"
-why_text Range = codes "range"
-why_text Name = codes "name"
-why_text Twice = codes "twice"
-why_text Many = codes "many"
-why_text Kind = codes "kind"
-
 abbrev pub refused_line : ℕ → ConfigWhy → List ℕ
-refused_line place why = codes "riemann: config refused at " ++ (decimal place ++ (codes ": " ++ (why_text why ++ 10 ∷ [])))
+refused_line place why = codes "riemann: config refused at " ++ (decimal place ++ (codes ": " ++ (why_name why ++ 10 ∷ [])))
 
 abbrev pub pattern_line : ℕ → List ℕ
 pattern_line number = codes "riemann: config pattern " ++ (decimal number ++ (codes " refused" ++ 10 ∷ []))

@@ -2,7 +2,7 @@ ghost use Rattle.std.specs.Prelude.{◌≡◌, ℕ, ◌≤◌, List, OnOk, OnErr
 ghost use Rattle.ports.specs.Counts.{Rose};
 ghost use Rattle.ports.specs.Writing.{Got, GotFront, GotLine, sink_state};
 ghost use Rattle.riemann_server.specs.Endings.{HasNoLine};
-ghost use Rattle.riemann_server.specs.Lines.{joined, left_line, pattern_line, refusal_line, refused_line, too_long_line, unread_line, why_text};
+ghost use Rattle.riemann_server.specs.Lines.{joined, left_line, pattern_line, refusal_line, refused_line, too_long_line, unread_line};
 ghost use Rattle.riemann_server.specs.Outcome.{line_of, of_source, status_of};
 
 use crate::outcome::{ConfigRefusal, Outcome, Source};
@@ -59,33 +59,10 @@ fn report_refused<E: Sink>(place: usize, why: ConfigWhy, err: &mut E)
             "riemann: config refused at ",
             place,
             ": ",
-            why_text(why),
+            why.name(),
             "\n",
         ],
     );
-}
-
-#[tactic(auto, unfolding(crate::specs::Lines::why_text))]
-fn why_text(why: ConfigWhy) -> &'static str
-    ensures { result.now ≡ why_text why }
-{
-    match why {
-        ConfigWhy::Long => "long",
-        ConfigWhy::Utf8 => "utf8",
-        ConfigWhy::Open => "open",
-        ConfigWhy::Close => "close",
-        ConfigWhy::Token => "token",
-        ConfigWhy::Number => "number",
-        ConfigWhy::Escape => "escape",
-        ConfigWhy::Deep => "deep",
-        ConfigWhy::Form => "form",
-        ConfigWhy::Arguments => "arguments",
-        ConfigWhy::Range => "range",
-        ConfigWhy::Name => "name",
-        ConfigWhy::Twice => "twice",
-        ConfigWhy::Many => "many",
-        ConfigWhy::Kind => "kind",
-    }
 }
 
 fn report_pattern<E: Sink>(number: u32, err: &mut E)
