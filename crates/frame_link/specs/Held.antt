@@ -1,5 +1,7 @@
 use Rattle.std.specs.Prelude.{◌≡◌, ℕ, ◌+◌, Bool, true, false, if◌then◌else◌, List, [], ◌∷◌, ◌++◌, length}
 use Rattle.framing.specs.Frames.{HasFrame, IsOversized, frames_of, partial, length_at, first_body, Represents}
+use Rattle.frame_link.specs.declared.link.FirstFrame.{FirstFrame}
+use Rattle.frame_link.specs.declared.link.FirstFrame.TheVariants.{Whole as first_whole, NotYet as first_not_yet, TooLong as first_too_long}
 use Rattle.frame_link.specs.declared.link.Taken.{Taken}
 use Rattle.frame_link.specs.declared.link.Taken.TheVariants.{Whole, NotYet, TooLong, Memory}
 
@@ -45,6 +47,12 @@ Takes old NotYet new = Waits old new
 Takes old (TooLong size) new = Stops old size new
 Takes old Memory new = HasFrame old.bytes × (new ≡ old)
 
+-- what each answer of `front` says
+abbrev pub Lends : Held → FirstFrame → Type 0
+Lends held (first_whole body) = HasFrame held.bytes × (body.now ≡ first_body held.bytes) × (length body.now ≡ length_at held.bytes)
+Lends held first_not_yet = (HasFrame held.bytes → ⊥) × (IsOversized held.bytes → ⊥)
+Lends held (first_too_long size) = IsOversized held.bytes × (size ≡ length_at held.bytes)
+
 -- the bodies that an answer hands out
 abbrev pub bodies_in : Taken → List (List ℕ)
 bodies_in (Whole body) = body ∷ []
@@ -52,7 +60,7 @@ bodies_in NotYet = []
 bodies_in (TooLong size) = []
 bodies_in Memory = []
 
--- For any bodies handed out so far and any bytes that came, with a piece more: what is held stands for both.
+-- What is held represents any bodies handed out so far and any bytes that came, with one piece more.
 abbrev pub KeepsOnPush : List ℕ → Held → Held → Type 0
 KeepsOnPush piece old new = (handed : List (List ℕ)) (came : List ℕ) → Represents old.bytes handed came
     → Represents new.bytes handed (if old.stopped then came else came ++ piece)

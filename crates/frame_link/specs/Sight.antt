@@ -3,7 +3,7 @@ use Rattle.framing.specs.Frames.{HasFrame, IsOversized, length_at}
 use Rattle.frame_link.specs.declared.link.Look.{Look}
 use Rattle.frame_link.specs.declared.link.Look.TheVariants.{Partial, Oversized, Frame}
 
--- what stands at the start of the bytes
+-- what the bytes begin with
 abbrev pub Sees : List ℕ → Look → Type 0
 Sees bytes Partial = (HasFrame bytes → ⊥) × (IsOversized bytes → ⊥)
 Sees bytes (Oversized size) = IsOversized bytes × (size ≡ length_at bytes)

@@ -1,6 +1,6 @@
-//! The bytes of one link that are no whole frame yet, over `bytes`.
+//! The bytes of one link that are not a whole frame yet, over `bytes`.
 #![tactic(auto)]
 
 mod link;
 
-pub use link::{FrameLink, Taken};
+pub use link::{FirstFrame, FrameLink, Taken};

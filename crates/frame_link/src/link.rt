@@ -1,6 +1,6 @@
 ghost use Rattle.std.specs.Prelude.{◌≡◌, ◌<◌, ◌^◌, ℕ, true, false, List, [], length, OnOk, OnErr};
-ghost use Rattle.framing.specs.Frames.{HasFrame, IsOversized, Represents, length_at};
-ghost use Rattle.frame_link.specs.Held.{pushed, Takes, KeepsOnPush, KeepsOnTake};
+ghost use Rattle.framing.specs.Frames.{HasFrame, IsOversized, Represents, first_body, length_at};
+ghost use Rattle.frame_link.specs.Held.{pushed, HandsOut, Lends, Takes, KeepsOnPush, KeepsOnTake};
 ghost use Rattle.frame_link.specs.Sight.{Sees};
 
 use bytes::BytesMut;
@@ -9,8 +9,8 @@ use framing::BODY_LIMIT;
 use std::alloc::Global;
 use std::marker::Model;
 
-/// The bytes of one link that were not handed out yet as a frame's body. Contracts see them, and whether a length
-/// over the limit was met: from then on nothing more is taken in or handed out.
+/// The bytes of one link that were not handed out yet as a frame's body. Contracts see them, and whether there was a
+/// length over the limit: from then on nothing more is taken in or handed out.
 #[derive(Drop)]
 pub struct FrameLink {
     bytes: BytesMut,
@@ -22,15 +22,26 @@ pub struct FrameLink {
 pub enum Taken {
     /// The body of the first frame, which is removed.
     Whole(Blob),
-    /// No whole frame stands there.
+    /// The first frame is not whole yet.
     NotYet,
     /// The next frame's length in bytes, which is over [`BODY_LIMIT`].
     TooLong { length: u32 },
-    /// A whole frame stands there, and there is no memory for its body. The frame stays.
+    /// The first frame is whole, and there is no memory for its body. The frame stays.
     Memory,
 }
 
-/// What stands at the start of a link's bytes.
+/// What [`FrameLink::front`] lends.
+#[derive(Clone, Copy)]
+pub enum FirstFrame<'a> {
+    /// The body of the first frame, where it is in the link.
+    Whole(&'a [u8]),
+    /// The first frame is not whole yet.
+    NotYet,
+    /// The next frame's length in bytes, which is over [`BODY_LIMIT`].
+    TooLong { length: u32 },
+}
+
+/// What a link's bytes begin with.
 #[derive(Drop)]
 enum Look {
     /// Too few bytes for a frame whose length is within the limit, or for a length.
@@ -87,6 +98,28 @@ impl FrameLink {
         self.bytes.len()
     }
 
+    /// Lends the body of the first frame, if that frame is whole. It takes no memory.
+    pub fn front(&self) -> FirstFrame<'_>
+        ensures { Lends self.now result }
+    {
+        let bytes = self.bytes.as_slice();
+        match look_at(bytes) {
+            Look::Partial => FirstFrame::NotYet,
+            Look::Oversized { length } => FirstFrame::TooLong { length },
+            Look::Frame { length } => FirstFrame::Whole(&bytes[4..4 + length]),
+        }
+    }
+
+    /// Removes the first frame, which is whole and has a body of `length` bytes. It takes no memory.
+    pub fn advance(&mut self, length: usize)
+        requires whole { HasFrame self.old.bytes }
+        requires size { length ≡ length_at self.old.bytes }
+        ensures removes { HandsOut self.old (first_body self.old.bytes) self.new }
+        ensures keeps { KeepsOnTake self.old (Taken.Whole (first_body self.old.bytes)) self.new }
+    {
+        self.bytes.advance(4 + length);
+    }
+
     /// Hands out the first frame's body, if that frame is whole. A frame is a length of four big-endian bytes, at
     /// most [`BODY_LIMIT`], and then that many bytes of body. Only a body takes memory, and where there is none for
     /// it, nothing changes. Once the answer was [`Taken::TooLong`], it is from then on.
@@ -107,7 +140,7 @@ impl FrameLink {
 
     /// Copies the first frame's body of `length` bytes out, and removes that frame.
     fn take_body(&mut self, alloc: Global, length: usize) -> Taken
-        requires stands { HasFrame self.old.bytes }
+        requires whole { HasFrame self.old.bytes }
         requires size { length ≡ length_at self.old.bytes }
         ensures takes { Takes self.old result self.new }
         ensures keeps { KeepsOnTake self.old result self.new }
@@ -115,7 +148,7 @@ impl FrameLink {
         let Ok(body) = Blob::from_slice(alloc, &self.bytes.as_slice()[4..4 + length]) else {
             return Taken::Memory;
         };
-        self.bytes.advance(4 + length);
+        self.advance(length);
         Taken::Whole(body)
     }
 }

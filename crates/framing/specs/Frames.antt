@@ -53,7 +53,7 @@ pub record Represents (bytes : List ℕ) (handed : List (List ℕ)) (came : List
   pub frames : frames_of came ≡ handed ++ frames_of bytes
   pub rest : partial came ≡ partial bytes
 
--- a body behind its length
+-- a body after its length
 abbrev pub frame : List ℕ → List ℕ
 frame body = to_be_bytes w32 (length body) ++ body
 

@@ -1,5 +1,5 @@
 -- A field is read as what its spelling spells, and what is read is spelled.
-use Rattle.std.proofs.Common.{◌≡◌, ℕ, ◌+◌, ◌-◌, ◌*◌, ◌/◌, ◌%◌, ◌^◌, ◌<◌, ◌≤◌, Bool, true, false, cond, eqb, ltb, leb, ◌&&◌, List, [], ◌∷◌, ◌++◌, length, take, drop, Result, Ok, Err, refl, sym, ap, subst, ◌∙◌, arith, length-append, length-drop}
+use Rattle.std.proofs.Common.{◌≡◌, ℕ, ◌+◌, ◌-◌, ◌*◌, ◌/◌, ◌%◌, ◌^◌, ◌<◌, ◌≤◌, Bool, true, false, cond, eqb, ltb, leb, ◌&&◌, ◌⊎◌, inl, inr, List, [], ◌∷◌, ◌++◌, length, take, drop, Result, Ok, Err, refl, sym, ap, subst, ◌∙◌, arith, length-append, length-drop}
 use Rattle.std.proofs.lemmas.Bool.{lt-ltb, le-leb, ltb-true, leb-true, eqb-true, and_parts}
 use Rattle.std.specs.List.{slice_range}
 use Rattle.std.specs.Int.{w32, w64, from_le_bytes}
@@ -10,20 +10,24 @@ use Rattle.pb_wire.specs.declared.reader.WireWhy.TheVariants.{Short, Tag, Wire}
 use Rattle.pb_wire.specs.Varint.{IsVarint, varint_at}
 use Rattle.pb_wire.specs.Fields.{FieldAt, ◌>>=◌, varint_from, tag_from, bytes_from, varint_body, eight_body, bytes_body, four_body, body_from, field_from}
 use Rattle.pb_wire.specs.Spelling.{Content, Varint, Eight, Bytes, Four, content_in, wire_type, tag_of, IsBody, IsSpelling}
-use Rattle.pb_wire.specs.Front.{EndsAt, Stands}
+use Rattle.pb_wire.specs.InRow.{EndsAt, IsFieldAt}
 use Rattle.pb_wire.specs.ReadBack.{body_before}
 use Rattle.pb_wire.proofs.VarintLaws.{varint_again, varint_found}
-use Rattle.pb_wire.proofs.Places.{At, at_end, at_front, at_next, at_slice, at_between, length_slice, slice_split}
+use Rattle.pb_wire.proofs.Places.{At, at_end, at_first, at_next, at_slice, at_between, length_slice, slice_split}
 
-bind_ok : {A B : Type 0} (r : Result A WireWhy) (f : A → Result B WireWhy) (y : B) → (r >>= f) ≡ Ok y → (x : A) × (r ≡ Ok x) × (f x ≡ Ok y)
+pub cases_read : {A : Type 0} (r : Result A WireWhy) → ((x : A) × (r ≡ Ok x)) ⊎ ((why : WireWhy) × (r ≡ Err why))
+cases_read (Ok x) = inl (x, refl)
+cases_read (Err why) = inr (why, refl)
+
+pub bind_ok : {A B : Type 0} (r : Result A WireWhy) (f : A → Result B WireWhy) (y : B) → (r >>= f) ≡ Ok y → (x : A) × (r ≡ Ok x) × (f x ≡ Ok y)
 bind_ok (Ok x) f y e = (x, refl, e)
 bind_ok (Err why) f y e = absurd cc
 
-guard_ok : {A : Type 0} (b : Bool) (x y : A) (why : WireWhy) → cond b (Ok x) (Err why) ≡ Ok y → (b ≡ true) × (x ≡ y)
+pub guard_ok : {A : Type 0} (b : Bool) (x y : A) (why : WireWhy) → cond b (Ok x) (Err why) ≡ Ok y → (b ≡ true) × (x ≡ y)
 guard_ok true x y why e = (refl, cc)
 guard_ok false x y why e = absurd cc
 
-abbrev ok_wire : {A : Type 0} → A → Result A WireWhy
+abbrev pub ok_wire : {A : Type 0} → A → Result A WireWhy
 ok_wire x = Ok x
 
 ok_is : {A : Type 0} (x y : A) → ok_wire x ≡ ok_wire y → x ≡ y
@@ -59,7 +63,7 @@ body_again bytes place text (Bytes body) at is =
     let last : start + length body ≡ place + length text = omega (arith, ap (length {A = ℕ}) is.2, length-append is.0 body) in
     let first : place + length text - length body ≡ start = omega arith in
     rw (
-      varint_from_at bytes place is.0 (length body) (at_front bytes place is.0 body parts) is.1,
+      varint_from_at bytes place is.0 (length body) (at_first bytes place is.0 body parts) is.1,
       bytes_from_at bytes start body (at_next bytes place is.0 body parts),
       last,
       first,
@@ -84,7 +88,7 @@ field_again bytes place text number content at is =
     let body : body_from (wire_type content) bytes (place + length is.tag) ≡ Ok (body_before (place + length text) content, place + length text) =
     subst (λ (n : ℕ). body_from (wire_type content) bytes (place + length is.tag) ≡ Ok (body_before n content, n)) last
     (body_again bytes (place + length is.tag) is.body content (at_next bytes place is.tag is.body parts) is.body_is) in
-    rw (varint_from_at bytes place is.tag tag (at_front bytes place is.tag is.body parts) is.tag_is, small, positive, fits.1, body, fits.0) refl
+    rw (varint_from_at bytes place is.tag tag (at_first bytes place is.tag is.body parts) is.tag_is, small, positive, fits.1, body, fits.0) refl
 
 -- what is read is spelled
 
@@ -250,8 +254,8 @@ alone_some (b ∷ x) value is = omega arith
 pub spelling_some : (text : List ℕ) (number : ℕ) (content : Content) → IsSpelling text number content → 0 < length text
 spelling_some text number content is = omega (arith, ap (length {A = ℕ}) is.whole, length-append is.tag is.body, alone_some is.tag _ is.tag_is)
 
-pub stands_is_read : (bytes : List ℕ) (field : FieldAt) (after : ℕ) → Stands bytes field after → (field_from bytes field.place ≡ Ok (field.number, field.body, after)) × (field.place < after)
-stands_is_read bytes field after stands =
+pub field_at_is_read : (bytes : List ℕ) (field : FieldAt) (after : ℕ) → IsFieldAt bytes field after → (field_from bytes field.place ≡ Ok (field.number, field.body, after)) × (field.place < after)
+field_at_is_read bytes field after stands =
     let some = spelling_some _ _ _ stands.spelled in
     let within = stands.within in
     let size = length_slice bytes field.place after within in

@@ -1,10 +1,10 @@
--- Texts that stand at a place of the bytes.
+-- Texts at a place of the bytes.
 use Rattle.std.proofs.Common.{◌≡◌, ℕ, ◌+◌, ◌-◌, ◌≤◌, List, ◌++◌, length, take, drop, refl, sym, ap, ◌∙◌, arith, append_assoc, length-append, length-drop}
 use Rattle.std.proofs.Math.Seq.{take-append-add}
 use Rattle.std.proofs.lemmas.List.{take_at, drop_at, drop-drop, length-take-le, take-append-drop}
 use Rattle.std.specs.List.{slice_range}
 
--- the text stands in the bytes at the place
+-- the bytes have the text at the place
 pub record At (bytes : List ℕ) (place : ℕ) (text : List ℕ) : Type 0 where
   pub within : place ≤ length bytes
   pub rest : List ℕ
@@ -15,12 +15,12 @@ at_end bytes place text at =
     let within = at.within in
     omega (arith, length-drop place bytes, ap (length {A = ℕ}) at.is, length-append text at.rest)
 
-pub at_front : (bytes : List ℕ) (place : ℕ) (a b : List ℕ) → At bytes place (a ++ b) → At bytes place a
-at_front bytes place a b at = record { within = at.within; rest = b ++ at.rest; is = at.is ∙ append_assoc a b at.rest }
+pub at_first : (bytes : List ℕ) (place : ℕ) (a b : List ℕ) → At bytes place (a ++ b) → At bytes place a
+at_first bytes place a b at = record { within = at.within; rest = b ++ at.rest; is = at.is ∙ append_assoc a b at.rest }
 
 pub at_next : (bytes : List ℕ) (place : ℕ) (a b : List ℕ) → At bytes place (a ++ b) → At bytes (place + length a) b
 at_next bytes place a b at = record {
-  within = at_end bytes place a (at_front bytes place a b at);
+  within = at_end bytes place a (at_first bytes place a b at);
   rest = at.rest;
   is = sym (drop-drop (length a) place bytes) ∙ ap (drop (length a)) (at.is ∙ append_assoc a b at.rest) ∙ drop_at a (b ++ at.rest) (length a) refl;
 }

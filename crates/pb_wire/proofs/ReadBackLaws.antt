@@ -9,7 +9,7 @@ use Rattle.pb_wire.specs.Spelling.{Content, Varint, Eight, Bytes, Four, content_
 use Rattle.pb_wire.specs.ReadBack.{FieldValue, values_of, IsField, value_spelling, body_before, FieldIsReadBack, FieldsAreReadBack}
 use Rattle.pb_wire.proofs.Places.{At, at_slice, at_next}
 use Rattle.pb_wire.proofs.FieldLaws.{field_again}
-use Rattle.pb_wire.proofs.FrontLaws.{nothing_past, next_at_field, next_place_field, from_field, from_none, end_of_all}
+use Rattle.pb_wire.proofs.RowLaws.{nothing_past, next_at_field, next_place_field, from_field, from_none, end_of_all}
 use Rattle.pb_wire.proofs.SpellingLaws.{spelling_is}
 
 -- what stands in a field's body is what it holds

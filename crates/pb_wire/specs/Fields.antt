@@ -10,6 +10,7 @@ use Rattle.pb_wire.specs.declared.reader.Next.TheVariants.{End, Field, Refused}
 use Rattle.pb_wire.specs.declared.reader.WireWhy.{WireWhy}
 use Rattle.pb_wire.specs.declared.reader.WireWhy.TheVariants.{Short, Tag, Wire}
 use Rattle.pb_wire.specs.Varint.{varint_at}
+use Rattle.pb_wire.specs.Cause.{IsCause}
 
 -- a field: its number, its body, and the place of its tag's first byte
 pub record FieldAt : Type 0 where
@@ -22,7 +23,7 @@ abbrev pub ◌>>=◌ : {A B : Type 0} → Result A WireWhy → (A → Result B W
 (Ok x) >>= f = f x
 (Err why) >>= f = Err why
 
--- Each of these reads what stands from a place on, and gives it with the place just past it, or why it is refused.
+-- Each of these reads what is at a place, and gives it with the place just past it, or why it is refused.
 unfoldable pub varint_from : List ℕ → ℕ → Result (ℕ × ℕ) WireWhy
 varint_from bytes place = do
   read ← varint_at (drop place bytes)
@@ -73,7 +74,7 @@ field_from bytes place = do
   body ← body_from (tag.0 % 8) bytes tag.1
   Ok (tag.0 / 8, body.0, body.1)
 
--- what stands at a place
+-- what is found at a place
 abbrev pub seen : ℕ → Result (ℕ × Body × ℕ) WireWhy → Next
 seen place (Ok read) = Field read.0 read.1 place
 seen place (Err why) = Refused place why
@@ -81,7 +82,7 @@ seen place (Err why) = Refused place why
 unfoldable pub next_at : List ℕ → ℕ → Next
 next_at bytes place = if nat_le (length bytes) place then End else seen place (field_from bytes place)
 
--- the place just past the field at a place, and that place itself where no field stands
+-- the place just past the field at a place, or that place itself where no field begins
 abbrev pub past : ℕ → Result (ℕ × Body × ℕ) WireWhy → ℕ
 past place (Ok read) = read.2
 past place (Err why) = place
@@ -89,7 +90,7 @@ past place (Err why) = place
 unfoldable pub next_place : List ℕ → ℕ → ℕ
 next_place bytes place = past place (field_from bytes place)
 
--- the fields from a place on, at most n of them, and the place behind the last one
+-- the fields from a place on, at most n of them, and the place after the last one
 abbrev pub and_more : ℕ → Result (ℕ × Body × ℕ) WireWhy → (ℕ → List FieldAt) → List FieldAt
 and_more place (Ok read) more = record { number = read.0; body = read.1; place = place } ∷ more read.2
 and_more place (Err why) more = []
@@ -102,14 +103,14 @@ unfoldable pub end_within : ℕ → List ℕ → ℕ → ℕ
 end_within zero bytes place = place
 end_within (suc n) bytes place = end_within n bytes (next_place bytes place)
 
--- the fields from a place on, and the place behind them
+-- the fields from a place on, and the place after them
 unfoldable pub fields_from : List ℕ → ℕ → List FieldAt
 fields_from bytes place = fields_within (length bytes) bytes place
 
 unfoldable pub fields_end : List ℕ → ℕ → ℕ
 fields_end bytes place = end_within (length bytes) bytes place
 
--- the place and the cause of what stands there, where that is not the end of the bytes
+-- the place and the cause of a refusal
 abbrev pub fault_in : Next → Option (ℕ × WireWhy)
 fault_in End = None
 fault_in (Field number body place) = None
@@ -130,14 +131,14 @@ pub record Cursor : Type 0 where
   pub bytes : List ℕ
   pub place : ℕ
 
--- a body of bytes lies within the first so many bytes
+-- a body of bytes lies within the first `size` bytes
 abbrev pub LiesWithin : ℕ → Body → Type 0
 LiesWithin size (Bytes start last) = (start ≤ last) × (last ≤ size)
 LiesWithin size (Varint value) = Unit {0}
 LiesWithin size (Eight value) = Unit {0}
 LiesWithin size (Four value) = Unit {0}
 
--- a field was read: it stood at the old place, and the fields after it stand at the new one
+-- a field was read: it was at the old place, and the fields after it are at the new one
 pub record Passes (old : Cursor) (field : FieldAt) (new : Cursor) : Type 0 where
   pub number : (0 < field.number) × (field.number < 2 ^ 29)
   pub body : LiesWithin (length old.bytes) field.body
@@ -158,3 +159,4 @@ abbrev pub Steps : Cursor → Next → Cursor → Type 0
 Steps old End new = Stays old None new × (old.place ≡ length old.bytes)
 Steps old (Field number body place) new = Passes old (record { number = number; body = body; place = place }) new
 Steps old (Refused place why) new = Stays old (Some (place, why)) new × (place ≡ old.place) × (place < length old.bytes)
+    × IsCause (drop place old.bytes) why

@@ -1,5 +1,6 @@
 pub mod Varint
 pub mod Fields
 pub mod Spelling
-pub mod Front
+pub mod Cause
+pub mod InRow
 pub mod ReadBack

@@ -31,7 +31,7 @@ pub record IsField (value : FieldValue) : Type 0 where
 abbrev pub value_spelling : FieldValue → List ℕ
 value_spelling value = field_spelling value.number value.content
 
--- fields that are written one behind the other are read again, with no fault
+-- fields that are written one after the other are read again, with no fault
 abbrev pub FieldsAreReadBack : Type 0
 FieldsAreReadBack = (values : List FieldValue) → AllByRecursion IsField values
     → (values_of (flat_map value_spelling values) ≡ values) × (fields_fault (flat_map value_spelling values) ≡ None)
@@ -43,14 +43,14 @@ body_before after (Eight value) = body_eight value
 body_before after (Bytes bytes) = body_bytes (after - length bytes) after
 body_before after (Four value) = body_four value
 
--- a field that is written between other bytes is what stands at its place
+-- a field that is written between other bytes is what is found at its place
 abbrev pub FieldIsReadBack : Type 0
 FieldIsReadBack = (before after : List ℕ) (value : FieldValue) → IsField value
     → let bytes = before ++ (value_spelling value ++ after) in
     let place = length before in
-    let behind = length before + length (value_spelling value) in
-    (next_at bytes place ≡ Field value.number (body_before behind value.content) place) × (next_place bytes place ≡ behind)
-    × (content_in bytes (body_before behind value.content) ≡ value.content)
+    let past = length before + length (value_spelling value) in
+    (next_at bytes place ≡ Field value.number (body_before past value.content) place) × (next_place bytes place ≡ past)
+    × (content_in bytes (body_before past value.content) ≡ value.content)
 
 -- what is written is a spelling, and no spelling of the same field has fewer bytes
 abbrev pub SpellingIsShortest : Type 0

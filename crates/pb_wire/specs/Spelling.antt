@@ -7,7 +7,7 @@ use Rattle.pb_wire.specs.declared.writer.PutBody.{PutBody}
 use Rattle.pb_wire.specs.declared.writer.PutBody.TheVariants.{Varint as put_varint, Eight as put_eight, Bytes as put_bytes, Four as put_four}
 use Rattle.pb_wire.specs.Varint.{IsVarint, varint}
 
--- what a field holds, apart from where it stands
+-- what a field holds, apart from its place
 pub data Content : Type 0 where
   Varint : ℕ → Content
   Eight : ℕ → Content
@@ -65,11 +65,6 @@ body_spelling (Four value) = to_le_bytes w32 value
 unfoldable pub field_spelling : ℕ → Content → List ℕ
 field_spelling number content = varint (tag_of number content) ++ body_spelling content
 
--- the tag and the length of a field of so many bytes
+-- the tag and the length of a field of a number of bytes
 unfoldable pub bytes_head : ℕ → ℕ → List ℕ
 bytes_head number size = varint (number * 8 + 2) ++ varint size
-
--- some bytes were added behind the old ones
-pub record Grew (old new : List ℕ) : Type 0 where
-  pub more : List ℕ
-  pub added : new ≡ old ++ more

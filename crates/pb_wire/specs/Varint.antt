@@ -21,12 +21,12 @@ pub record IsVarint (bytes : List ℕ) (value : ℕ) : Type 0 where
   pub few : length bytes ≤ 10
   pub sum : value ≡ low_bits bytes % 2 ^ 64
 
--- how many bytes with the high bit stand at the front
+-- with how many bytes that have the high bit the bytes begin
 abbrev pub high_bytes : List ℕ → ℕ
 high_bytes [] = 0
 high_bytes (b ∷ bytes) = if nat_lt b 128 then 0 else suc (high_bytes bytes)
 
--- the varint at the front: its value and how many bytes it has, or why there is none
+-- the varint at the start: its value and how many bytes it has, or why it is refused
 unfoldable pub varint_at : List ℕ → Result (ℕ × ℕ) WireWhy
 varint_at bytes = let high = high_bytes bytes in
     if nat_le 10 high then Err Varint

@@ -1,14 +1,24 @@
 //! What the definitions of fields owe, apart from how bytes are read and written.
 
-ghost use Rattle.pb_wire.specs.Front.{FieldsStand, FieldsAreLongest, FaultIsBehind};
+ghost use Rattle.pb_wire.specs.Cause.{CausesAreFound, CausesAreOne, FieldsHaveNone};
+ghost use Rattle.pb_wire.specs.InRow.{FieldsAreInRow, FieldsAreLongest, FaultIsAfter, FaultHasCause};
 ghost use Rattle.pb_wire.specs.ReadBack.{FieldsAreReadBack, FieldIsReadBack, SpellingIsShortest};
 
-/// The fields that are read from the front of the bytes on are those of the longest front that is spellings of fields
-/// one behind the other. Where this front is not all of the bytes, its length is the place of the fault.
-pub fn fields_are_the_longest_front()
-    ensures stand { FieldsStand }
+/// The fields that are read from the start of the bytes on are those of the longest prefix that is spellings of
+/// fields one after the other. Where this prefix is not all of the bytes, its length is the place of the fault, and the
+/// bytes after it have the fault's cause.
+pub fn fields_are_the_longest_prefix()
+    ensures in_row { FieldsAreInRow }
     ensures longest { FieldsAreLongest }
-    ensures fault { FaultIsBehind }
+    ensures fault { FaultIsAfter }
+    ensures cause { FaultHasCause }
+{}
+
+/// Bytes begin with a field, or have one cause for which they begin with none.
+pub fn causes_are_one()
+    ensures found { CausesAreFound }
+    ensures one { CausesAreOne }
+    ensures none { FieldsHaveNone }
 {}
 
 /// What is written is read again, alone and between other bytes.

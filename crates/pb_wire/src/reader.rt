@@ -6,7 +6,7 @@ ghost use Rattle.pb_wire.specs.Fields.{Steps, next_at, next_place, varint_from, 
 use crate::varint::varint_at;
 use std::marker::Model;
 
-/// What stands at a reader's place.
+/// What a reader finds at its place.
 #[derive(Clone, Copy, Debug, PartialEq, Eq)]
 pub enum Next {
     /// All bytes were read.
@@ -17,7 +17,7 @@ pub enum Next {
         body: Body,
         place: usize,
     },
-    /// No field stands at `place`, which is before the end of the reader's bytes.
+    /// No field begins at `place`, which is before the end of the reader's bytes.
     Refused {
         place: usize,
         why: WireWhy,
@@ -37,7 +37,7 @@ pub enum Body {
     Four(u32),
 }
 
-/// Why no field stands at a place. The tag is looked at before the body, and of each the causes in this order.
+/// Why no field begins at a place. The tag is looked at first, and then the body.
 #[derive(Clone, Copy, Debug, PartialEq, Eq)]
 pub enum WireWhy {
     /// The bytes end within a varint or within the body, or the body's length is greater than the bytes that are
@@ -51,7 +51,7 @@ pub enum WireWhy {
     Wire,
 }
 
-/// Reads the fields that bytes spell in the Protocol Buffers wire format, from the front on. Contracts see the bytes
+/// Reads the fields that bytes spell in the Protocol Buffers wire format, from the start on. Contracts see the bytes
 /// and the place that it has come to.
 #[derive(Drop)]
 pub struct FieldReader<'a> {
@@ -78,8 +78,9 @@ impl<'a> FieldReader<'a> {
         FieldReader { bytes, place: 0 }
     }
 
-    /// Reads the next field, and goes on behind it. At the end and where no field stands it goes no further, so it
+    /// Reads the next field, and goes on after it. At the end and where no field begins it goes no further, so it
     /// answers the same again. It takes no memory.
+    #[inline(always)]
     pub fn next(&mut self) -> Next
         ensures answer { result ≡ next_at self.old.bytes self.old.place }
         ensures moves { self.new
@@ -92,7 +93,8 @@ impl<'a> FieldReader<'a> {
     }
 }
 
-/// What stands at the place, and the place to go on at.
+/// What is at the place, and the place to go on at.
+#[inline(always)]
 fn step(bytes: &[u8], place: usize) -> (Next, usize)
     requires { place ≤ length bytes.now }
     ensures answer { result.0 ≡ next_at bytes.now place }
@@ -119,6 +121,7 @@ fn step(bytes: &[u8], place: usize) -> (Next, usize)
 
 /// The number and the body of the field at the place, and the place just past it.
 #[tactic(auto, unfolding(crate::specs::Fields::field_from))]
+#[inline(always)]
 fn field_from(bytes: &[u8], place: usize) -> Result<(u32, Body, usize), WireWhy>
     requires { place ≤ length bytes.now }
     ensures { result ≡ field_from bytes.now place }
@@ -130,6 +133,7 @@ fn field_from(bytes: &[u8], place: usize) -> Result<(u32, Body, usize), WireWhy>
 
 /// The tag at the place, and the place just past it.
 #[tactic(auto, unfolding(crate::specs::Fields::tag_from))]
+#[inline(always)]
 fn tag_from(bytes: &[u8], place: usize) -> Result<(u32, usize), WireWhy>
     requires { place ≤ length bytes.now }
     ensures read { result ≡ tag_from bytes.now place }
@@ -144,6 +148,7 @@ fn tag_from(bytes: &[u8], place: usize) -> Result<(u32, usize), WireWhy>
 
 /// The body at the place, of the type that the tag gives, and the place just past it.
 #[tactic(auto, unfolding(crate::specs::Fields::body_from))]
+#[inline(always)]
 fn body_from(kind: u32, bytes: &[u8], place: usize) -> Result<(Body, usize), WireWhy>
     requires { place ≤ length bytes.now }
     ensures { result ≡ body_from kind bytes.now place }
@@ -162,6 +167,7 @@ fn body_from(kind: u32, bytes: &[u8], place: usize) -> Result<(Body, usize), Wir
 
 /// The eight bytes at the place, and the place just past them.
 #[tactic(auto, unfolding(crate::specs::Fields::bytes_from))]
+#[inline(always)]
 fn eight_body(bytes: &[u8], place: usize) -> Result<(Body, usize), WireWhy>
     requires { place ≤ length bytes.now }
     ensures { result ≡ eight_body bytes.now place }
@@ -174,6 +180,7 @@ fn eight_body(bytes: &[u8], place: usize) -> Result<(Body, usize), WireWhy>
 
 /// The four bytes at the place, and the place just past them.
 #[tactic(auto, unfolding(crate::specs::Fields::bytes_from))]
+#[inline(always)]
 fn four_body(bytes: &[u8], place: usize) -> Result<(Body, usize), WireWhy>
     requires { place ≤ length bytes.now }
     ensures { result ≡ four_body bytes.now place }
@@ -184,8 +191,9 @@ fn four_body(bytes: &[u8], place: usize) -> Result<(Body, usize), WireWhy>
     }
 }
 
-/// The length at the place and that many bytes behind it, and the place just past them.
+/// The length at the place and that many bytes after it, and the place just past them.
 #[tactic(auto, unfolding(crate::specs::Fields::bytes_from))]
+#[inline(always)]
 fn bytes_body(bytes: &[u8], place: usize) -> Result<(Body, usize), WireWhy>
     requires { place ≤ length bytes.now }
     ensures { result ≡ bytes_body bytes.now place }
@@ -200,6 +208,7 @@ fn bytes_body(bytes: &[u8], place: usize) -> Result<(Body, usize), WireWhy>
 
 /// The varint at the place, and the place just past it.
 #[tactic(auto, unfolding(crate::specs::Fields::varint_from))]
+#[inline(always)]
 fn varint_from(bytes: &[u8], place: usize) -> Result<(u64, usize), WireWhy>
     requires { place ≤ length bytes.now }
     ensures read { result ≡ varint_from bytes.now place }

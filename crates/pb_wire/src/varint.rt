@@ -2,7 +2,7 @@
 
 ghost use Rattle.std.specs.Prelude.{◌≡◌, ◌+◌, ◌^◌, ◌<◌, ◌≤◌, ◌++◌, length, IfOk, OnOk, OnErr};
 ghost use Rattle.pb_wire.specs.Varint.{varint_at, spelled_within, varint};
-ghost use Rattle.pb_wire.specs.Spelling.{Grew};
+ghost use Rattle.list_laws.specs.Prefix.{IsPrefix};
 
 use crate::reader::WireWhy;
 use ev_types::{Blob, Memory};
@@ -11,7 +11,8 @@ use std::alloc::Global;
 /// How many bytes of a varint have all their bits in its value.
 const WHOLE_BYTES: usize = 9;
 
-/// The varint at the front of the bytes, and how many bytes it has.
+/// The varint at the start of the bytes, and how many bytes it has.
+#[inline(always)]
 pub fn varint_at(bytes: &[u8]) -> Result<(u64, usize), WireWhy>
     ensures read { result ≡ varint_at bytes.now }
     ensures within { IfOk result (λ read. (0 < read.1) × (read.1 ≤ length bytes.now)) }
@@ -47,11 +48,11 @@ fn long_varint_at(bytes: &[u8]) -> Result<(u64, usize), WireWhy>
     Ok((value + u64::from(tenth % 2) * unit, WHOLE_BYTES + 1))
 }
 
-/// Appends the shortest varint of the number. After a want of memory `out` begins with what it had.
+/// Appends the shortest varint of the number. Once out of memory, `out` still begins with what it had.
 #[tactic(auto, unfolding(crate::specs::Varint::varint))]
 pub fn put_varint(alloc: Global, out: &mut Blob, value: u64) -> Result<(), Memory>
     ensures ok { OnOk result (out.new ≡ out.old ++ varint value) }
-    ensures err { OnErr result (Grew out.old out.new) }
+    ensures err { OnErr result (IsPrefix out.old out.new) }
 {
     put_varint_within(alloc, 9, value, out)?;
     Ok(())
@@ -63,7 +64,7 @@ fn put_varint_within(alloc: Global, more: u32, value: u64, out: &mut Blob) -> Re
     requires few { more ≤ 9 }
     requires fits { value < 128 ^ (more + 1) }
     ensures ok { OnOk result (out.new ≡ out.old ++ spelled_within more value) }
-    ensures err { OnErr result (Grew out.old out.new) }
+    ensures err { OnErr result (IsPrefix out.old out.new) }
 {
     if value < 128 {
         out.push(alloc, value as u8)?;

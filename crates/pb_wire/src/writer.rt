@@ -1,7 +1,8 @@
 //! Writing fields.
 
 ghost use Rattle.std.specs.Prelude.{◌≡◌, ◌^◌, ◌<◌, ◌++◌, OnOk, OnErr};
-ghost use Rattle.pb_wire.specs.Spelling.{Grew, content_of, field_spelling, bytes_head};
+ghost use Rattle.list_laws.specs.Prefix.{IsPrefix};
+ghost use Rattle.pb_wire.specs.Spelling.{content_of, field_spelling, bytes_head};
 
 use crate::varint::put_varint;
 use ev_types::{Blob, Memory};
@@ -13,14 +14,14 @@ pub enum PutBody<'a> {
     Varint(u64),
     /// Eight bytes, little-endian.
     Eight(u64),
-    /// Bytes behind their length.
+    /// Bytes after their length.
     Bytes(&'a [u8]),
     /// Four bytes, little-endian.
     Four(u32),
 }
 
 /// Appends the shortest spelling of a field, in the Protocol Buffers wire format. Its number is from 1 to 2^29 - 1.
-/// After a want of memory `out` begins with what it had.
+/// Once out of memory, `out` still begins with what it had.
 #[tactic(auto, unfolding(crate::specs::Spelling::field_spelling, crate::specs::Spelling::bytes_head))]
 pub fn put_field(
     alloc: Global,
@@ -31,7 +32,7 @@ pub fn put_field(
     requires positive { 0 < number }
     requires small { number < 2 ^ 29 }
     ensures ok { OnOk result (out.new ≡ out.old ++ field_spelling number (content_of body.entry)) }
-    ensures err { OnErr result (Grew out.old out.new) }
+    ensures err { OnErr result (IsPrefix out.old out.new) }
 {
     match body {
         PutBody::Varint(value) => {
@@ -65,7 +66,7 @@ pub fn put_tag_and_length(
     requires positive { 0 < number }
     requires small { number < 2 ^ 29 }
     ensures ok { OnOk result (out.new ≡ out.old ++ bytes_head number length) }
-    ensures err { OnErr result (Grew out.old out.new) }
+    ensures err { OnErr result (IsPrefix out.old out.new) }
 {
     put_varint(alloc, out, u64::from(number * 8 + 2))?;
     put_varint(alloc, out, length as u64)?;

@@ -1,4 +1,4 @@
--- The fields of bytes that stand one behind the other are their fields in order.
+-- The fields of bytes one after the other are their fields in order.
 use Rattle.std.proofs.Common.{◌≡◌, ℕ, zero, suc, ◌+◌, ◌-◌, ◌<◌, ◌≤◌, List, [], ◌∷◌, ◌++◌, length, take, drop, map, Option, Some, None, refl, sym, ap, subst, ◌∙◌, inl, inr, Err, add-zero, arith, length-append}
 use Rattle.std.proofs.Math.Seq.{drop-append-add}
 use Rattle.std.proofs.lemmas.Bool.{cases_lt}
@@ -10,10 +10,10 @@ use Rattle.pb_wire.specs.declared.reader.Body.TheVariants.{Varint, Eight, Bytes,
 use Rattle.pb_wire.specs.declared.reader.WireWhy.{WireWhy}
 use Rattle.pb_wire.specs.declared.reader.WireWhy.TheVariants.{Short}
 use Rattle.pb_wire.specs.Fields.{FieldAt, field_from, fields_within, fields_from, fields_of, fields_end, end_within, next_at, fault_from, fields_fault}
-use Rattle.pb_wire.specs.Front.{EndsAt, Stands, StandInRow}
+use Rattle.pb_wire.specs.InRow.{EndsAt, IsFieldAt, AreInRow}
 use Rattle.pb_wire.specs.Spelling.{Content, Bytes as content_bytes, content_in}
 use Rattle.pb_wire.specs.ReadBack.{FieldValue, values_of}
-use Rattle.pb_wire.proofs.FrontLaws.{nothing_past, fields_stand, fields_are_longest, fault_is_behind}
+use Rattle.pb_wire.proofs.RowLaws.{nothing_past, fields_in_row, fields_are_longest, fault_is_after}
 use Rattle.riemann_msg.specs.Draft.{value_at}
 
 slice_front : (a b : List ℕ) (i j : ℕ) → j ≤ length a → slice_range (a ++ b) i j ≡ slice_range a i j
@@ -39,16 +39,16 @@ content_front a b after (Bytes start last) within ends =
     let short : last ≤ length a = omega (arith, ends.1) in
     ap (λ (bytes : List ℕ). content_bytes bytes) (slice_front a b start last short)
 
-stands_front : (a b : List ℕ) (field : FieldAt) (after : ℕ) → Stands a field after → Stands (a ++ b) field after
+stands_front : (a b : List ℕ) (field : FieldAt) (after : ℕ) → IsFieldAt a field after → IsFieldAt (a ++ b) field after
 stands_front a b field after stands = record {
   within = omega (arith, stands.within, length-append a b);
   spelled = rw (slice_front a b field.place after stands.within, content_front a b after field.body stands.within stands.ends) stands.spelled;
   ends = stands.ends;
 }
 
-row_front : (a b : List ℕ) (place : ℕ) (fields : List FieldAt) (last : ℕ) → StandInRow a place fields last → StandInRow (a ++ b) place fields last
-row_front a b place [] last row = row
-row_front a b place (field ∷ fields) last row = (row.0, row.1, stands_front a b field row.1 row.2, row_front a b row.1 fields last row.3)
+row_first_part : (a b : List ℕ) (place : ℕ) (fields : List FieldAt) (last : ℕ) → AreInRow a place fields last → AreInRow (a ++ b) place fields last
+row_first_part a b place [] last row = row
+row_first_part a b place (field ∷ fields) last row = (row.0, row.1, stands_front a b field row.1 row.2, row_first_part a b row.1 fields last row.3)
 
 -- ---- a row, further behind
 
@@ -75,29 +75,29 @@ ends_behind n after (Eight value) ends = tt
 ends_behind n after (Four value) ends = tt
 ends_behind n after (Bytes start last) ends = (omega (arith, ends.0), omega (arith, ends.1))
 
-stands_behind : (a b : List ℕ) (field : FieldAt) (after : ℕ) → Stands b field after → Stands (a ++ b) (moved_field (length a) field) (length a + after)
+stands_behind : (a b : List ℕ) (field : FieldAt) (after : ℕ) → IsFieldAt b field after → IsFieldAt (a ++ b) (moved_field (length a) field) (length a + after)
 stands_behind a b field after stands = record {
   within = omega (arith, stands.within, length-append a b);
   spelled = rw (slice_behind a b field.place after, content_behind a b field.body) stands.spelled;
   ends = ends_behind (length a) after field.body stands.ends;
 }
 
-row_behind : (a b : List ℕ) (place : ℕ) (fields : List FieldAt) (last : ℕ) → StandInRow b place fields last → StandInRow (a ++ b) (length a + place) (map (moved_field (length a)) fields) (length a + last)
-row_behind a b place [] last row = ap (λ n. length a + n) row
-row_behind a b place (field ∷ fields) last row =
-    (ap (λ n. length a + n) row.0, length a + row.1, stands_behind a b field row.1 row.2, row_behind a b row.1 fields last row.3)
+row_after : (a b : List ℕ) (place : ℕ) (fields : List FieldAt) (last : ℕ) → AreInRow b place fields last → AreInRow (a ++ b) (length a + place) (map (moved_field (length a)) fields) (length a + last)
+row_after a b place [] last row = ap (λ n. length a + n) row
+row_after a b place (field ∷ fields) last row =
+    (ap (λ n. length a + n) row.0, length a + row.1, stands_behind a b field row.1 row.2, row_after a b row.1 fields last row.3)
 
-row_append : (bytes : List ℕ) (place : ℕ) (xs ys : List FieldAt) (middle last : ℕ) → StandInRow bytes place xs middle → StandInRow bytes middle ys last → StandInRow bytes place (xs ++ ys) last
-row_append bytes place [] ys middle last row rest = subst (λ (p : ℕ). StandInRow bytes p ys last) (sym row) rest
+row_append : (bytes : List ℕ) (place : ℕ) (xs ys : List FieldAt) (middle last : ℕ) → AreInRow bytes place xs middle → AreInRow bytes middle ys last → AreInRow bytes place (xs ++ ys) last
+row_append bytes place [] ys middle last row rest = subst (λ (p : ℕ). AreInRow bytes p ys last) (sym row) rest
 row_append bytes place (x ∷ xs) ys middle last row rest = (row.0, row.1, row.2, row_append bytes row.1 xs ys middle last row.3 rest)
 
 -- ---- what the fields of a row hold
 
-values_front : (a b : List ℕ) (place : ℕ) (fields : List FieldAt) (last : ℕ) → StandInRow a place fields last → map (value_at (a ++ b)) fields ≡ map (value_at a) fields
-values_front a b place [] last row = refl
-values_front a b place (field ∷ fields) last row =
+values_first_part : (a b : List ℕ) (place : ℕ) (fields : List FieldAt) (last : ℕ) → AreInRow a place fields last → map (value_at (a ++ b)) fields ≡ map (value_at a) fields
+values_first_part a b place [] last row = refl
+values_first_part a b place (field ∷ fields) last row =
     let one : value_at (a ++ b) field ≡ value_at a field = ap (λ (content : Content). value field.number content) (content_front a b row.1 field.body row.2.within row.2.ends) in
-    let more : map (value_at (a ++ b)) fields ≡ map (value_at a) fields = values_front a b row.1 fields last row.3 in
+    let more : map (value_at (a ++ b)) fields ≡ map (value_at a) fields = values_first_part a b row.1 fields last row.3 in
     cc
   where
     value : ℕ → Content → FieldValue
@@ -125,15 +125,15 @@ abbrev pub IsWhole : List ℕ → Type 0
 IsWhole bytes = fields_fault bytes ≡ None
 
 ends_at_length : (bytes : List ℕ) → IsWhole bytes → fields_end bytes 0 ≡ length bytes
-ends_at_length bytes whole = rw whole at (fault_is_behind bytes)
+ends_at_length bytes whole = rw whole at (fault_is_after bytes)
 
-row_of : (bytes : List ℕ) → IsWhole bytes → StandInRow bytes 0 (fields_of bytes) (length bytes)
-row_of bytes whole = subst (λ (last : ℕ). StandInRow bytes 0 (fields_of bytes) last) (ends_at_length bytes whole) (fields_stand bytes)
+row_of : (bytes : List ℕ) → IsWhole bytes → AreInRow bytes 0 (fields_of bytes) (length bytes)
+row_of bytes whole = subst (λ (last : ℕ). AreInRow bytes 0 (fields_of bytes) last) (ends_at_length bytes whole) (fields_in_row bytes)
 
-row_of_both : (a b : List ℕ) → IsWhole a → IsWhole b → StandInRow (a ++ b) 0 (fields_of a ++ map (moved_field (length a)) (fields_of b)) (length a + length b)
+row_of_both : (a b : List ℕ) → IsWhole a → IsWhole b → AreInRow (a ++ b) 0 (fields_of a ++ map (moved_field (length a)) (fields_of b)) (length a + length b)
 row_of_both a b wa wb =
-    row_append (a ++ b) 0 (fields_of a) (map (moved_field (length a)) (fields_of b)) (length a) (length a + length b) (row_front a b 0 (fields_of a) (length a) (row_of a wa))
-    (subst (λ (p : ℕ). StandInRow (a ++ b) p (map (moved_field (length a)) (fields_of b)) (length a + length b)) (add-zero (length a)) (row_behind a b 0 (fields_of b) (length b) (row_of b wb)))
+    row_append (a ++ b) 0 (fields_of a) (map (moved_field (length a)) (fields_of b)) (length a) (length a + length b) (row_first_part a b 0 (fields_of a) (length a) (row_of a wa))
+    (subst (λ (p : ℕ). AreInRow (a ++ b) p (map (moved_field (length a)) (fields_of b)) (length a + length b)) (add-zero (length a)) (row_after a b 0 (fields_of b) (length b) (row_of b wb)))
 
 whole_from : (bytes : List ℕ) (fault : Option (ℕ × WireWhy)) → length bytes ≤ fields_end bytes 0 → MatchOption fault (fields_end bytes 0 ≡ length bytes) (λ fault. (fault.0 ≡ fields_end bytes 0) × (fault.0 < length bytes)) → fault ≡ None
 whole_from bytes None far told = refl
@@ -142,7 +142,7 @@ whole_from bytes (Some fault) far told = absurd (omega (arith, told.0, told.1))
 pub both_whole : (a b : List ℕ) → IsWhole a → IsWhole b → IsWhole (a ++ b)
 both_whole a b wa wb =
     let longest = fields_are_longest (a ++ b) (fields_of a ++ map (moved_field (length a)) (fields_of b)) (length a + length b) (row_of_both a b wa wb) in
-    whole_from (a ++ b) (fields_fault (a ++ b)) (omega (arith, longest.1, length-append a b)) (fault_is_behind (a ++ b))
+    whole_from (a ++ b) (fields_fault (a ++ b)) (omega (arith, longest.1, length-append a b)) (fault_is_after (a ++ b))
 
 pub values_of_both : (a b : List ℕ) → IsWhole a → IsWhole b → values_of (a ++ b) ≡ values_of a ++ values_of b
 unfolding values_of
@@ -152,7 +152,7 @@ values_of_both a b wa wb =
     let fields : fields_of (a ++ b) ≡ fields_of a ++ map (moved_field (length a)) (fields_of b) =
     longest.0 ∙ ap (λ (rest : List FieldAt). (fields_of a ++ map (moved_field (length a)) (fields_of b)) ++ rest) end ∙ append-nil (fields_of a ++ map (moved_field (length a)) (fields_of b)) in
     ap (map (value_at (a ++ b))) fields ∙ map-append (value_at (a ++ b)) (fields_of a) (map (moved_field (length a)) (fields_of b))
-    ∙ ap (λ (xs : List FieldValue). xs ++ map (value_at (a ++ b)) (map (moved_field (length a)) (fields_of b))) (values_front a b 0 (fields_of a) (length a) (row_of a wa))
+    ∙ ap (λ (xs : List FieldValue). xs ++ map (value_at (a ++ b)) (map (moved_field (length a)) (fields_of b))) (values_first_part a b 0 (fields_of a) (length a) (row_of a wa))
     ∙ ap (λ (xs : List FieldValue). map (value_at a) (fields_of a) ++ xs) (values_behind a b (fields_of b))
 
 -- ---- and any number of them

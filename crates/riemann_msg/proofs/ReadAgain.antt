@@ -29,7 +29,7 @@ use Rattle.riemann_msg.specs.ReadBack.{IsWellFormedAttribute, IsWellFormedEvent,
 use Rattle.riemann_msg.specs.Draft.{value_at, field_at}
 use Rattle.riemann_msg.proofs.TtlBits.{seconds_from_ttl, bits_of_spells, bits_of_small}
 
--- ---- what is found in fields that were put one behind the other
+-- ---- what is found in fields that were put one after the other
 
 found_in_both : {A B : Type 0} (f : A → Option B) (xs ys : List A) → filter_map f (xs ++ ys) ≡ filter_map f xs ++ filter_map f ys
 found_in_both f [] ys = refl

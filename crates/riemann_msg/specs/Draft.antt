@@ -4,6 +4,7 @@ use Rattle.std.specs.Prelude.{◌≡◌, ℕ, ◌==◌, if◌then◌else◌, is_
 use Rattle.std.specs.Str.{is_utf8}
 use Rattle.std.specs.Option.{option_map, option_or, option_to_list}
 use Rattle.std.specs.List.{fold}
+use Rattle.ev_types.specs.Set.{event_at}
 use Rattle.pb_wire.specs.declared.reader.Body.{Body}
 use Rattle.pb_wire.specs.Fields.{FieldAt, fields_of}
 use Rattle.pb_wire.specs.Spelling.{content_in}
@@ -73,23 +74,7 @@ message_with draft value = record {
 }
 
 abbrev pub fresh_event : EventDraft
-fresh_event = record {
-  time = None;
-  event = record {
-    host = None;
-    service = None;
-    state = None;
-    description = None;
-    tags = [];
-    time = pos 0;
-    time_micros = None;
-    ttl = None;
-    metric = None;
-    raw_d = None;
-    raw_f = None;
-    attributes = [];
-  };
-}
+fresh_event = record { time = None; event = event_at (pos 0) }
 
 abbrev pub fresh_message : ℤ → MsgDraft
 fresh_message now = record { now = now; msg = record { ok = None; error = None; query = None; events = [] } }

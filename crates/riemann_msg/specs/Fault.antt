@@ -1,6 +1,6 @@
 -- For which fault a message is refused: the first one in the list of its fields. Places count bytes from the start of
 -- the message.
-use Rattle.std.specs.Prelude.{◌≡◌, ℕ, ◌+◌, ◌==◌, Bool, if◌then◌else◌, List, [], ◌∷◌, length, slice_range, Option, Some, None, Result, Ok, Err, is_some}
+use Rattle.std.specs.Prelude.{◌≡◌, ℕ, ◌+◌, ◌==◌, Bool, if◌then◌else◌, List, [], ◌∷◌, length, slice_range, codes, Option, Some, None, Result, Ok, Err, is_some}
 use Rattle.std.specs.List.{list_any}
 use Rattle.std.specs.Option.{option_map, option_or}
 use Rattle.std.specs.Str.{is_utf8}
@@ -17,6 +17,16 @@ use Rattle.riemann_msg.specs.declared.fault.MsgWhy.TheVariants.{Short as why_sho
 use Rattle.riemann_msg.specs.Ttl.{seconds_of}
 use Rattle.riemann_msg.specs.Value.{bytes_in, last_in}
 
+-- the name of a cause
+abbrev pub why_name : MsgWhy → List ℕ
+why_name why_short = codes "short"
+why_name why_varint = codes "varint"
+why_name why_tag = codes "tag"
+why_name why_wire = codes "wire"
+why_name why_utf8 = codes "utf8"
+why_name why_key = codes "key"
+why_name why_ttl = codes "ttl"
+
 pub record Fault : Type 0 where
   pub place : ℕ
   pub why : MsgWhy
@@ -24,7 +34,7 @@ pub record Fault : Type 0 where
 abbrev pub fault_at : ℕ → MsgWhy → Fault
 fault_at place why = record { place = place; why = why }
 
--- the place counted from further in front
+-- the same fault, with its place counted from `start` bytes earlier
 abbrev pub moved : ℕ → Fault → Fault
 moved start fault = fault_at (start + fault.place) fault.why
 
@@ -49,7 +59,7 @@ embedded_fault fault bytes (Varint value) = None
 embedded_fault fault bytes (Eight value) = None
 embedded_fault fault bytes (Four value) = None
 
--- ---- the first fault of the fields, and behind them that of the wire format
+-- ---- the first fault of the fields, and after them that of the wire format
 
 abbrev pub why_of : WireWhy → MsgWhy
 why_of wire_short = why_short
@@ -108,7 +118,7 @@ first_fault bytes = first_by (message_field_fault bytes) bytes
 
 -- ---- what an answer says
 
--- a refusal is for this fault; memory may be wanted at any time
+-- a refusal is for this fault; memory may run out at any time
 abbrev pub IsRefusedFor : Option Fault → MsgFault → Type 0
 IsRefusedFor fault (Refused place why) = fault ≡ Some (fault_at place why)
 IsRefusedFor fault Memory = Unit {0}

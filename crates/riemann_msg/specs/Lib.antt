@@ -4,3 +4,4 @@ pub mod Fault
 pub mod Draft
 pub mod Spelling
 pub mod ReadBack
+pub mod Reply

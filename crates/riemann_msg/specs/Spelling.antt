@@ -24,7 +24,7 @@ optional number content value = option_to_list (option_map (λ x. field number (
 abbrev pub repeated : {A : Type 0} → ℕ → (A → Content) → List A → List FieldValue
 repeated number content items = map (λ x. field number (content x)) items
 
--- the bytes of fields, one behind the other
+-- the bytes of fields, one after the other
 abbrev pub spelled : List FieldValue → List ℕ
 spelled values = flat_map value_spelling values
 

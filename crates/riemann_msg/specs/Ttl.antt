@@ -12,7 +12,7 @@ exponent_of bits = bits / 2 ^ 23 % 2 ^ 8
 abbrev pub fraction_of : ℕ → ℕ
 fraction_of bits = bits % 2 ^ 23
 
--- 2 ^ 150 times the number that the bits stand for, where the sign is 0 and the exponent is neither 0 nor special
+-- 2 ^ 150 times the number that the bits represent, where the sign is 0 and the exponent is neither 0 nor special
 abbrev pub scaled_value : ℕ → ℕ
 scaled_value bits = (2 ^ 23 + fraction_of bits) * 2 ^ exponent_of bits
 
@@ -29,21 +29,21 @@ pub record IsWhole (bits seconds : ℕ) : Type 0 where
   pub greatest : exponent_of bits ≤ 157
   pub value : scaled_value bits ≡ seconds * 2 ^ 150
 
--- the bits stand for so many seconds
+-- the bits represent this number of seconds
 abbrev pub IsTtl : ℕ → ℕ → Type 0
 IsTtl bits seconds = IsZero bits seconds ⊎ IsWhole bits seconds
 
--- some bits stand for so many seconds
+-- some bits represent this number of seconds
 abbrev pub IsSpellableTtl : ℕ → Type 0
 IsSpellableTtl seconds = (bits : ℕ) × IsTtl bits seconds
 
--- the seconds that the bits stand for
+-- the seconds that the bits represent
 unfoldable pub seconds_of : ℕ → Option ℕ
 seconds_of bits = if exponent_of bits == 0 && fraction_of bits == 0 then Some 0
     else if sign_of bits == 0 && nat_le 1 (exponent_of bits) && nat_le (exponent_of bits) 157 && (scaled_value bits % 2 ^ 150 == 0)
     then Some (scaled_value bits / 2 ^ 150) else None
 
--- The bits that spell so many seconds: none is set in those of 0; otherwise the exponent is that of the highest digit,
+-- The bits that spell a number of seconds: none is set in those of 0; otherwise the exponent is that of the highest digit,
 -- and the digits below it are the fraction.
 unfoldable pub bits_of : ℕ → ℕ
 bits_of zero = 0

@@ -1,4 +1,4 @@
--- What a message is, by what its fields hold. Of a field that may stand once the last one counts; a field that is
+-- What a message is, by what its fields hold. Of a field that may be there once the last one counts; a field that is
 -- repeated keeps all, in order. Fields with another number, or of another type, count for nothing.
 use Rattle.std.specs.Prelude.{ℕ, ◌==◌, ◌/◌, ◌%◌, not, Bool, if◌then◌else◌, List, [], ◌∷◌, Option, Some, None, unwrap_or, ℤ, pos, negsuc}
 use Rattle.std.specs.Int.{w64, cast_signed, int_div_euclid}
@@ -38,7 +38,7 @@ four_in (Varint value) = None
 four_in (Eight value) = None
 four_in (Bytes bytes) = None
 
--- zigzag form: the unsigned numbers 0, 1, 2, 3, 4 .. stand for 0, -1, 1, -2, 2 ..
+-- zigzag form: the unsigned numbers 0, 1, 2, 3, 4 .. represent 0, -1, 1, -2, 2 ..
 abbrev pub unzigzag : ℕ → ℤ
 unzigzag value = if value % 2 == 0 then pos (value / 2) else negsuc (value / 2)
 
@@ -80,7 +80,7 @@ attribute_in content = option_map attribute_of (bytes_in content)
 abbrev pub second_of : ℤ → ℤ
 second_of micros = int_div_euclid micros (pos 1000000)
 
--- the time is that of time_micros where that is told, and else that of time, and else the moment of reading
+-- the time is that of time_micros where that is there, and else that of time, and else the moment of reading
 abbrev pub time_from : ℤ → Option ℤ → Option ℤ → ℤ
 time_from now micros time = unwrap_or (option_or (option_map second_of micros) time) now
 
@@ -109,7 +109,7 @@ event_in now content = option_map (event_of now) (bytes_in content)
 unfoldable pub query_of : List ℕ → QueryPart
 query_of bytes = record { string = last_in bytes_in 1 (values_of bytes) }
 
--- several queries are read as one, whose body is their bodies one behind the other
+-- several queries are read as one, whose body is their bodies one after the other
 abbrev pub queries_joined : List (List ℕ) → Option QueryPart
 queries_joined [] = None
 queries_joined (part ∷ parts) = Some (query_of (concat (part ∷ parts)))

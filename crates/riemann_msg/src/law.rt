@@ -5,7 +5,7 @@ ghost use Rattle.riemann_msg.specs.Ttl.{IsSpellableTtl};
 ghost use Rattle.riemann_msg.specs.ReadBack.{MessagesAreReadBack};
 
 /// What is written is read again as it was, at any moment: each message whose events have the time that their
-/// time_micros gives, where they have that field, and a ttl that bits stand for, and whose texts are UTF-8.
+/// time_micros gives, where they have that field, and a ttl that bits represent, and whose texts are UTF-8.
 pub fn written_is_read()
     ensures { MessagesAreReadBack }
 {}

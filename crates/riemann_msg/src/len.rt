@@ -194,7 +194,8 @@ fn flag_len(flag: Option<bool>) -> usize
 /// How many bytes the text has with its tag and its length, where there is one and its number is below 16.
 #[tactic(auto, using(crate::proofs::Lengths::text_length))]
 fn text_len(text: &Option<Text>) -> Result<usize, Memory>
-    ensures { (number : ℕ) → number < 16 → Counts result (length (spelled (optional number Bytes text.now))) }
+    ensures { (number : ℕ) → number < 16
+        → Counts result (length (spelled (optional number Bytes text.now))) }
 {
     match text {
         Some(text) => embedded_len(text.as_bytes().len()),

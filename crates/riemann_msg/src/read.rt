@@ -18,7 +18,7 @@ use crate::fields::{
 use crate::msg::{Msg, QueryPart};
 use crate::ttl::ttl_of_bits;
 use crate::zigzag::unzigzag;
-use ev_types::{Attr, Attrs, Event, Events, Tags, Text, TextFault};
+use ev_types::{Attr, Event, Events, Text, TextFault};
 use pb_wire::{Body, FieldReader, Next};
 use std::alloc::Global;
 
@@ -46,7 +46,8 @@ trait Draft {
         requires body { LiesWithin (length bytes.now) body }
         ensures ok { OnOk result ((fault bytes.now (field_at number body place) ≡ None)
             × (self.new ≡ with_field bytes.now self.old (field_at number body place))) }
-        ensures refused { IfErr result (IsRefusedFor (option_map (moved base) (fault bytes.now (field_at number body place)))) };
+        ensures refused { IfErr result (IsRefusedFor
+            (option_map (moved base) (fault bytes.now (field_at number body place)))) };
 }
 
 /// Reads the fields of the bytes into the draft, up to the first fault. The bytes begin at `base` in the whole
@@ -60,7 +61,8 @@ fn read_fields<D: Draft>(
     requires { base + length bytes.now < 2 ^ 64 }
     ensures ok { OnOk result ((first_by (D.fault bytes.now) bytes.now ≡ None)
         × (draft.new ≡ fold (D.with_field bytes.now) draft.old (fields_of bytes.now))) }
-    ensures refused { IfErr result (IsRefusedFor (option_map (moved base) (first_by (D.fault bytes.now) bytes.now))) }
+    ensures refused { IfErr result (IsRefusedFor
+        (option_map (moved base) (first_by (D.fault bytes.now) bytes.now))) }
 {
     let mut fields = FieldReader::over(bytes);
     'fields: loop {
@@ -81,7 +83,7 @@ fn read_fields<D: Draft>(
     }
 }
 
-/// The bytes as a text. Where they are none, the fault is at `place` in the whole message.
+/// The bytes as a text. Where they are not UTF-8, the fault is at `place` in the whole message.
 fn text_of(alloc: Global, bytes: &[u8], place: usize) -> Result<Text, MsgFault>
     ensures { Reads (utf8_fault place bytes.now) bytes.now result }
 {
@@ -132,7 +134,8 @@ impl Draft for AttrDraft {
 /// Reads the bytes, which begin at `base` in the whole message, as an attribute.
 fn read_attribute(alloc: Global, bytes: &[u8], base: usize) -> Result<Attr, MsgFault>
     requires { base + length bytes.now < 2 ^ 64 }
-    ensures { Reads (option_map (moved base) (attribute_fault bytes.now)) (attribute_of bytes.now) result }
+    ensures { Reads (option_map (moved base) (attribute_fault bytes.now))
+        (attribute_of bytes.now) result }
 {
     let mut draft = AttrDraft {
         key: None,
@@ -186,20 +189,7 @@ impl EventDraft {
     {
         EventDraft {
             time: None,
-            event: Event {
-                host: None,
-                service: None,
-                state: None,
-                description: None,
-                tags: Tags::fresh(alloc),
-                time: 0,
-                time_micros: None,
-                ttl: None,
-                metric: None,
-                raw_d: None,
-                raw_f: None,
-                attributes: Attrs::fresh(alloc),
-            },
+            event: Event::at(alloc, 0),
         }
     }
 
@@ -226,7 +216,8 @@ impl EventDraft {
 
     /// Reads a field of four bytes.
     fn put_four(&mut self, number: u32, bits: u32, place: usize) -> Result<(), MsgFault>
-        ensures { Puts (four_fault number bits place) (event_with self.old (field number (Four bits))) result self.new }
+        ensures { Puts (four_fault number bits place)
+            (event_with self.old (field number (Four bits))) result self.new }
     {
         if number == TTL {
             let Some(ttl) = ttl_of_bits(bits) else {
@@ -252,7 +243,8 @@ impl EventDraft {
         place: usize,
     ) -> Result<(), MsgFault>
         requires { base + length bytes.now < 2 ^ 64 }
-        ensures { Puts (bytes_fault number bytes.now base place) (event_with self.old (field number (Bytes bytes.now))) result self.new }
+        ensures { Puts (bytes_fault number bytes.now base place)
+            (event_with self.old (field number (Bytes bytes.now))) result self.new }
     {
         match number {
             STATE => self.event.state = Some(text_of(alloc, bytes, place)?),
@@ -301,7 +293,8 @@ impl Draft for EventDraft {
 #[tactic(auto, unfolding(crate::specs::Fault::event_fault))]
 fn read_event(alloc: Global, now: i64, bytes: &[u8], base: usize) -> Result<Event, MsgFault>
     requires { base + length bytes.now < 2 ^ 64 }
-    ensures { Reads (option_map (moved base) (event_fault bytes.now)) (event_of now bytes.now) result }
+    ensures { Reads (option_map (moved base) (event_fault bytes.now))
+        (event_of now bytes.now) result }
 {
     let mut draft = EventDraft::fresh(alloc);
     read_fields(alloc, bytes, base, &mut draft)?;
@@ -310,8 +303,8 @@ fn read_event(alloc: Global, now: i64, bytes: &[u8], base: usize) -> Result<Even
     Ok(event)
 }
 
-/// The time of an event, in seconds: that in microseconds rounded down where it is told so, else the time that is
-/// told, else `now`.
+/// The time of an event, in seconds: that in microseconds rounded down where there is one, else the time in seconds,
+/// else `now`.
 fn time_of(now: i64, micros: Option<i64>, time: Option<i64>) -> i64
     ensures { result ≡ time_from now micros time }
 {
@@ -355,7 +348,8 @@ impl MsgDraft {
         place: usize,
     ) -> Result<(), MsgFault>
         requires { base + length bytes.now < 2 ^ 64 }
-        ensures { Puts (part_fault number bytes.now base place) (message_with self.old (field number (Bytes bytes.now))) result self.new }
+        ensures { Puts (part_fault number bytes.now base place)
+            (message_with self.old (field number (Bytes bytes.now))) result self.new }
     {
         match number {
             ERROR => self.msg.error = Some(text_of(alloc, bytes, place)?),

@@ -7,7 +7,7 @@ ghost use Rattle.riemann_msg.specs.Ttl.{IsTtl, IsSpellableTtl, exponent_of, frac
 /// The bits of a fraction.
 const FRACTION_BITS: u32 = 23;
 
-/// The bit that stands before the fraction and is not spelled.
+/// The bit above the fraction, which is not spelled.
 const LEADING_BIT: u32 = 0x80_0000;
 
 /// The exponent of the numbers whose last digit counts ones.
@@ -16,7 +16,7 @@ const ONES: u32 = 150;
 /// The greatest exponent of numbers below 2^31.
 const GREATEST_EXPONENT: u32 = 157;
 
-/// The whole number of seconds that the bits of a binary32 number stand for: `None` for fractions, negative numbers,
+/// The whole number of seconds that the bits of a binary32 number represent: `None` for fractions, negative numbers,
 /// infinities, what is no number, and from 2^31 on. Both zeros are 0.
 pub fn ttl_of_bits(bits: u32) -> Option<u32>
     ensures value { result ≡ seconds_of bits }
@@ -54,7 +54,8 @@ fn whole_of(significand: u32, exponent: u32) -> Option<u32>
     requires least { 2 ^ 23 ≤ significand }
     requires greatest { significand < 2 ^ 24 }
     requires small { exponent ≤ 157 }
-    ensures { SomeIff result (significand * 2 ^ exponent % 2 ^ 150 ≡ 0) (significand * 2 ^ exponent / 2 ^ 150) }
+    ensures { SomeIff result (significand * 2 ^ exponent % 2 ^ 150 ≡ 0)
+        (significand * 2 ^ exponent / 2 ^ 150) }
 {
     if exponent >= ONES {
         return Some(significand << (exponent - ONES));
@@ -66,8 +67,8 @@ fn whole_of(significand: u32, exponent: u32) -> Option<u32>
     Some(significand >> places)
 }
 
-/// The bits of the binary32 number that a ttl is: 0 is four bytes of zero. Of a number that no bits stand for, the
-/// binary digits behind the first 24 are left out; from 2^31 on the bits are those of no ttl.
+/// The bits of the binary32 number that a ttl is: 0 is four bytes of zero. Of a number that no bits represent, the
+/// binary digits after the first 24 are left out; from 2^31 on the bits are those of no ttl.
 pub fn bits_of_ttl(ttl: u32) -> u32
     ensures bits { result ≡ bits_of ttl }
     ensures spells { IsSpellableTtl ttl → IsTtl result ttl }

@@ -1,6 +1,7 @@
 ghost use Rattle.std.specs.Prelude.{◌≡◌, ◌++◌, ◌<◌, ◌^◌, OnOk, OnErr};
 ghost use Rattle.std.specs.Int.{from_bool};
-ghost use Rattle.pb_wire.specs.Spelling.{Grew, Bytes, Eight, Four, Varint};
+ghost use Rattle.list_laws.specs.Prefix.{IsPrefix};
+ghost use Rattle.pb_wire.specs.Spelling.{Bytes, Eight, Four, Varint};
 ghost use Rattle.riemann_msg.specs.Ttl.{bits_of};
 ghost use Rattle.riemann_msg.specs.Spelling.{spelling, spelled, optional, repeated, int64, sint64, attribute_values, attribute_content, name_values, number_values, event_values, event_content, query_content};
 
@@ -16,11 +17,10 @@ use ev_types::{Attr, Blob, Event, Memory, Text};
 use pb_wire::{PutBody, put_field, put_tag_and_length};
 use std::alloc::Global;
 
-/// Appends the spelling of a message. After a want of memory `out` begins with what it had.
-
+/// Appends the spelling of a message. Once out of memory, `out` still begins with what it had.
 pub fn write_msg(alloc: Global, msg: &Msg, out: &mut Blob) -> Result<(), Memory>
     ensures ok { OnOk result (out.new ≡ out.old ++ spelling msg.now) }
-    ensures err { OnErr result (Grew out.old out.new) }
+    ensures err { OnErr result (IsPrefix out.old out.new) }
 {
     put_flag(alloc, msg.ok, out)?;
     put_text(alloc, ERROR, &msg.error, out)?;
@@ -31,8 +31,9 @@ pub fn write_msg(alloc: Global, msg: &Msg, out: &mut Blob) -> Result<(), Memory>
 
 /// Appends the flag, where there is one.
 fn put_flag(alloc: Global, flag: Option<bool>, out: &mut Blob) -> Result<(), Memory>
-    ensures ok { OnOk result (out.new ≡ out.old ++ spelled (optional 2 (λ ok. Varint (from_bool ok)) flag)) }
-    ensures err { OnErr result (Grew out.old out.new) }
+    ensures ok { OnOk result (out.new
+        ≡ out.old ++ spelled (optional 2 (λ ok. Varint (from_bool ok)) flag)) }
+    ensures err { OnErr result (IsPrefix out.old out.new) }
 {
     if let Some(flag) = flag {
         put_field(alloc, out, OK, PutBody::Varint(u64::from(flag)))?;
@@ -45,7 +46,7 @@ fn put_text(alloc: Global, number: u32, text: &Option<Text>, out: &mut Blob) -> 
     requires positive { 0 < number }
     requires small { number < 2 ^ 29 }
     ensures ok { OnOk result (out.new ≡ out.old ++ spelled (optional number Bytes text.now)) }
-    ensures err { OnErr result (Grew out.old out.new) }
+    ensures err { OnErr result (IsPrefix out.old out.new) }
 {
     if let Some(text) = text {
         put_field(alloc, out, number, PutBody::Bytes(text.as_bytes()))?;
@@ -57,7 +58,7 @@ fn put_text(alloc: Global, number: u32, text: &Option<Text>, out: &mut Blob) -> 
 #[tactic(auto, unfolding(crate::specs::Spelling::query_values))]
 fn put_query(alloc: Global, query: &Option<QueryPart>, out: &mut Blob) -> Result<(), Memory>
     ensures ok { OnOk result (out.new ≡ out.old ++ spelled (optional 5 query_content query.now)) }
-    ensures err { OnErr result (Grew out.old out.new) }
+    ensures err { OnErr result (IsPrefix out.old out.new) }
 {
     if let Some(query) = query {
         put_tag_and_length(alloc, out, QUERY, query_len(query)?)?;
@@ -69,7 +70,7 @@ fn put_query(alloc: Global, query: &Option<QueryPart>, out: &mut Blob) -> Result
 /// Appends the events.
 fn put_events(alloc: Global, events: &[Event], out: &mut Blob) -> Result<(), Memory>
     ensures ok { OnOk result (out.new ≡ out.old ++ spelled (repeated 6 event_content events.now)) }
-    ensures err { OnErr result (Grew out.old out.new) }
+    ensures err { OnErr result (IsPrefix out.old out.new) }
 {
     for event in events {
         put_tag_and_length(alloc, out, EVENTS, event_len(event)?)?;
@@ -81,7 +82,7 @@ fn put_events(alloc: Global, events: &[Event], out: &mut Blob) -> Result<(), Mem
 /// Appends the fields of an event.
 fn put_event(alloc: Global, event: &Event, out: &mut Blob) -> Result<(), Memory>
     ensures ok { OnOk result (out.new ≡ out.old ++ spelled (event_values event.now)) }
-    ensures err { OnErr result (Grew out.old out.new) }
+    ensures err { OnErr result (IsPrefix out.old out.new) }
 {
     put_names(alloc, event, out)?;
     put_tags(alloc, event.tags.as_slice(), out)?;
@@ -95,7 +96,7 @@ fn put_event(alloc: Global, event: &Event, out: &mut Blob) -> Result<(), Memory>
 #[tactic(auto, using(crate::proofs::Spelled::names_spelled))]
 fn put_names(alloc: Global, event: &Event, out: &mut Blob) -> Result<(), Memory>
     ensures ok { OnOk result (out.new ≡ out.old ++ spelled (name_values event.now)) }
-    ensures err { OnErr result (Grew out.old out.new) }
+    ensures err { OnErr result (IsPrefix out.old out.new) }
 {
     put_field(
         alloc,
@@ -114,7 +115,7 @@ fn put_names(alloc: Global, event: &Event, out: &mut Blob) -> Result<(), Memory>
 #[tactic(auto, using(crate::proofs::Spelled::next_tag))]
 fn put_tags(alloc: Global, tags: &[Text], out: &mut Blob) -> Result<(), Memory>
     ensures ok { OnOk result (out.new ≡ out.old ++ spelled (repeated 7 Bytes tags.now)) }
-    ensures err { OnErr result (Grew out.old out.new) }
+    ensures err { OnErr result (IsPrefix out.old out.new) }
 {
     for tag in tags {
         put_field(alloc, out, TAGS, PutBody::Bytes(tag.as_bytes()))?;
@@ -124,8 +125,9 @@ fn put_tags(alloc: Global, tags: &[Text], out: &mut Blob) -> Result<(), Memory>
 
 /// Appends the ttl, where there is one.
 fn put_ttl(alloc: Global, ttl: Option<u32>, out: &mut Blob) -> Result<(), Memory>
-    ensures ok { OnOk result (out.new ≡ out.old ++ spelled (optional 8 (λ ttl. Four (bits_of ttl)) ttl)) }
-    ensures err { OnErr result (Grew out.old out.new) }
+    ensures ok { OnOk result (out.new
+        ≡ out.old ++ spelled (optional 8 (λ ttl. Four (bits_of ttl)) ttl)) }
+    ensures err { OnErr result (IsPrefix out.old out.new) }
 {
     if let Some(ttl) = ttl {
         put_field(alloc, out, TTL, PutBody::Four(bits_of_ttl(ttl)))?;
@@ -134,10 +136,10 @@ fn put_ttl(alloc: Global, ttl: Option<u32>, out: &mut Blob) -> Result<(), Memory
 }
 
 /// Appends the attributes.
-
 fn put_attributes(alloc: Global, attributes: &[Attr], out: &mut Blob) -> Result<(), Memory>
-    ensures ok { OnOk result (out.new ≡ out.old ++ spelled (repeated 9 attribute_content attributes.now)) }
-    ensures err { OnErr result (Grew out.old out.new) }
+    ensures ok { OnOk result (out.new
+        ≡ out.old ++ spelled (repeated 9 attribute_content attributes.now)) }
+    ensures err { OnErr result (IsPrefix out.old out.new) }
 {
     for attribute in attributes {
         put_tag_and_length(alloc, out, ATTRIBUTES, attribute_len(attribute)?)?;
@@ -147,10 +149,9 @@ fn put_attributes(alloc: Global, attributes: &[Attr], out: &mut Blob) -> Result<
 }
 
 /// Appends the fields of an attribute.
-
 fn put_attribute(alloc: Global, attribute: &Attr, out: &mut Blob) -> Result<(), Memory>
     ensures ok { OnOk result (out.new ≡ out.old ++ spelled (attribute_values attribute.now)) }
-    ensures err { OnErr result (Grew out.old out.new) }
+    ensures err { OnErr result (IsPrefix out.old out.new) }
 {
     put_field(alloc, out, KEY, PutBody::Bytes(attribute.key.as_bytes()))?;
     put_text(alloc, VALUE, &attribute.value, out)?;
@@ -161,7 +162,7 @@ fn put_attribute(alloc: Global, attribute: &Attr, out: &mut Blob) -> Result<(), 
 #[tactic(auto, using(crate::proofs::Spelled::numbers_spelled))]
 fn put_numbers(alloc: Global, event: &Event, out: &mut Blob) -> Result<(), Memory>
     ensures ok { OnOk result (out.new ≡ out.old ++ spelled (number_values event.now)) }
-    ensures err { OnErr result (Grew out.old out.new) }
+    ensures err { OnErr result (IsPrefix out.old out.new) }
 {
     put_micros(alloc, event.time_micros, out)?;
     put_metric(alloc, event.metric, out)?;
@@ -173,7 +174,7 @@ fn put_numbers(alloc: Global, event: &Event, out: &mut Blob) -> Result<(), Memor
 /// Appends the time in microseconds, where there is one.
 fn put_micros(alloc: Global, micros: Option<i64>, out: &mut Blob) -> Result<(), Memory>
     ensures ok { OnOk result (out.new ≡ out.old ++ spelled (optional 10 int64 micros)) }
-    ensures err { OnErr result (Grew out.old out.new) }
+    ensures err { OnErr result (IsPrefix out.old out.new) }
 {
     if let Some(micros) = micros {
         put_field(
@@ -189,7 +190,7 @@ fn put_micros(alloc: Global, micros: Option<i64>, out: &mut Blob) -> Result<(), 
 /// Appends the metric, where there is one.
 fn put_metric(alloc: Global, metric: Option<i64>, out: &mut Blob) -> Result<(), Memory>
     ensures ok { OnOk result (out.new ≡ out.old ++ spelled (optional 13 sint64 metric)) }
-    ensures err { OnErr result (Grew out.old out.new) }
+    ensures err { OnErr result (IsPrefix out.old out.new) }
 {
     if let Some(metric) = metric {
         put_field(alloc, out, METRIC_SINT64, PutBody::Varint(zigzag(metric)))?;
@@ -200,7 +201,7 @@ fn put_metric(alloc: Global, metric: Option<i64>, out: &mut Blob) -> Result<(), 
 /// Appends the bits of a metric that came as a double, where there are some.
 fn put_double(alloc: Global, bits: Option<u64>, out: &mut Blob) -> Result<(), Memory>
     ensures ok { OnOk result (out.new ≡ out.old ++ spelled (optional 14 Eight bits)) }
-    ensures err { OnErr result (Grew out.old out.new) }
+    ensures err { OnErr result (IsPrefix out.old out.new) }
 {
     if let Some(bits) = bits {
         put_field(alloc, out, METRIC_D, PutBody::Eight(bits))?;
@@ -211,7 +212,7 @@ fn put_double(alloc: Global, bits: Option<u64>, out: &mut Blob) -> Result<(), Me
 /// Appends the bits of a metric that came as a float, where there are some.
 fn put_float(alloc: Global, bits: Option<u32>, out: &mut Blob) -> Result<(), Memory>
     ensures ok { OnOk result (out.new ≡ out.old ++ spelled (optional 15 Four bits)) }
-    ensures err { OnErr result (Grew out.old out.new) }
+    ensures err { OnErr result (IsPrefix out.old out.new) }
 {
     if let Some(bits) = bits {
         put_field(alloc, out, METRIC_F, PutBody::Four(bits))?;

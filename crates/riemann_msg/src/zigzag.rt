@@ -4,7 +4,7 @@ ghost use Rattle.std.specs.Prelude.{◌≡◌};
 ghost use Rattle.riemann_msg.specs.Value.{unzigzag};
 ghost use Rattle.riemann_msg.specs.Spelling.{zigzag};
 
-/// The signed number that `value` stands for in the field type sint64.
+/// The signed number that `value` represents in the field type sint64.
 pub fn unzigzag(value: u64) -> i64
     ensures { result ≡ unzigzag value }
 {
@@ -12,7 +12,7 @@ pub fn unzigzag(value: u64) -> i64
     if value % 2 == 0 { half } else { -1 - half }
 }
 
-/// The unsigned number that stands for `value` in the field type sint64.
+/// The unsigned number that represents `value` in the field type sint64.
 pub fn zigzag(value: i64) -> u64
     ensures { result ≡ zigzag value }
 {

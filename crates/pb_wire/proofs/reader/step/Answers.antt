@@ -1,5 +1,5 @@
 use Rattle.std.proofs.Common.{◌<◌, length, sym, ◌∙◌, arith}
-use Rattle.pb_wire.proofs.FrontLaws.{reads_end, reads_field, reads_fault}
+use Rattle.pb_wire.proofs.RowLaws.{reads_end, reads_field, reads_fault}
 use Rattle.pb_wire.proofs.reader.step.Goals as goal
 
 pub returns-then-place-bytes : goal.returns-then-place-bytes

@@ -1,6 +1,6 @@
 -- The fields from a place on, one step further, and where they end.
 use Rattle.std.proofs.Common.{◌≡◌, ℕ, zero, suc, ◌+◌, ◌<◌, ◌≤◌, true, false, leb, ◌⊎◌, inl, inr, List, [], ◌∷◌, ◌++◌, length, Result, Ok, Err, refl, sym, ap, subst, ◌∙◌, arith}
-use Rattle.std.specs.Prelude.{MatchOption}
+use Rattle.std.specs.Prelude.{drop, IfSome, MatchOption}
 use Rattle.std.proofs.lemmas.Bool.{le-leb, lt-leb, cases_lt}
 use Rattle.std.proofs.lemmas.List.{drop_all}
 use Rattle.pb_wire.specs.declared.reader.Body.{Body}
@@ -11,12 +11,10 @@ use Rattle.pb_wire.specs.declared.reader.WireWhy.{WireWhy}
 use Rattle.pb_wire.specs.declared.reader.WireWhy.TheVariants.{Short}
 use Rattle.pb_wire.specs.Varint.{varint_at}
 use Rattle.pb_wire.specs.Fields.{FieldAt, varint_from, tag_from, field_from, next_at, next_place, fields_within, end_within, fields_from, fields_end, fault_in, fault_from, fields_of, fields_fault, Cursor, LiesWithin, Steps}
-use Rattle.pb_wire.specs.Front.{EndsAt, Stands, StandInRow}
-use Rattle.pb_wire.proofs.FieldLaws.{field_found, stands_is_read}
-
-pub cases_read : {A : Type 0} (r : Result A WireWhy) → ((x : A) × (r ≡ Ok x)) ⊎ ((why : WireWhy) × (r ≡ Err why))
-cases_read (Ok x) = inl (x, refl)
-cases_read (Err why) = inr (why, refl)
+use Rattle.pb_wire.specs.Cause.{IsCause}
+use Rattle.pb_wire.specs.InRow.{EndsAt, IsFieldAt, AreInRow}
+use Rattle.pb_wire.proofs.FieldLaws.{cases_read, field_found, field_at_is_read}
+use Rattle.pb_wire.proofs.CauseLaws.{field_cause}
 
 pub nothing_past : (bytes : List ℕ) (place : ℕ) → length bytes ≤ place → field_from bytes place ≡ Err Short
 unfolding field_from tag_from varint_from varint_at
@@ -108,7 +106,7 @@ pub from_none : (bytes : List ℕ) (place : ℕ) (why : WireWhy) → field_from 
 unfolding fields_from fields_end
 from_none bytes place why e = none_within (length bytes) bytes place why e
 
--- what a reader that stands at a place answers
+-- what a reader at a place answers
 
 abbrev cursor : List ℕ → ℕ → Cursor
 cursor bytes place = record { bytes = bytes; place = place }
@@ -163,7 +161,7 @@ reads_fault bytes place why inside e =
       answer = rw (test, none) refl;
       moves = sym (next_place_none bytes place why none);
       within = omega arith;
-      steps = (record { unchanged = refl; fields = stop.0; fault_is = rw (stop.1, test, none) refl }, refl, inside);
+      steps = (record { unchanged = refl; fields = stop.0; fault_is = rw (stop.1, test, none) refl }, refl, inside, field_cause bytes place why none);
     }
 
 -- where they end
@@ -214,42 +212,42 @@ none_at_end (suc n) bytes place h =
 
 -- the laws
 
-stand_within : (n : ℕ) (bytes : List ℕ) (place : ℕ) → StandInRow bytes place (fields_within n bytes place) (end_within n bytes place)
+in_row_within : (n : ℕ) (bytes : List ℕ) (place : ℕ) → AreInRow bytes place (fields_within n bytes place) (end_within n bytes place)
 unfolding fields_within end_within
-stand_within zero bytes place = refl
-stand_within (suc n) bytes place =
+in_row_within zero bytes place = refl
+in_row_within (suc n) bytes place =
     elim (cases_read (field_from bytes place)) [
       | inl found ↦
           (let read : ℕ × Body × ℕ = found.0 in
           let is = field_found bytes place read found.1 in
           let step = some_within n bytes place read found.1 in
           let field : FieldAt = record { number = read.0; body = read.1; place = place } in
-          let stands : Stands bytes field read.2 = record { within = is.within; spelled = is.spelled; ends = is.ends } in
-          let row : StandInRow bytes place (field ∷ fields_within n bytes read.2) (end_within n bytes read.2) = (refl, read.2, stands, stand_within n bytes read.2) in
-          subst (λ (fields : List FieldAt). StandInRow bytes place fields (end_within (suc n) bytes place)) (sym step.0)
-          (subst (λ (last : ℕ). StandInRow bytes place (field ∷ fields_within n bytes read.2) last) (sym step.1) row))
+          let stands : IsFieldAt bytes field read.2 = record { within = is.within; spelled = is.spelled; ends = is.ends } in
+          let row : AreInRow bytes place (field ∷ fields_within n bytes read.2) (end_within n bytes read.2) = (refl, read.2, stands, in_row_within n bytes read.2) in
+          subst (λ (fields : List FieldAt). AreInRow bytes place fields (end_within (suc n) bytes place)) (sym step.0)
+          (subst (λ (last : ℕ). AreInRow bytes place (field ∷ fields_within n bytes read.2) last) (sym step.1) row))
       | inr none ↦
           (let stop = none_within (suc n) bytes place none.0 none.1 in
-          subst (λ (fields : List FieldAt). StandInRow bytes place fields (end_within (suc n) bytes place)) (sym stop.0) (sym stop.1))
+          subst (λ (fields : List FieldAt). AreInRow bytes place fields (end_within (suc n) bytes place)) (sym stop.0) (sym stop.1))
     ]
 
-pub fields_stand : (bytes : List ℕ) → StandInRow bytes 0 (fields_of bytes) (fields_end bytes 0)
+pub fields_in_row : (bytes : List ℕ) → AreInRow bytes 0 (fields_of bytes) (fields_end bytes 0)
 unfolding fields_of fields_from fields_end
-fields_stand bytes = stand_within (length bytes) bytes 0
+fields_in_row bytes = in_row_within (length bytes) bytes 0
 
-row_is_first : (bytes : List ℕ) (place : ℕ) (fields : List FieldAt) (last : ℕ) → StandInRow bytes place fields last
+row_is_first : (bytes : List ℕ) (place : ℕ) (fields : List FieldAt) (last : ℕ) → AreInRow bytes place fields last
     → (fields_from bytes place ≡ fields ++ fields_from bytes last) × (fields_end bytes place ≡ fields_end bytes last)
 row_is_first bytes place [] last row = (ap (fields_from bytes) row, ap (fields_end bytes) row)
 row_is_first bytes place (field ∷ fields) last row =
     let after : ℕ = row.1 in
     let more = row_is_first bytes after fields last row.3 in
-    let read = stands_is_read bytes field after row.2 in
+    let read = field_at_is_read bytes field after row.2 in
     let step = from_field bytes field.place (field.number, field.body, after) read.0 in (
       ap (fields_from bytes) (sym row.0) ∙ step.0 ∙ ap (λ (rest : List FieldAt). field ∷ rest) more.0,
       ap (fields_end bytes) (sym row.0) ∙ step.1 ∙ more.1,
     )
 
-pub fields_are_longest : (bytes : List ℕ) (fields : List FieldAt) (last : ℕ) → StandInRow bytes 0 fields last → (fields_of bytes ≡ fields ++ fields_from bytes last) × (last ≤ fields_end bytes 0)
+pub fields_are_longest : (bytes : List ℕ) (fields : List FieldAt) (last : ℕ) → AreInRow bytes 0 fields last → (fields_of bytes ≡ fields ++ fields_from bytes last) × (last ≤ fields_end bytes 0)
 unfolding fields_of fields_end
 fields_are_longest bytes fields last row =
     let first = row_is_first bytes 0 fields last row in
@@ -266,8 +264,22 @@ fault_at bytes last why within none =
       | inr end ↦ (let test : leb (length bytes) last ≡ true = le-leb _ _ end in rw test (omega arith))
     ]
 
-pub fault_is_behind : (bytes : List ℕ) → MatchOption (fields_fault bytes) (fields_end bytes 0 ≡ length bytes) (λ fault. (fault.0 ≡ fields_end bytes 0) × (fault.0 < length bytes))
+pub fault_is_after : (bytes : List ℕ) → MatchOption (fields_fault bytes) (fields_end bytes 0 ≡ length bytes) (λ fault. (fault.0 ≡ fields_end bytes 0) × (fault.0 < length bytes))
 unfolding fields_fault fault_from fields_end
-fault_is_behind bytes =
+fault_is_after bytes =
     let none = none_at_end (length bytes) bytes 0 (omega arith) in
     fault_at bytes (end_within (length bytes) bytes 0) none.0 (end_stays (length bytes) bytes 0 (omega arith)) none.1
+
+cause_at : (bytes : List ℕ) (last : ℕ) (why : WireWhy) → field_from bytes last ≡ Err why → IfSome (fault_in (next_at bytes last)) (λ fault. IsCause (drop fault.0 bytes) fault.1)
+unfolding next_at
+cause_at bytes last why none =
+    elim (cases_lt last (length bytes)) [
+      | inl inside ↦ (let test : leb (length bytes) last ≡ false = lt-leb _ _ inside in rw (test, none) (field_cause bytes last why none))
+      | inr end ↦ (let test : leb (length bytes) last ≡ true = le-leb _ _ end in rw test tt)
+    ]
+
+pub fault_has_cause : (bytes : List ℕ) → IfSome (fields_fault bytes) (λ fault. IsCause (drop fault.0 bytes) fault.1)
+unfolding fields_fault fault_from fields_end
+fault_has_cause bytes =
+    let none = none_at_end (length bytes) bytes 0 (omega arith) in
+    cause_at bytes (end_within (length bytes) bytes 0) none.0 none.1
