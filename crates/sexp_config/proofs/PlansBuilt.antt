@@ -94,7 +94,7 @@ mutual
 
 -- ---- each stream of the plan
 
-abbrev Right : faults.Located → Type 0
+abbrev Right : faults.Placed → Type 0
 Right s = StandsShallow s × HasStreamsThatMayFollow s × IsInRange s
 
 both : {A : Type 0} (P : A → Type 0) (xs ys : List A) → AllByRecursion P xs → AllByRecursion P ys → AllByRecursion P (xs ++ ys)
@@ -193,7 +193,7 @@ is_left streams path cause built is =
 
 -- ---- a plan that passes has no fault
 
-no_first : (many kind : faults.Located → Fault) (a b c d e : At) → b ≡ None → c ≡ None → d ≡ None → option_or (option_map many a) (option_map kind e) ≡ None → first a b c d e ≡ None
+no_first : (many kind : faults.Placed → Fault) (a b c d e : At) → b ≡ None → c ≡ None → d ≡ None → option_or (option_map many a) (option_map kind e) ≡ None → first a b c d e ≡ None
 no_first many kind None None None None None nb nc nd is = refl
 no_first many kind (Some s) b c d e nb nc nd is = cc
 no_first many kind None (Some s) c d e nb nc nd is = cc

@@ -306,10 +306,10 @@ all_rest : {A : Type 0} (P : A → Type 0) (xs ys : List A) → AllByRecursion P
 all_rest P [] ys all = all
 all_rest P (x ∷ xs) ys all = all_rest P xs ys all.1
 
-abbrev Follow : List faults.Located → Type 0
+abbrev Follow : List faults.Placed → Type 0
 Follow = AllByRecursion HasStreamsThatMayFollow
 
-abbrev Range : List faults.Located → Type 0
+abbrev Range : List faults.Placed → Type 0
 Range = AllByRecursion IsInRange
 
 mutual

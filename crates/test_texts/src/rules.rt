@@ -42,16 +42,7 @@ fn full_event(alloc: Global) -> Result<Event, Memory> {
 }
 
 fn field(alloc: Global, name: &str) -> Result<Field, Memory> {
-    Ok(match name {
-        "host" => Field::Host,
-        "service" => Field::Service,
-        "state" => Field::State,
-        "description" => Field::Description,
-        "time" => Field::Time,
-        "ttl" => Field::Ttl,
-        "metric" => Field::Metric,
-        _ => Field::Attribute(Text::from_str(alloc, name)?),
-    })
+    Field::named(Text::from_str(alloc, name)?).ok_or(Memory)
 }
 
 // The rule that says this of the field: a text, a number or nil, a number to compare with, or a pattern.
