@@ -1,12 +1,14 @@
 -- Events that are put in by key keep their number, each as often as before.
-use Rattle.std.proofs.Common.{Bool, true, false, cond, List, [], ◌∷◌, ◌++◌, subst}
+use Rattle.std.proofs.Common.{◌≡◌, Bool, true, false, cond, List, [], ◌∷◌, ◌++◌, subst}
 use Rattle.std.specs.Ordering.{is_lt}
+use Rattle.std.specs.List.{AllByRecursion}
 use Rattle.std.specs.List.Sorted.{IsPermutation}
 use Rattle.std.proofs.lemmas.List.{append-nil}
 use Rattle.std.proofs.lemmas.List.Sorted.{IsPermutation-refl, IsPermutation-sym, IsPermutation-cons, IsPermutation-middle, IsPermutation-append_right, IsPermutation-trans}
 use Rattle.ev_types.specs.declared.event.Event.{Event}
-use Rattle.index_log.specs.IndexKey.{index_key_cmp}
+use Rattle.index_log.specs.IndexKey.{index_key_cmp, same_index_key}
 use Rattle.index_log.specs.Live.{IndexLog, kept, placed, placed_onto, live_events}
+use Rattle.index_log.proofs.Rising.{IsRising, all-placed, rising-placed, nothing_rises}
 
 -- an event moves over those before it
 moved : (xs ys : List Event) (event : Event) → IsPermutation (event ∷ (xs ++ ys)) (xs ++ event ∷ ys)
@@ -37,3 +39,32 @@ placed_onto-permutes es = subst (λ (l : List Event). IsPermutation l (placed_on
 pub live-permutes : (log : IndexLog) → IsPermutation (kept log) (live_events log)
 unfolding live_events
 live-permutes log = placed_onto-permutes (kept log)
+
+-- ---- in strictly rising order, where no key comes twice
+
+-- no later event is of the first one's key
+abbrev pub AreApart : List Event → Type 0
+AreApart [] = Unit {0}
+AreApart (event ∷ es) = AllByRecursion (λ other. same_index_key event other ≡ false) es × AreApart es
+
+-- none of these is of the key of one that is put in already
+abbrev AreOthers : List Event → List Event → Type 0
+AreOthers sorted [] = Unit {0}
+AreOthers sorted (event ∷ es) = AllByRecursion (λ other. same_index_key other event ≡ false) sorted × AreOthers sorted es
+
+others-placed : (event : Event) (sorted es : List Event) → AllByRecursion (λ other. same_index_key event other ≡ false) es → AreOthers sorted es → AreOthers (placed event sorted) es
+others-placed event sorted [] apart others = tt
+others-placed event sorted (first ∷ es) apart others =
+    (all-placed (λ other. same_index_key other first ≡ false) event sorted apart.0 others.0, others-placed event sorted es apart.1 others.1)
+
+rising-onto : (sorted es : List Event) → IsRising sorted → AreApart es → AreOthers sorted es → IsRising (placed_onto sorted es)
+rising-onto sorted [] rising apart others = rising
+rising-onto sorted (event ∷ es) rising apart others =
+    rising-onto (placed event sorted) es (rising-placed event sorted others.0 rising) apart.1 (others-placed event sorted es apart.0 others.1)
+
+nothing_else : (es : List Event) → AreOthers [] es
+nothing_else [] = tt
+nothing_else (event ∷ es) = (tt, nothing_else es)
+
+pub placed_onto-rising : (es : List Event) → AreApart es → IsRising (placed_onto [] es)
+placed_onto-rising es apart = rising-onto [] es nothing_rises apart (nothing_else es)

@@ -39,7 +39,7 @@ rising-filter test (a ∷ es) k =
 
 -- ---- an event that is put in
 
-all-placed : (P : Event → Type 0) (event : Event) (es : List Event) → P event → AllByRecursion P es → AllByRecursion P (placed event es)
+pub all-placed : (P : Event → Type 0) (event : Event) (es : List Event) → P event → AllByRecursion P es → AllByRecursion P (placed event es)
 all-placed P event [] h k = (h, tt)
 all-placed P event (first ∷ es) h k = all-cond P (is_lt (index_key_cmp event first)) (event ∷ first ∷ es) (first ∷ placed event es) (h, k) (k.0, all-placed P event es h k.1)
 
@@ -54,7 +54,7 @@ rising-placed_by event first es Less e apart k ih = ((e, all_after event first e
 rising-placed_by event first es Equal e apart k ih = absurd (true≢false (sym (ap is_eq (index_key_total.antisymm first event ∙ ap ordering_reverse e)) ∙ apart))
 rising-placed_by event first es Greater e apart k ih = (all-placed (λ other. index_key_cmp first other ≡ Less) event es (index_key_total.antisymm first event ∙ ap ordering_reverse e) k.0, ih)
 
-rising-placed : (event : Event) (es : List Event) → AllByRecursion (λ other. same_index_key other event ≡ false) es → IsRising es → IsRising (placed event es)
+pub rising-placed : (event : Event) (es : List Event) → AllByRecursion (λ other. same_index_key other event ≡ false) es → IsRising es → IsRising (placed event es)
 unfolding IsStrictlySortedBy
 rising-placed event [] apart k = (tt, tt)
 rising-placed event (first ∷ es) apart k = rising-placed_by event first es (index_key_cmp event first) refl apart.0 k (rising-placed event es apart.1 k.1)
@@ -82,7 +82,7 @@ rising-more : (log later : IndexLog) → IsRising (live_events log) → IsRising
 rising-more log [] k = subst (λ (l : IndexLog). IsRising (live_events l)) (sym (append-nil log)) k
 rising-more log (last ∷ later) k = subst (λ (l : IndexLog). IsRising (live_events l)) (append_assoc log (last ∷ []) later) (rising-more (log ++ last ∷ []) later (rising-step log last k))
 
-nothing_rises : IsRising []
+pub nothing_rises : IsRising []
 unfolding IsStrictlySortedBy
 nothing_rises = tt
 
