@@ -1,5 +1,5 @@
 -- What a `batch` keeps at an entry.
-use Rattle.std.proofs.Common.{◌≡◌, ℕ, zero, suc, ◌+◌, ◌-◌, ◌*◌, ◌/◌, ◌%◌, ◌^◌, ◌<◌, ◌≤◌, ◌==◌, ◌⊎◌, inl, inr, nat_le, Bool, true, false, not, cond, List, [], ◌∷◌, ◌++◌, length, drop, Option, Some, refl, sym, ap, subst, ◌∙◌, arith}
+use Rattle.std.proofs.Common.{◌≡◌, ℕ, zero, suc, ◌+◌, ◌-◌, ◌*◌, ◌/◌, ◌%◌, ◌^◌, ◌<◌, ◌≤◌, ◌==◌, ◌⊎◌, inl, inr, nat_le, Bool, true, false, not, cond, List, [], ◌∷◌, ◌++◌, length, drop, Some, refl, sym, ap, subst, ◌∙◌, arith}
 use Rattle.std.proofs.Math.Nat.{div-eq_of_lt-le, mod-lt, mod-le}
 use Rattle.std.proofs.lemmas.Nat.{div-add-mod'}
 use Rattle.std.proofs.lemmas.Bool.{eq-eqb}
@@ -12,7 +12,7 @@ use Rattle.stream_meaning.specs.History.{History, ◌▸◌, begun, moment_of, w
 use Rattle.stream_meaning.specs.Came.{events_in, vector, last_of}
 use Rattle.stream_meaning.specs.Deadlines.{next_window, next_deadline, some_if}
 use Rattle.stream_meaning.specs.Rates.{events_now}
-use Rattle.stream_meaning.proofs.WindowLaws.{no_later_events, ne-test}
+use Rattle.stream_meaning.proofs.WindowLaws.{no_later_events}
 use Rattle.stream_meaning.proofs.MomentLaws.{eq-zero, ne-zero}
 use Rattle.rate_streams.specs.declared.batch.BatchState.{BatchState}
 use Rattle.rate_streams.specs.Batch.{batch_kind, batch_passes, is_batch_due, BatchRepresents}

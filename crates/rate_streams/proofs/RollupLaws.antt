@@ -1,16 +1,16 @@
 -- What a `rollup` keeps at an entry.
-use Rattle.std.proofs.Common.{◌≡◌, ℕ, zero, suc, ◌+◌, ◌-◌, ◌^◌, ◌<◌, ◌≤◌, ◌==◌, ◌⊎◌, inl, inr, nat_lt, Bool, true, false, cond, List, [], ◌∷◌, ◌++◌, length, drop, Some, refl, sym, ap, subst, ◌∙◌, add-one, arith}
+use Rattle.std.proofs.Common.{◌≡◌, ℕ, zero, suc, ◌+◌, ◌-◌, ◌^◌, ◌<◌, ◌≤◌, ◌==◌, inl, inr, nat_lt, Bool, true, false, cond, List, [], ◌∷◌, ◌++◌, length, drop, Some, refl, sym, ap, subst, ◌∙◌, arith}
 use Rattle.std.proofs.lemmas.Bool.{eq-eqb}
 use Rattle.std.proofs.lemmas.Bool.Decides.{nat_tests}
 use Rattle.std.proofs.lemmas.List.{length_push, length-drop, drop_all, drop-append-le, nil_from_length}
 use Rattle.ev_types.specs.declared.event.Event.{Event}
 use Rattle.ev_types.specs.declared.item.Item.TheVariants.{One}
 use Rattle.stream_meaning.specs.declared.entry.Entry.TheVariants.{Tick, Item as In}
-use Rattle.stream_meaning.specs.History.{History, since, ◌▸◌, begun, moment_of, window_of, TicksAlone}
+use Rattle.stream_meaning.specs.History.{History, ◌▸◌, begun, moment_of, window_of, TicksAlone}
 use Rattle.stream_meaning.specs.Came.{events_in, vector}
 use Rattle.stream_meaning.specs.Deadlines.{next_window, next_deadline, some_if}
 use Rattle.stream_meaning.specs.Rates.{events_now, count_in, rolls_into, allowed, one_if}
-use Rattle.stream_meaning.proofs.WindowLaws.{no_later_events, ne-test, next_at, rolls_into-tick}
+use Rattle.stream_meaning.proofs.WindowLaws.{no_later_events, next_at, rolls_into-tick}
 use Rattle.rate_streams.specs.declared.rollup.RollupState.{RollupState}
 use Rattle.rate_streams.specs.Rollup.{rollup_kind, rollup_passes, is_rollup_due, room_in, calls_now, RollupRepresents}
 use Rattle.rate_streams.specs.Windows.{number_at, end_at}

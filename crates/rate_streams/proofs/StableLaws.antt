@@ -9,7 +9,6 @@ use Rattle.stream_meaning.specs.Deadlines.{is_there, next_deadline, some_if}
 use Rattle.stream_meaning.specs.Runs.{differs_from, last_value, run, run_began}
 use Rattle.rate_streams.specs.declared.stable.StableState.{StableState}
 use Rattle.rate_streams.specs.Stable.{stable_kind, StableRepresents}
-use Rattle.rate_streams.proofs.WindowEvents.{there}
 
 began_step : (t : Bool) (now began : ℕ) → began ≤ now → cond t now began ≤ now
 began_step true now began before = omega arith

@@ -1,5 +1,5 @@
 -- What a `throttle` keeps of what came.
-use Rattle.std.specs.Prelude.{◌≡◌, ℕ, ◌+◌, ◌≤◌, ◌==◌, Bool, false, nat_lt, if◌then◌else◌, List, min}
+use Rattle.std.specs.Prelude.{◌≡◌, ℕ, ◌≤◌, ◌==◌, Bool, false, if◌then◌else◌, List, min}
 use Rattle.ev_types.specs.declared.item.Item.{Item}
 use Rattle.stream_meaning.specs.History.{History, begun, window_of}
 use Rattle.stream_meaning.specs.Rates.{count_in, throttle_items}

@@ -1,5 +1,4 @@
 use Rattle.std.proofs.Common.{◌≡◌, ◌++◌}
-use Rattle.list_laws.specs.Prefix.{IsPrefix}
 use Rattle.stream_meaning.specs.Came.{each}
 use Rattle.stream_meaning.specs.Emitted.{emitted}
 use Rattle.rate_streams.proofs.send.send_each.Given as goal

@@ -2,7 +2,6 @@ use Rattle.std.proofs.Common.{◌≡◌, true, false, List, sym, subst, ◌∙�
 use Rattle.ev_types.specs.declared.event.Event.{Event}
 use Rattle.stream_meaning.specs.declared.entry.Entry.TheVariants.{Tick}
 use Rattle.stream_meaning.specs.History.{◌▸◌}
-use Rattle.rate_streams.specs.declared.batch.BatchState.{BatchState}
 use Rattle.rate_streams.specs.Batch.{is_batch_due, BatchRepresents}
 use Rattle.rate_streams.proofs.BatchLaws.{quiet_represents, due_represents}
 use Rattle.rate_streams.proofs.batch.BatchState.tick.Goals as goal

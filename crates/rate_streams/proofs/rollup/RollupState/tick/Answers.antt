@@ -1,5 +1,4 @@
-use Rattle.std.proofs.Common.{◌≡◌, true, false, List, sym, subst, ◌∙◌}
-use Rattle.ev_types.specs.declared.event.Event.{Event}
+use Rattle.std.proofs.Common.{◌≡◌, true, false, sym, subst, ◌∙◌}
 use Rattle.stream_meaning.specs.declared.entry.Entry.TheVariants.{Tick}
 use Rattle.stream_meaning.specs.History.{◌▸◌}
 use Rattle.rate_streams.specs.declared.rollup.RollupState.{RollupState}

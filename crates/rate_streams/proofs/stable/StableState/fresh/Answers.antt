@@ -1,4 +1,4 @@
-use Rattle.std.proofs.Common.{◌<◌, refl, sym, ◌∙◌, rules}
+use Rattle.std.proofs.Common.{◌<◌, refl, sym, rules}
 use Rattle.rate_streams.proofs.StableLaws.{fresh_represents}
 use Rattle.rate_streams.proofs.stable.StableState.fresh.Goals as goal
 
