@@ -1,4 +1,4 @@
-ghost use Rattle.std.specs.Prelude.{◌≡◌, ◌+◌, [], Some, None, IfOk, OnErr};
+ghost use Rattle.std.specs.Prelude.{◌≡◌, ◌+◌, [], ◌↔◌, IsTrue, Some, None, IfOk, OnErr};
 ghost use Rattle.std.specs.Borrow.{sem};
 ghost use Rattle.step_count.specs.Count.{one_more};
 ghost use Rattle.linked_slots.specs.Table.{value_at, IsLive, Changes, LendsValue};
@@ -40,6 +40,13 @@ impl<T: Drop> StepTable<T> {
         ensures err { OnErr result (self.new ≡ self.old) }
     {
         Ok(self.values.insert(value)?)
+    }
+
+    /// Whether the number has a value.
+    pub fn contains(&self, number: usize) -> bool
+        ensures { IsTrue result ↔ IsLive self.now number }
+    {
+        self.values.contains(number)
     }
 
     /// The value at the number, for reading. It counts one entry.

@@ -339,7 +339,7 @@ all_some q p (e ∷ es) h =
     elim (p e) as (λ b. AllByRecursion (λ k. nat_cmp q k ≡ Less) (map (λ (x : ℕ × ℕ). x.0) (cond b (e ∷ filter p es) (filter p es))))
     [ true ↦ (h.0, all_some q p es h.1) | false ↦ all_some q p es h.1 ]
 
-rising_some : (p : ℕ × ℕ → Bool) (es : List (ℕ × ℕ)) → IsRising es → IsStrictlySortedBy nat_cmp (map (λ e. e.0) (filter p es))
+pub rising_some : (p : ℕ × ℕ → Bool) (es : List (ℕ × ℕ)) → IsRising es → IsStrictlySortedBy nat_cmp (map (λ e. e.0) (filter p es))
 unfolding IsStrictlySortedBy
 rising_some p [] s = s
 rising_some p (e ∷ es) s =

@@ -98,6 +98,7 @@ impl DueQueue {
         // Where nothing is due it takes no memory.
         ensures quiet { due_ids now self.old ≡ [] → IsOk result }
         ensures err { OnErr result (self.new ≡ self.old) }
+        ensures rising { IsRising self.new }
         ensures prefix { OnErr result (IsPrefix out.old out.new) }
         ensures at_most { steps.new.entries ≤ steps.old.entries + length (due_ids now self.old) }
         ensures forks { steps.new.forks ≡ steps.old.forks }
@@ -116,6 +117,7 @@ impl DueQueue {
     fn is_due(&self, now: u64) -> bool
         ensures none { result ≡ false → due_ids now self.now ≡ [] }
         ensures some { result ≡ true → due_ids now self.now ≢ [] }
+        ensures rising { IsRising self.now }
     {
         match self.next {
             Some(next) => next <= now,
@@ -125,8 +127,7 @@ impl DueQueue {
 
     /// The ids that are due at or before the moment.
     fn due_ids(&self, alloc: Global, now: u64) -> Result<BTreeSet<usize>, Memory>
-        ensures ids { IfOk result (λ ids. ids.keys ≡ due_ids now self.now) }
-        ensures rising { IsRising self.now }
+        ensures { IfOk result (λ ids. ids.keys ≡ due_ids now self.now) }
     {
         Ok(ids_until(alloc, &self.order, now)?)
     }
