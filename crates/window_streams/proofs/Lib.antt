@@ -1,0 +1,3 @@
+pub mod FixedEventLaws
+pub mod MovingEventLaws
+pub mod TickedLaws

@@ -1,0 +1,2 @@
+pub mod FixedEvent
+pub mod MovingEvent
