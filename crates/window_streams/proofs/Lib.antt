@@ -1,3 +1,2 @@
 pub mod FixedEventLaws
-pub mod MovingEventLaws
 pub mod TickedLaws

@@ -1,2 +1,4 @@
 pub mod FixedEvent
+pub mod FixedTime
 pub mod MovingEvent
+pub mod Stretch

@@ -7,10 +7,10 @@
 #![tactic(auto)]
 
 mod fixed_event;
+mod fixed_time;
 mod moving_event;
-
 mod send;
 
 pub use fixed_event::{FixedEventParams, FixedEventState};
+pub use fixed_time::{FixedTimeParams, FixedTimeState};
 pub use moving_event::{MovingEventParams, MovingEventState};
-
