@@ -1,2 +1,3 @@
 pub mod FixedEventLaws
+pub mod FixedTimeLaws
 pub mod TickedLaws
