@@ -12,7 +12,7 @@ use Rattle.ev_types.specs.Field.{field_value}
 abbrev pub same_key : List Value → List Value → Bool
 same_key = pointwise same_value
 
--- part by part, and a front of a key before the key
+-- part by part, and a prefix of a key before the key
 abbrev pub key_cmp : List Value → List Value → Ordering
 key_cmp = slice_cmp value_cmp
 

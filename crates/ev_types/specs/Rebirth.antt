@@ -36,7 +36,7 @@ abbrev pub attribute_key : KeepKey → Option (List ℕ)
 attribute_key (field (Attribute key)) = Some key
 attribute_key _ = None
 
--- each text once, where it first stands
+-- each text once, at its first place in the list
 abbrev pub each_once : List (List ℕ) → List (List ℕ)
 each_once [] = []
 each_once (text ∷ texts) = text ∷ filter (λ other. not (bytes_eq other text)) (each_once texts)

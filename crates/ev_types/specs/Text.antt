@@ -3,7 +3,7 @@ use Rattle.std.specs.Str.{IsValidUpTo, bytes_eq}
 use Rattle.ev_types.specs.declared.text.TextFault.{TextFault}
 use Rattle.ev_types.specs.declared.text.TextFault.TheVariants.{Utf8, Memory}
 
--- the bytes are no text for this cause: only a longest front of them, which is not all, is UTF-8
+-- the bytes are not a text for this cause: their longest prefix that is UTF-8 is not all of them
 abbrev pub IsNoText : List ℕ → TextFault → Type 0
 IsNoText bytes (Utf8 place) = IsValidUpTo bytes place
 IsNoText bytes Memory = Unit {0}

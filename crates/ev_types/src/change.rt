@@ -1,20 +1,32 @@
 ghost use Rattle.std.specs.Prelude.{◌≡◌, ◌++◌, IfOk, IsTrue, OnOk, OnErr, option_map, nat_abs};
-ghost use Rattle.ev_types.specs.Set.{fits, fits_ttl, with_set, with_tag, has_text, other_attributes, attribute_of};
+ghost use Rattle.ev_types.specs.Set.{all_fit, fits, fits_ttl, with_fitting, with_set, with_tag, other_attributes, attribute_of};
 ghost use Rattle.ev_types.specs.Value.{number_of, text_of};
 
-use crate::{Attr, Attrs, Event, Field, Memory, Text, Value};
+use crate::{Attr, Attrs, Event, Field, Memory, Sets, Text, Value};
 use std::alloc::Global;
 
+/// The greatest ttl that a field can be set to, in seconds: each whole number up to it is a binary32 number.
+pub const MAX_TTL: i64 = 16_777_216;
+
 impl Event {
-    /// Sets the field to the value, which has to fit it: a text or nil fits a text and an attribute, a number the
-    /// time, a number or nil the metric, and nil or a number of seconds from 0 to 16,777,216 the ttl.
+    /// Sets the field to the value. A value that does not fit the field, as [`fits`] says, leaves the event as it is.
     ///
-    /// All else stays, except that the time in microseconds goes with the time, and the metric's other forms with the
-    /// metric. An attribute that is set comes last, and those of its key before it go; set to nil, it has none. After
-    /// a want of memory the event is as it was.
+    /// All else stays, except that the time in microseconds is removed with the time, and the metric's other forms
+    /// with the metric. An attribute that is set comes last, and those of its key before it are removed; set to nil,
+    /// it has none. After `Memory` the event is as it was.
     pub fn set(&mut self, alloc: Global, field: &Field, value: &Value) -> Result<(), Memory>
-        requires { IsTrue (fits field.now value.now) }
         ensures ok { OnOk result (self.new ≡ with_set self.old field.now value.now) }
+        ensures err { OnErr result (self.new ≡ self.old) }
+    {
+        if fits(field, value) {
+            self.set_fitting(alloc, field, value)?;
+        }
+        Ok(())
+    }
+
+    fn set_fitting(&mut self, alloc: Global, field: &Field, value: &Value) -> Result<(), Memory>
+        requires { IsTrue (fits field.now value.now) }
+        ensures ok { OnOk result (self.new ≡ with_fitting self.old field.now value.now) }
         ensures err { OnErr result (self.new ≡ self.old) }
     {
         match field {
@@ -39,23 +51,40 @@ impl Event {
         Ok(())
     }
 
-    /// Adds the tag behind those that the event has, where it is none of them. After a want of memory the event is as
-    /// it was.
+    /// Adds the tag after those that the event has, where it is not one of them. After `Memory` the event is as it was.
     pub fn add_tag(&mut self, alloc: Global, tag: &Text) -> Result<(), Memory>
         ensures ok { OnOk result (self.new ≡ with_tag self.old tag.now) }
         ensures err { OnErr result (self.new ≡ self.old) }
     {
-        if !is_one_of(tag, self.tags.as_slice()) {
+        if !self.has_tag(tag) {
             self.tags.push(alloc, tag.copy(alloc)?)?;
         }
         Ok(())
     }
 }
 
-fn is_one_of(wanted: &Text, texts: &[Text]) -> bool
-    ensures { result ≡ has_text wanted.now texts.now }
+/// Whether each value fits the field that it is set to.
+pub fn all_fit(sets: &Sets) -> bool
+    ensures { result ≡ all_fit sets.now }
 {
-    texts.iter().any(|text| *text == *wanted)
+    sets.as_slice()
+        .iter()
+        .all(|set| fits(&set.field, &set.value))
+}
+
+/// Whether the field can be set to the value: a text or nil fits a text and an attribute, a number the time, a number
+/// or nil the metric, and nil or a number of seconds from 0 to [`MAX_TTL`] the ttl.
+pub fn fits(field: &Field, value: &Value) -> bool
+    ensures { result ≡ fits field.now value.now }
+{
+    match (field, value) {
+        (Field::Time, Value::Nil) => false,
+        (_, Value::Nil) => true,
+        (Field::Time | Field::Metric, Value::Number(_)) => true,
+        (Field::Ttl, Value::Number(ttl)) => 0 <= *ttl && *ttl <= MAX_TTL,
+        (_, Value::Number(_)) => false,
+        (field, Value::Text(_)) => !matches!(field, Field::Time | Field::Ttl | Field::Metric),
+    }
 }
 
 fn copied_text(alloc: Global, value: &Value) -> Result<Option<Text>, Memory>
@@ -86,7 +115,7 @@ fn seconds(value: &Value) -> Option<u32>
     }
 }
 
-// The attributes of other keys, and behind them the one that holds the value's text.
+// The attributes of other keys, and after them the one that holds the value's text.
 fn set_attribute(
     alloc: Global,
     attributes: &Attrs,

@@ -1,5 +1,6 @@
 ghost use Rattle.std.specs.Prelude.{◌≡◌, ◌≤◌, ◌^◌, IfOk};
 ghost use Rattle.ev_types.specs.Expiry.{is_over, is_late, is_expired};
+ghost use Rattle.ev_types.specs.Set.{event_at, has_text};
 
 use crate::{Items, Memory, Text};
 use std::alloc::Global;
@@ -17,7 +18,7 @@ pub struct Event {
     pub tags: Tags,
     /// When it was observed, in seconds since 1970.
     pub time: i64,
-    /// The same in microseconds, where it was told so.
+    /// The same in microseconds, where it was given so.
     pub time_micros: Option<i64>,
     /// How many seconds after its time it expires.
     pub ttl: Option<u32>,
@@ -46,6 +47,26 @@ pub struct Attr {
 }
 
 impl Event {
+    /// An event that holds nothing but its time, in seconds since 1970. It takes no memory.
+    pub fn at(alloc: Global, time: i64) -> Event
+        ensures { result ≡ event_at time }
+    {
+        Event {
+            host: None,
+            service: None,
+            state: None,
+            description: None,
+            tags: Tags::fresh(alloc),
+            time,
+            time_micros: None,
+            ttl: None,
+            metric: None,
+            raw_d: None,
+            raw_f: None,
+            attributes: Attrs::fresh(alloc),
+        }
+    }
+
     /// An equal event, in memory of its own.
     pub fn copy(&self, alloc: Global) -> Result<Event, Memory>
         ensures { IfOk result (λ event. event ≡ self.now) }
@@ -75,13 +96,21 @@ impl Event {
         self.is_over() || self.is_late(t)
     }
 
-    fn is_over(&self) -> bool
+    /// Whether its state is "expired".
+    pub fn is_over(&self) -> bool
         ensures { result ≡ is_over self.now }
     {
         match &self.state {
             Some(state) => state.is(b"expired"),
             None => false,
         }
+    }
+
+    /// Whether the tag is one of its tags.
+    pub fn has_tag(&self, tag: &Text) -> bool
+        ensures { result ≡ has_text tag.now self.now.tags }
+    {
+        self.tags.as_slice().iter().any(|other| *other == *tag)
     }
 
     fn is_late(&self, t: u64) -> bool

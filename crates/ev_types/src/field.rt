@@ -7,7 +7,7 @@ use crate::{Attr, Event, Items, Memory, Text, Value};
 use std::alloc::Global;
 
 /// A field of an event, by its name.
-#[derive(Debug, Drop)]
+#[derive(Debug, PartialEq, Eq, Drop)]
 pub enum Field {
     Host,
     Service,

@@ -8,12 +8,14 @@ mod event;
 mod field;
 mod item;
 mod key;
+mod names;
 mod rebirth;
 mod settings;
 mod text;
 mod value;
 
 pub use blob::Blob;
+pub use change::{MAX_TTL, all_fit, fits};
 pub use event::{Attr, Attrs, Event, Events, Tags};
 pub use field::{Field, Fields, field_is, field_number, field_text, same_field};
 pub use item::{Emission, Emissions, Item, Notice, Notices, Output, Outputs};
@@ -22,6 +24,3 @@ pub use list_laws::{Items, Memory};
 pub use settings::{Expiry, Fold, KeepKey, KeepKeys, Set, Sets};
 pub use text::{Text, TextFault, Texts};
 pub use value::{Value, values_are_ordered};
-
-#[cfg(test)]
-mod tests;

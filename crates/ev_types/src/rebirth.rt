@@ -12,7 +12,7 @@ const EXPIRED: &str = "expired";
 impl Event {
     /// The event as it comes again once it has expired, in memory of its own: the fields that are kept, and the tags
     /// where they are, with the state "expired" and the time `now`, in seconds since 1970, at most 2^40. All else is
-    /// absent, so naming the state or the time keeps nothing. Kept attributes that have a value stand once each, in
+    /// absent, so naming the state or the time keeps nothing. Kept attributes that have a value come once each, in
     /// the order of `keep`.
     pub fn reborn(&self, alloc: Global, keep: &KeepKeys, now: u64) -> Result<Event, Memory>
         requires { now ≤ 2 ^ 40 }
@@ -127,7 +127,7 @@ impl KeepKey {
         ensures { result ≡ names field.now self.now }
     {
         match self {
-            KeepKey::Field(named) => is_same(named, field),
+            KeepKey::Field(named) => named == field,
             KeepKey::Tags => false,
         }
     }
@@ -139,21 +139,5 @@ impl KeepKey {
             KeepKey::Field(_) => false,
             KeepKey::Tags => true,
         }
-    }
-}
-
-fn is_same(named: &Field, field: &Field) -> bool
-    ensures { result ≡ names field.now (KeepKey.Field named.now) }
-{
-    match (named, field) {
-        (Field::Host, Field::Host)
-        | (Field::Service, Field::Service)
-        | (Field::State, Field::State)
-        | (Field::Description, Field::Description)
-        | (Field::Time, Field::Time)
-        | (Field::Ttl, Field::Ttl)
-        | (Field::Metric, Field::Metric) => true,
-        (Field::Attribute(named), Field::Attribute(key)) => named == key,
-        _ => false,
     }
 }

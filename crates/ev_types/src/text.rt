@@ -11,12 +11,12 @@ ghost use Rattle.ev_types.specs.declared.text.TextFault.TheVariants.{Memory as o
 ghost use Rattle.ev_types.specs.Text.{IsNoText};
 
 use crate::{Items, Memory};
-use simdutf8::compat::from_utf8;
 use std::alloc::Global;
 use std::cmp::Ordering;
 use std::fmt;
 use std::hash::{Hash, Hasher};
 use std::marker::Model;
+use std::str::from_utf8;
 use thiserror::Error;
 
 /// A text, which contracts see as its bytes. They are UTF-8. Texts are ordered by their bytes.
@@ -31,7 +31,7 @@ pub type Texts = Items<Text>;
 /// Why bytes are no [`Text`].
 #[derive(Debug, Drop, Error)]
 pub enum TextFault {
-    /// The bytes are not UTF-8: their longest front that is has `place` bytes.
+    /// The bytes are not UTF-8: their longest prefix that is has `place` bytes.
     #[error("not UTF-8 from byte {place} on")]
     Utf8 { place: usize },
     #[error("out of memory")]

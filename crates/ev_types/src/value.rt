@@ -31,7 +31,7 @@ pub(crate) enum ValueRef<'a> {
     Text(&'a Text),
 }
 
-/// Values are told apart exactly where they differ, and stand in the order that is said of [`Value`].
+/// Values are told apart exactly where they differ, and are in the order that is said of [`Value`].
 pub fn values_are_ordered()
     ensures same { SameValuesAreEqual }
     ensures ordered { ValuesAreOrdered }

@@ -12,7 +12,7 @@ use Rattle.index_log.specs.Live.{live_events}
 use Rattle.stream_plan.specs.Tree.{StreamTrees}
 use Rattle.stream_meaning.specs.History.{begun, moment_of}
 use Rattle.stream_meaning.specs.declared.entry.Entry.TheVariants.{Tick, Item as In}
-use Rattle.stream_meaning.specs.Arrivals.{Arrival, Elapsed, CoreState, entered, streamed, expired_copies, with_reap, reaped, swept, arrived, state_from}
+use Rattle.stream_meaning.specs.Arrivals.{Arrival, Elapsed, CoreState, entered, streamed, expired_copies, with_reap, fed_back, swept, arrived, state_from}
 use Rattle.stream_meaning.proofs.ArrivalMoments.{from-append, streamed-moments, swept-moments}
 use Rattle.event_core.specs.declared.streams.IndexedStreams.{IndexedStreams}
 use Rattle.event_core.specs.Counts.{forks_in}
@@ -88,12 +88,12 @@ pass-more plan later expiry between streams from now state out_a forks_a out_b f
 
 -- ---- the events that have expired come again
 
-pub reaped-moved : (plan : StreamTrees) (streams : IndexedStreams) (keep : List KeepKey) (now : ℕ) (state : CoreState) (held expired : List Event)
+pub fed_back-moved : (plan : StreamTrees) (streams : IndexedStreams) (keep : List KeepKey) (now : ℕ) (state : CoreState) (held expired : List Event)
     (out_a : List Notice) (forks_a : ℕ) (forks_b : ℕ) (out_c : List Notice) (forks_c : ℕ) →
     moment_of state.history ≡ now → held ≡ live_events state.log → expired ≡ filter (is_expired now) held → forks_b ≡ forks_a →
     Moved plan streams (with_reap state) (streamed plan (map (λ e. expired_copy keep e now) expired) (with_reap state)) out_a forks_b out_c forks_c →
-    Moved plan streams state (reaped plan keep state) out_a forks_a out_c forks_c
-reaped-moved plan streams keep now state held expired out_a forks_a forks_b out_c forks_c at holds are same moved =
+    Moved plan streams state (fed_back plan keep state) out_a forks_a out_c forks_c
+fed_back-moved plan streams keep now state held expired out_a forks_a forks_b out_c forks_c at holds are same moved =
     let copies : map (λ e. expired_copy keep e now) expired ≡ expired_copies keep state =
     ap (map (λ e. expired_copy keep e now)) (are ∙ ap (filter (is_expired now)) holds)
     ∙ subst (λ (t : ℕ). map (λ e. expired_copy keep e t) (filter (is_expired t) (live_events state.log)) ≡ expired_copies keep state) at refl in
@@ -103,5 +103,5 @@ reaped-moved plan streams keep now state held expired out_a forks_a forks_b out_
       made = all.made;
       told = all.told;
       grew = all.grew;
-      forks = ap (λ (f : ℕ). f + forks_in plan (reaped plan keep state).history) (sym same) ∙ all.forks;
+      forks = ap (λ (f : ℕ). f + forks_in plan (fed_back plan keep state).history) (sym same) ∙ all.forks;
     }

@@ -11,7 +11,7 @@ use Rattle.stream_tree.specs.Tree as tree
 use Rattle.step_count.specs.Count.{StepCount}
 use Rattle.stream_meaning.specs.History.{◌▸◌}
 use Rattle.stream_meaning.specs.declared.entry.Entry.{Entry}
-use Rattle.stream_meaning.specs.Outputs.{all_happens, outputs_among, outputs_at, outputs_of, due_among, given_among}
+use Rattle.stream_meaning.specs.Outputs.{plan_effects, outputs_among, outputs_at, outputs_of, due_among, given_among}
 use Rattle.stream_meaning.specs.Arrivals.{CoreState, writes_among, notices_among, entered}
 use Rattle.event_core.specs.declared.streams.IndexedStreams.{IndexedStreams}
 use Rattle.event_core.specs.Streams.{Holds, Moved}
@@ -54,7 +54,7 @@ both-fronts a b c first second = (first.0 ++ second.0, second.1 ∙ ap (λ out. 
 -- one entry is a way
 pub moved-entry : (plan : StreamTrees) (x : Entry) (streams : IndexedStreams) (state : CoreState) (old : List Notice) (forks_before : ℕ) (new : List Notice) (forks_after : ℕ) →
     Holds streams (entered plan x state) → new ≡ old ++ notices_among (outputs_at plan (state.history ▸ x)) →
-    forks_after ≡ forks_before + (due_among (all_happens plan (state.history ▸ x)) + given_among (all_happens plan (state.history ▸ x))) →
+    forks_after ≡ forks_before + (due_among (plan_effects plan (state.history ▸ x)) + given_among (plan_effects plan (state.history ▸ x))) →
     Moved plan streams state (entered plan x state) old forks_before new forks_after
 moved-entry plan x streams state old forks_before new forks_after holds told forks = record {
   holds = holds;
@@ -67,12 +67,12 @@ moved-entry plan x streams state old forks_before new forks_after holds told for
 -- an entry came to the tree, and its outputs were handled
 pub entry-handled : {G : Type 0} (plan : StreamTrees) (x : Entry) (streams : IndexedStreams) (held : Index) (state : CoreState) (none outputs : List Output) (before after : StepCount G) (old new : List Notice) →
     none ≡ [] → tree.Represents streams.tree (state.history ▸ x) → Represents held state.log →
-    tree.Grew none before outputs after (all_happens plan (state.history ▸ x)) →
+    tree.Performs none before outputs after (plan_effects plan (state.history ▸ x)) →
     ((log : IndexLog) → Represents held log → Represents streams.index (log ++ writes_among outputs)) →
     new ≡ old ++ notices_among outputs →
     Moved plan streams state (entered plan x state) old before.forks new after.forks
 entry-handled plan x streams held state none outputs before after old new is_none history index grew handled told =
-    let hs = all_happens plan (state.history ▸ x) in
+    let hs = plan_effects plan (state.history ▸ x) in
     let made : outputs ≡ outputs_among hs = grew.outputs ∙ ap (λ (front : List Output). front ++ outputs_among hs) is_none in
     let holds : Holds streams (entered plan x state) = record { history = history; log = subst (λ (all : List Output). Represents streams.index (state.log ++ writes_among all)) made (handled state.log index) } in
     moved-entry plan x streams state old before.forks new after.forks holds (told ∙ ap (λ (all : List Output). old ++ notices_among all) made) grew.forks

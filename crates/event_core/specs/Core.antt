@@ -1,4 +1,4 @@
--- What a core stands for, and what it tells of what arrives.
+-- What a core represents, and what it gives for what arrives.
 use Rattle.std.specs.Prelude.{◌≡◌, ℕ, ◌+◌, Bool, false, List, ◌++◌, Option}
 use Rattle.ev_types.specs.declared.item.Notice.{Notice}
 use Rattle.ev_types.specs.declared.settings.Expiry.{Expiry}
@@ -10,43 +10,43 @@ use Rattle.event_core.specs.Counts.{forks_in}
 use Rattle.event_core.specs.Streams.{plan_of, Holds}
 
 -- what a core is made with, and keeps
-pub record Setting : Type 0 where
+pub record CoreConfig : Type 0 where
   pub plan : StreamTrees
   pub expiry : Option Expiry
   pub start : ℕ
 
-abbrev pub setting_of : Core → Setting
-setting_of core = record { plan = plan_of core.streams; expiry = core.clock.expiry; start = core.clock.start }
+abbrev pub config_of : Core → CoreConfig
+config_of core = record { plan = plan_of core.streams; expiry = core.clock.expiry; start = core.clock.start }
 
 -- the moment of the last second that has passed
 abbrev pub now_of : Core → ℕ
 now_of core = core.clock.moment
 
--- memory was wanted inside a call
+-- a call ran out of memory
 abbrev pub is_poisoned : Core → Bool
 is_poisoned core = core.poisoned
 
 -- the state after these arrivals
-abbrev pub state_by : Setting → List Arrival → CoreState
-state_by setting arrivals = state_after setting.plan setting.expiry setting.start arrivals
+abbrev pub state_by : CoreConfig → List Arrival → CoreState
+state_by config arrivals = state_after config.plan config.expiry config.start arrivals
 
 -- the notices given over them
-abbrev pub notices_by : Setting → List Arrival → List Notice
-notices_by setting arrivals = notices_of setting.plan setting.expiry setting.start arrivals
+abbrev pub notices_by : CoreConfig → List Arrival → List Notice
+notices_by config arrivals = notices_of config.plan config.expiry config.start arrivals
 
 -- how many forks are due over them, and how often an item comes to a `by`
-abbrev pub forks_by : Setting → List Arrival → ℕ
-forks_by setting arrivals = forks_in setting.plan (state_by setting arrivals).history
+abbrev pub forks_by : CoreConfig → List Arrival → ℕ
+forks_by config arrivals = forks_in config.plan (state_by config arrivals).history
 
 -- the core is as these arrivals leave it
 pub record Represents (core : Core) (arrivals : List Arrival) : Type 0 where
   pub sound : is_poisoned core ≡ false
-  pub holds : Holds core.streams (state_by (setting_of core) arrivals)
-  pub now : now_of core ≡ moment_of (state_by (setting_of core) arrivals).history
+  pub holds : Holds core.streams (state_by (config_of core) arrivals)
+  pub now : now_of core ≡ moment_of (state_by (config_of core) arrivals).history
 
 -- after the first arrivals came more, and of those just the notices were appended, and the forks counted
-pub record Heard (setting : Setting) (first more : List Arrival) (old : List Notice) (forks_before : ℕ) (new : List Notice) (forks_after : ℕ) : Type 0 where
+pub record Heard (config : CoreConfig) (first more : List Arrival) (old : List Notice) (forks_before : ℕ) (new : List Notice) (forks_after : ℕ) : Type 0 where
   pub made : List Notice
   pub told : new ≡ old ++ made
-  pub notices : notices_by setting (first ++ more) ≡ notices_by setting first ++ made
-  pub forks : forks_before + forks_by setting (first ++ more) ≡ forks_after + forks_by setting first
+  pub notices : notices_by config (first ++ more) ≡ notices_by config first ++ made
+  pub forks : forks_before + forks_by config (first ++ more) ≡ forks_after + forks_by config first

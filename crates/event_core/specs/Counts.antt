@@ -1,4 +1,4 @@
--- What a plan tells and counts over a whole history.
+-- What a plan gives and counts over a whole history.
 use Rattle.std.specs.Prelude.{ℕ, ◌+◌, List}
 use Rattle.ev_types.specs.declared.item.Notice.{Notice}
 use Rattle.stream_plan.specs.Tree.{StreamTrees}

@@ -1,4 +1,4 @@
--- What streams with an index stand for, and what they do on their way from one state to another.
+-- What streams with an index represent, and what they do on their way from one state to another.
 use Rattle.std.specs.Prelude.{◌≡◌, ℕ, ◌+◌, List, ◌++◌}
 use Rattle.ev_types.specs.declared.item.Notice.{Notice}
 use Rattle.live_index.specs.Index as indexed
@@ -16,8 +16,8 @@ pub record Holds (streams : IndexedStreams) (state : CoreState) : Type 0 where
   pub history : tree.Represents streams.tree state.history
   pub log : indexed.Represents streams.index state.log
 
--- the state of the streams was `before` and is `after` now, and the notices and forks of the entries between were told
--- and counted
+-- the state of the streams was `before` and is `after` now, and the notices of the entries between were appended and
+-- their forks counted
 pub record Moved (plan : StreamTrees) (streams : IndexedStreams) (before after : CoreState) (old : List Notice) (forks_before : ℕ) (new : List Notice) (forks_after : ℕ) : Type 0 where
   pub holds : Holds streams after
   pub made : List Notice

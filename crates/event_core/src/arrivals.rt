@@ -1,11 +1,12 @@
 ghost use Rattle.std.specs.Prelude.{◌≡◌, ◌+◌, ◌-◌, ◌^◌, ◌≤◌, true, false, List, [], ◌∷◌, ◌++◌, length, replicate, IfOk, IsErr, IsTrue, OnErr, OnOk};
+ghost use Rattle.list_laws.specs.Prefix.{IsPrefix};
 ghost use Rattle.std.specs.Option.{ForSome};
 ghost use Rattle.ev_types.specs.declared.event.Event.{Event as StoredEvent};
 ghost use Rattle.ev_types.specs.declared.item.Notice.{Notice as StoredNotice};
 ghost use Rattle.index_log.specs.Live.{live_events};
 ghost use Rattle.stream_meaning.specs.Arrivals.{Arrival, Elapsed, Post, matching_events};
 ghost use Rattle.stream_tree.specs.Tree.{is_built_plan};
-ghost use Rattle.event_core.specs.Core.{setting_of, now_of, is_poisoned, state_by, Represents, Heard};
+ghost use Rattle.event_core.specs.Core.{config_of, now_of, is_poisoned, state_by, Represents, Heard};
 
 use crate::clock::Clock;
 use crate::streams::IndexedStreams;
@@ -16,7 +17,7 @@ use step_count::{Ledger, Steps};
 use stream_plan::ReadyPlan;
 
 /// The streams of a plan, the index that they write to, and a clock of seconds. What expires in the index is looked for
-/// every so many seconds, and comes to the streams again. After a want of memory a core is poisoned, and each later call
+/// every `interval` seconds, and comes to the streams again. After `Memory` a core is poisoned, and each later call
 /// that can answer `Memory` does.
 #[derive(Drop)]
 pub struct Core {
@@ -37,7 +38,7 @@ impl Core {
         requires moment { start ≤ 2 ^ 40 }
         requires interval { ForSome expiry (λ set. (1 ≤ set.interval) × (set.interval ≤ 604800)) }
         requires built { is_built_plan plan ≡ true }
-        ensures setting { IfOk result (λ core. setting_of core ≡ record { plan = plan; expiry = expiry; start = start }) }
+        ensures config { IfOk result (λ core. config_of core ≡ record { plan = plan; expiry = expiry; start = start }) }
         ensures represents { IfOk result (λ core. Represents core []) }
         ensures now { IfOk result (λ core. now_of core ≡ start) }
     {
@@ -63,7 +64,7 @@ impl Core {
     /// How many events are live.
     pub fn live(&self) -> usize
         ensures { (arrivals : List Arrival) → Represents self.now arrivals
-            → result ≡ length (live_events (state_by (setting_of self.now) arrivals).log) }
+            → result ≡ length (live_events (state_by (config_of self.now) arrivals).log) }
     {
         self.streams.live()
     }
@@ -71,7 +72,7 @@ impl Core {
     /// Seconds pass, one after another, until it is the moment `to`, at most 3,600 seconds from now and at most 2^40. At
     /// each of them the streams get a tick; then, where it is time to look, the live events that have expired leave the
     /// index, and come to the streams again, in the order of the index. The notices that the streams give are appended to
-    /// `out`. After a want of memory `out` begins with what it had.
+    /// `out`. After `Memory` `out` begins with what it had.
     pub fn advance<G: Ledger>(
         &mut self,
         alloc: Global,
@@ -82,17 +83,17 @@ impl Core {
         requires from { now_of self.old ≤ to }
         requires hour { to ≤ now_of self.old + 3600 }
         requires bound { to ≤ 2 ^ 40 }
-        ensures setting { setting_of self.new ≡ setting_of self.old }
+        ensures config { config_of self.new ≡ config_of self.old }
         ensures now { OnOk result (now_of self.new ≡ to) }
         ensures represents { OnOk result ((arrivals : List Arrival) → Represents self.old arrivals
             → Represents self.new (arrivals ++ replicate (to - now_of self.old) Elapsed)) }
         ensures heard { OnOk result ((arrivals : List Arrival) → Represents self.old arrivals
-            → Heard (setting_of self.old) arrivals (replicate (to - now_of self.old) Elapsed)
+            → Heard (config_of self.old) arrivals (replicate (to - now_of self.old) Elapsed)
             out.old steps.old.forks out.new steps.new.forks) }
         ensures poisoned { IsTrue (is_poisoned self.old) → IsErr result }
         ensures sound { OnOk result (is_poisoned self.new ≡ false) }
         ensures err { OnErr result (IsTrue (is_poisoned self.new)) }
-        ensures front { (more : List StoredNotice) × (out.new ≡ out.old ++ more) }
+        ensures prefix { IsPrefix out.old out.new }
     {
         if self.poisoned {
             return Err(Memory);
@@ -104,7 +105,7 @@ impl Core {
         Ok(())
     }
 
-    /// An event comes to the streams. The notices that they give are appended to `out`. After a want of memory `out` begins
+    /// An event comes to the streams. The notices that they give are appended to `out`. After `Memory` `out` begins
     /// with what it had.
     pub fn post<G: Ledger>(
         &mut self,
@@ -113,17 +114,17 @@ impl Core {
         out: &mut Notices,
         steps: &mut Steps<G>,
     ) -> Result<(), Memory>
-        ensures setting { setting_of self.new ≡ setting_of self.old }
+        ensures config { config_of self.new ≡ config_of self.old }
         ensures now { now_of self.new ≡ now_of self.old }
         ensures represents { OnOk result ((arrivals : List Arrival) → Represents self.old arrivals
             → Represents self.new (arrivals ++ Post event ∷ [])) }
         ensures heard { OnOk result ((arrivals : List Arrival) → Represents self.old arrivals
-            → Heard (setting_of self.old) arrivals (Post event ∷ [])
+            → Heard (config_of self.old) arrivals (Post event ∷ [])
             out.old steps.old.forks out.new steps.new.forks) }
         ensures poisoned { IsTrue (is_poisoned self.old) → IsErr result }
         ensures sound { OnOk result (is_poisoned self.new ≡ false) }
         ensures err { OnErr result (IsTrue (is_poisoned self.new)) }
-        ensures front { (more : List StoredNotice) × (out.new ≡ out.old ++ more) }
+        ensures prefix { IsPrefix out.old out.new }
     {
         if self.poisoned {
             return Err(Memory);
@@ -136,7 +137,7 @@ impl Core {
     }
 
     /// Appends copies of the live events that meet the predicate, in the order of the index: by host and then by service,
-    /// absent before present. After a want of memory `out` begins with what it had.
+    /// absent before present. After `Memory` `out` begins with what it had.
     pub fn search<G: Ledger>(
         &mut self,
         alloc: Global,
@@ -145,16 +146,16 @@ impl Core {
         steps: &mut Steps<G>,
     ) -> Result<(), Memory>
         ensures same { OnOk result (self.new ≡ self.old) }
-        ensures setting { setting_of self.new ≡ setting_of self.old }
+        ensures config { config_of self.new ≡ config_of self.old }
         ensures now { now_of self.new ≡ now_of self.old }
         ensures pred { pred.new ≡ pred.old }
         ensures found { OnOk result ((arrivals : List Arrival) → Represents self.old arrivals
-            → out.new ≡ out.old ++ matching_events pred.old (state_by (setting_of self.old) arrivals).log) }
+            → out.new ≡ out.old ++ matching_events pred.old (state_by (config_of self.old) arrivals).log) }
         ensures forks { steps.new.forks ≡ steps.old.forks }
         ensures poisoned { IsTrue (is_poisoned self.old) → IsErr result }
         ensures sound { OnOk result (is_poisoned self.new ≡ false) }
         ensures err { OnErr result (IsTrue (is_poisoned self.new)) }
-        ensures front { OnErr result ((more : List StoredEvent) × (out.new ≡ out.old ++ more)) }
+        ensures prefix { OnErr result (IsPrefix out.old out.new) }
     {
         if self.poisoned {
             return Err(Memory);

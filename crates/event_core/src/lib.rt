@@ -7,6 +7,3 @@ mod outputs;
 mod streams;
 
 pub use arrivals::Core;
-
-#[cfg(test)]
-mod tests;

@@ -1,4 +1,5 @@
 ghost use Rattle.std.specs.Prelude.{◌≡◌, List, [], ◌∷◌, ◌++◌, OnErr, OnOk};
+ghost use Rattle.list_laws.specs.Prefix.{IsPrefix};
 ghost use Rattle.ev_types.specs.declared.item.Notice.{Notice as StoredNotice};
 ghost use Rattle.index_log.specs.Live.{IndexLog};
 ghost use Rattle.live_index.specs.Index.{Represents};
@@ -8,7 +9,7 @@ use ev_types::{Memory, Notices, Output, Outputs};
 use live_index::LiveIndex;
 use std::alloc::Global;
 
-/// Handles outputs in order: a write enters the index, and a notice is appended to `out`. After a want of memory `out`
+/// Handles outputs in order: a write enters the index, and a notice is appended to `out`. After `Memory` `out`
 /// begins with what it had.
 pub(crate) fn handle(
     alloc: Global,
@@ -19,7 +20,7 @@ pub(crate) fn handle(
     ensures index { OnOk result ((log : IndexLog) → Represents index.old log
         → Represents index.new (log ++ writes_among outputs)) }
     ensures notices { OnOk result (out.new ≡ out.old ++ notices_among outputs) }
-    ensures front { (more : List StoredNotice) × (out.new ≡ out.old ++ more) }
+    ensures prefix { IsPrefix out.old out.new }
 {
     for output in outputs.into_vec() {
         handle_one(alloc, output, index, out)?;
@@ -36,7 +37,7 @@ fn handle_one(
     ensures index { OnOk result ((log : IndexLog) → Represents index.old log
         → Represents index.new (log ++ writes_among (output ∷ []))) }
     ensures notices { OnOk result (out.new ≡ out.old ++ notices_among (output ∷ [])) }
-    ensures front { OnErr result (out.new ≡ out.old) }
+    ensures prefix { OnErr result (out.new ≡ out.old) }
 {
     match output {
         Output::Notice(notice) => {

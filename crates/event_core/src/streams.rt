@@ -1,11 +1,12 @@
 ghost use Rattle.std.specs.Prelude.{◌≡◌, ◌==◌, ◌+◌, ◌-◌, ◌%◌, ◌^◌, ◌<◌, ◌≤◌, true, List, [], ◌++◌, map, replicate, length, IfOk, OnErr, OnOk};
+ghost use Rattle.list_laws.specs.Prefix.{IsPrefix};
 ghost use Rattle.ev_types.specs.declared.event.Event.{Event as StoredEvent};
 ghost use Rattle.ev_types.specs.declared.item.Item.TheVariants.{One};
 ghost use Rattle.ev_types.specs.declared.item.Notice.{Notice as StoredNotice};
 ghost use Rattle.ev_types.specs.Rebirth.{expired_copy};
 ghost use Rattle.stream_meaning.specs.History.{since, begun, moment_of};
 ghost use Rattle.stream_meaning.specs.declared.entry.Entry.TheVariants.{Tick, Item as In};
-ghost use Rattle.stream_meaning.specs.Arrivals.{CoreState, Elapsed, entered, streamed, reaped, swept, arrived, state_from, matching_events};
+ghost use Rattle.stream_meaning.specs.Arrivals.{CoreState, Elapsed, entered, streamed, fed_back, swept, arrived, state_from, matching_events};
 ghost use Rattle.index_log.specs.Live.{live_events};
 ghost use Rattle.stream_tree.specs.Tree.{is_built_plan};
 ghost use Rattle.event_core.specs.Streams.{plan_of, Holds, Moved};
@@ -20,7 +21,7 @@ use step_count::{Ledger, Steps};
 use stream_plan::ReadyPlan;
 use stream_tree::Tree;
 
-/// Streams, and the index that they write to. After a want of memory nothing is known of them.
+/// Streams, and the index that they write to. After `Memory` nothing is known of them.
 #[derive(Drop)]
 pub(crate) struct IndexedStreams {
     tree: Tree,
@@ -59,7 +60,7 @@ impl IndexedStreams {
         ensures moved { OnOk result ((state : CoreState) → Holds self.old state → moment_of state.history ≡ now
             → Moved (plan_of self.old) self.new state (entered (plan_of self.old) (In (One event)) state)
             out.old steps.old.forks out.new steps.new.forks) }
-        ensures front { (more : List StoredNotice) × (out.new ≡ out.old ++ more) }
+        ensures prefix { IsPrefix out.old out.new }
     {
         let mut outputs = Outputs::fresh(alloc);
         self.tree.item(alloc, event, now, &mut outputs, steps)?;
@@ -80,7 +81,7 @@ impl IndexedStreams {
         ensures moved { OnOk result ((state : CoreState) → Holds self.old state → moment_of state.history + 1 ≡ now
             → Moved (plan_of self.old) self.new state (entered (plan_of self.old) Tick state)
             out.old steps.old.forks out.new steps.new.forks) }
-        ensures front { (more : List StoredNotice) × (out.new ≡ out.old ++ more) }
+        ensures prefix { IsPrefix out.old out.new }
     {
         let mut outputs = Outputs::fresh(alloc);
         self.tree.tick(alloc, now, &mut outputs, steps)?;
@@ -104,7 +105,7 @@ impl IndexedStreams {
             → Moved (plan_of self.old) self.new state
             (streamed (plan_of self.old) (map (λ event. expired_copy keep.now event now) expired) state)
             out.old steps.old.forks out.new steps.new.forks) }
-        ensures front { (more : List StoredNotice) × (out.new ≡ out.old ++ more) }
+        ensures prefix { IsPrefix out.old out.new }
     {
         for event in expired.into_vec() {
             let copy = event.reborn(alloc, keep, now)?;
@@ -126,9 +127,9 @@ impl IndexedStreams {
         requires { now ≤ 2 ^ 40 }
         ensures plan { plan_of self.new ≡ plan_of self.old }
         ensures moved { OnOk result ((state : CoreState) → Holds self.old state → moment_of state.history ≡ now
-            → Moved (plan_of self.old) self.new state (reaped (plan_of self.old) keep.now state)
+            → Moved (plan_of self.old) self.new state (fed_back (plan_of self.old) keep.now state)
             out.old steps.old.forks out.new steps.new.forks) }
-        ensures front { (more : List StoredNotice) × (out.new ≡ out.old ++ more) }
+        ensures prefix { IsPrefix out.old out.new }
     {
         let mut expired = Events::fresh(alloc);
         self.index.reap(alloc, now, &mut expired, steps)?;
@@ -136,7 +137,7 @@ impl IndexedStreams {
         Ok(())
     }
 
-    /// What has expired is looked for where the clock says so at the moment `now`: every so many seconds from its start on.
+    /// Looks for expired events where the clock says so at the moment `now`: every `interval` seconds from its start on.
     fn sweep<G: Ledger>(
         &mut self,
         alloc: Global,
@@ -151,7 +152,7 @@ impl IndexedStreams {
             → begun state.history ≡ clock.now.start
             → Moved (plan_of self.old) self.new state (swept (plan_of self.old) clock.now.expiry state)
             out.old steps.old.forks out.new steps.new.forks) }
-        ensures front { (more : List StoredNotice) × (out.new ≡ out.old ++ more) }
+        ensures prefix { IsPrefix out.old out.new }
     {
         let Some(expiry) = &clock.expiry else {
             return Ok(());
@@ -178,7 +179,7 @@ impl IndexedStreams {
             → begun state.history ≡ clock.now.start
             → Moved (plan_of self.old) self.new state (arrived (plan_of self.old) clock.now.expiry Elapsed state)
             out.old steps.old.forks out.new steps.new.forks) }
-        ensures front { (more : List StoredNotice) × (out.new ≡ out.old ++ more) }
+        ensures prefix { IsPrefix out.old out.new }
     {
         self.tick(alloc, now, out, steps)?;
         self.sweep(alloc, clock, now, out, steps)?;
@@ -202,7 +203,7 @@ impl IndexedStreams {
             → Moved (plan_of self.old) self.new state
             (state_from (plan_of self.old) clock.now.expiry (replicate (to - clock.now.moment) Elapsed) state)
             out.old steps.old.forks out.new steps.new.forks) }
-        ensures front { (more : List StoredNotice) × (out.new ≡ out.old ++ more) }
+        ensures prefix { IsPrefix out.old out.new }
     {
         for now in clock.moment..to {
             self.second(alloc, clock, now + 1, out, steps)?;
@@ -222,7 +223,7 @@ impl IndexedStreams {
         ensures pred { pred.new ≡ pred.old }
         ensures found { OnOk result ((state : CoreState) → Holds self.old state
             → out.new ≡ out.old ++ matching_events pred.old state.log) }
-        ensures front { OnErr result ((more : List StoredEvent) × (out.new ≡ out.old ++ more)) }
+        ensures prefix { OnErr result (IsPrefix out.old out.new) }
         ensures forks { steps.new.forks ≡ steps.old.forks }
     {
         self.index.search(alloc, pred, out, steps)?;
@@ -237,7 +238,7 @@ impl IndexedStreams {
     }
 }
 
-/// Whether the moment is a multiple of so many seconds after `start`.
+/// Whether the moment is a multiple of `interval` seconds after `start`.
 fn is_due(interval: u32, start: u64, now: u64) -> bool
     requires { 0 < interval }
     ensures { result ≡ ((now - start) % interval == 0) }

@@ -1,15 +1,12 @@
-ghost use Rattle.std.specs.Prelude.{◌≡◌, IfOk, IsTrue, OnOk};
-ghost use Rattle.ev_types.specs.Set.{fits};
-ghost use Rattle.stream_plan.specs.Kinds.{all_fit};
+ghost use Rattle.std.specs.Prelude.{◌≡◌, IfOk, OnOk};
 ghost use Rattle.stream_meaning.specs.Images.{with_sets, with_default, with_defaults, with_tags};
 
 use ev_types::{Event, Memory, Set, Sets, Tags, Value, field_is};
 use std::alloc::Global;
 
-/// The event with all sets made, in order, of which each value has to fit its field. A later set of a field replaces
-/// what an earlier one gave it. The event is changed in place, and nothing of it is copied.
+/// The event with all sets made, in order. A later set of a field replaces what an earlier one gave it; a value that
+/// does not fit its field changes nothing. The event is changed in place, and nothing of it is copied.
 pub fn apply_sets(alloc: Global, sets: &Sets, event: Event) -> Result<Event, Memory>
-    requires { IsTrue (all_fit sets.now) }
     ensures { IfOk result (λ changed. changed ≡ with_sets sets.now event) }
 {
     let mut changed = event;
@@ -20,10 +17,9 @@ pub fn apply_sets(alloc: Global, sets: &Sets, event: Event) -> Result<Event, Mem
     Ok(changed)
 }
 
-/// The event with each set made whose field holds nothing by then, in order. Each value has to fit its field. The
-/// event is changed in place, and nothing of it is copied.
+/// The event with each set made whose field holds nothing by then, in order; a value that does not fit its field
+/// changes nothing. The event is changed in place, and nothing of it is copied.
 pub fn apply_defaults(alloc: Global, sets: &Sets, event: Event) -> Result<Event, Memory>
-    requires { IsTrue (all_fit sets.now) }
     ensures { IfOk result (λ changed. changed ≡ with_defaults sets.now event) }
 {
     let mut changed = event;
@@ -34,8 +30,8 @@ pub fn apply_defaults(alloc: Global, sets: &Sets, event: Event) -> Result<Event,
     Ok(changed)
 }
 
-/// The event with each tag added behind those that it has, in order, where it is none of them by then. The event is
-/// changed in place, and nothing of it is copied.
+/// The event with each tag that it lacks added after those that it has, in order. The event is changed in place, and
+/// nothing of it is copied.
 pub fn apply_tags(alloc: Global, tags: &Tags, event: Event) -> Result<Event, Memory>
     ensures { IfOk result (λ changed. changed ≡ with_tags tags.now event) }
 {
@@ -49,7 +45,6 @@ pub fn apply_tags(alloc: Global, tags: &Tags, event: Event) -> Result<Event, Mem
 
 // Makes the set where its field holds nothing.
 fn apply_default(alloc: Global, set: &Set, event: &mut Event) -> Result<(), Memory>
-    requires { IsTrue (fits set.now.field set.now.value) }
     ensures { OnOk result (event.new ≡ with_default event.old set.now) }
 {
     if field_is(event, &set.field, &Value::Nil) {

@@ -7,6 +7,3 @@ mod change;
 
 pub use branch::route;
 pub use change::{apply_defaults, apply_sets, apply_tags};
-
-#[cfg(test)]
-mod tests;

@@ -1,3 +1,3 @@
-pub mod Places
+pub mod IndexKeys
 pub mod LiveLaws
 pub mod Rising

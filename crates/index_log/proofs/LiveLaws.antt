@@ -3,10 +3,10 @@ use Rattle.std.proofs.Common.{◌≡◌, ℕ, Bool, true, false, not, ◌||◌, 
 use Rattle.std.specs.Ordering.{is_lt}
 use Rattle.std.specs.List.{AllByRecursion, filter, list_any}
 use Rattle.ev_types.specs.Expiry.{is_expired, is_late}
-use Rattle.index_log.specs.Place.{place_cmp}
+use Rattle.index_log.specs.IndexKey.{index_key_cmp}
 use Rattle.ev_types.specs.declared.event.Event.{Event}
 use Rattle.index_log.specs.Live.{Logged, Write, Reap, ends, is_over, is_live, kept, placed, placed_onto, live_events, written, reaped}
-use Rattle.index_log.proofs.Places.{filter-placed_onto}
+use Rattle.index_log.proofs.IndexKeys.{filter-placed_onto}
 
 placed_onto-append : (sorted es bs : List Event) → placed_onto sorted (es ++ bs) ≡ placed_onto (placed_onto sorted es) bs
 placed_onto-append sorted [] bs = refl
@@ -84,7 +84,7 @@ cond-all false xs ys h k = k
 
 placed-all : (event : Event) (es : List Event) → IsNotOver event → AllByRecursion IsNotOver es → AllByRecursion IsNotOver (placed event es)
 placed-all event [] h k = (h, tt)
-placed-all event (first ∷ es) h k = cond-all (is_lt (place_cmp event first)) (event ∷ first ∷ es) (first ∷ placed event es) (h, k) (k.0, placed-all event es h k.1)
+placed-all event (first ∷ es) h k = cond-all (is_lt (index_key_cmp event first)) (event ∷ first ∷ es) (first ∷ placed event es) (h, k) (k.0, placed-all event es h k.1)
 
 placed_onto-all : (sorted es : List Event) → AllByRecursion IsNotOver sorted → AllByRecursion IsNotOver es → AllByRecursion IsNotOver (placed_onto sorted es)
 placed_onto-all sorted [] h k = h

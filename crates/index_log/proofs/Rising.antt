@@ -9,12 +9,12 @@ use Rattle.std.specs.List.Sorted.{IsStrictlySortedBy}
 use Rattle.std.proofs.lemmas.List.{append-nil, append_assoc}
 use Rattle.ev_types.specs.declared.event.Event.{Event}
 use Rattle.index_log.specs.Live.{IndexLog, Logged, Write, Reap, is_over, placed, elsewhere, written, live_events}
-use Rattle.index_log.specs.Place.{place_cmp, same_place}
-use Rattle.index_log.proofs.Places.{place_total}
+use Rattle.index_log.specs.IndexKey.{index_key_cmp, same_index_key}
+use Rattle.index_log.proofs.IndexKeys.{index_key_total}
 use Rattle.index_log.proofs.LiveLaws.{live-nil, live-write, live-reap}
 
 abbrev pub IsRising : List Event → Type 0
-IsRising = IsStrictlySortedBy place_cmp
+IsRising = IsStrictlySortedBy index_key_cmp
 
 -- ---- what is left of a rising list where some of it is taken out
 
@@ -35,29 +35,29 @@ unfolding IsStrictlySortedBy
 rising-filter test [] k = tt
 rising-filter test (a ∷ es) k =
     let rest = rising-filter test es k.1 in
-    rising-cond (test a) (a ∷ filter test es) (filter test es) (all-filter (λ b. place_cmp a b ≡ Less) test es k.0, rest) rest
+    rising-cond (test a) (a ∷ filter test es) (filter test es) (all-filter (λ b. index_key_cmp a b ≡ Less) test es k.0, rest) rest
 
 -- ---- an event that is put in
 
 all-placed : (P : Event → Type 0) (event : Event) (es : List Event) → P event → AllByRecursion P es → AllByRecursion P (placed event es)
 all-placed P event [] h k = (h, tt)
-all-placed P event (first ∷ es) h k = all-cond P (is_lt (place_cmp event first)) (event ∷ first ∷ es) (first ∷ placed event es) (h, k) (k.0, all-placed P event es h k.1)
+all-placed P event (first ∷ es) h k = all-cond P (is_lt (index_key_cmp event first)) (event ∷ first ∷ es) (first ∷ placed event es) (h, k) (k.0, all-placed P event es h k.1)
 
-all_behind : (event first : Event) (es : List Event) → place_cmp event first ≡ Less → AllByRecursion (λ other. place_cmp first other ≡ Less) es → AllByRecursion (λ other. place_cmp event other ≡ Less) es
-all_behind event first [] e k = tt
-all_behind event first (a ∷ es) e k = (place_total.trans event first a e k.0, all_behind event first es e k.1)
+all_after : (event first : Event) (es : List Event) → index_key_cmp event first ≡ Less → AllByRecursion (λ other. index_key_cmp first other ≡ Less) es → AllByRecursion (λ other. index_key_cmp event other ≡ Less) es
+all_after event first [] e k = tt
+all_after event first (a ∷ es) e k = (index_key_total.trans event first a e k.0, all_after event first es e k.1)
 
-rising-placed_by : (event first : Event) (es : List Event) (r : Ordering) → place_cmp event first ≡ r → same_place first event ≡ false → IsRising (first ∷ es) → IsRising (placed event es) →
+rising-placed_by : (event first : Event) (es : List Event) (r : Ordering) → index_key_cmp event first ≡ r → same_index_key first event ≡ false → IsRising (first ∷ es) → IsRising (placed event es) →
     IsRising (cond (is_lt r) (event ∷ first ∷ es) (first ∷ placed event es))
 unfolding IsStrictlySortedBy
-rising-placed_by event first es Less e apart k ih = ((e, all_behind event first es e k.0), k)
-rising-placed_by event first es Equal e apart k ih = absurd (true≢false (sym (ap is_eq (place_total.antisymm first event ∙ ap ordering_reverse e)) ∙ apart))
-rising-placed_by event first es Greater e apart k ih = (all-placed (λ other. place_cmp first other ≡ Less) event es (place_total.antisymm first event ∙ ap ordering_reverse e) k.0, ih)
+rising-placed_by event first es Less e apart k ih = ((e, all_after event first es e k.0), k)
+rising-placed_by event first es Equal e apart k ih = absurd (true≢false (sym (ap is_eq (index_key_total.antisymm first event ∙ ap ordering_reverse e)) ∙ apart))
+rising-placed_by event first es Greater e apart k ih = (all-placed (λ other. index_key_cmp first other ≡ Less) event es (index_key_total.antisymm first event ∙ ap ordering_reverse e) k.0, ih)
 
-rising-placed : (event : Event) (es : List Event) → AllByRecursion (λ other. same_place other event ≡ false) es → IsRising es → IsRising (placed event es)
+rising-placed : (event : Event) (es : List Event) → AllByRecursion (λ other. same_index_key other event ≡ false) es → IsRising es → IsRising (placed event es)
 unfolding IsStrictlySortedBy
 rising-placed event [] apart k = (tt, tt)
-rising-placed event (first ∷ es) apart k = rising-placed_by event first es (place_cmp event first) refl apart.0 k (rising-placed event es apart.1 k.1)
+rising-placed event (first ∷ es) apart k = rising-placed_by event first es (index_key_cmp event first) refl apart.0 k (rising-placed event es apart.1 k.1)
 
 -- ---- the steps of a log
 
@@ -71,8 +71,8 @@ all_left p (a ∷ es) = left_by p (p a) a (filter (λ other. not (p other)) es) 
 
 rising-written : (event : Event) (es : List Event) → IsRising es → IsRising (written event es)
 rising-written event es k =
-    let rest = rising-filter (λ other. not (same_place other event)) es k in
-    rising-cond (is_over event) (elsewhere event es) (placed event (elsewhere event es)) rest (rising-placed event (elsewhere event es) (all_left (λ other. same_place other event) es) rest)
+    let rest = rising-filter (λ other. not (same_index_key other event)) es k in
+    rising-cond (is_over event) (elsewhere event es) (placed event (elsewhere event es)) rest (rising-placed event (elsewhere event es) (all_left (λ other. same_index_key other event) es) rest)
 
 rising-step : (log : IndexLog) (last : Logged) → IsRising (live_events log) → IsRising (live_events (log ++ last ∷ []))
 rising-step log (Write event) k = subst IsRising (sym (live-write log event)) (rising-written event (live_events log) k)

@@ -1,2 +1,2 @@
-pub mod Place
+pub mod IndexKey
 pub mod Live

@@ -11,7 +11,7 @@ pub fn logs_are_live()
     ensures expired { ReapsEndExpired }
 {}
 
-/// After every log the live events stand in strictly rising order of place: by host and then by service, absent before
+/// After every log the live events are in strictly rising key order: by host and then by service, absent before
 /// present, and at most one at each.
 pub fn live_events_rise()
     ensures { LiveEventsRise }

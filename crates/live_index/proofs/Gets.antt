@@ -9,8 +9,8 @@ use Rattle.std.specs.List.Sorted.{IsPartitionPoint, IsBinarySearchResult}
 use Rattle.std.proofs.lemmas.Cmp.{alike_right}
 use Rattle.std.proofs.lemmas.Map.Keys.{Less-from_sorted}
 use Rattle.ev_types.specs.declared.event.Event.{Event}
-use Rattle.index_log.specs.Place.{place_cmp}
-use Rattle.index_log.proofs.Places.{place_total}
+use Rattle.index_log.specs.IndexKey.{index_key_cmp}
+use Rattle.index_log.proofs.IndexKeys.{index_key_total}
 use Rattle.index_log.proofs.Rising.{IsRising}
 use Rattle.live_index.specs.Index.{cmp_at, is_at, event_at}
 use Rattle.live_index.proofs.Writes.{searched}
@@ -34,8 +34,8 @@ IsPlaced cmp events r = MatchResult r (HoldsAt (λ other. cmp other ≡ Equal) e
 
 -- the place of an event is that of its host and its service
 pub placed_by_event : (event : Event) (host service : Option (List ℕ)) (events : List Event) (r : Result ℕ ℕ) → host ≡ event.host → service ≡ event.service →
-    IsPlaced (cmp_at host service) events r → IsPlaced (λ other. place_cmp other event) events r
-unfolding place_cmp
+    IsPlaced (cmp_at host service) events r → IsPlaced (λ other. index_key_cmp other event) events r
+unfolding index_key_cmp
 placed_by_event event host service events r same_host same_service found =
     let P : Option (List ℕ) → Type 0 = λ h. IsPlaced (cmp_at h event.service) events r in
     let Q : Option (List ℕ) → Type 0 = λ s. IsPlaced (cmp_at host s) events r in
@@ -59,15 +59,15 @@ module _ (host service : Option (List ℕ)) where
     attributes = [];
   }
 
-  probed : (event : Event) → place_cmp event probe ≡ cmp_at host service event
-  unfolding place_cmp probe
+  probed : (event : Event) → index_key_cmp event probe ≡ cmp_at host service event
+  unfolding index_key_cmp probe
   probed event = refl
 
   is_at_by : (event : Event) (r : Ordering) → cmp_at host service event ≡ r → is_at host service event ≡ is_eq r
   is_at_by event r e = tied_then _ _ ∙ ap is_eq e
 
   pub searched_at : (events : List Event) → IsRising events → (r : Result ℕ ℕ) → IsBinarySearchResult (cmp_at host service) events r → IsPlaced (cmp_at host service) events r
-  unfolding place_cmp probe
+  unfolding index_key_cmp probe
   searched_at events rising r found = searched events probe rising r found
 
   module _ (events : List Event) (at : ℕ) where
@@ -75,9 +75,9 @@ module _ (host service : Option (List ℕ)) where
     got d rising within same =
         find-at (is_at host service) events at d within
         (λ k lt.
-        let less = Less-from_sorted place_cmp events k at d rising lt within in
+        let less = Less-from_sorted index_key_cmp events k at d rising lt within in
         let here = probed (get_or events at d) ∙ same d in
-        is_at_by (get_or events k d) Less (sym (probed (get_or events k d)) ∙ sym (alike_right place_total (get_or events at d) probe (get_or events k d) here) ∙ less))
+        is_at_by (get_or events k d) Less (sym (probed (get_or events k d)) ∙ sym (alike_right index_key_total (get_or events at d) probe (get_or events k d) here) ∙ less))
         (is_at_by (get_or events at d) Equal (same d))
 
     pub got_none : at ≤ length events → IsPartitionPoint (λ other. cmp_at host service other ≡ Less) (λ other. cmp_at host service other ≡ Greater) events at → event_at host service events ≡ None

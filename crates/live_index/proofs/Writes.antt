@@ -10,17 +10,17 @@ use Rattle.std.proofs.lemmas.List.Sorted.{searchable_from_sorted}
 use Rattle.std.proofs.lemmas.Map.Keys.{Less-from_sorted}
 use Rattle.ev_types.specs.declared.event.Event.{Event}
 use Rattle.index_log.specs.Live.{is_over, placed, elsewhere, written, live_events, Logged, Write}
-use Rattle.index_log.specs.Place.{place_cmp}
-use Rattle.index_log.proofs.Places.{place_total, AreBehind, placed-first}
+use Rattle.index_log.specs.IndexKey.{index_key_cmp}
+use Rattle.index_log.proofs.IndexKeys.{index_key_total, AreAfter, placed-first}
 use Rattle.index_log.proofs.LiveLaws.{live-write}
 use Rattle.index_log.proofs.Rising.{IsRising}
 
 -- each event of the list stands before this one, or behind it
 abbrev AllBefore : Event → List Event → Type 0
-AllBefore event = AllByRecursion (λ other. place_cmp other event ≡ Less)
+AllBefore event = AllByRecursion (λ other. index_key_cmp other event ≡ Less)
 
 abbrev AllBehind : Event → List Event → Type 0
-AllBehind event = AllByRecursion (λ other. place_cmp event other ≡ Less)
+AllBehind event = AllByRecursion (λ other. index_key_cmp event other ≡ Less)
 
 -- ---- the order of a list that is put together
 
@@ -40,34 +40,34 @@ all-without P (b ∷ front) a back k = let rest = all-without P front a back k.1
 rising-with : (front : List Event) (event : Event) (back : List Event) → AllBefore event front → AllBehind event back → IsRising (front ++ back) → IsRising (front ++ event ∷ back)
 unfolding IsStrictlySortedBy
 rising-with [] event back before behind k = (behind, k)
-rising-with (a ∷ front) event back before behind k = (all-around (λ other. place_cmp a other ≡ Less) front event back before.0 k.0, rising-with front event back before.1 behind k.1)
+rising-with (a ∷ front) event back before behind k = (all-around (λ other. index_key_cmp a other ≡ Less) front event back before.0 k.0, rising-with front event back before.1 behind k.1)
 
 rising-without : (front : List Event) (a : Event) (back : List Event) → IsRising (front ++ a ∷ back) → IsRising (front ++ back)
 unfolding IsStrictlySortedBy
 rising-without [] a back k = k.1
-rising-without (b ∷ front) a back k = let rest = all-without (λ other. place_cmp b other ≡ Less) front a back k.0 in (rest.1, rising-without front a back k.1)
+rising-without (b ∷ front) a back k = let rest = all-without (λ other. index_key_cmp b other ≡ Less) front a back k.0 in (rest.1, rising-without front a back k.1)
 
 -- ---- an event of one place with one of the list
 
-same_before : (front : List Event) (a : Event) (back : List Event) (event : Event) → place_cmp a event ≡ Equal → IsRising (front ++ a ∷ back) → AllBefore event front
+same_before : (front : List Event) (a : Event) (back : List Event) (event : Event) → index_key_cmp a event ≡ Equal → IsRising (front ++ a ∷ back) → AllBefore event front
 unfolding IsStrictlySortedBy
 same_before [] a back event same k = tt
 same_before (b ∷ front) a back event same k =
-    let rest = all-without (λ other. place_cmp b other ≡ Less) front a back k.0 in
-    (sym (alike_right place_total a event b same) ∙ rest.0, same_before front a back event same k.1)
+    let rest = all-without (λ other. index_key_cmp b other ≡ Less) front a back k.0 in
+    (sym (alike_right index_key_total a event b same) ∙ rest.0, same_before front a back event same k.1)
 
-all_behind-same : (a event : Event) (back : List Event) → place_cmp a event ≡ Equal → AllBehind a back → AllBehind event back
-all_behind-same a event [] same k = tt
-all_behind-same a event (b ∷ back) same k = (sym (place_total.congr a event b same) ∙ k.0, all_behind-same a event back same k.1)
+all_after-same : (a event : Event) (back : List Event) → index_key_cmp a event ≡ Equal → AllBehind a back → AllBehind event back
+all_after-same a event [] same k = tt
+all_after-same a event (b ∷ back) same k = (sym (index_key_total.congr a event b same) ∙ k.0, all_after-same a event back same k.1)
 
-same_behind : (front : List Event) (a : Event) (back : List Event) (event : Event) → place_cmp a event ≡ Equal → IsRising (front ++ a ∷ back) → AllBehind event back
+same_behind : (front : List Event) (a : Event) (back : List Event) (event : Event) → index_key_cmp a event ≡ Equal → IsRising (front ++ a ∷ back) → AllBehind event back
 unfolding IsStrictlySortedBy
-same_behind front a back event same k = let tail = rising-back front (a ∷ back) k in all_behind-same a event back same tail.0
+same_behind front a back event same k = let tail = rising-back front (a ∷ back) k in all_after-same a event back same tail.0
 
 -- ---- what is elsewhere, and where the event is put
 
-greater-behind : (event other : Event) → place_cmp event other ≡ Less → place_cmp other event ≡ Greater
-greater-behind event other k = place_total.antisymm other event ∙ ap ordering_reverse k
+greater-behind : (event other : Event) → index_key_cmp event other ≡ Less → index_key_cmp other event ≡ Greater
+greater-behind event other k = index_key_total.antisymm other event ∙ ap ordering_reverse k
 
 elsewhere-before : (front back : List Event) (event : Event) → AllBefore event front → elsewhere event (front ++ back) ≡ front ++ elsewhere event back
 elsewhere-before [] back event k = refl
@@ -81,11 +81,11 @@ elsewhere-behind (a ∷ back) event k =
     ap (λ r. cond (not (is_eq r)) (a ∷ elsewhere event back) (elsewhere event back)) (greater-behind event a k.0)
     ∙ ap (λ es. a ∷ es) (elsewhere-behind back event k.1)
 
-elsewhere-same : (a : Event) (back : List Event) (event : Event) → place_cmp a event ≡ Equal → elsewhere event (a ∷ back) ≡ elsewhere event back
+elsewhere-same : (a : Event) (back : List Event) (event : Event) → index_key_cmp a event ≡ Equal → elsewhere event (a ∷ back) ≡ elsewhere event back
 elsewhere-same a back event same = ap (λ r. cond (not (is_eq r)) (a ∷ elsewhere event back) (elsewhere event back)) same
 
-less-turned : (event other : Event) → place_cmp other event ≡ Less → place_cmp event other ≡ Greater
-less-turned event other k = place_total.antisymm event other ∙ ap ordering_reverse k
+less-turned : (event other : Event) → index_key_cmp other event ≡ Less → index_key_cmp event other ≡ Greater
+less-turned event other k = index_key_total.antisymm event other ∙ ap ordering_reverse k
 
 placed-before : (front back : List Event) (event : Event) → AllBefore event front → placed event (front ++ back) ≡ front ++ placed event back
 placed-before [] back event k = refl
@@ -93,7 +93,7 @@ placed-before (a ∷ front) back event k =
     ap (λ r. cond (is_lt r) (event ∷ (a ∷ (front ++ back))) (a ∷ placed event (front ++ back))) (less-turned event a k.0)
     ∙ ap (λ es. a ∷ es) (placed-before front back event k.1)
 
-are_behind : (back : List Event) (event : Event) → AllBehind event back → AreBehind event back
+are_behind : (back : List Event) (event : Event) → AllBehind event back → AreAfter event back
 are_behind [] event k = tt
 are_behind (a ∷ back) event k = (ap is_lt k.0, are_behind back event k.1)
 
@@ -114,7 +114,7 @@ written-gap event front back before behind =
     written_from_elsewhere event front back (front ++ back) before behind
     (elsewhere-before front back event before ∙ ap (λ es. front ++ es) (elsewhere-behind back event behind))
 
-written-same : (event : Event) (front : List Event) (a : Event) (back : List Event) → place_cmp a event ≡ Equal → IsRising (front ++ a ∷ back) → written event (front ++ a ∷ back) ≡ written_between event front back
+written-same : (event : Event) (front : List Event) (a : Event) (back : List Event) → index_key_cmp a event ≡ Equal → IsRising (front ++ a ∷ back) → written event (front ++ a ∷ back) ≡ written_between event front back
 written-same event front a back same k =
     let before = same_before front a back event same k in
     let behind = same_behind front a back event same k in
@@ -124,14 +124,14 @@ written-same event front a back same k =
 -- ---- the same, as the code has it
 
 -- what a binary search asks
-pub searchable : (events : List Event) (event : Event) → IsRising events → IsNonDecreasingBy (λ other. ordering_index (place_cmp other event)) events
+pub searchable : (events : List Event) (event : Event) → IsRising events → IsNonDecreasingBy (λ other. ordering_index (index_key_cmp other event)) events
 searchable events event rising =
-    let sorted : IsSortedBy (λ a b. is_lt (place_cmp a b)) events
-    = λ k d low high. ap is_lt (greater-behind _ _ (Less-from_sorted place_cmp events k (k + 1) d rising (omega arith) high)) in
-    searchable_from_sorted place_total (λ (other : Event). other) events event sorted
+    let sorted : IsSortedBy (λ a b. is_lt (index_key_cmp a b)) events
+    = λ k d low high. ap is_lt (greater-behind _ _ (Less-from_sorted index_key_cmp events k (k + 1) d rising (omega arith) high)) in
+    searchable_from_sorted index_key_total (λ (other : Event). other) events event sorted
 
-pub searched : (events : List Event) (event : Event) → IsRising events → (r : Result ℕ ℕ) → IsBinarySearchResult (λ other. place_cmp other event) events r →
-    MatchResult r (HoldsAt (λ other. place_cmp other event ≡ Equal) events) (IsPartitionPoint (λ other. place_cmp other event ≡ Less) (λ other. place_cmp other event ≡ Greater) events)
+pub searched : (events : List Event) (event : Event) → IsRising events → (r : Result ℕ ℕ) → IsBinarySearchResult (λ other. index_key_cmp other event) events r →
+    MatchResult r (HoldsAt (λ other. index_key_cmp other event ≡ Equal) events) (IsPartitionPoint (λ other. index_key_cmp other event ≡ Less) (λ other. index_key_cmp other event ≡ Greater) events)
 searched events event rising (Ok at) found = found
 searched events event rising (Err at) parted = parted (searchable events event rising)
 
@@ -140,7 +140,7 @@ all_from_places P [] h = tt
 all_from_places P (a ∷ events) h = (h 0 a (omega arith), all_from_places P events (λ k d lt. h (suc k) d (omega arith)))
 
 module _ (events : List Event) (event : Event) (at : ℕ) where
-  module _ (rising : IsRising events) (within : at < length events) (same : HoldsAt (λ other. place_cmp other event ≡ Equal) events at) where
+  module _ (rising : IsRising events) (within : at < length events) (same : HoldsAt (λ other. index_key_cmp other event ≡ Equal) events at) where
     parts : take at events ++ get_or events at event ∷ drop (suc at) events ≡ events
     parts = ap (λ es. take at events ++ es) (ap (λ n. get_or events at event ∷ drop n events) (sym (add-one at)) ∙ sym (drop_more events at event within)) ∙ take-append-drop at events
 
@@ -170,17 +170,17 @@ module _ (events : List Event) (event : Event) (at : ℕ) where
         (same_behind (take at events) (get_or events at event) (drop (suc at) events) event (same event) rising_parts)
         rising-remove)
 
-  module _ (within : at ≤ length events) (gap : IsPartitionPoint (λ other. place_cmp other event ≡ Less) (λ other. place_cmp other event ≡ Greater) events at) where
+  module _ (within : at ≤ length events) (gap : IsPartitionPoint (λ other. index_key_cmp other event ≡ Less) (λ other. index_key_cmp other event ≡ Greater) events at) where
     before : AllBefore event (take at events)
-    before = all_from_places (λ other. place_cmp other event ≡ Less) (take at events) (λ k d lt.
+    before = all_from_places (λ other. index_key_cmp other event ≡ Less) (take at events) (λ k d lt.
         let below : k < at = omega (arith, lt, length-take-le at events within) in
         rw (get_or-take at events k d below) (gap.0 k d (omega arith) below))
 
     behind : AllBehind event (drop at events)
-    behind = all_from_places (λ other. place_cmp event other ≡ Less) (drop at events) (λ k d lt.
-        let greater : place_cmp (get_or (drop at events) k d) event ≡ Greater
+    behind = all_from_places (λ other. index_key_cmp event other ≡ Less) (drop at events) (λ k d lt.
+        let greater : index_key_cmp (get_or (drop at events) k d) event ≡ Greater
         = rw (get_or-drop at events k d) (gap.1 (at + k) d (omega arith) (omega (arith, lt, length-drop at events))) in
-        place_total.antisymm event (get_or (drop at events) k d) ∙ ap ordering_reverse greater)
+        index_key_total.antisymm event (get_or (drop at events) k d) ∙ ap ordering_reverse greater)
 
     written_in_gap : written event events ≡ cond (is_over event) events (insert events at event)
     written_in_gap =

@@ -1,13 +1,13 @@
--- What contracts see of an index, and the log that it stands for.
+-- What contracts see of an index, and the log that it represents.
 use Rattle.std.specs.Prelude.{◌≡◌, ◌&&◌, ℕ, Bool, false, List, [], ◌∷◌, ◌++◌, Option}
 use Rattle.std.specs.List.{find}
 use Rattle.std.specs.declared.cmp.Ordering.{Ordering}
 use Rattle.std.specs.Ordering.{is_eq, ordering_then}
 use Rattle.ev_types.specs.declared.event.Event.{Event}
 use Rattle.index_log.specs.Live.{IndexLog, Write, live_events}
-use Rattle.index_log.specs.Place.{text_cmp}
+use Rattle.index_log.specs.IndexKey.{text_cmp}
 
--- the live events in the order of the index, and whether memory was wanted inside a change, after which nothing is
+-- the live events in the order of the index, and whether a change ran out of memory, after which nothing is
 -- known of them
 pub record Index : Type 0 where
   pub events : List Event
@@ -18,7 +18,7 @@ pub record Represents (index : Index) (log : IndexLog) : Type 0 where
   pub sound : index.poisoned ≡ false
   pub live : index.events ≡ live_events log
 
--- how the place of an event stands to that of a host and a service: by host, then by service
+-- how the key of an event compares with a host and a service: by host, then by service
 abbrev pub cmp_at : Option (List ℕ) → Option (List ℕ) → Event → Ordering
 cmp_at host service event = ordering_then (text_cmp event.host host) (text_cmp event.service service)
 

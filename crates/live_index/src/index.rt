@@ -1,4 +1,5 @@
 ghost use Rattle.std.specs.Prelude.{◌≡◌, ◌^◌, ◌≤◌, [], ◌∷◌, ◌++◌, filter, length, option_copied, List, IsErr, IsTrue, OnErr, OnOk};
+ghost use Rattle.list_laws.specs.Prefix.{IsPrefix};
 ghost use Rattle.ev_types.specs.declared.event.Event.{Event as StoredEvent};
 ghost use Rattle.ev_types.specs.Expiry.{is_expired};
 ghost use Rattle.index_log.specs.Live.{IndexLog, Reap, Write};
@@ -14,7 +15,7 @@ use std::marker::Model;
 use step_count::{Ledger, Steps};
 
 /// An index of events, one for each host and service. Contracts see its live events, by host and then by service,
-/// absent before present, and whether memory was wanted inside a change: then it is poisoned, and each later call
+/// absent before present, and whether a change ran out of memory: then it is poisoned, and each later call
 /// that can answer `Memory` does.
 #[derive(Drop)]
 pub struct LiveIndex {
@@ -44,7 +45,7 @@ impl LiveIndex {
     }
 
     /// Writes an event in the place of the live one of its host and service. One whose state is "expired" only
-    /// ends that one. After a want of memory the index is poisoned.
+    /// ends that one. After `Memory` the index is poisoned.
     pub fn write(&mut self, _alloc: Global, event: Event) -> Result<(), Memory>
         ensures ok { OnOk result ((log : IndexLog) → Represents self.old log → Represents self.new (log ++ Write event ∷ [])) }
         ensures err { OnErr result (IsTrue self.new.poisoned) }
@@ -60,7 +61,7 @@ impl LiveIndex {
     }
 
     /// Removes the live events that are expired at the moment `now`, in seconds since 1970, at most 2^40, and
-    /// appends them to `out` in the order of the index. After a want of memory the index is poisoned, and `out`
+    /// appends them to `out` in the order of the index. After `Memory` the index is poisoned, and `out`
     /// begins with what it had.
     pub fn reap<G: Ledger>(
         &mut self,
@@ -73,7 +74,7 @@ impl LiveIndex {
         ensures ok { OnOk result ((log : IndexLog) → Represents self.old log → Represents self.new (log ++ Reap now ∷ [])) }
         ensures expired { OnOk result (out.new ≡ out.old ++ filter (is_expired now) self.old.events) }
         ensures err { OnErr result (IsTrue self.new.poisoned) }
-        ensures front { OnErr result ((more : List StoredEvent) × (out.new ≡ out.old ++ more)) }
+        ensures prefix { OnErr result (IsPrefix out.old out.new) }
         ensures poisoned { IsTrue self.old.poisoned → IsErr result }
         ensures forks { steps.new.forks ≡ steps.old.forks }
     {
@@ -86,7 +87,7 @@ impl LiveIndex {
         Ok(())
     }
 
-    /// Appends copies of the live events that meet the predicate, in the order of the index. After a want of memory
+    /// Appends copies of the live events that meet the predicate, in the order of the index. After `Memory`
     /// the index is as it was, and `out` begins with what it had.
     pub fn search<G: Ledger>(
         &mut self,
@@ -98,7 +99,7 @@ impl LiveIndex {
         ensures same { self.new ≡ self.old }
         ensures pred { pred.new ≡ pred.old }
         ensures ok { OnOk result (out.new ≡ out.old ++ filter (holds pred.old) self.old.events) }
-        ensures front { OnErr result ((more : List StoredEvent) × (out.new ≡ out.old ++ more)) }
+        ensures prefix { OnErr result (IsPrefix out.old out.new) }
         ensures poisoned { IsTrue self.old.poisoned → IsErr result }
         ensures forks { steps.new.forks ≡ steps.old.forks }
     {
@@ -141,7 +142,7 @@ fn copy_matching(
 ) -> Result<(), Memory>
     ensures same { pred.new ≡ pred.old }
     ensures ok { OnOk result (out.new ≡ out.old ++ filter (holds pred.old) events.now) }
-    ensures front { OnErr result ((more : List StoredEvent) × (out.new ≡ out.old ++ more)) }
+    ensures prefix { OnErr result (IsPrefix out.old out.new) }
 {
     for event in events {
         if pred.holds(alloc, event)? {

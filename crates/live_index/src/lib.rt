@@ -5,6 +5,3 @@ mod index;
 mod sorted;
 
 pub use index::LiveIndex;
-
-#[cfg(test)]
-mod tests;

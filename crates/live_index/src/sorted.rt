@@ -1,10 +1,10 @@
 ghost use Rattle.std.specs.Prelude.{◌≡◌, ◌^◌, ◌≤◌, List, [], ◌++◌, filter, length, not, option_copied, IfOk, OnOk, OnErr, MatchResult};
+ghost use Rattle.list_laws.specs.Prefix.{IsPrefix};
 ghost use Rattle.ev_types.specs.declared.event.Event.{Event as StoredEvent};
 ghost use Rattle.ev_types.specs.Expiry.{is_expired};
 ghost use Rattle.std.specs.List.{HoldsAt};
 ghost use Rattle.std.specs.List.Sorted.{IsPartitionPoint, IsSearchInRange};
-ghost use Rattle.index_log.specs.Live.{is_over};
-ghost use Rattle.index_log.specs.Place.{place_cmp, text_cmp};
+ghost use Rattle.index_log.specs.IndexKey.{index_key_cmp, text_cmp};
 ghost use Rattle.live_index.specs.Index.{RepresentsWrite, cmp_at, event_at};
 
 use ev_types::{Event, Events, Memory, Text};
@@ -13,7 +13,7 @@ use std::cmp::Ordering;
 use std::marker::Model;
 use std::mem;
 
-/// Events in strictly rising order of place: by host and then by service, absent before present.
+/// Events in strictly rising key order: by host and then by service, absent before present.
 #[derive(Drop)]
 pub(crate) struct SortedEvents {
     events: Vec<Event>,
@@ -23,13 +23,13 @@ impl Model for SortedEvents {
     ghost use Rattle.std.specs.Prelude.{List};
     ghost use Rattle.std.specs.List.Sorted.{IsStrictlySortedBy};
     ghost use Rattle.ev_types.specs.declared.event.Event.{Event};
-    ghost use Rattle.index_log.specs.Place.{place_cmp};
+    ghost use Rattle.index_log.specs.IndexKey.{index_key_cmp};
 
     ghost Value = { List Event };
 
     ghost view = { λ index. index.events.items };
 
-    ghost invariant = { λ index. IsStrictlySortedBy place_cmp index.events.items };
+    ghost invariant = { λ index. IsStrictlySortedBy index_key_cmp index.events.items };
 }
 
 impl SortedEvents {
@@ -41,22 +41,21 @@ impl SortedEvents {
         }
     }
 
-    /// Puts an event in the place of the one of its host and service. One whose state is "expired" only ends that
-    /// one.
+    /// Puts an event in place of the one of its host and service. One whose state is "expired" only ends that one.
     pub(crate) fn write(&mut self, event: Event) -> Result<(), Memory>
         ensures ok { OnOk result (RepresentsWrite self.old event self.new) }
         ensures err { OnErr result (self.new ≡ self.old) }
     {
         match self.place_of(&event) {
             Ok(at) => {
-                if is_over(&event) {
+                if event.is_over() {
                     self.events.remove(at);
                 } else {
                     self.events[at] = event;
                 }
             }
             Err(at) => {
-                if !is_over(&event) {
+                if !event.is_over() {
                     self.events.insert(at, event)?;
                 }
             }
@@ -65,7 +64,7 @@ impl SortedEvents {
     }
 
     /// Takes out the events that are expired at the moment `now`, at most 2^40, and appends them to `expired`. After
-    /// a want of memory some of the others are lost.
+    /// `Memory` some of the others are lost.
     pub(crate) fn take_expired(
         &mut self,
         alloc: Global,
@@ -75,7 +74,7 @@ impl SortedEvents {
         requires { now ≤ 2 ^ 40 }
         ensures kept { OnOk result (self.new ≡ filter (λ event. not (is_expired now event)) self.old) }
         ensures gone { OnOk result (expired.new ≡ expired.old ++ filter (is_expired now) self.old) }
-        ensures front { OnErr result ((more : List StoredEvent) × (expired.new ≡ expired.old ++ more)) }
+        ensures prefix { OnErr result (IsPrefix expired.old expired.new) }
     {
         let events = mem::replace(&mut self.events, Vec::new(alloc));
         self.events = part_expired(alloc, events, now, expired)?;
@@ -98,18 +97,18 @@ impl SortedEvents {
         }
     }
 
-    // Where the live event of this one's place stands, or else where this one would stand.
+    // The number of the live event of this one's key, or else the number at which this one would be inserted.
     fn place_of(&self, event: &Event) -> Result<usize, usize>
         ensures bound { IsSearchInRange result (length self.now) }
         ensures place { MatchResult result
-            (HoldsAt (λ other. place_cmp other event.now ≡ Ordering.Equal) self.now)
-            (IsPartitionPoint (λ other. place_cmp other event.now ≡ Ordering.Less)
-            (λ other. place_cmp other event.now ≡ Ordering.Greater) self.now) }
+            (HoldsAt (λ other. index_key_cmp other event.now ≡ Ordering.Equal) self.now)
+            (IsPartitionPoint (λ other. index_key_cmp other event.now ≡ Ordering.Less)
+            (λ other. index_key_cmp other event.now ≡ Ordering.Greater) self.now) }
     {
         self.place_at(event.host.as_ref(), event.service.as_ref())
     }
 
-    // Where the event of this host and this service stands, or else where one would stand.
+    // The number of the event of this host and this service, or else the number at which one would be inserted.
     fn place_at(&self, host: Option<&Text>, service: Option<&Text>) -> Result<usize, usize>
         ensures bound { IsSearchInRange result (length self.now) }
         ensures place { MatchResult result
@@ -132,7 +131,7 @@ fn part_expired(
     requires { now ≤ 2 ^ 40 }
     ensures kept { IfOk result (λ kept. kept.items ≡ filter (λ event. not (is_expired now event)) events.items) }
     ensures gone { OnOk result (expired.new ≡ expired.old ++ filter (is_expired now) events.items) }
-    ensures front { OnErr result ((more : List StoredEvent) × (expired.new ≡ expired.old ++ more)) }
+    ensures prefix { OnErr result (IsPrefix expired.old expired.new) }
 {
     let mut kept = Vec::new(alloc);
     for event in events {
@@ -145,7 +144,7 @@ fn part_expired(
     Ok(kept)
 }
 
-// The order of the event's place to that of a host and a service: by host, then by service.
+// How the event's key compares with a host and a service: by host, then by service.
 fn cmp_at(host: Option<&Text>, service: Option<&Text>, event: &Event) -> Ordering
     ensures { result ≡ cmp_at (option_copied host.entry) (option_copied service.entry) event.now }
 {
@@ -155,7 +154,7 @@ fn cmp_at(host: Option<&Text>, service: Option<&Text>, event: &Event) -> Orderin
     }
 }
 
-// An absent text stands before one that is present.
+// An absent text comes before one that is present.
 fn text_cmp(a: Option<&Text>, b: Option<&Text>) -> Ordering
     ensures { result ≡ text_cmp (option_copied a.entry) (option_copied b.entry) }
 {
@@ -164,15 +163,5 @@ fn text_cmp(a: Option<&Text>, b: Option<&Text>) -> Ordering
         (None, Some(_)) => Ordering::Less,
         (Some(_), None) => Ordering::Greater,
         (Some(a), Some(b)) => a.as_bytes().cmp(b.as_bytes()),
-    }
-}
-
-// Whether the event says of itself that it is over.
-fn is_over(event: &Event) -> bool
-    ensures { result ≡ is_over event.now }
-{
-    match &event.state {
-        Some(state) => state.is(b"expired"),
-        None => false,
     }
 }

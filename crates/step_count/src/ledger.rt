@@ -2,7 +2,7 @@ ghost use Rattle.std.specs.Prelude.{◌≡◌, ℕ, ◌+◌, min, Option, Some, 
 ghost use Rattle.list_laws.specs.Counts.{greatest};
 ghost use Rattle.step_count.specs.Count.{one_more};
 
-/// Where steps are counted at run time. Its ghost members are what it counted, where it tells that.
+/// Where steps are counted at run time. Its ghost members are what it counted, where that is known.
 pub trait Ledger {
     ghost use Rattle.std.specs.Prelude.{ℕ, Option};
 

@@ -40,7 +40,7 @@ impl<G: Ledger> Steps<G> {
         }
     }
 
-    /// Counts that a fork was entered, and tells the ledger once.
+    /// Counts that a fork was entered, once with the ledger too.
     pub fn enter_fork(&mut self)
         ensures forks { self.new.forks ≡ self.old.forks + 1 }
         ensures entries { self.new.entries ≡ self.old.entries }
@@ -51,7 +51,7 @@ impl<G: Ledger> Steps<G> {
         self.ledger.fork();
     }
 
-    /// Counts that an entry was visited, and tells the ledger once.
+    /// Counts that an entry was visited, once with the ledger too.
     pub fn visit_entry(&mut self)
         ensures forks { self.new.forks ≡ self.old.forks }
         ensures entries { self.new.entries ≡ self.old.entries + 1 }
@@ -62,7 +62,7 @@ impl<G: Ledger> Steps<G> {
         self.ledger.entry();
     }
 
-    /// The ledger that the steps are told to.
+    /// The ledger that counts the steps too.
     pub fn ledger(&self) -> &G
         ensures { result.now ≡ self.now.ledger }
     {

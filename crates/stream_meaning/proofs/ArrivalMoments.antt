@@ -6,7 +6,7 @@ use Rattle.ev_types.specs.declared.settings.Expiry.{Expiry}
 use Rattle.ev_types.specs.declared.settings.KeepKey.{KeepKey}
 use Rattle.stream_plan.specs.Tree.{StreamTrees}
 use Rattle.stream_meaning.specs.History.{since, Tick, In, begun, moment_of}
-use Rattle.stream_meaning.specs.Arrivals.{Arrival, Elapsed, Post, CoreState, entered, streamed, expired_copies, with_reap, reaped, swept, arrived, state_from}
+use Rattle.stream_meaning.specs.Arrivals.{Arrival, Elapsed, Post, CoreState, entered, streamed, expired_copies, with_reap, fed_back, swept, arrived, state_from}
 use Rattle.stream_meaning.specs.Laws.{SameMoments}
 use Rattle.stream_meaning.specs.ArrivalLaws.{ArrivalsComeInOrder, elapsed_in, ArrivalsAreMoments}
 
@@ -24,8 +24,8 @@ streamed-moments plan (event ∷ es) state =
     let later = streamed-moments plan es (entered plan (In (One event)) state) in
     record { begins = later.begins; ends = later.ends }
 
-reaped-moments : (plan : StreamTrees) (keep : List KeepKey) (state : CoreState) → SameMoments (reaped plan keep state).history state.history
-reaped-moments plan keep state = streamed-moments plan (expired_copies keep state) (with_reap state)
+fed_back-moments : (plan : StreamTrees) (keep : List KeepKey) (state : CoreState) → SameMoments (fed_back plan keep state).history state.history
+fed_back-moments plan keep state = streamed-moments plan (expired_copies keep state) (with_reap state)
 
 either-moments : (t : Bool) (a b c : CoreState) → SameMoments a.history c.history → SameMoments b.history c.history → SameMoments (cond t a b).history c.history
 either-moments true a b c p q = p
@@ -34,7 +34,7 @@ either-moments false a b c p q = q
 pub swept-moments : (plan : StreamTrees) (expiry : Option Expiry) (state : CoreState) → SameMoments (swept plan expiry state).history state.history
 swept-moments plan None state = record { begins = refl; ends = refl }
 swept-moments plan (Some expiry) state =
-    either-moments ((moment_of state.history - begun state.history) % expiry.interval == 0) (reaped plan expiry.keep state) state state (reaped-moments plan expiry.keep state)
+    either-moments ((moment_of state.history - begun state.history) % expiry.interval == 0) (fed_back plan expiry.keep state) state state (fed_back-moments plan expiry.keep state)
     (record { begins = refl; ends = refl })
 
 record Moments (state : CoreState) (start now : ℕ) : Type 0 where

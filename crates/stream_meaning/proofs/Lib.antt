@@ -1,5 +1,5 @@
 pub mod TickLaws
-pub mod SaidLaws
+pub mod OutputLaws
 pub mod ForkLaws
 pub mod MomentLaws
 pub mod VectorLaws

@@ -7,7 +7,7 @@ use Rattle.ev_types.specs.declared.item.Item.{Item}
 use Rattle.stream_plan.specs.Tree.{KindTree}
 use Rattle.stream_meaning.specs.History.{History, since, ◌▸◌, Tick, In, begun, moment_of, window_of}
 use Rattle.stream_meaning.specs.Emission.{Branch, Emission, emissions}
-use Rattle.stream_meaning.specs.Branches.{same_branch, handed, child_history}
+use Rattle.stream_meaning.specs.Branches.{same_branch, after_emissions, child_history}
 use Rattle.stream_meaning.specs.Laws.{tick_count, SameMoments, WindowsAreMultiples}
 
 pub moments_counted : (h : History) → moment_of h ≡ begun h + tick_count h
@@ -22,23 +22,23 @@ given-moments : (t : Bool) (item : Item) (h : History) → SameMoments (cond t (
 given-moments true item h = record { begins = refl; ends = refl }
 given-moments false item h = record { begins = refl; ends = refl }
 
-pub handed-moments : (branch : Branch) (es : List Emission) (h : History) → SameMoments (handed branch es h) h
-handed-moments branch [] h = record { begins = refl; ends = refl }
-handed-moments branch (emission ∷ more) h =
+pub after_emissions-moments : (branch : Branch) (es : List Emission) (h : History) → SameMoments (after_emissions branch es h) h
+after_emissions-moments branch [] h = record { begins = refl; ends = refl }
+after_emissions-moments branch (emission ∷ more) h =
     let t = same_branch emission.branch branch in
     let first = given-moments t emission.item h in
-    let later = handed-moments branch more (cond t (h ▸ In emission.item) h) in
+    let later = after_emissions-moments branch more (cond t (h ▸ In emission.item) h) in
     record { begins = later.begins ∙ first.begins; ends = later.ends ∙ first.ends }
 
 pub branch_moments : (kind : KindTree) (branch : Branch) (h : History) → SameMoments (child_history kind branch h) h
 branch_moments kind branch (since start) = record { begins = refl; ends = refl }
 branch_moments kind branch (h ▸ Tick) =
     let before = branch_moments kind branch h in
-    let now = handed-moments branch (emissions kind (h ▸ Tick)) (child_history kind branch h ▸ Tick) in
+    let now = after_emissions-moments branch (emissions kind (h ▸ Tick)) (child_history kind branch h ▸ Tick) in
     record { begins = now.begins ∙ before.begins; ends = now.ends ∙ ap (λ m. m + 1) before.ends }
 branch_moments kind branch (h ▸ In item) =
     let before = branch_moments kind branch h in
-    let now = handed-moments branch (emissions kind (h ▸ In item)) (child_history kind branch h) in
+    let now = after_emissions-moments branch (emissions kind (h ▸ In item)) (child_history kind branch h) in
     record { begins = now.begins ∙ before.begins; ends = now.ends ∙ before.ends }
 
 pub eq-zero : (n : ℕ) → n ≡ 0 → (n == 0) ≡ true

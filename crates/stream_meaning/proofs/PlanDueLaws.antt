@@ -7,11 +7,11 @@ use Rattle.std.proofs.lemmas.Bool.Decides.{nat_tests}
 use Rattle.stream_plan.specs.Tree.{KindTree, Index, StreamTree, StreamTrees, stream, none, also}
 use Rattle.stream_meaning.specs.History.{History, ◌▸◌, Tick, moment_of}
 use Rattle.stream_meaning.specs.Emission.{Branch, Children, Otherwise, Fork, Emission, emissions}
-use Rattle.stream_meaning.specs.Branches.{handed, child_history, branches}
-use Rattle.stream_meaning.specs.Outputs.{Happening, emits_if_any, marked, Talk, at_tick, at_emissions, talk_of, happens, all_happens}
+use Rattle.stream_meaning.specs.Branches.{after_emissions, child_history, branches}
+use Rattle.stream_meaning.specs.Outputs.{Effect, emits_if_any, marked, BranchEffects, at_tick, at_emissions, branch_effects, stream_effects, plan_effects}
 use Rattle.stream_meaning.specs.Deadlines.{next_deadline, earlier, earliest, deadline_of, stream_deadline, plan_deadline}
 use Rattle.stream_meaning.specs.DeadlineLaws.{is_any, emits, is_at}
-use Rattle.stream_meaning.specs.DueLaws.{happens_any, HasStreamRanges, HasRanges, PlanDeadlinesAreMet, PlanDeadlinesStay}
+use Rattle.stream_meaning.specs.DueLaws.{has_effects, HasStreamRanges, HasRanges, PlanDeadlinesAreMet, PlanDeadlinesStay}
 use Rattle.stream_meaning.proofs.MomentLaws.{branch_moments}
 use Rattle.stream_meaning.proofs.MetLaws.{deadlines_met}
 use Rattle.stream_meaning.proofs.StayLaws.{deadlines_stay, deadlines_ahead}
@@ -55,28 +55,28 @@ at-earliest now (first ∷ more) p =
 -- ---- what is below a stream
 
 abbrev Below : Type 0
-Below = History → List Happening
+Below = History → List Effect
 
 abbrev LiesAhead : (History → Option ℕ) → Type 0
 LiesAhead deadline = (h : History) → IsAhead (moment_of h) (deadline h)
 
 abbrev IsMet : Below → (History → Option ℕ) → Type 0
-IsMet below deadline = (h : History) → happens_any (below (h ▸ Tick)) ≡ is_at (moment_of h + 1) (deadline h)
+IsMet below deadline = (h : History) → has_effects (below (h ▸ Tick)) ≡ is_at (moment_of h + 1) (deadline h)
 
 abbrev Stays : Below → (History → Option ℕ) → Type 0
-Stays below deadline = (h : History) → happens_any (below (h ▸ Tick)) ≡ false → deadline (h ▸ Tick) ≡ deadline h
+Stays below deadline = (h : History) → has_effects (below (h ▸ Tick)) ≡ false → deadline (h ▸ Tick) ≡ deadline h
 
 branch-ahead : (c o : History → Option ℕ) → LiesAhead c → LiesAhead o → (branch : Branch) → LiesAhead (deadline_of c o branch)
 branch-ahead c o p q Children = p
 branch-ahead c o p q Otherwise = q
 branch-ahead c o p q (Fork key) = p
 
-branch-met : (tc te : Below) (c o : History → Option ℕ) → IsMet tc c → IsMet te o → (branch : Branch) → IsMet (talk_of tc te branch) (deadline_of c o branch)
+branch-met : (tc te : Below) (c o : History → Option ℕ) → IsMet tc c → IsMet te o → (branch : Branch) → IsMet (branch_effects tc te branch) (deadline_of c o branch)
 branch-met tc te c o p q Children = p
 branch-met tc te c o p q Otherwise = q
 branch-met tc te c o p q (Fork key) = p
 
-branch-stays : (tc te : Below) (c o : History → Option ℕ) → Stays tc c → Stays te o → (branch : Branch) → Stays (talk_of tc te branch) (deadline_of c o branch)
+branch-stays : (tc te : Below) (c o : History → Option ℕ) → Stays tc c → Stays te o → (branch : Branch) → Stays (branch_effects tc te branch) (deadline_of c o branch)
 branch-stays tc te c o p q Children = p
 branch-stays tc te c o p q Otherwise = q
 branch-stays tc te c o p q (Fork key) = p
@@ -86,50 +86,50 @@ or_false true t e = absurd (true≢false e)
 or_false false t e = (refl, e)
 
 -- over all branches, each with its own history, whose moments are these
-module _ (talk : Talk) (deadline : Branch → History → Option ℕ) (received : Branch → History) (now : ℕ) (same : (branch : Branch) → moment_of (received branch) ≡ now) where
+module _ (effects_in : BranchEffects) (deadline : Branch → History → Option ℕ) (received : Branch → History) (now : ℕ) (same : (branch : Branch) → moment_of (received branch) ≡ now) where
   branches-ahead : ((branch : Branch) → LiesAhead (deadline branch)) → (bs : List Branch) → AreAhead now (map (λ branch. deadline branch (received branch)) bs)
   branches-ahead p [] = tt
   branches-ahead p (branch ∷ bs) = (subst (λ (m : ℕ). IsAhead m (deadline branch (received branch))) (same branch) (p branch (received branch)), branches-ahead p bs)
 
-  branches-met : ((branch : Branch) → IsMet (talk branch) (deadline branch)) → (bs : List Branch) →
-      happens_any (at_tick Tick talk received bs) ≡ list_any (is_at (now + 1)) (map (λ branch. deadline branch (received branch)) bs)
+  branches-met : ((branch : Branch) → IsMet (effects_in branch) (deadline branch)) → (bs : List Branch) →
+      has_effects (at_tick Tick effects_in received bs) ≡ list_any (is_at (now + 1)) (map (λ branch. deadline branch (received branch)) bs)
   branches-met p [] = refl
   branches-met p (branch ∷ bs) =
-      any-append (marked branch (talk branch (received branch ▸ Tick))) (at_tick Tick talk received bs)
-      ∙ ap (λ t. t || happens_any (at_tick Tick talk received bs)) (any-marked branch (talk branch (received branch ▸ Tick)) ∙ p branch (received branch)
+      any-append (marked branch (effects_in branch (received branch ▸ Tick))) (at_tick Tick effects_in received bs)
+      ∙ ap (λ t. t || has_effects (at_tick Tick effects_in received bs)) (any-marked branch (effects_in branch (received branch ▸ Tick)) ∙ p branch (received branch)
       ∙ ap (λ m. is_at (m + 1) (deadline branch (received branch))) (same branch))
       ∙ ap (λ t. is_at (now + 1) (deadline branch (received branch)) || t) (branches-met p bs)
 
-  branches-stay : ((branch : Branch) → Stays (talk branch) (deadline branch)) → (bs : List Branch) → happens_any (at_tick Tick talk received bs) ≡ false →
+  branches-stay : ((branch : Branch) → Stays (effects_in branch) (deadline branch)) → (bs : List Branch) → has_effects (at_tick Tick effects_in received bs) ≡ false →
       map (λ branch. deadline branch (received branch ▸ Tick)) bs ≡ map (λ branch. deadline branch (received branch)) bs
   branches-stay p [] e = refl
   branches-stay p (branch ∷ bs) e =
-      let parts = or_false (happens_any (marked branch (talk branch (received branch ▸ Tick)))) (happens_any (at_tick Tick talk received bs))
-      (sym (any-append (marked branch (talk branch (received branch ▸ Tick))) (at_tick Tick talk received bs)) ∙ e) in
-      ap (λ first. first ∷ map (λ branch. deadline branch (received branch ▸ Tick)) bs) (p branch (received branch) (sym (any-marked branch (talk branch (received branch ▸ Tick))) ∙ parts.0))
+      let parts = or_false (has_effects (marked branch (effects_in branch (received branch ▸ Tick)))) (has_effects (at_tick Tick effects_in received bs))
+      (sym (any-append (marked branch (effects_in branch (received branch ▸ Tick))) (at_tick Tick effects_in received bs)) ∙ e) in
+      ap (λ first. first ∷ map (λ branch. deadline branch (received branch ▸ Tick)) bs) (p branch (received branch) (sym (any-marked branch (effects_in branch (received branch ▸ Tick))) ∙ parts.0))
       ∙ ap (λ more. deadline branch (received branch) ∷ more) (branches-stay p bs parts.1)
 
 -- ---- what a stream does at a tick
 
-or_assoc_nothing : (es : List Emission) (below after : List Happening) → (is_any es ≡ false → after ≡ []) → happens_any (emits_if_any es ++ below ++ after) ≡ is_any es || happens_any below
-or_assoc_nothing [] below after f = any-append below after ∙ ap (λ l. happens_any below || happens_any l) (f refl) ∙ sym (or_nothing (happens_any below))
+or_assoc_nothing : (es : List Emission) (below after : List Effect) → (is_any es ≡ false → after ≡ []) → has_effects (emits_if_any es ++ below ++ after) ≡ is_any es || has_effects below
+or_assoc_nothing [] below after f = any-append below after ∙ ap (λ l. has_effects below || has_effects l) (f refl) ∙ sym (or_nothing (has_effects below))
 or_assoc_nothing (emission ∷ more) below after f = refl
 
 stream_happens : (kind : KindTree) (children otherwise : StreamTrees) (h : History) →
-    happens_any (happens (stream kind children otherwise) (h ▸ Tick))
-    ≡ emits kind (h ▸ Tick) || happens_any (at_tick Tick (talk_of (all_happens children) (all_happens otherwise)) (λ branch. child_history kind branch h) (branches kind h))
+    has_effects (stream_effects (stream kind children otherwise) (h ▸ Tick))
+    ≡ emits kind (h ▸ Tick) || has_effects (at_tick Tick (branch_effects (plan_effects children) (plan_effects otherwise)) (λ branch. child_history kind branch h) (branches kind h))
 stream_happens kind children otherwise h =
-    let talk = talk_of (all_happens children) (all_happens otherwise) in
+    let effects_in = branch_effects (plan_effects children) (plan_effects otherwise) in
     let received = λ (branch : Branch). child_history kind branch h in
     let es = emissions kind (h ▸ Tick) in
-    or_assoc_nothing es (at_tick Tick talk received (branches kind h)) (at_emissions talk (λ branch. received branch ▸ Tick) es) (no_emissions talk (λ branch. received branch ▸ Tick) es)
+    or_assoc_nothing es (at_tick Tick effects_in received (branches kind h)) (at_emissions effects_in (λ branch. received branch ▸ Tick) es) (no_emissions effects_in (λ branch. received branch ▸ Tick) es)
 
 nothing_if : (es : List Emission) → is_any es ≡ false → es ≡ []
 nothing_if [] e = refl
 nothing_if (emission ∷ more) e = absurd (true≢false e)
 
 quiet_branch : (kind : KindTree) (branch : Branch) (h : History) → emits kind (h ▸ Tick) ≡ false → child_history kind branch (h ▸ Tick) ≡ child_history kind branch h ▸ Tick
-quiet_branch kind branch h e = ap (λ es. handed branch es (child_history kind branch h ▸ Tick)) (nothing_if (emissions kind (h ▸ Tick)) e)
+quiet_branch kind branch h e = ap (λ es. after_emissions branch es (child_history kind branch h ▸ Tick)) (nothing_if (emissions kind (h ▸ Tick)) e)
 
 map-same : (f g : Branch → Option ℕ) → ((branch : Branch) → f branch ≡ g branch) → (bs : List Branch) → map f bs ≡ map g bs
 map-same f g e [] = refl
@@ -147,7 +147,7 @@ mutual
       ahead-earlier (moment_of h) (next_deadline kind h) (earliest (map (λ branch. deadline branch (received branch)) (branches kind h)))
       (deadlines_ahead kind h ranges.0)
       (ahead-earliest (moment_of h) (map (λ branch. deadline branch (received branch)) (branches kind h))
-      (branches-ahead (talk_of (all_happens children) (all_happens otherwise)) deadline received (moment_of h) (λ branch. (branch_moments kind branch h).ends)
+      (branches-ahead (branch_effects (plan_effects children) (plan_effects otherwise)) deadline received (moment_of h) (λ branch. (branch_moments kind branch h).ends)
       (branch-ahead (plan_deadline children) (plan_deadline otherwise) (λ g. plan_ahead children g ranges.1) (λ g. plan_ahead otherwise g ranges.2)) (branches kind h)))
 
   pub plan_ahead : (plan : StreamTrees) (h : History) → HasRanges plan → IsAhead (moment_of h) (plan_deadline plan h)
@@ -155,50 +155,50 @@ mutual
   plan_ahead (also first more) h ranges = ahead-earlier (moment_of h) (stream_deadline first h) (plan_deadline more h) (stream_ahead first h ranges.0) (plan_ahead more h ranges.1)
 
 mutual
-  stream_met : (s : StreamTree) (h : History) → HasStreamRanges s → happens_any (happens s (h ▸ Tick)) ≡ is_at (moment_of h + 1) (stream_deadline s h)
+  stream_met : (s : StreamTree) (h : History) → HasStreamRanges s → has_effects (stream_effects s (h ▸ Tick)) ≡ is_at (moment_of h + 1) (stream_deadline s h)
   stream_met (stream kind children otherwise) h ranges =
-      let talk = talk_of (all_happens children) (all_happens otherwise) in
+      let effects_in = branch_effects (plan_effects children) (plan_effects otherwise) in
       let deadline = deadline_of (plan_deadline children) (plan_deadline otherwise) in
       let received = λ (branch : Branch). child_history kind branch h in
       let now = moment_of h in
       let same = λ (branch : Branch). (branch_moments kind branch h).ends in
       let deadlines = map (λ branch. deadline branch (received branch)) (branches kind h) in
-      let ahead : AreAhead now deadlines = branches-ahead talk deadline received now same
+      let ahead : AreAhead now deadlines = branches-ahead effects_in deadline received now same
       (branch-ahead (plan_deadline children) (plan_deadline otherwise) (λ g. plan_ahead children g ranges.1) (λ g. plan_ahead otherwise g ranges.2)) (branches kind h) in
       stream_happens kind children otherwise h
-      ∙ ap (λ t. t || happens_any (at_tick Tick talk received (branches kind h))) (deadlines_met kind h ranges.0)
+      ∙ ap (λ t. t || has_effects (at_tick Tick effects_in received (branches kind h))) (deadlines_met kind h ranges.0)
       ∙ ap (λ t. is_at (now + 1) (next_deadline kind h) || t)
-      (branches-met talk deadline received now same
-      (branch-met (all_happens children) (all_happens otherwise) (plan_deadline children) (plan_deadline otherwise) (λ g. all_met children g ranges.1) (λ g. all_met otherwise g ranges.2)) (branches kind h)
+      (branches-met effects_in deadline received now same
+      (branch-met (plan_effects children) (plan_effects otherwise) (plan_deadline children) (plan_deadline otherwise) (λ g. all_met children g ranges.1) (λ g. all_met otherwise g ranges.2)) (branches kind h)
       ∙ sym (at-earliest now deadlines ahead))
       ∙ sym (at-earlier now (next_deadline kind h) (earliest deadlines) (deadlines_ahead kind h ranges.0) (ahead-earliest now deadlines ahead))
 
-  all_met : (plan : StreamTrees) (h : History) → HasRanges plan → happens_any (all_happens plan (h ▸ Tick)) ≡ is_at (moment_of h + 1) (plan_deadline plan h)
+  all_met : (plan : StreamTrees) (h : History) → HasRanges plan → has_effects (plan_effects plan (h ▸ Tick)) ≡ is_at (moment_of h + 1) (plan_deadline plan h)
   all_met none h ranges = refl
   all_met (also first more) h ranges =
-      any-append (happens first (h ▸ Tick)) (all_happens more (h ▸ Tick))
-      ∙ ap (λ t. t || happens_any (all_happens more (h ▸ Tick))) (stream_met first h ranges.0)
+      any-append (stream_effects first (h ▸ Tick)) (plan_effects more (h ▸ Tick))
+      ∙ ap (λ t. t || has_effects (plan_effects more (h ▸ Tick))) (stream_met first h ranges.0)
       ∙ ap (λ t. is_at (moment_of h + 1) (stream_deadline first h) || t) (all_met more h ranges.1)
       ∙ sym (at-earlier (moment_of h) (stream_deadline first h) (plan_deadline more h) (stream_ahead first h ranges.0) (plan_ahead more h ranges.1))
 
 mutual
-  stream_stays : (s : StreamTree) (h : History) → HasStreamRanges s → happens_any (happens s (h ▸ Tick)) ≡ false → stream_deadline s (h ▸ Tick) ≡ stream_deadline s h
+  stream_stays : (s : StreamTree) (h : History) → HasStreamRanges s → has_effects (stream_effects s (h ▸ Tick)) ≡ false → stream_deadline s (h ▸ Tick) ≡ stream_deadline s h
   stream_stays (stream kind children otherwise) h ranges silent =
-      let talk = talk_of (all_happens children) (all_happens otherwise) in
+      let effects_in = branch_effects (plan_effects children) (plan_effects otherwise) in
       let deadline = deadline_of (plan_deadline children) (plan_deadline otherwise) in
       let received = λ (branch : Branch). child_history kind branch h in
-      let parts = or_false (emits kind (h ▸ Tick)) (happens_any (at_tick Tick talk received (branches kind h))) (sym (stream_happens kind children otherwise h) ∙ silent) in
+      let parts = or_false (emits kind (h ▸ Tick)) (has_effects (at_tick Tick effects_in received (branches kind h))) (sym (stream_happens kind children otherwise h) ∙ silent) in
       ap (λ own. earlier own (earliest (map (λ branch. deadline branch (child_history kind branch (h ▸ Tick))) (branches kind (h ▸ Tick))))) (deadlines_stay kind h ranges.0 parts.0)
       ∙ ap (λ bs. earlier (next_deadline kind h) (earliest (map (λ branch. deadline branch (child_history kind branch (h ▸ Tick))) bs))) (same_branches kind h)
       ∙ ap (λ ds. earlier (next_deadline kind h) (earliest ds))
       (map-same (λ branch. deadline branch (child_history kind branch (h ▸ Tick))) (λ branch. deadline branch (received branch ▸ Tick)) (λ branch. ap (deadline branch) (quiet_branch kind branch h parts.0)) (branches kind h)
-      ∙ branches-stay talk deadline received (moment_of h) (λ branch. (branch_moments kind branch h).ends)
-      (branch-stays (all_happens children) (all_happens otherwise) (plan_deadline children) (plan_deadline otherwise) (λ g. all_stays children g ranges.1) (λ g. all_stays otherwise g ranges.2)) (branches kind h) parts.1)
+      ∙ branches-stay effects_in deadline received (moment_of h) (λ branch. (branch_moments kind branch h).ends)
+      (branch-stays (plan_effects children) (plan_effects otherwise) (plan_deadline children) (plan_deadline otherwise) (λ g. all_stays children g ranges.1) (λ g. all_stays otherwise g ranges.2)) (branches kind h) parts.1)
 
-  all_stays : (plan : StreamTrees) (h : History) → HasRanges plan → happens_any (all_happens plan (h ▸ Tick)) ≡ false → plan_deadline plan (h ▸ Tick) ≡ plan_deadline plan h
+  all_stays : (plan : StreamTrees) (h : History) → HasRanges plan → has_effects (plan_effects plan (h ▸ Tick)) ≡ false → plan_deadline plan (h ▸ Tick) ≡ plan_deadline plan h
   all_stays none h ranges silent = refl
   all_stays (also first more) h ranges silent =
-      let parts = or_false (happens_any (happens first (h ▸ Tick))) (happens_any (all_happens more (h ▸ Tick))) (sym (any-append (happens first (h ▸ Tick)) (all_happens more (h ▸ Tick))) ∙ silent) in
+      let parts = or_false (has_effects (stream_effects first (h ▸ Tick))) (has_effects (plan_effects more (h ▸ Tick))) (sym (any-append (stream_effects first (h ▸ Tick)) (plan_effects more (h ▸ Tick))) ∙ silent) in
       ap (λ d. earlier d (plan_deadline more (h ▸ Tick))) (stream_stays first h ranges.0 parts.0) ∙ ap (earlier (stream_deadline first h)) (all_stays more h ranges.1 parts.1)
 
 pub plan_met : PlanDeadlinesAreMet

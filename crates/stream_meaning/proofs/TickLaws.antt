@@ -1,4 +1,4 @@
--- Where nothing has come but ticks, nothing happens.
+-- Where nothing has come but ticks, there are no effects.
 use Rattle.std.proofs.Common.{◌≡◌, ℕ, zero, suc, ◌+◌, ◌-◌, ◌%◌, Bool, true, false, cond, List, [], ◌∷◌, ◌++◌, length, drop, nat_lt, ◌==◌, refl, sym, ap, ◌∙◌, subst, arith}
 use Rattle.std.specs.List.{flat_map}
 use Rattle.std.proofs.Math.Seq.{drop-nil}
@@ -12,8 +12,8 @@ use Rattle.stream_meaning.specs.Runs.{run, run_began}
 use Rattle.stream_meaning.specs.Rates.{events_now, rolls_into, allowed, one_if}
 use Rattle.stream_meaning.specs.Coalesce.{coalesced}
 use Rattle.stream_meaning.specs.Emission.{Branch, Children, Otherwise, Fork, emissions, to_children}
-use Rattle.stream_meaning.specs.Branches.{handed, child_history, branches, fork_keys}
-use Rattle.stream_meaning.specs.Outputs.{Happening, emits_if_any, marked, talk_of, at_tick, at_emissions, happens, all_happens}
+use Rattle.stream_meaning.specs.Branches.{after_emissions, child_history, branches, fork_keys}
+use Rattle.stream_meaning.specs.Outputs.{Effect, emits_if_any, marked, branch_effects, at_tick, at_emissions, stream_effects, plan_effects}
 
 pub events_in-ticks : (secs window : ℕ) (h : History) → TicksAlone h → events_in secs window h ≡ []
 events_in-ticks secs window (since start) alone = refl
@@ -81,7 +81,7 @@ ticks_emit kind (h ▸ In item) alone = absurd alone
 pub ticks_handed_on : (kind : KindTree) (branch : Branch) (h : History) → TicksAlone h → child_history kind branch h ≡ h
 ticks_handed_on kind branch (since start) alone = refl
 ticks_handed_on kind branch (h ▸ Tick) alone =
-    ap (λ es. handed branch es (child_history kind branch h ▸ Tick)) (ticks_emit kind (h ▸ Tick) alone) ∙ ap (λ g. g ▸ Tick) (ticks_handed_on kind branch h alone)
+    ap (λ es. after_emissions branch es (child_history kind branch h ▸ Tick)) (ticks_emit kind (h ▸ Tick) alone) ∙ ap (λ g. g ▸ Tick) (ticks_handed_on kind branch h alone)
 ticks_handed_on kind branch (h ▸ In item) alone = absurd alone
 
 pub ticks_make_no_fork : (fields : List Field) (h : History) → TicksAlone h → fork_keys fields h ≡ []
@@ -94,31 +94,31 @@ marked-nothing Children = refl
 marked-nothing Otherwise = refl
 marked-nothing (Fork key) = refl
 
-flat-nothing : (f : Branch → List Happening) → ((branch : Branch) → f branch ≡ []) → (bs : List Branch) → flat_map f bs ≡ []
+flat-nothing : (f : Branch → List Effect) → ((branch : Branch) → f branch ≡ []) → (bs : List Branch) → flat_map f bs ≡ []
 flat-nothing f e [] = refl
 flat-nothing f e (branch ∷ bs) = ap (λ l. l ++ flat_map f bs) (e branch) ∙ flat-nothing f e bs
 
--- nothing happens in what is below a stream
-abbrev IsQuiet : (History → List Happening) → Type 0
+-- what is below a stream has no effects
+abbrev IsQuiet : (History → List Effect) → Type 0
 IsQuiet below = (h : History) → TicksAlone h → below h ≡ []
 
-talk-quiet : (children otherwise : History → List Happening) → IsQuiet children → IsQuiet otherwise → (branch : Branch) → IsQuiet (talk_of children otherwise branch)
-talk-quiet children otherwise p q Children = p
-talk-quiet children otherwise p q Otherwise = q
-talk-quiet children otherwise p q (Fork key) = p
+effects_in-quiet : (children otherwise : History → List Effect) → IsQuiet children → IsQuiet otherwise → (branch : Branch) → IsQuiet (branch_effects children otherwise branch)
+effects_in-quiet children otherwise p q Children = p
+effects_in-quiet children otherwise p q Otherwise = q
+effects_in-quiet children otherwise p q (Fork key) = p
 
 mutual
-  pub stream_quiet : (s : StreamTree) (h : History) → TicksAlone h → happens s h ≡ []
+  pub stream_quiet : (s : StreamTree) (h : History) → TicksAlone h → stream_effects s h ≡ []
   stream_quiet (stream kind children otherwise) (since start) alone = refl
   stream_quiet (stream kind children otherwise) (h ▸ Tick) alone =
-      let talk = talk_of (all_happens children) (all_happens otherwise) in
+      let effects_in = branch_effects (plan_effects children) (plan_effects otherwise) in
       let received = λ (branch : Branch). child_history kind branch h in
-      ap (λ es. emits_if_any es ++ at_tick Tick talk received (branches kind h) ++ at_emissions talk (λ branch. received branch ▸ Tick) es) (ticks_emit kind (h ▸ Tick) alone)
-      ∙ ap (λ l. l ++ []) (flat-nothing (λ branch. marked branch (talk branch (received branch ▸ Tick)))
-      (λ branch. ap (marked branch) (talk-quiet (all_happens children) (all_happens otherwise) (plan_quiet children) (plan_quiet otherwise) branch (received branch ▸ Tick)
+      ap (λ es. emits_if_any es ++ at_tick Tick effects_in received (branches kind h) ++ at_emissions effects_in (λ branch. received branch ▸ Tick) es) (ticks_emit kind (h ▸ Tick) alone)
+      ∙ ap (λ l. l ++ []) (flat-nothing (λ branch. marked branch (effects_in branch (received branch ▸ Tick)))
+      (λ branch. ap (marked branch) (effects_in-quiet (plan_effects children) (plan_effects otherwise) (plan_quiet children) (plan_quiet otherwise) branch (received branch ▸ Tick)
       (subst TicksAlone (sym (ticks_handed_on kind branch h alone)) alone)) ∙ marked-nothing branch) (branches kind h))
   stream_quiet (stream kind children otherwise) (h ▸ In item) alone = absurd alone
 
-  pub plan_quiet : (plan : StreamTrees) (h : History) → TicksAlone h → all_happens plan h ≡ []
+  pub plan_quiet : (plan : StreamTrees) (h : History) → TicksAlone h → plan_effects plan h ≡ []
   plan_quiet none h alone = refl
-  plan_quiet (also first more) h alone = ap (λ l. l ++ all_happens more h) (stream_quiet first h alone) ∙ plan_quiet more h alone
+  plan_quiet (also first more) h alone = ap (λ l. l ++ plan_effects more h) (stream_quiet first h alone) ∙ plan_quiet more h alone

@@ -1,4 +1,4 @@
--- What comes to a plan with an index: seconds and posted events. Every so many seconds the expired events of the index
+-- What comes to a plan with an index: seconds and posted events. Every n seconds the expired events of the index
 -- come to the plan again.
 use Rattle.std.specs.Prelude.{ℕ, ◌-◌, ◌%◌, ◌==◌, if◌then◌else◌, List, [], ◌∷◌, ◌++◌, map, filter, Option, Some, None}
 use Rattle.ev_types.specs.declared.event.Event.{Event}
@@ -64,14 +64,14 @@ abbrev pub with_reap : CoreState → CoreState
 with_reap state = record { history = state.history; log = state.log ++ Reap (moment_of state.history) ∷ [] }
 
 -- the live events that have expired leave the index, and then come again
-abbrev pub reaped : StreamTrees → List KeepKey → CoreState → CoreState
-reaped plan keep state = streamed plan (expired_copies keep state) (with_reap state)
+abbrev pub fed_back : StreamTrees → List KeepKey → CoreState → CoreState
+fed_back plan keep state = streamed plan (expired_copies keep state) (with_reap state)
 
--- they do where expiry is set, at every so many seconds
+-- they do where expiry is set, every `interval` seconds
 abbrev pub swept : StreamTrees → Option Expiry → CoreState → CoreState
 swept plan None state = state
 swept plan (Some expiry) state =
-    if (moment_of state.history - begun state.history) % expiry.interval == 0 then reaped plan expiry.keep state else state
+    if (moment_of state.history - begun state.history) % expiry.interval == 0 then fed_back plan expiry.keep state else state
 
 abbrev pub arrived : StreamTrees → Option Expiry → Arrival → CoreState → CoreState
 arrived plan expiry Elapsed state = swept plan expiry (entered plan Tick state)

@@ -1,11 +1,11 @@
--- What a deadline tells: when a stream passes something on if only ticks follow.
+-- What a deadline says: when a stream passes something on if only ticks follow.
 use Rattle.std.specs.Prelude.{◌≡◌, ℕ, zero, suc, ◌+◌, ◌<◌, ◌==◌, Bool, true, false, List, [], ◌∷◌, Option, Some, None, IfSome}
 use Rattle.stream_plan.specs.Tree.{KindTree, Rollup, Batch, Coalesce}
 use Rattle.stream_meaning.specs.History.{History, ◌▸◌, Tick, moment_of}
 use Rattle.stream_meaning.specs.Emission.{Emission, emissions}
 use Rattle.stream_meaning.specs.Deadlines.{next_deadline}
 
--- so many ticks behind a history
+-- a history with n more ticks
 abbrev pub waited : ℕ → History → History
 waited zero h = h
 waited (suc n) h = waited n h ▸ Tick

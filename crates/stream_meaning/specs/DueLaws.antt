@@ -1,29 +1,29 @@
--- What the deadline of a whole plan tells, and which forks are due.
+-- What the deadline of a whole plan says, and which forks are due.
 use Rattle.std.specs.Prelude.{◌≡◌, ◌+◌, ◌<◌, Bool, true, false, List, [], ◌∷◌, IfSome}
 use Rattle.std.specs.List.{list_any}
 use Rattle.stream_plan.specs.Tree.{StreamTree, StreamTrees, stream, none, also}
 use Rattle.stream_meaning.specs.History.{History, ◌▸◌, Tick, moment_of}
-use Rattle.stream_meaning.specs.Outputs.{Happening, Emits, Due, Given, Said, all_happens}
+use Rattle.stream_meaning.specs.Outputs.{Effect, Emits, Due, Given, Put, plan_effects}
 use Rattle.stream_meaning.specs.Deadlines.{plan_deadline}
 use Rattle.stream_meaning.specs.DeadlineLaws.{HasRange, is_at}
 
-abbrev pub is_emission : Happening → Bool
+abbrev pub is_emission : Effect → Bool
 is_emission Emits = true
 is_emission Due = false
 is_emission Given = false
-is_emission (Said output) = false
+is_emission (Put output) = false
 
-abbrev pub happens_any : List Happening → Bool
-happens_any [] = false
-happens_any (first ∷ more) = true
+abbrev pub has_effects : List Effect → Bool
+has_effects [] = false
+has_effects (first ∷ more) = true
 
 -- some stream of the plan, at any depth, passes something on at the tick that is the last entry
 abbrev pub some_emits : StreamTrees → History → Bool
-some_emits plan h = list_any is_emission (all_happens plan h)
+some_emits plan h = list_any is_emission (plan_effects plan h)
 
--- at a tick something happens exactly where some stream passes something on, so those forks are due in which one does
-abbrev pub TicksHappenByEmissions : Type 0
-TicksHappenByEmissions = (plan : StreamTrees) (h : History) → happens_any (all_happens plan (h ▸ Tick)) ≡ some_emits plan (h ▸ Tick)
+-- a tick has effects exactly where some stream passes something on, so those forks are due in which one does
+abbrev pub TicksActByEmissions : Type 0
+TicksActByEmissions = (plan : StreamTrees) (h : History) → has_effects (plan_effects plan (h ▸ Tick)) ≡ some_emits plan (h ▸ Tick)
 
 -- the numbers of all streams of a plan are in their ranges
 abbrev mutual

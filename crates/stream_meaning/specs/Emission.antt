@@ -44,10 +44,10 @@ abbrev pub passed : Entry → List Emission
 passed Tick = []
 passed (In item) = to Children item
 
-abbrev pub sorted_out : Tree → Entry → List Emission
-sorted_out rule Tick = []
-sorted_out rule (In (One event)) = to (if holds rule event then Children else Otherwise) (One event)
-sorted_out rule (In (Many es)) = []
+abbrev pub routed : Tree → Entry → List Emission
+routed rule Tick = []
+routed rule (In (One event)) = to (if holds rule event then Children else Otherwise) (One event)
+routed rule (In (Many es)) = []
 
 abbrev pub forked : List Field → Entry → List Emission
 forked fields Tick = []
@@ -73,7 +73,7 @@ abbrev pub emissions : KindTree → History → List Emission
 emissions Index h = []
 emissions (Notice name) h = []
 emissions Sdo h = at_entry passed h
-emissions (Where rule) h = at_entry (sorted_out rule) h
+emissions (Where rule) h = at_entry (routed rule) h
 emissions (With sets) h = at_entry (image_of (with_sets sets)) h
 emissions (Default sets) h = at_entry (image_of (with_defaults sets)) h
 emissions (Tag tags) h = at_entry (image_of (with_tags tags)) h

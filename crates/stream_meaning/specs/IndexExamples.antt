@@ -57,7 +57,7 @@ RevivedExample =
     (Post fading ∷ elapsed 10)).log
     ≡ of_place "ok" "b" "a" 110 ∷ []
 
--- a plan of an operator: events without a ttl get one of a minute; what expires is told, by host and service
+-- a plan of an operator: events without a ttl get one of a minute; each that expires gives a notice, by host and service
 abbrev pub DefaultedExample : Type 0
 DefaultedExample =
     let lasting = λ (time : ℕ) (service host : String). record (of_place "expired" service host time) { ttl = Some 60 } in

@@ -11,19 +11,19 @@ use Rattle.stream_plan.specs.Tree.{KindTree, StreamTree, StreamTrees, stream, no
 use Rattle.stream_meaning.specs.History.{History, since, ◌▸◌, Entry, Tick, In, begun, moment_of, window_of, TicksAlone}
 use Rattle.stream_meaning.specs.Emission.{Branch, Children, Otherwise, Fork, Emission, emissions}
 use Rattle.stream_meaning.specs.Branches.{ticked, child_history, branches, fork_keys, fork_history}
-use Rattle.stream_meaning.specs.Outputs.{at_item, received_more, outputs_among, all_happens, outputs_at, outputs_of}
+use Rattle.stream_meaning.specs.Outputs.{at_item, received_more, outputs_among, plan_effects, outputs_at, outputs_of}
 
 abbrev pub TicksEmitNothing : Type 0
 TicksEmitNothing = (kind : KindTree) (h : History) → TicksAlone h → emissions kind h ≡ []
 
-abbrev pub TicksAreHandedOn : Type 0
-TicksAreHandedOn = (kind : KindTree) (branch : Branch) (h : History) → TicksAlone h → child_history kind branch h ≡ h
+abbrev pub TicksReachBranches : Type 0
+TicksReachBranches = (kind : KindTree) (branch : Branch) (h : History) → TicksAlone h → child_history kind branch h ≡ h
 
 abbrev pub TicksMakeNoFork : Type 0
 TicksMakeNoFork = (fields : List Field) (h : History) → TicksAlone h → fork_keys fields h ≡ []
 
 abbrev pub TicksAreQuiet : Type 0
-TicksAreQuiet = (plan : StreamTrees) (h : History) → TicksAlone h → all_happens plan h ≡ []
+TicksAreQuiet = (plan : StreamTrees) (h : History) → TicksAlone h → plan_effects plan h ≡ []
 
 -- what the children of a branch are
 abbrev pub below : StreamTrees → StreamTrees → Branch → StreamTrees
@@ -31,31 +31,31 @@ below children otherwise Children = children
 below children otherwise Otherwise = otherwise
 below children otherwise (Fork key) = children
 
--- what a stream says by itself: an index writes an event, a notice tells an item
+-- the outputs of a stream itself: an index writes an event, a notice gives an item
 abbrev pub own_outputs : KindTree → History → List Output
 own_outputs kind (since start) = []
 own_outputs kind (h ▸ Tick) = []
 own_outputs kind (h ▸ In item) = outputs_among (at_item kind (h ▸ In item))
 
--- what is said below at a tick, branch by branch
-abbrev pub said_at_tick : Entry → (Branch → StreamTrees) → (Branch → History) → List Branch → List Output
-said_at_tick Tick below received branches = flat_map (λ branch. outputs_at (below branch) (received branch ▸ Tick)) branches
-said_at_tick (In item) below received branches = []
+-- the outputs below at a tick, branch by branch
+abbrev pub outputs_at_tick : Entry → (Branch → StreamTrees) → (Branch → History) → List Branch → List Output
+outputs_at_tick Tick below received branches = flat_map (λ branch. outputs_at (below branch) (received branch ▸ Tick)) branches
+outputs_at_tick (In item) below received branches = []
 
--- what is said below at each emission, in order
-abbrev pub said_at_emissions : (Branch → StreamTrees) → (Branch → History) → List Emission → List Output
-said_at_emissions below received [] = []
-said_at_emissions below received (emission ∷ more) =
-    outputs_at (below emission.branch) (received emission.branch ▸ In emission.item) ++ said_at_emissions below (received_more emission received) more
+-- the outputs below at each emission, in order
+abbrev pub outputs_at_emissions : (Branch → StreamTrees) → (Branch → History) → List Emission → List Output
+outputs_at_emissions below received [] = []
+outputs_at_emissions below received (emission ∷ more) =
+    outputs_at (below emission.branch) (received emission.branch ▸ In emission.item) ++ outputs_at_emissions below (received_more emission received) more
 
-abbrev pub OutputsAreSaid : Type 0
-OutputsAreSaid = (kind : KindTree) (children otherwise : StreamTrees) (h : History) (x : Entry) →
+abbrev pub OutputsAreInOrder : Type 0
+OutputsAreInOrder = (kind : KindTree) (children otherwise : StreamTrees) (h : History) (x : Entry) →
     outputs_at (also (stream kind children otherwise) none) (h ▸ x)
     ≡ own_outputs kind (h ▸ x)
-    ++ (said_at_tick x (below children otherwise) (λ branch. child_history kind branch h) (branches kind h)
-    ++ said_at_emissions (below children otherwise) (λ branch. ticked x (child_history kind branch h)) (emissions kind (h ▸ x)))
+    ++ (outputs_at_tick x (below children otherwise) (λ branch. child_history kind branch h) (branches kind h)
+    ++ outputs_at_emissions (below children otherwise) (λ branch. ticked x (child_history kind branch h)) (emissions kind (h ▸ x)))
 
--- streams speak in their order, and a history is told entry by entry
+-- outputs come stream by stream, and over a history entry by entry
 pub record OutputsGrow : Type 0 where
   pub streams : (first : StreamTree) (more : StreamTrees) (h : History) → outputs_at (also first more) h ≡ outputs_at (also first none) h ++ outputs_at more h
   pub nothing : (h : History) → outputs_at none h ≡ []

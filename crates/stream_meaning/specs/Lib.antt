@@ -17,5 +17,4 @@ pub mod IndexExamples
 pub mod Laws
 pub mod DeadlineLaws
 pub mod DueLaws
-pub mod Numbered
 pub mod ArrivalLaws

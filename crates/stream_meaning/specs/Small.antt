@@ -33,7 +33,7 @@ of_host host time = record (bare time) { host = Some (codes host) }
 abbrev pub of_state : String → ℕ → Event
 of_state state time = record (bare time) { state = Some (codes state) }
 
--- a stream with these below it, and none behind `else`
+-- a stream with these children, and none after `else`
 abbrev pub above : KindTree → StreamTrees → StreamTree
 above kind children = stream kind children none
 
@@ -47,7 +47,7 @@ noticed name = alone (above (notice_kind (codes name)) none)
 abbrev pub noticing : KindTree → StreamTrees
 noticing kind = alone (above kind (noticed "n"))
 
--- so many seconds pass, or an event comes
+-- n seconds pass, or an event comes
 pub data Step : Type 0 where
   Wait : ℕ → Step
   Comes : Event → Step

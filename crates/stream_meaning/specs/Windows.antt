@@ -29,7 +29,7 @@ abbrev pub floor_div : ℤ → ℕ → ℤ
 floor_div (pos a) n = pos (a / n)
 floor_div (negsuc a) n = negsuc (a / n)
 
--- the number of the stretch of so many seconds in which the event's time lies; stretches are counted from a first event
+-- the number of the stretch of `secs` seconds in which the event's time lies; stretches are counted from a first event
 abbrev pub stretch_of : ℕ → Event → Event → ℤ
 stretch_of secs first event = floor_div (event.time -ℤ first.time) secs
 
@@ -59,11 +59,11 @@ time_of event = event.time
 abbrev pub latest_time : List Event → Event → ℤ
 latest_time before event = greatest event.time (map time_of before)
 
--- the event's time is within so many seconds of the latest
+-- the event's time is within `secs` seconds of the latest
 abbrev pub is_recent : ℕ → ℤ → Event → Bool
 is_recent secs latest event = int_lt (latest -ℤ pos secs) event.time
 
--- moving time window: at an event of the last so many seconds, all events of these seconds in the order in which they came
+-- moving time window: at an event of the last n seconds, all events of these seconds in the order in which they came
 abbrev pub moving_time_items : ℕ → History → List Item
 moving_time_items secs (since start) = []
 moving_time_items secs (h ▸ Tick) = []

@@ -65,7 +65,7 @@ pub fn examples_are_computed()
     ensures count { CountExample }
     ensures great_sum { GreatSumExample }
     ensures no_sum { NoSumExample }
-    ensures sorted_out { SortedOutExample }
+    ensures routed { SortedOutExample }
     ensures vector { VectorExample }
     ensures due { DueExample }
     ensures not_due { NotDueExample }

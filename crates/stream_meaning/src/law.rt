@@ -1,12 +1,12 @@
 ghost use Rattle.stream_meaning.specs.ArrivalLaws.{ArrivalsComeInOrder, ArrivalsAreMoments};
 ghost use Rattle.stream_meaning.specs.DeadlineLaws.{DeadlinesLieAhead, DeadlinesAreMet, DeadlinesStay, DeadlinesAreFirst};
-ghost use Rattle.stream_meaning.specs.DueLaws.{TicksHappenByEmissions, PlanDeadlinesLieAhead, PlanDeadlinesAreMet, PlanDeadlinesStay};
+ghost use Rattle.stream_meaning.specs.DueLaws.{TicksActByEmissions, PlanDeadlinesLieAhead, PlanDeadlinesAreMet, PlanDeadlinesStay};
 ghost use Rattle.stream_meaning.specs.Laws.{
   TicksEmitNothing,
-  TicksAreHandedOn,
+  TicksReachBranches,
   TicksMakeNoFork,
   TicksAreQuiet,
-  OutputsAreSaid,
+  OutputsAreInOrder,
   OutputsGrow,
   ForkKeysAreApart,
   ForksHaveTheirEvents,
@@ -21,15 +21,15 @@ ghost use Rattle.stream_meaning.specs.Laws.{
 /// no fork.
 pub fn ticks_alone_are_quiet()
     ensures emissions { TicksEmitNothing }
-    ensures histories { TicksAreHandedOn }
+    ensures histories { TicksReachBranches }
     ensures forks { TicksMakeNoFork }
     ensures plans { TicksAreQuiet }
 {}
 
 /// What a stream says at the last entry of its history: what it says by itself; then, at a tick, what is below it says at
 /// the tick, branch by branch; then what is below it says at each emission, in order.
-pub fn outputs_are_said_in_order()
-    ensures entry { OutputsAreSaid }
+pub fn outputs_are_in_order()
+    ensures entry { OutputsAreInOrder }
     ensures history { OutputsGrow }
 {}
 
@@ -41,7 +41,7 @@ pub fn forks_have_their_events()
     ensures unseen { UnseenForksHaveTicks }
 {}
 
-/// A moment is a second for each tick behind the first one, in every branch alike; a window begins where the seconds
+/// A moment is a second for each tick after the first one, in every branch alike; a window begins where the seconds
 /// passed are a multiple of its length.
 pub fn windows_follow_moments()
     ensures moments { MomentsAreCounted }
@@ -65,7 +65,7 @@ pub fn deadlines_are_first()
 /// Where only ticks follow, some stream of a plan passes something on next at the plan's deadline, the least of those of
 /// its streams in all forks. A fork is due exactly where some stream in it passes something on.
 pub fn deadlines_of_plans_are_first()
-    ensures due { TicksHappenByEmissions }
+    ensures due { TicksActByEmissions }
     ensures ahead { PlanDeadlinesLieAhead }
     ensures met { PlanDeadlinesAreMet }
     ensures stay { PlanDeadlinesStay }

@@ -10,6 +10,6 @@ pub use entry::Entry;
 pub use example::{examples_are_computed, index_examples_are_computed};
 pub use law::{
     arrivals_come_in_order, deadlines_are_first, deadlines_of_plans_are_first,
-    forks_have_their_events, outputs_are_said_in_order, ticks_alone_are_quiet,
+    forks_have_their_events, outputs_are_in_order, ticks_alone_are_quiet,
     vectors_are_not_empty, windows_follow_moments,
 };

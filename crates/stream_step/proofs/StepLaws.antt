@@ -9,11 +9,11 @@ use Rattle.stream_plan.specs.Tree.{KindTree, Index, Notice, Sdo, Where, With, De
 use Rattle.stream_meaning.specs.Emission.{Branch, Children, Otherwise, emissions}
 use Rattle.stream_meaning.specs.declared.entry.Entry.TheVariants.{Tick, Item as In}
 use Rattle.stream_meaning.specs.History.{History, ◌▸◌}
-use Rattle.stream_step.specs.Step.{StandAt, Keeps, is_built_kind}
+use Rattle.stream_step.specs.Step.{AreAt, Keeps, is_built_kind}
 use Rattle.stream_step.specs.declared.state.State.{State}
 use Rattle.stream_step.specs.declared.state.State.TheVariants.{Rule}
 
-module _ (own : List (List ℕ)) (first count : ℕ) (texts : List (List ℕ)) (regexes : List Regex) (at : StandAt own first count texts) (from : AreReadFrom texts regexes) where
+module _ (own : List (List ℕ)) (first count : ℕ) (texts : List (List ℕ)) (regexes : List Regex) (at : AreAt own first count texts) (from : AreReadFrom texts regexes) where
   parts : AreReadFrom (at.before ++ (own ++ at.after)) regexes
   parts = subst (λ (ts : List (List ℕ)). AreReadFrom ts regexes) at.among from
 
@@ -35,7 +35,7 @@ module _ (own : List (List ℕ)) (first count : ℕ) (texts : List (List ℕ)) (
 pub rule_read : (texts : List (List ℕ)) (rule : Tree) (state : State) (first count : ℕ) (regexes part : List Regex) → state ≡ Rule first count →
     AreReadFrom texts regexes → Keeps texts (Where rule) state → (first + count ≤ length regexes → part ≡ take count (drop first regexes)) → AreReadFrom (searches rule) part
 rule_read texts rule state first count regexes part is from keeps cut =
-    let at : StandAt (searches rule) first count texts = subst (λ (s : State). Keeps texts (Where rule) s) is keeps in
+    let at : AreAt (searches rule) first count texts = subst (λ (s : State). Keeps texts (Where rule) s) is keeps in
     own_read (searches rule) first count texts regexes at from part (cut (own_within (searches rule) first count texts regexes at from))
 
 pub to_children_if : (met test : Bool) → met ≡ test → met ≡ true → Children ≡ cond test Children Otherwise

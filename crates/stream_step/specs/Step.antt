@@ -54,35 +54,31 @@ emissions_meant (Made es) x = map emission_meant es
 
 -- ---- what is kept
 
--- the texts of a rule stand among all texts, so many from this number on
-pub record StandAt (own : List (List ℕ)) (first count : ℕ) (texts : List (List ℕ)) : Type 0 where
+-- the texts of a rule are among all texts, `count` of them from number `first` on
+pub record AreAt (own : List (List ℕ)) (first count : ℕ) (texts : List (List ℕ)) : Type 0 where
   pub before : List (List ℕ)
   pub after : List (List ℕ)
   pub begins : length before ≡ first
   pub counted : length own ≡ count
   pub among : texts ≡ before ++ (own ++ after)
 
--- a `where` keeps where its regular expressions stand among those of the whole plan, the others keep nothing
+-- a `where` keeps the numbers of its regular expressions among those of the whole plan, the others keep nothing
 abbrev pub Keeps : List (List ℕ) → KindTree → State → Type 0
-Keeps texts (Where rule) (Rule first count) = StandAt (searches rule) first count texts
+Keeps texts (Where rule) (Rule first count) = AreAt (searches rule) first count texts
 Keeps texts (Where rule) Bare = ⊥
 Keeps texts kind state = Unit {0}
 
 -- The state of a stream has come to where it would be if all of this history had come to it. The texts are those of the
 -- regular expressions of the whole plan.
-pub record StateStands (texts : List (List ℕ)) (kind : KindTree) (state : State) (h : History) : Type 0 where
+pub record StateRepresents (texts : List (List ℕ)) (kind : KindTree) (state : State) (h : History) : Type 0 where
   pub built : is_built_kind kind ≡ true
   pub in_range : is_in_range kind ≡ true
   pub keeps : Keeps texts kind state
 
 -- ---- what one entry does
 
--- the second list is the first with more behind it
-abbrev pub Extends : List Output → List Output → Type 0
-Extends old new = (more : List Output) × (new ≡ old ++ more)
-
--- after one more entry the state stands, the stream has said its own, and this is what it passes on
+-- after one more entry the state represents the longer history, the stream's own outputs are put, and this is what it passes on
 pub record Acts (texts : List (List ℕ)) (kind : KindTree) (old new : State) (h : History) (x : Entry) (before after : List Output) (passed : Passed) : Type 0 where
-  pub stands : StateStands texts kind new (h ▸ x)
+  pub stands : StateRepresents texts kind new (h ▸ x)
   pub said : after ≡ before ++ own_outputs kind (h ▸ x)
   pub passes : emissions_meant passed x ≡ emissions kind (h ▸ x)

@@ -7,4 +7,4 @@ mod step;
 
 pub use passed::{Branch, Passed};
 pub use state::State;
-pub use step::{Setting, act};
+pub use step::{Context, act};

@@ -4,7 +4,7 @@ use ev_types::Emissions;
 #[derive(Clone, Copy, Debug, PartialEq, Eq)]
 pub enum Branch {
     Children,
-    /// What a `where` has behind `else`.
+    /// What a `where` has after `else`.
     Otherwise,
 }
 

@@ -6,7 +6,7 @@ ghost use Rattle.stream_plan.specs.Ready.{kind_patterns};
 ghost use Rattle.pred_eval.specs.Tree.{tree_of};
 ghost use Rattle.pred_eval.specs.Truth.{searches};
 ghost use Rattle.stream_plan.specs.Tree.{kind_tree, Where};
-ghost use Rattle.stream_step.specs.Step.{is_built_kind, Keeps, StateStands};
+ghost use Rattle.stream_step.specs.Step.{is_built_kind, Keeps, StateRepresents};
 
 use pred_eval::{Rule, pattern_count};
 use stream_plan::Kind;
@@ -16,18 +16,18 @@ use stream_plan::Kind;
 pub enum State {
     /// Nothing.
     Bare,
-    /// Where the regular expressions of its rule stand among those of the plan.
+    /// The numbers of its rule's regular expressions among those of the plan.
     Rule { first: usize, count: usize },
 }
 
 impl State {
-    /// The state of a stream to which nothing but ticks has come. Its regular expressions, where it has some, stand
-    /// among those of the plan from number `next` on, which becomes the number behind them.
+    /// The state of a stream to which nothing but ticks has come. Its regular expressions, where it has some, are
+    /// those of the plan from number `next` on, which becomes the number after them.
     pub fn fresh(kind: &Kind, next: &mut usize) -> State
         ensures stands { (before after : List (List ℕ)) (h : History) →
             is_built_kind (kind_tree kind.now) ≡ true → is_in_range (kind_tree kind.now) ≡ true →
             length before ≡ next.old → length (kind_patterns (kind_tree kind.now)) ≤ greatest →
-            StateStands (before ++ (kind_patterns (kind_tree kind.now) ++ after)) (kind_tree kind.now) result h }
+            StateRepresents (before ++ (kind_patterns (kind_tree kind.now) ++ after)) (kind_tree kind.now) result h }
         ensures next { next.old + length (kind_patterns (kind_tree kind.now)) ≤ greatest →
             next.new ≡ next.old + length (kind_patterns (kind_tree kind.now)) }
     {

@@ -1,6 +1,7 @@
 ghost use Rattle.std.specs.Prelude.{◌≡◌, ℕ, ◌+◌, ◌≤◌, true, List, ◌++◌, length, take, drop, if◌then◌else◌, IfOk, OnOk};
 ghost use Rattle.ev_types.specs.declared.item.Item.TheVariants.{One, Many};
 ghost use Rattle.ev_types.specs.declared.event.Event.{Event as CameEvent};
+ghost use Rattle.list_laws.specs.Prefix.{IsPrefix};
 ghost use Rattle.pred_eval.specs.Search.{AreReadFrom};
 ghost use Rattle.pred_eval.specs.Tree.{Tree as RuleTree, tree_of};
 ghost use Rattle.pred_eval.specs.Truth.{holds, searches};
@@ -10,22 +11,21 @@ ghost use Rattle.stream_meaning.specs.Emission.{to, emissions, Children as child
 ghost use Rattle.stream_meaning.specs.History.{History, ◌▸◌, moment_of};
 ghost use Rattle.stream_meaning.specs.Images.{with_sets, with_defaults};
 ghost use Rattle.stream_meaning.specs.Laws.{own_outputs};
-ghost use Rattle.stream_plan.specs.Kinds.{all_fit};
 ghost use Rattle.stream_plan.specs.Tree.{kind_tree, Where};
-ghost use Rattle.stream_step.specs.Step.{is_built_kind, branch_meant, emissions_meant, StandAt, StateStands, Extends, Acts, Keeps};
+ghost use Rattle.stream_step.specs.Step.{is_built_kind, branch_meant, emissions_meant, AreAt, StateRepresents, Acts, Keeps};
 
 use crate::{Branch, Passed, State};
-use ev_types::{Emission, Emissions, Event, Item, Memory, Notice, Output, Outputs, Sets, Text};
+use ev_types::{Emission, Emissions, Event, Item, Memory, Notice, Output, Outputs, Text};
 use flow_streams::{apply_defaults, apply_sets, apply_tags};
 use pred_eval::{Rule, rule_holds};
 use regex::Regex;
 use std::alloc::Global;
 use stream_meaning::Entry;
-use stream_plan::{Kind, all_fit};
+use stream_plan::Kind;
 
 /// What streams look up and don't change at an entry.
 #[derive(Drop)]
-pub struct Setting<'a> {
+pub struct Context<'a> {
     /// The regular expressions of the plan.
     pub patterns: &'a [Regex],
     /// The moment of the entry, in seconds since 1970.
@@ -39,21 +39,21 @@ pub fn act(
     kind: &Kind,
     state: &mut State,
     entry: &Entry,
-    setting: &Setting,
+    context: &Context,
     out: &mut Outputs,
 ) -> Result<Passed, Memory>
-    ensures acts { IfOk result (λ passed. (texts : List (List ℕ)) (h : History) → AreReadFrom texts setting.now.patterns.now →
-        StateStands texts (kind_tree kind.now) state.old h → moment_of (h ▸ entry.now) ≡ setting.now.moment →
+    ensures acts { IfOk result (λ passed. (texts : List (List ℕ)) (h : History) → AreReadFrom texts context.now.patterns.now →
+        StateRepresents texts (kind_tree kind.now) state.old h → moment_of (h ▸ entry.now) ≡ context.now.moment →
         Acts texts (kind_tree kind.now) state.old state.new h entry.now out.old out.new passed) }
-    ensures front { Extends out.old out.new }
+    ensures prefix { IsPrefix out.old out.new }
 {
-    speak(alloc, kind, entry, setting.moment, out)?;
-    let passed = pass_on(alloc, kind, state, entry, setting.patterns)?;
+    put_own_outputs(alloc, kind, entry, context.moment, out)?;
+    let passed = pass_on(alloc, kind, state, entry, context.patterns)?;
     Ok(passed)
 }
 
 /// Appends what the stream says by itself.
-fn speak(
+fn put_own_outputs(
     alloc: Global,
     kind: &Kind,
     entry: &Entry,
@@ -62,16 +62,16 @@ fn speak(
 ) -> Result<(), Memory>
     ensures said { OnOk result ((h : History) → moment_of (h ▸ entry.now) ≡ moment →
         out.new ≡ out.old ++ own_outputs (kind_tree kind.now) (h ▸ entry.now)) }
-    ensures front { Extends out.old out.new }
+    ensures prefix { IsPrefix out.old out.new }
 {
     match entry {
         Entry::Tick => Ok(()),
-        Entry::Item(item) => speak_of(alloc, kind, item, moment, out),
+        Entry::Item(item) => put_item_outputs(alloc, kind, item, moment, out),
     }
 }
 
 /// Appends what the stream says by itself of an item.
-fn speak_of(
+fn put_item_outputs(
     alloc: Global,
     kind: &Kind,
     item: &Item,
@@ -80,7 +80,7 @@ fn speak_of(
 ) -> Result<(), Memory>
     ensures said { OnOk result ((h : History) → moment_of h ≡ moment →
         out.new ≡ out.old ++ own_outputs (kind_tree kind.now) (h ▸ In item.now)) }
-    ensures front { Extends out.old out.new }
+    ensures prefix { IsPrefix out.old out.new }
 {
     match (kind, item) {
         (Kind::Index, Item::One(event)) => {
@@ -109,7 +109,7 @@ fn pass_on(
     patterns: &[Regex],
 ) -> Result<Passed, Memory>
     ensures { IfOk result (λ passed. (texts : List (List ℕ)) (h : History) → AreReadFrom texts patterns.now →
-        StateStands texts (kind_tree kind.now) state.now h →
+        StateRepresents texts (kind_tree kind.now) state.now h →
         emissions_meant passed entry.now ≡ emissions (kind_tree kind.now) (h ▸ entry.now)) }
 {
     match entry {
@@ -139,17 +139,17 @@ fn pass_event(
     patterns: &[Regex],
 ) -> Result<Passed, Memory>
     ensures { IfOk result (λ passed. (texts : List (List ℕ)) (h : History) → AreReadFrom texts patterns.now →
-        StateStands texts (kind_tree kind.now) state.now h →
+        StateRepresents texts (kind_tree kind.now) state.now h →
         emissions_meant passed (In (One event.now)) ≡ emissions (kind_tree kind.now) (h ▸ In (One event.now))) }
 {
     match kind {
         Kind::Sdo => Ok(Passed::Same(Branch::Children)),
         Kind::Where(rule) => {
-            let branch = sort_out(alloc, rule, state, event, patterns)?;
+            let branch = branch_of_rule(alloc, rule, state, event, patterns)?;
             Ok(Passed::Same(branch))
         }
-        Kind::With(sets) => send(alloc, set(alloc, sets, event)?),
-        Kind::Default(sets) => send(alloc, set_defaults(alloc, sets, event)?),
+        Kind::With(sets) => send(alloc, apply_sets(alloc, sets, event.copy(alloc)?)?),
+        Kind::Default(sets) => send(alloc, apply_defaults(alloc, sets, event.copy(alloc)?)?),
         Kind::Tag(tags) => send(alloc, apply_tags(alloc, tags, event.copy(alloc)?)?),
         _ => Ok(Passed::Nothing),
     }
@@ -168,32 +168,8 @@ fn send(alloc: Global, event: Event) -> Result<Passed, Memory>
     Ok(Passed::Made(made))
 }
 
-/// A copy of the event in which the fields are set. A checked plan has no value that does not fit.
-fn set(alloc: Global, sets: &Sets, event: &Event) -> Result<Event, Memory>
-    ensures { all_fit sets.now ≡ true → IfOk result (λ changed. changed ≡ with_sets sets.now event.now) }
-{
-    let copy = event.copy(alloc)?;
-    if all_fit(sets) {
-        apply_sets(alloc, sets, copy)
-    } else {
-        Ok(copy)
-    }
-}
-
-/// A copy of the event in which the fields that hold nothing are set. A checked plan has no value that does not fit.
-fn set_defaults(alloc: Global, sets: &Sets, event: &Event) -> Result<Event, Memory>
-    ensures { all_fit sets.now ≡ true → IfOk result (λ changed. changed ≡ with_defaults sets.now event.now) }
-{
-    let copy = event.copy(alloc)?;
-    if all_fit(sets) {
-        apply_defaults(alloc, sets, copy)
-    } else {
-        Ok(copy)
-    }
-}
-
 /// The branch of the event below a rule.
-fn sort_out(
+fn branch_of_rule(
     alloc: Global,
     rule: &Rule,
     state: &State,
@@ -222,7 +198,7 @@ fn own_patterns<'a>(state: &State, patterns: &'a [Regex]) -> &'a [Regex]
     }
 }
 
-/// So many of the regular expressions from this number on, as far as there are some.
+/// `count` of the regular expressions from number `first` on, as far as there are some.
 fn part<'a>(patterns: &'a [Regex], first: usize, count: usize) -> &'a [Regex]
     ensures { first + count ≤ length patterns.now → result.now ≡ take count (drop first patterns.now) }
 {

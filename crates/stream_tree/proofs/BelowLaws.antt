@@ -9,23 +9,23 @@ use Rattle.regex.specs.declared.string.regex.Regex.{Regex}
 use Rattle.stream_plan.specs.declared.plan.Stream.{Stream, out-Stream}
 use Rattle.stream_plan.specs.Search.{opened}
 use Rattle.stream_plan.specs.Tree.{KindTree, Index, Notice, Sdo, Where, With, Default, Tag, StreamTree, StreamTrees, stream, kind_tree, list_trees}
-use Rattle.stream_meaning.specs.Branches.{same_branch, handed, ticked, child_history, branches}
+use Rattle.stream_meaning.specs.Branches.{same_branch, after_emissions, ticked, child_history, branches}
 use Rattle.stream_meaning.specs.declared.entry.Entry.{Entry}
 use Rattle.stream_meaning.specs.declared.entry.Entry.TheVariants.{Tick, Item as In}
 use Rattle.stream_meaning.specs.Emission.{Branch, Children, Otherwise, Fork, Emission, emissions}
 use Rattle.stream_meaning.specs.History.{History, ◌▸◌, moment_of}
-use Rattle.stream_meaning.specs.Outputs.{Happening, Talk, own_words, at_tick, at_emissions, received_more, happens, all_happens}
-use Rattle.stream_meaning.proofs.MomentLaws.{handed-moments, branch_moments}
+use Rattle.stream_meaning.specs.Outputs.{Effect, BranchEffects, own_effects, at_tick, at_emissions, received_more, stream_effects, plan_effects}
+use Rattle.stream_meaning.proofs.MomentLaws.{after_emissions-moments, branch_moments}
 use Rattle.stream_step.specs.declared.passed.Branch.{Branch as CodeBranch}
 use Rattle.stream_step.specs.declared.passed.Branch.TheVariants as code
 use Rattle.stream_step.specs.declared.passed.Passed.{Passed}
 use Rattle.stream_step.specs.declared.state.State.{State}
-use Rattle.stream_step.specs.Step.{is_built_kind, branch_meant, branch_numbered, emission_meant, emissions_meant, StateStands, Acts}
+use Rattle.stream_step.specs.Step.{is_built_kind, branch_meant, branch_numbered, emission_meant, emissions_meant, StateRepresents, Acts}
 use Rattle.stream_tree.specs.declared.forest.Node.{Node}
-use Rattle.stream_tree.specs.Forest.{PartsStand, ForestStands}
-use Rattle.stream_tree.specs.Running.{ForestRuns, StreamRuns, children_of, otherwise_of, Received, talk_below, BelowStands, extended, BranchRuns, TickRuns, EmissionsRun}
-use Rattle.stream_tree.specs.Tree.{Grew}
-use Rattle.stream_tree.proofs.GrewLaws.{grew_none, grew_then, own_grew}
+use Rattle.stream_tree.specs.Forest.{PartsRepresent, ForestRepresents}
+use Rattle.stream_tree.specs.Running.{ForestRuns, StreamRuns, children_of, otherwise_of, Received, effects_below, BelowRepresents, extended, BranchRuns, TickRuns, EmissionsRun}
+use Rattle.stream_tree.specs.Tree.{Performs}
+use Rattle.stream_tree.proofs.PerformLaws.{grew_none, grew_then, own_grew}
 
 -- ---- one level of a stream
 
@@ -39,19 +39,19 @@ otherwise_of-opened s = refl
 
 -- ---- emissions, one more at the end
 
-handed-snoc : (branch : Branch) (es : List Emission) (emission : Emission) (h : History) →
-    handed branch (es ++ emission ∷ []) h ≡ cond (same_branch emission.branch branch) (handed branch es h ▸ In emission.item) (handed branch es h)
-handed-snoc branch [] emission h = refl
-handed-snoc branch (first ∷ es) emission h = handed-snoc branch es emission (cond (same_branch first.branch branch) (h ▸ In first.item) h)
+after_emissions-snoc : (branch : Branch) (es : List Emission) (emission : Emission) (h : History) →
+    after_emissions branch (es ++ emission ∷ []) h ≡ cond (same_branch emission.branch branch) (after_emissions branch es h ▸ In emission.item) (after_emissions branch es h)
+after_emissions-snoc branch [] emission h = refl
+after_emissions-snoc branch (first ∷ es) emission h = after_emissions-snoc branch es emission (cond (same_branch first.branch branch) (h ▸ In first.item) h)
 
-at_emissions-snoc : (talk : Talk) (received : Received) (es : List Emission) (emission : Emission) →
-    at_emissions talk received (es ++ emission ∷ []) ≡ at_emissions talk received es ++ talk emission.branch (handed emission.branch es (received emission.branch) ▸ In emission.item)
-at_emissions-snoc talk received [] emission = append-nil (talk emission.branch (received emission.branch ▸ In emission.item))
-at_emissions-snoc talk received (first ∷ es) emission =
-    let said = talk first.branch (received first.branch ▸ In first.item) in
+at_emissions-snoc : (effects_in : BranchEffects) (received : Received) (es : List Emission) (emission : Emission) →
+    at_emissions effects_in received (es ++ emission ∷ []) ≡ at_emissions effects_in received es ++ effects_in emission.branch (after_emissions emission.branch es (received emission.branch) ▸ In emission.item)
+at_emissions-snoc effects_in received [] emission = append-nil (effects_in emission.branch (received emission.branch ▸ In emission.item))
+at_emissions-snoc effects_in received (first ∷ es) emission =
+    let said = effects_in first.branch (received first.branch ▸ In first.item) in
     let next = received_more first received in
-    ap (λ (l : List Happening). said ++ l) (at_emissions-snoc talk next es emission)
-    ∙ sym (append_assoc said (at_emissions talk next es) (talk emission.branch (handed emission.branch es (next emission.branch) ▸ In emission.item)))
+    ap (λ (l : List Effect). said ++ l) (at_emissions-snoc effects_in next es emission)
+    ∙ sym (append_assoc said (at_emissions effects_in next es) (effects_in emission.branch (after_emissions emission.branch es (next emission.branch) ▸ In emission.item)))
 
 same_moment : (a b : History) (x : Entry) → moment_of a ≡ moment_of b → moment_of (a ▸ x) ≡ moment_of (b ▸ x)
 same_moment a b Tick same = ap (λ (m : ℕ). m + 1) same
@@ -101,10 +101,10 @@ module _ {G : Type 0} (patterns : List Regex) (moment : ℕ) where
   tick_runs s a b c t u v below beside below' beside' first second texts received from stands now =
       let one = first texts received from stands (now Children) in
       let two = second texts (extended Children Tick received) from one.0 (now Otherwise) in
-      let told = talk_below s Otherwise (received Otherwise ▸ Tick) in (
+      let told = effects_below s Otherwise (received Otherwise ▸ Tick) in (
         record { children = two.0.children; otherwise = two.0.otherwise },
-        subst (λ (hs : List Happening). Grew a t c v (talk_below s Children (received Children ▸ Tick) ++ hs)) (sym (append-nil told))
-            (grew_then a b c t u v (talk_below s Children (received Children ▸ Tick)) told one.1 two.1),
+        subst (λ (hs : List Effect). Performs a t c v (effects_below s Children (received Children ▸ Tick) ++ hs)) (sym (append-nil told))
+            (grew_then a b c t u v (effects_below s Children (received Children ▸ Tick)) told one.1 two.1),
       )
 
   pub both_run : (s : Stream) (children otherwise : List Stream) (x : Entry) (a b c : List Output) (t u v : StepCount G) (below beside below' beside' : List Node) →
@@ -131,15 +131,15 @@ module _ {G : Type 0} (patterns : List Regex) (moment : ℕ) where
       EmissionsRun patterns moment a t c v s below beside below'' beside'' (es ++ emission ∷ [])
   emissions_more s a b c t u v below beside below' beside' below'' beside'' es emission so_far more texts received from stands now =
       let one = so_far texts received from stands now in
-      let so = λ (branch : Branch). handed branch es (received branch) in
-      let two = more texts so from one.0 ((handed-moments emission.branch es (received emission.branch)).ends ∙ now emission.branch) in
-      let told = talk_below s emission.branch (so emission.branch ▸ In emission.item) in (
+      let so = λ (branch : Branch). after_emissions branch es (received branch) in
+      let two = more texts so from one.0 ((after_emissions-moments emission.branch es (received emission.branch)).ends ∙ now emission.branch) in
+      let told = effects_below s emission.branch (so emission.branch ▸ In emission.item) in (
         record {
-          children = subst (λ (h : History). ForestStands texts (children_of s) below'' h) (sym (handed-snoc Children es emission (received Children))) two.0.children;
-          otherwise = subst (λ (h : History). ForestStands texts (otherwise_of s) beside'' h) (sym (handed-snoc Otherwise es emission (received Otherwise))) two.0.otherwise;
+          children = subst (λ (h : History). ForestRepresents texts (children_of s) below'' h) (sym (after_emissions-snoc Children es emission (received Children))) two.0.children;
+          otherwise = subst (λ (h : History). ForestRepresents texts (otherwise_of s) beside'' h) (sym (after_emissions-snoc Otherwise es emission (received Otherwise))) two.0.otherwise;
         },
-        subst (λ (hs : List Happening). Grew a t c v hs) (sym (at_emissions-snoc (talk_below s) received es emission))
-            (grew_then a b c t u v (at_emissions (talk_below s) received es) told one.1 two.1),
+        subst (λ (hs : List Effect). Performs a t c v hs) (sym (at_emissions-snoc (effects_below s) received es emission))
+            (grew_then a b c t u v (at_emissions (effects_below s) received es) told one.1 two.1),
       )
 
   -- one more of those that the code makes
@@ -164,7 +164,7 @@ built_branches kind h built = cc
 module _ {G : Type 0} (patterns : List Regex) (moment : ℕ) (kind : KindTree) (children otherwise : StreamTrees) (x : Entry) where
   -- the stream acts, then a tick goes on, and then each emission
   parts_run : (state state' : State) (passed : Passed) (a b c d : List Output) (t u v : StepCount G) (below beside below' beside' below'' beside'' : List Node) →
-      ((texts : List (List ℕ)) (h : History) → AreReadFrom texts patterns → StateStands texts kind state h → moment_of (h ▸ x) ≡ moment → Acts texts kind state state' h x a b passed) →
+      ((texts : List (List ℕ)) (h : History) → AreReadFrom texts patterns → StateRepresents texts kind state h → moment_of (h ▸ x) ≡ moment → Acts texts kind state state' h x a b passed) →
       TickRuns patterns moment b t c u (stream kind children otherwise) below beside below' beside' x →
       EmissionsRun patterns moment c u d v (stream kind children otherwise) below' beside' below'' beside'' (emissions_meant passed x) →
       StreamRuns patterns moment x a t d v (stream kind children otherwise) state below beside state' below'' beside''
@@ -179,16 +179,16 @@ module _ {G : Type 0} (patterns : List Regex) (moment : ℕ) (kind : KindTree) (
       subst (λ (es : List Emission). EmissionsRun patterns moment c u d v (stream kind children otherwise) below' beside' below'' beside'' es) acted.passes runs in
       let last = passes texts after from tick.0 (λ branch. ticked_moment (received branch) x ∙ now' branch) in
       let own = own_grew kind h x a b t built acted.said in
-      let tick_grew : Grew b t c u (at_tick x (talk_below (stream kind children otherwise)) received (branches kind h)) =
-      subst (λ (bs : List Branch). Grew b t c u (at_tick x (talk_below (stream kind children otherwise)) received bs)) (sym (built_branches kind h built)) tick.1 in (
+      let tick_grew : Performs b t c u (at_tick x (effects_below (stream kind children otherwise)) received (branches kind h)) =
+      subst (λ (bs : List Branch). Performs b t c u (at_tick x (effects_below (stream kind children otherwise)) received bs)) (sym (built_branches kind h built)) tick.1 in (
         (acted.stands, last.0.children, last.0.otherwise),
-        grew_then a c d t u v (own_words kind (h ▸ x) ++ at_tick x (talk_below (stream kind children otherwise)) received (branches kind h)) (at_emissions (talk_below (stream kind children otherwise)) after (emissions kind (h ▸ x)))
-            (grew_then a b c t t u (own_words kind (h ▸ x)) (at_tick x (talk_below (stream kind children otherwise)) received (branches kind h)) own tick_grew) last.1,
+        grew_then a c d t u v (own_effects kind (h ▸ x) ++ at_tick x (effects_below (stream kind children otherwise)) received (branches kind h)) (at_emissions (effects_below (stream kind children otherwise)) after (emissions kind (h ▸ x)))
+            (grew_then a b c t t u (own_effects kind (h ▸ x)) (at_tick x (effects_below (stream kind children otherwise)) received (branches kind h)) own tick_grew) last.1,
       )
 
 module _ {G : Type 0} (patterns : List Regex) (moment : ℕ) (s : Stream) (x : Entry) where
   pub stream_runs : (state state' : State) (passed : Passed) (a b c d : List Output) (t u v : StepCount G) (below beside below' beside' below'' beside'' : List Node) →
-      ((texts : List (List ℕ)) (h : History) → AreReadFrom texts patterns → StateStands texts (kind_tree (out-Stream s).kind) state h → moment_of (h ▸ x) ≡ moment →
+      ((texts : List (List ℕ)) (h : History) → AreReadFrom texts patterns → StateRepresents texts (kind_tree (out-Stream s).kind) state h → moment_of (h ▸ x) ≡ moment →
       Acts texts (kind_tree (out-Stream s).kind) state state' h x a b passed) →
       TickRuns patterns moment b t c u (opened s) below beside below' beside' x →
       EmissionsRun patterns moment c u d v (opened s) below' beside' below'' beside'' (emissions_meant passed x) →

@@ -12,41 +12,41 @@ use Rattle.stream_plan.specs.Tree.{StreamTree, StreamTrees, stream, none, also, 
 use Rattle.stream_plan.proofs.Trees.{stream_tree-opened}
 use Rattle.stream_meaning.specs.declared.entry.Entry.{Entry}
 use Rattle.stream_meaning.specs.History.{History, ◌▸◌, moment_of}
-use Rattle.stream_meaning.specs.Outputs.{Happening, happens, all_happens}
+use Rattle.stream_meaning.specs.Outputs.{Effect, stream_effects, plan_effects}
 use Rattle.stream_tree.specs.declared.forest.Node.{Node, out-Node}
-use Rattle.stream_tree.specs.Forest.{NodeStands, ForestStands}
+use Rattle.stream_tree.specs.Forest.{NodeRepresents, ForestRepresents}
 use Rattle.stream_tree.specs.Running.{ForestRuns, StreamRuns}
-use Rattle.stream_tree.specs.Tree.{Grew}
-use Rattle.stream_tree.proofs.GrewLaws.{grew_none, grew_then}
+use Rattle.stream_tree.specs.Tree.{Performs}
+use Rattle.stream_tree.proofs.PerformLaws.{grew_none, grew_then}
 
 -- the first so many nodes stand for one entry more
 abbrev pub Halfway : List (List ℕ) → ℕ → StreamTrees → List Node → History → Entry → Type 0
-Halfway texts zero streams nodes h x = ForestStands texts streams nodes h
-Halfway texts (suc i) none nodes h x = ForestStands texts none nodes h
+Halfway texts zero streams nodes h x = ForestRepresents texts streams nodes h
+Halfway texts (suc i) none nodes h x = ForestRepresents texts none nodes h
 Halfway texts (suc i) (also first more) [] h x = ⊥
-Halfway texts (suc i) (also first more) (node ∷ nodes) h x = NodeStands texts first node (h ▸ x) × Halfway texts i more nodes h x
+Halfway texts (suc i) (also first more) (node ∷ nodes) h x = NodeRepresents texts first node (h ▸ x) × Halfway texts i more nodes h x
 
 module _ (texts : List (List ℕ)) (h : History) (x : Entry) where
   half_here : (streams : List Stream) (nodes : List Node) (i : ℕ) (s : Stream) (node : Node) → i < length streams → i < length nodes →
-      Halfway texts i (list_trees streams) nodes h x → NodeStands texts (opened (get_or streams i s)) (get_or nodes i node) h
+      Halfway texts i (list_trees streams) nodes h x → NodeRepresents texts (opened (get_or streams i s)) (get_or nodes i node) h
   half_here [] nodes i s node within within' half = absurd (omega (arith, within))
   half_here (first ∷ streams) [] i s node within within' half = absurd (omega (arith, within'))
   half_here (first ∷ streams) (other ∷ nodes) zero s node within within' half =
-      subst (λ (t : StreamTree). NodeStands texts t other h) (stream_tree-opened first) half.0
+      subst (λ (t : StreamTree). NodeRepresents texts t other h) (stream_tree-opened first) half.0
   half_here (first ∷ streams) (other ∷ nodes) (suc i) s node within within' half =
       half_here streams nodes i s node (omega (arith, within)) (omega (arith, within')) half.1
 
   half_more : (streams : List Stream) (nodes : List Node) (i : ℕ) (s : Stream) (node : Node) → i < length streams → i < length nodes →
-      Halfway texts i (list_trees streams) nodes h x → NodeStands texts (opened (get_or streams i s)) node (h ▸ x) → Halfway texts (suc i) (list_trees streams) (set nodes i node) h x
+      Halfway texts i (list_trees streams) nodes h x → NodeRepresents texts (opened (get_or streams i s)) node (h ▸ x) → Halfway texts (suc i) (list_trees streams) (set nodes i node) h x
   half_more [] nodes i s node within within' half now = absurd (omega (arith, within))
   half_more (first ∷ streams) [] i s node within within' half now = absurd (omega (arith, within'))
   half_more (first ∷ streams) (other ∷ nodes) zero s node within within' half now =
-      (subst (λ (t : StreamTree). NodeStands texts t node (h ▸ x)) (sym (stream_tree-opened first)) now, half.1)
+      (subst (λ (t : StreamTree). NodeRepresents texts t node (h ▸ x)) (sym (stream_tree-opened first)) now, half.1)
   half_more (first ∷ streams) (other ∷ nodes) (suc i) s node within within' half now =
       (half.0, half_more streams nodes i s node (omega (arith, within)) (omega (arith, within')) half.1 now)
 
   half_all : (streams : List Stream) (nodes : List Node) (i : ℕ) → min (length streams) (length nodes) ≤ i →
-      Halfway texts i (list_trees streams) nodes h x → ForestStands texts (list_trees streams) nodes (h ▸ x)
+      Halfway texts i (list_trees streams) nodes h x → ForestRepresents texts (list_trees streams) nodes (h ▸ x)
   half_all [] [] i past half = tt
   half_all [] (node ∷ nodes) zero past half = half
   half_all [] (node ∷ nodes) (suc i) past half = half
@@ -56,32 +56,32 @@ module _ (texts : List (List ℕ)) (h : History) (x : Entry) where
   half_all (first ∷ streams) (node ∷ nodes) (suc i) past half = (half.0, half_all streams nodes i (omega (arith, past)) half.1)
 
 -- there is a node for each stream
-forest_long : (texts : List (List ℕ)) (streams : List Stream) (nodes : List Node) (h : History) → ForestStands texts (list_trees streams) nodes h → length streams ≤ length nodes
+forest_long : (texts : List (List ℕ)) (streams : List Stream) (nodes : List Node) (h : History) → ForestRepresents texts (list_trees streams) nodes h → length streams ≤ length nodes
 forest_long texts [] nodes h stands = omega arith
 forest_long texts (first ∷ streams) [] h stands = absurd stands
 forest_long texts (first ∷ streams) (node ∷ nodes) h stands = omega (arith, forest_long texts streams nodes h stands.1)
 
-all_happens-append : (front back : List Stream) (h : History) → all_happens (list_trees (front ++ back)) h ≡ all_happens (list_trees front) h ++ all_happens (list_trees back) h
-all_happens-append [] back h = refl
-all_happens-append (s ∷ front) back h =
-    ap (λ (l : List Happening). happens (stream_tree s) h ++ l) (all_happens-append front back h)
-    ∙ sym (append_assoc (happens (stream_tree s) h) (all_happens (list_trees front) h) (all_happens (list_trees back) h))
+plan_effects-append : (front back : List Stream) (h : History) → plan_effects (list_trees (front ++ back)) h ≡ plan_effects (list_trees front) h ++ plan_effects (list_trees back) h
+plan_effects-append [] back h = refl
+plan_effects-append (s ∷ front) back h =
+    ap (λ (l : List Effect). stream_effects (stream_tree s) h ++ l) (plan_effects-append front back h)
+    ∙ sym (append_assoc (stream_effects (stream_tree s) h) (plan_effects (list_trees front) h) (plan_effects (list_trees back) h))
 
-all_happens-take : (streams : List Stream) (i : ℕ) (s : Stream) (h : History) → i < length streams →
-    all_happens (list_trees (take (i + 1) streams)) h ≡ all_happens (list_trees (take i streams)) h ++ happens (opened (get_or streams i s)) h
-all_happens-take streams i s h within =
+plan_effects-take : (streams : List Stream) (i : ℕ) (s : Stream) (h : History) → i < length streams →
+    plan_effects (list_trees (take (i + 1) streams)) h ≡ plan_effects (list_trees (take i streams)) h ++ stream_effects (opened (get_or streams i s)) h
+plan_effects-take streams i s h within =
     let here = get_or streams i s in
-    ap (λ (l : List Stream). all_happens (list_trees l) h) (take_more streams i s within)
-    ∙ all_happens-append (take i streams) (here ∷ []) h
-    ∙ ap (λ (l : List Happening). all_happens (list_trees (take i streams)) h ++ l) (append-nil (happens (stream_tree here) h) ∙ ap (λ (t : StreamTree). happens t h) (stream_tree-opened here))
+    ap (λ (l : List Stream). plan_effects (list_trees l) h) (take_more streams i s within)
+    ∙ plan_effects-append (take i streams) (here ∷ []) h
+    ∙ ap (λ (l : List Effect). plan_effects (list_trees (take i streams)) h ++ l) (append-nil (stream_effects (stream_tree here) h) ∙ ap (λ (t : StreamTree). stream_effects t h) (stream_tree-opened here))
 
 -- ---- the loop
 
 module _ {G : Type 0} (patterns : List Regex) (moment : ℕ) (x : Entry) (a : List Output) (t : StepCount G) (streams : List Stream) (first : List Node) where
   -- the first so many streams have got the entry
   abbrev pub ForestRan : ℕ → List Node → List Output → StepCount G → Type 0
-  ForestRan i nodes b u = (texts : List (List ℕ)) (h : History) → AreReadFrom texts patterns → ForestStands texts (list_trees streams) first h → moment_of (h ▸ x) ≡ moment →
-      Halfway texts i (list_trees streams) nodes h x × Grew a t b u (all_happens (list_trees (take i streams)) (h ▸ x))
+  ForestRan i nodes b u = (texts : List (List ℕ)) (h : History) → AreReadFrom texts patterns → ForestRepresents texts (list_trees streams) first h → moment_of (h ▸ x) ≡ moment →
+      Halfway texts i (list_trees streams) nodes h x × Performs a t b u (plan_effects (list_trees (take i streams)) (h ▸ x))
 
   pub forest_begins : ForestRan 0 first a t
   forest_begins texts h from stands now = (stands, grew_none a t)
@@ -93,18 +93,18 @@ module _ {G : Type 0} (patterns : List Regex) (moment : ℕ) (x : Entry) (a : Li
       ForestRan (i + 1) (set nodes i node') c v
   forest_more i nodes b c u v s node node' other within within' is is' so_far runs texts h from stands now =
       let before = so_far texts h from stands now in
-      let at_place : NodeStands texts (opened (get_or streams i s)) (get_or nodes i other) h = half_here texts h x streams nodes i s other within within' before.0 in
-      let here : NodeStands texts (opened s) node h =
-      subst (λ (n : Node). NodeStands texts (opened s) n h) (sym is') (subst (λ (r : Stream). NodeStands texts (opened r) (get_or nodes i other) h) (sym is) at_place) in
+      let at_place : NodeRepresents texts (opened (get_or streams i s)) (get_or nodes i other) h = half_here texts h x streams nodes i s other within within' before.0 in
+      let here : NodeRepresents texts (opened s) node h =
+      subst (λ (n : Node). NodeRepresents texts (opened s) n h) (sym is') (subst (λ (r : Stream). NodeRepresents texts (opened r) (get_or nodes i other) h) (sym is) at_place) in
       let ran = runs texts h from here now in
-      let done : NodeStands texts (opened (get_or streams i s)) node' (h ▸ x) = subst (λ (r : Stream). NodeStands texts (opened r) node' (h ▸ x)) is ran.0 in
+      let done : NodeRepresents texts (opened (get_or streams i s)) node' (h ▸ x) = subst (λ (r : Stream). NodeRepresents texts (opened r) node' (h ▸ x)) is ran.0 in
       let half : Halfway texts (suc i) (list_trees streams) (set nodes i node') h x = half_more texts h x streams nodes i s node' within within' before.0 done in
       let number : suc i ≡ i + 1 = omega arith in
-      let happened : all_happens (list_trees (take i streams)) (h ▸ x) ++ happens (opened s) (h ▸ x) ≡ all_happens (list_trees (take (i + 1) streams)) (h ▸ x) =
-      ap (λ (r : Stream). all_happens (list_trees (take i streams)) (h ▸ x) ++ happens (opened r) (h ▸ x)) is ∙ sym (all_happens-take streams i s (h ▸ x) within) in (
+      let effects : plan_effects (list_trees (take i streams)) (h ▸ x) ++ stream_effects (opened s) (h ▸ x) ≡ plan_effects (list_trees (take (i + 1) streams)) (h ▸ x) =
+      ap (λ (r : Stream). plan_effects (list_trees (take i streams)) (h ▸ x) ++ stream_effects (opened r) (h ▸ x)) is ∙ sym (plan_effects-take streams i s (h ▸ x) within) in (
         subst (λ (n : ℕ). Halfway texts n (list_trees streams) (set nodes i node') h x) number half,
-        subst (λ (hs : List Happening). Grew a t c v hs) happened
-            (grew_then a b c t u v (all_happens (list_trees (take i streams)) (h ▸ x)) (happens (opened s) (h ▸ x)) before.1 ran.1),
+        subst (λ (hs : List Effect). Performs a t c v hs) effects
+            (grew_then a b c t u v (plan_effects (list_trees (take i streams)) (h ▸ x)) (stream_effects (opened s) (h ▸ x)) before.1 ran.1),
       )
 
   pub forest_ends : (i : ℕ) (nodes : List Node) (b : List Output) (u : StepCount G) → min (length streams) (length nodes) ≤ i → length nodes ≡ length first →
@@ -113,4 +113,4 @@ module _ {G : Type 0} (patterns : List Regex) (moment : ℕ) (x : Entry) (a : Li
       let ran = so_far texts h from stands now in
       let long = forest_long texts streams first h stands in
       let all : take i streams ≡ streams = take_all i streams (omega (arith, past, same, long)) in
-      (half_all texts h x streams nodes i past ran.0, subst (λ (l : List Stream). Grew a t b u (all_happens (list_trees l) (h ▸ x))) all ran.1)
+      (half_all texts h x streams nodes i past ran.0, subst (λ (l : List Stream). Performs a t b u (plan_effects (list_trees l) (h ▸ x))) all ran.1)

@@ -17,10 +17,10 @@ use Rattle.stream_meaning.specs.Emission.{Children, Otherwise}
 use Rattle.stream_meaning.specs.History.{History, TicksAlone}
 use Rattle.stream_meaning.proofs.TickLaws.{ticks_handed_on}
 use Rattle.stream_step.specs.declared.state.State.{State}
-use Rattle.stream_step.specs.Step.{is_built_kind, StateStands}
+use Rattle.stream_step.specs.Step.{is_built_kind, StateRepresents}
 use Rattle.stream_tree.specs.declared.forest.Node.{Node, out-Node}
 use Rattle.stream_tree.specs.declared.forest.Node.TheOpen.{Node-F}
-use Rattle.stream_tree.specs.Forest.{PartsStand, NodeStands, ForestStands}
+use Rattle.stream_tree.specs.Forest.{PartsRepresent, NodeRepresents, ForestRepresents}
 use Rattle.stream_tree.specs.Fresh.{StreamCanRun, CanRun, ForestIsFresh, NodeIsFresh}
 use Rattle.stream_tree.specs.Tree.{is_built_stream, is_built_plan}
 
@@ -73,12 +73,12 @@ sound_plans_run plan built sound = plan_can_run plan [] 0 _ built sound.in_range
 
 parts_fresh : (kind : KindTree) (children otherwise : StreamTrees) (state : State) (below beside : List Node) (first second third fourth : ℕ) →
     ((before after : Texts) (h : History) → is_built_kind kind ≡ true → is_in_range kind ≡ true → length before ≡ first → length (kind_patterns kind) ≤ greatest →
-    StateStands (before ++ (kind_patterns kind ++ after)) kind state h) →
+    StateRepresents (before ++ (kind_patterns kind ++ after)) kind state h) →
     (first + length (kind_patterns kind) ≤ greatest → second ≡ first + length (kind_patterns kind)) →
     ForestIsFresh children second third below → ForestIsFresh otherwise third fourth beside →
     (before after : Texts) (h : History) → TicksAlone h → StreamCanRun (stream kind children otherwise) → length before ≡ first →
     first + length (kind_patterns kind ++ (plan_patterns children ++ plan_patterns otherwise)) ≤ greatest →
-    PartsStand (before ++ ((kind_patterns kind ++ (plan_patterns children ++ plan_patterns otherwise)) ++ after)) (stream kind children otherwise) state below beside h
+    PartsRepresent (before ++ ((kind_patterns kind ++ (plan_patterns children ++ plan_patterns otherwise)) ++ after)) (stream kind children otherwise) state below beside h
 parts_fresh kind children otherwise state below beside first second third fourth own next children_fresh otherwise_fresh before after h alone runs begins small =
     let mine = kind_patterns kind in
     let c = plan_patterns children in
@@ -95,20 +95,20 @@ parts_fresh kind children otherwise state below beside first second third fourth
     let child_stands = children_fresh.stands (before ++ mine) (o ++ after) h alone runs.2 (omega (arith, length-append before mine, begins, second_is)) (omega (arith, total, second_is)) in
     let other_stands = otherwise_fresh.stands (before ++ mine ++ c) after h alone runs.3
     (omega (arith, length-append (before ++ mine) c, length-append before mine, begins, second_is, third_is)) (omega (arith, total, second_is, third_is)) in (
-      subst (λ (ts : Texts). StateStands (before ++ ts) kind state h) for_own state_stands,
-      subst (λ (ts : Texts). ForestStands ts children below (child_history kind Children h)) for_children (subst (λ (g : History). ForestStands ((before ++ mine) ++ (c ++ (o ++ after))) children below g) (sym (ticks_handed_on kind Children h alone)) child_stands),
-      subst (λ (ts : Texts). ForestStands ts otherwise beside (child_history kind Otherwise h)) for_otherwise (subst (λ (g : History). ForestStands ((before ++ mine ++ c) ++ (o ++ after)) otherwise beside g) (sym (ticks_handed_on kind Otherwise h alone)) other_stands),
+      subst (λ (ts : Texts). StateRepresents (before ++ ts) kind state h) for_own state_stands,
+      subst (λ (ts : Texts). ForestRepresents ts children below (child_history kind Children h)) for_children (subst (λ (g : History). ForestRepresents ((before ++ mine) ++ (c ++ (o ++ after))) children below g) (sym (ticks_handed_on kind Children h alone)) child_stands),
+      subst (λ (ts : Texts). ForestRepresents ts otherwise beside (child_history kind Otherwise h)) for_otherwise (subst (λ (g : History). ForestRepresents ((before ++ mine ++ c) ++ (o ++ after)) otherwise beside g) (sym (ticks_handed_on kind Otherwise h alone)) other_stands),
     )
 
 pub node_stands : (s : Stream) (children otherwise : List Stream) (state : State) (below beside : List Node) (first second third fourth : ℕ) →
     children ≡ (out-Stream s).children.items → otherwise ≡ (out-Stream s).otherwise.items →
     ((before after : Texts) (h : History) → is_built_kind (kind_tree (out-Stream s).kind) ≡ true → is_in_range (kind_tree (out-Stream s).kind) ≡ true → length before ≡ first →
     length (kind_patterns (kind_tree (out-Stream s).kind)) ≤ greatest →
-    StateStands (before ++ (kind_patterns (kind_tree (out-Stream s).kind) ++ after)) (kind_tree (out-Stream s).kind) state h) →
+    StateRepresents (before ++ (kind_patterns (kind_tree (out-Stream s).kind) ++ after)) (kind_tree (out-Stream s).kind) state h) →
     (first + length (kind_patterns (kind_tree (out-Stream s).kind)) ≤ greatest → second ≡ first + length (kind_patterns (kind_tree (out-Stream s).kind))) →
     ForestIsFresh (list_trees children) second third below → ForestIsFresh (list_trees otherwise) third fourth beside →
     (before after : Texts) (h : History) → TicksAlone h → StreamCanRun (opened s) → length before ≡ first → first + length (stream_patterns (opened s)) ≤ greatest →
-    PartsStand (before ++ (stream_patterns (opened s) ++ after)) (opened s) state below beside h
+    PartsRepresent (before ++ (stream_patterns (opened s) ++ after)) (opened s) state below beside h
 unfolding opened stream_patterns
 node_stands s children otherwise state below beside first second third fourth children_is otherwise_is own next children_fresh otherwise_fresh =
     parts_fresh (kind_tree (out-Stream s).kind) (list_trees (out-Stream s).children.items) (list_trees (out-Stream s).otherwise.items) state below beside first second third fourth own next
@@ -136,12 +136,12 @@ node_behind s children otherwise below beside first second third fourth children
 -- what is said of the parts of a node is said of it
 pub node_fresh : (s : Stream) (node : Node) (layer : Node-F Node) (first next : ℕ) → out-Node node ≡ layer →
     ((before after : Texts) (h : History) → TicksAlone h → StreamCanRun (opened s) → length before ≡ first → first + length (stream_patterns (opened s)) ≤ greatest →
-    PartsStand (before ++ (stream_patterns (opened s) ++ after)) (opened s) layer.state layer.children.items layer.otherwise.items h) →
+    PartsRepresent (before ++ (stream_patterns (opened s) ++ after)) (opened s) layer.state layer.children.items layer.otherwise.items h) →
     (first + length (stream_patterns (opened s)) ≤ greatest → next ≡ first + length (stream_patterns (opened s))) →
     NodeIsFresh (opened s) first next node
 node_fresh s node layer first next is stands behind = record {
   stands = λ before after h alone runs begins small.
-      subst (λ (l : Node-F Node). PartsStand (before ++ (stream_patterns (opened s) ++ after)) (opened s) l.state l.children.items l.otherwise.items h) (sym is)
+      subst (λ (l : Node-F Node). PartsRepresent (before ++ (stream_patterns (opened s) ++ after)) (opened s) l.state l.children.items l.otherwise.items h) (sym is)
       (stands before after h alone runs begins small);
   behind = behind;
 }
@@ -149,7 +149,7 @@ node_fresh s node layer first next is stands behind = record {
 -- ---- one node more
 
 stands-snoc : (texts : Texts) (front : List Stream) (s : Stream) (nodes : List Node) (node : Node) (h : History) →
-    ForestStands texts (list_trees front) nodes h → NodeStands texts (stream_tree s) node h → ForestStands texts (list_trees (front ++ s ∷ [])) (nodes ++ node ∷ []) h
+    ForestRepresents texts (list_trees front) nodes h → NodeRepresents texts (stream_tree s) node h → ForestRepresents texts (list_trees (front ++ s ∷ [])) (nodes ++ node ∷ []) h
 stands-snoc texts [] s [] node h stands one = (one, tt)
 stands-snoc texts [] s (other ∷ nodes) node h stands one = absurd stands
 stands-snoc texts (first ∷ front) s [] node h stands one = absurd stands
@@ -186,10 +186,10 @@ fresh-snoc front s nodes node first second third fresh one =
           let front_is : before ++ (ts ++ (more ++ after)) ≡ before ++ ((ts ++ more) ++ after) = ap (λ (l : Texts). before ++ l) (sym (append_assoc ts more after)) in
           let front_stands = fresh.stands before (more ++ after) h alone parts.0 begins (omega (arith, small, size)) in
           let one_stands = one.stands (before ++ ts) after h alone parts.1 (omega (arith, length-append before ts, begins, second_is)) (omega (arith, small, size, second_is)) in
-          subst (λ (l : Texts). ForestStands (before ++ (l ++ after)) (list_trees (front ++ s ∷ [])) (nodes ++ node ∷ []) h) (sym all)
+          subst (λ (l : Texts). ForestRepresents (before ++ (l ++ after)) (list_trees (front ++ s ∷ [])) (nodes ++ node ∷ []) h) (sym all)
           (stands-snoc (before ++ ((ts ++ more) ++ after)) front s nodes node h
-          (subst (λ (l : Texts). ForestStands l (list_trees front) nodes h) front_is front_stands)
-          (subst (λ (l : Texts). NodeStands l (stream_tree s) node h) before_is one_stands));
+          (subst (λ (l : Texts). ForestRepresents l (list_trees front) nodes h) front_is front_stands)
+          (subst (λ (l : Texts). NodeRepresents l (stream_tree s) node h) before_is one_stands));
       behind = λ small.
           let second_is : second ≡ first + length ts = fresh.behind (omega (arith, small, size)) in
           omega (arith, one.behind (omega (arith, small, size, second_is)), second_is, size);
@@ -214,8 +214,8 @@ none_fresh first nodes is = subst (λ (l : List Node). ForestIsFresh none first 
 -- ---- the whole plan
 
 pub plan_fresh : (plan : StreamTrees) (streams : List Stream) (nodes : List Node) (next : ℕ) → list_trees streams ≡ plan → is_built_plan plan ≡ true → IsSound plan →
-    length (plan_patterns plan) ≤ greatest → ForestIsFresh (list_trees streams) 0 next nodes → (h : History) → TicksAlone h → ForestStands (plan_patterns plan) plan nodes h
+    length (plan_patterns plan) ≤ greatest → ForestIsFresh (list_trees streams) 0 next nodes → (h : History) → TicksAlone h → ForestRepresents (plan_patterns plan) plan nodes h
 plan_fresh plan streams nodes next is built sound few fresh h alone =
     let fresh' : ForestIsFresh plan 0 next nodes = subst (λ (trees : StreamTrees). ForestIsFresh trees 0 next nodes) is fresh in
-    subst (λ (ts : Texts). ForestStands ts plan nodes h) (append-nil (plan_patterns plan))
+    subst (λ (ts : Texts). ForestRepresents ts plan nodes h) (append-nil (plan_patterns plan))
     (fresh'.stands [] [] h alone (sound_plans_run plan built sound) refl (omega (arith, few)))

@@ -1,5 +1,5 @@
 pub mod BuiltLaws
-pub mod GrewLaws
+pub mod PerformLaws
 pub mod BelowLaws
 pub mod ForestLaws
 pub mod FreshLaws

@@ -7,7 +7,7 @@ use Rattle.stream_plan.specs.Tree.{StreamTree, StreamTrees, stream, none, also}
 use Rattle.stream_meaning.specs.History.{History, TicksAlone}
 use Rattle.stream_step.specs.Step.{is_built_kind}
 use Rattle.stream_tree.specs.declared.forest.Node.{Node}
-use Rattle.stream_tree.specs.Forest.{NodeStands, ForestStands}
+use Rattle.stream_tree.specs.Forest.{NodeRepresents, ForestRepresents}
 
 -- each stream is of a kind that runs so far, and its numbers and sets are in their ranges
 abbrev mutual
@@ -18,13 +18,13 @@ abbrev mutual
   CanRun none = Unit {0}
   CanRun (also first more) = StreamCanRun first × CanRun more
 
--- the regular expressions stand from this number on, and the next number is behind them
+-- the regular expressions begin at this number, and the next number comes after them
 pub record ForestIsFresh (streams : StreamTrees) (first next : ℕ) (nodes : List Node) : Type 0 where
   pub stands : (before after : List (List ℕ)) (h : History) → TicksAlone h → CanRun streams → length before ≡ first → first + length (plan_patterns streams) ≤ greatest →
-      ForestStands (before ++ (plan_patterns streams ++ after)) streams nodes h
+      ForestRepresents (before ++ (plan_patterns streams ++ after)) streams nodes h
   pub behind : first + length (plan_patterns streams) ≤ greatest → next ≡ first + length (plan_patterns streams)
 
 pub record NodeIsFresh (s : StreamTree) (first next : ℕ) (node : Node) : Type 0 where
   pub stands : (before after : List (List ℕ)) (h : History) → TicksAlone h → StreamCanRun s → length before ≡ first → first + length (stream_patterns s) ≤ greatest →
-      NodeStands (before ++ (stream_patterns s ++ after)) s node h
+      NodeRepresents (before ++ (stream_patterns s ++ after)) s node h
   pub behind : first + length (stream_patterns s) ≤ greatest → next ≡ first + length (stream_patterns s)

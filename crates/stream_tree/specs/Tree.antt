@@ -1,14 +1,14 @@
--- A tree of streams that runs, and the histories for which it stands.
+-- A tree of streams that runs, and the histories that it represents.
 use Rattle.std.specs.Prelude.{◌≡◌, ◌+◌, Bool, true, false, ◌&&◌, List, ◌++◌}
 use Rattle.ev_types.specs.declared.item.Output.{Output}
 use Rattle.step_count.specs.Count.{StepCount}
 use Rattle.stream_plan.specs.Ready.{plan_patterns}
 use Rattle.stream_plan.specs.Tree.{StreamTree, StreamTrees, stream, none, also}
 use Rattle.stream_meaning.specs.History.{History}
-use Rattle.stream_meaning.specs.Outputs.{Happening, outputs_among, due_among, given_among}
+use Rattle.stream_meaning.specs.Outputs.{Effect, outputs_among, due_among, given_among}
 use Rattle.stream_step.specs.Step.{is_built_kind}
 use Rattle.stream_tree.specs.declared.tree.Tree.{Tree}
-use Rattle.stream_tree.specs.Forest.{ForestStands}
+use Rattle.stream_tree.specs.Forest.{ForestRepresents}
 
 -- each stream of the plan is of a kind that runs so far
 abbrev mutual
@@ -23,18 +23,18 @@ abbrev mutual
 abbrev pub plan_of : Tree → StreamTrees
 plan_of tree = tree.plan
 
--- memory was wanted inside, so that each later call wants memory too
+-- a call ran out of memory, so that each later call answers `Memory` too
 abbrev pub is_poisoned : Tree → Bool
 is_poisoned tree = tree.poisoned
 
 -- the tree has come to where it would be if all of this history had come to it
 pub record Represents (tree : Tree) (h : History) : Type 0 where
   pub alive : is_poisoned tree ≡ false
-  pub stands : ForestStands (plan_patterns (plan_of tree)) (plan_of tree) tree.forest.items h
+  pub stands : ForestRepresents (plan_patterns (plan_of tree)) (plan_of tree) tree.forest.items h
 
--- What happened is said in its order, and counted: a fork is entered where it is due and where an item comes to it, and
+-- The effects are performed in order, and counted: a fork is entered where it is due and where an item comes to it, and
 -- an entry is visited for each fork that is due.
-pub record Grew {G : Type 0} (old : List Output) (before : StepCount G) (new : List Output) (after : StepCount G) (happened : List Happening) : Type 0 where
-  pub outputs : new ≡ old ++ outputs_among happened
-  pub forks : after.forks ≡ before.forks + (due_among happened + given_among happened)
-  pub entries : after.entries ≡ before.entries + due_among happened
+pub record Performs {G : Type 0} (old : List Output) (before : StepCount G) (new : List Output) (after : StepCount G) (effects : List Effect) : Type 0 where
+  pub outputs : new ≡ old ++ outputs_among effects
+  pub forks : after.forks ≡ before.forks + (due_among effects + given_among effects)
+  pub entries : after.entries ≡ before.entries + due_among effects

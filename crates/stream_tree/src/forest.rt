@@ -19,8 +19,8 @@ pub(crate) struct Node {
 /// The nodes of streams, in their order.
 pub(crate) type Forest = Vec<Node>;
 
-/// The nodes of streams to which nothing but ticks has come. Their regular expressions stand from number `next` on among
-/// those of the plan, and it becomes the number behind them.
+/// The nodes of streams to which nothing but ticks has come. Their regular expressions are those of the plan from number
+/// `next` on, which becomes the number after them.
 #[cycle(fresh)]
 pub(crate) fn fresh_forest(
     alloc: Global,

@@ -8,6 +8,3 @@ mod tree;
 
 pub use built::is_built;
 pub use tree::Tree;
-
-#[cfg(test)]
-mod tests;

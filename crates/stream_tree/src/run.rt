@@ -1,9 +1,10 @@
 //! One entry on its way down the streams.
 ghost use Rattle.std.specs.Prelude.{◌≡◌, OnOk, map};
+ghost use Rattle.list_laws.specs.Prefix.{IsPrefix};
 ghost use Rattle.stream_meaning.specs.declared.entry.Entry.TheVariants.{Item as Given};
 ghost use Rattle.stream_plan.specs.Search.{opened};
 ghost use Rattle.stream_plan.specs.Tree.{list_trees};
-ghost use Rattle.stream_step.specs.Step.{branch_meant, branch_numbered, emission_meant, emissions_meant, Extends};
+ghost use Rattle.stream_step.specs.Step.{branch_meant, branch_numbered, emission_meant, emissions_meant};
 ghost use Rattle.stream_tree.specs.declared.forest.Node.{out-Node};
 ghost use Rattle.stream_tree.specs.Running.{ForestRuns, StreamRuns, BranchRuns, TickRuns, EmissionsRun};
 
@@ -13,7 +14,7 @@ use std::alloc::Global;
 use step_count::{Ledger, Steps};
 use stream_meaning::Entry;
 use stream_plan::Stream;
-use stream_step::{Branch, Passed, Setting, State, act};
+use stream_step::{Branch, Passed, Context, State, act};
 
 /// The entry comes to each of the streams, one after another.
 #[cycle(run)]
@@ -22,13 +23,13 @@ pub(crate) fn run_forest<G: Ledger>(
     streams: &[Stream],
     forest: &mut Forest,
     entry: &Entry,
-    setting: &Setting,
+    context: &Context,
     out: &mut Outputs,
     steps: &mut Steps<G>,
 ) -> Result<(), Memory>
-    ensures runs { OnOk result (ForestRuns setting.now.patterns.now setting.now.moment entry.now out.old steps.old out.new steps.new
+    ensures runs { OnOk result (ForestRuns context.now.patterns.now context.now.moment entry.now out.old steps.old out.new steps.new
         (list_trees streams.now) forest.old.items forest.new.items) }
-    ensures front { Extends out.old out.new }
+    ensures prefix { IsPrefix out.old out.new }
 {
     let count = streams.len().min(forest.len());
     for i in 0..count {
@@ -37,7 +38,7 @@ pub(crate) fn run_forest<G: Ledger>(
             &streams[i],
             &mut forest[i],
             entry,
-            setting,
+            context,
             out,
             steps,
         )?;
@@ -52,14 +53,14 @@ fn run_node<G: Ledger>(
     stream: &Stream,
     node: &mut Node,
     entry: &Entry,
-    setting: &Setting,
+    context: &Context,
     out: &mut Outputs,
     steps: &mut Steps<G>,
 ) -> Result<(), Memory>
-    ensures runs { OnOk result (StreamRuns setting.now.patterns.now setting.now.moment entry.now out.old steps.old out.new steps.new
+    ensures runs { OnOk result (StreamRuns context.now.patterns.now context.now.moment entry.now out.old steps.old out.new steps.new
         (opened stream.now) (out-Node node.old).state (out-Node node.old).children.items (out-Node node.old).otherwise.items
         (out-Node node.new).state (out-Node node.new).children.items (out-Node node.new).otherwise.items) }
-    ensures front { Extends out.old out.new }
+    ensures prefix { IsPrefix out.old out.new }
 {
     run_stream(
         alloc,
@@ -68,7 +69,7 @@ fn run_node<G: Ledger>(
         &mut node.children,
         &mut node.otherwise,
         entry,
-        setting,
+        context,
         out,
         steps,
     )?;
@@ -85,20 +86,20 @@ fn run_stream<G: Ledger>(
     children: &mut Forest,
     otherwise: &mut Forest,
     entry: &Entry,
-    setting: &Setting,
+    context: &Context,
     out: &mut Outputs,
     steps: &mut Steps<G>,
 ) -> Result<(), Memory>
-    ensures runs { OnOk result (StreamRuns setting.now.patterns.now setting.now.moment entry.now out.old steps.old out.new steps.new
+    ensures runs { OnOk result (StreamRuns context.now.patterns.now context.now.moment entry.now out.old steps.old out.new steps.new
         (opened stream.now) state.old children.old.items otherwise.old.items state.new children.new.items otherwise.new.items) }
-    ensures front { Extends out.old out.new }
+    ensures prefix { IsPrefix out.old out.new }
 {
-    let passed = act(alloc, &stream.kind, state, entry, setting, out)?;
+    let passed = act(alloc, &stream.kind, state, entry, context, out)?;
     run_tick(
-        alloc, stream, children, otherwise, entry, setting, out, steps,
+        alloc, stream, children, otherwise, entry, context, out, steps,
     )?;
     run_passed(
-        alloc, stream, children, otherwise, entry, passed, setting, out, steps,
+        alloc, stream, children, otherwise, entry, passed, context, out, steps,
     )?;
     Ok(())
 }
@@ -111,13 +112,13 @@ fn run_tick<G: Ledger>(
     children: &mut Forest,
     otherwise: &mut Forest,
     entry: &Entry,
-    setting: &Setting,
+    context: &Context,
     out: &mut Outputs,
     steps: &mut Steps<G>,
 ) -> Result<(), Memory>
-    ensures runs { OnOk result (TickRuns setting.now.patterns.now setting.now.moment out.old steps.old out.new steps.new
+    ensures runs { OnOk result (TickRuns context.now.patterns.now context.now.moment out.old steps.old out.new steps.new
         (opened stream.now) children.old.items otherwise.old.items children.new.items otherwise.new.items entry.now) }
-    ensures front { Extends out.old out.new }
+    ensures prefix { IsPrefix out.old out.new }
 {
     if let Entry::Tick = entry {
         run_forest(
@@ -125,7 +126,7 @@ fn run_tick<G: Ledger>(
             &stream.children,
             children,
             entry,
-            setting,
+            context,
             out,
             steps,
         )?;
@@ -134,7 +135,7 @@ fn run_tick<G: Ledger>(
             &stream.otherwise,
             otherwise,
             entry,
-            setting,
+            context,
             out,
             steps,
         )?;
@@ -151,25 +152,25 @@ fn run_passed<G: Ledger>(
     otherwise: &mut Forest,
     entry: &Entry,
     passed: Passed,
-    setting: &Setting,
+    context: &Context,
     out: &mut Outputs,
     steps: &mut Steps<G>,
 ) -> Result<(), Memory>
-    ensures runs { OnOk result (EmissionsRun setting.now.patterns.now setting.now.moment out.old steps.old out.new steps.new
+    ensures runs { OnOk result (EmissionsRun context.now.patterns.now context.now.moment out.old steps.old out.new steps.new
         (opened stream.now) children.old.items otherwise.old.items children.new.items otherwise.new.items
         (emissions_meant passed entry.now)) }
-    ensures front { Extends out.old out.new }
+    ensures prefix { IsPrefix out.old out.new }
 {
     match (passed, entry) {
         (Passed::Made(emissions), _) => {
             run_emissions(
-                alloc, stream, children, otherwise, emissions, setting, out, steps,
+                alloc, stream, children, otherwise, emissions, context, out, steps,
             )?;
             Ok(())
         }
         (Passed::Same(branch), Entry::Item(_)) => {
             run_branch(
-                alloc, stream, children, otherwise, branch, entry, setting, out, steps,
+                alloc, stream, children, otherwise, branch, entry, context, out, steps,
             )?;
             Ok(())
         }
@@ -185,18 +186,18 @@ fn run_emissions<G: Ledger>(
     children: &mut Forest,
     otherwise: &mut Forest,
     emissions: Emissions,
-    setting: &Setting,
+    context: &Context,
     out: &mut Outputs,
     steps: &mut Steps<G>,
 ) -> Result<(), Memory>
-    ensures runs { OnOk result (EmissionsRun setting.now.patterns.now setting.now.moment out.old steps.old out.new steps.new
+    ensures runs { OnOk result (EmissionsRun context.now.patterns.now context.now.moment out.old steps.old out.new steps.new
         (opened stream.now) children.old.items otherwise.old.items children.new.items otherwise.new.items
         (map emission_meant emissions)) }
-    ensures front { Extends out.old out.new }
+    ensures prefix { IsPrefix out.old out.new }
 {
     for emission in emissions.into_vec() {
         run_emission(
-            alloc, stream, children, otherwise, emission, setting, out, steps,
+            alloc, stream, children, otherwise, emission, context, out, steps,
         )?;
     }
     Ok(())
@@ -210,20 +211,20 @@ fn run_emission<G: Ledger>(
     children: &mut Forest,
     otherwise: &mut Forest,
     emission: Emission,
-    setting: &Setting,
+    context: &Context,
     out: &mut Outputs,
     steps: &mut Steps<G>,
 ) -> Result<(), Memory>
-    ensures runs { OnOk result (BranchRuns setting.now.patterns.now setting.now.moment out.old steps.old out.new steps.new
+    ensures runs { OnOk result (BranchRuns context.now.patterns.now context.now.moment out.old steps.old out.new steps.new
         (opened stream.now) children.old.items otherwise.old.items children.new.items otherwise.new.items
         (branch_numbered emission.branch) (Given emission.item)) }
-    ensures front { Extends out.old out.new }
+    ensures prefix { IsPrefix out.old out.new }
 {
     let Emission { branch, item } = emission;
     let entry = Entry::Item(item);
     let branch = branch_of(branch);
     run_branch(
-        alloc, stream, children, otherwise, branch, &entry, setting, out, steps,
+        alloc, stream, children, otherwise, branch, &entry, context, out, steps,
     )?;
     Ok(())
 }
@@ -237,14 +238,14 @@ fn run_branch<G: Ledger>(
     otherwise: &mut Forest,
     branch: Branch,
     entry: &Entry,
-    setting: &Setting,
+    context: &Context,
     out: &mut Outputs,
     steps: &mut Steps<G>,
 ) -> Result<(), Memory>
-    ensures runs { OnOk result (BranchRuns setting.now.patterns.now setting.now.moment out.old steps.old out.new steps.new
+    ensures runs { OnOk result (BranchRuns context.now.patterns.now context.now.moment out.old steps.old out.new steps.new
         (opened stream.now) children.old.items otherwise.old.items children.new.items otherwise.new.items
         (branch_meant branch) entry.now) }
-    ensures front { Extends out.old out.new }
+    ensures prefix { IsPrefix out.old out.new }
 {
     match branch {
         Branch::Children => {
@@ -253,7 +254,7 @@ fn run_branch<G: Ledger>(
                 &stream.children,
                 children,
                 entry,
-                setting,
+                context,
                 out,
                 steps,
             )?;
@@ -265,7 +266,7 @@ fn run_branch<G: Ledger>(
                 &stream.otherwise,
                 otherwise,
                 entry,
-                setting,
+                context,
                 out,
                 steps,
             )?;

@@ -3,9 +3,9 @@ ghost use Rattle.ev_types.specs.declared.item.Item.TheVariants.{One};
 ghost use Rattle.ev_types.specs.declared.item.Output.{Output as SaidOutput};
 ghost use Rattle.stream_meaning.specs.declared.entry.Entry.TheVariants.{Tick, Item as In};
 ghost use Rattle.stream_meaning.specs.History.{History, ◌▸◌, begun, moment_of, TicksAlone};
-ghost use Rattle.stream_meaning.specs.Outputs.{all_happens};
-ghost use Rattle.stream_step.specs.Step.{Extends};
-ghost use Rattle.stream_tree.specs.Tree.{is_built_plan, plan_of, is_poisoned, Represents, Grew};
+ghost use Rattle.stream_meaning.specs.Outputs.{plan_effects};
+ghost use Rattle.list_laws.specs.Prefix.{IsPrefix};
+ghost use Rattle.stream_tree.specs.Tree.{is_built_plan, plan_of, is_poisoned, Represents, Performs};
 
 use crate::forest::{Forest, fresh_forest};
 use crate::run::run_forest;
@@ -14,9 +14,9 @@ use std::alloc::Global;
 use step_count::{Ledger, Steps};
 use stream_meaning::Entry;
 use stream_plan::ReadyPlan;
-use stream_step::Setting;
+use stream_step::Context;
 
-/// A plan of streams that runs. Where memory was wanted inside, it is poisoned, and each later call that can answer
+/// A plan of streams that runs. Once a call ran out of memory it is poisoned, and each later call that can answer
 /// `Memory` does.
 #[derive(Drop)]
 pub struct Tree {
@@ -41,7 +41,7 @@ impl Tree {
         })
     }
 
-    /// The event comes to the streams at the moment `now`. What they say is appended to `out`. After a want of memory
+    /// The event comes to the streams at the moment `now`. Their outputs are appended to `out`. After `Memory`
     /// the tree is poisoned, and `out` begins with what it had.
     pub fn item<G: Ledger>(
         &mut self,
@@ -54,21 +54,21 @@ impl Tree {
         requires { now ≤ 2 ^ 40 }
         ensures plan { plan_of self.new ≡ plan_of self.old }
         ensures grew { OnOk result ((h : History) → Represents self.old h → moment_of h ≡ now →
-            Grew out.old steps.old out.new steps.new (all_happens (plan_of self.old) (h ▸ In (One event)))) }
+            Performs out.old steps.old out.new steps.new (plan_effects (plan_of self.old) (h ▸ In (One event)))) }
         ensures represents { OnOk result ((h : History) → Represents self.old h → moment_of h ≡ now →
             Represents self.new (h ▸ In (One event))) }
         ensures poisoned { IsTrue (is_poisoned self.old) → IsErr result }
         ensures err { OnErr result (IsTrue (is_poisoned self.new)) }
         ensures sound { OnOk result (is_poisoned self.new ≡ false) }
-        ensures front { (more : List SaidOutput) × (out.new ≡ out.old ++ more) }
+        ensures prefix { IsPrefix out.old out.new }
     {
         let entry = Entry::Item(Item::One(event));
         self.enter(alloc, &entry, now, out, steps)?;
         Ok(())
     }
 
-    /// One more second has passed, and it is the moment `now`. What the streams say is appended to `out`. After a
-    /// want of memory the tree is poisoned, and `out` begins with what it had.
+    /// One more second has passed, and it is the moment `now`. The outputs of the streams are appended to `out`. After
+    /// `Memory` the tree is poisoned, and `out` begins with what it had.
     pub fn tick<G: Ledger>(
         &mut self,
         alloc: Global,
@@ -79,13 +79,13 @@ impl Tree {
         requires { now ≤ 2 ^ 40 }
         ensures plan { plan_of self.new ≡ plan_of self.old }
         ensures grew { OnOk result ((h : History) → Represents self.old h → moment_of h + 1 ≡ now →
-            Grew out.old steps.old out.new steps.new (all_happens (plan_of self.old) (h ▸ Tick))) }
+            Performs out.old steps.old out.new steps.new (plan_effects (plan_of self.old) (h ▸ Tick))) }
         ensures represents { OnOk result ((h : History) → Represents self.old h → moment_of h + 1 ≡ now →
             Represents self.new (h ▸ Tick)) }
         ensures poisoned { IsTrue (is_poisoned self.old) → IsErr result }
         ensures err { OnErr result (IsTrue (is_poisoned self.new)) }
         ensures sound { OnOk result (is_poisoned self.new ≡ false) }
-        ensures front { (more : List SaidOutput) × (out.new ≡ out.old ++ more) }
+        ensures prefix { IsPrefix out.old out.new }
     {
         self.enter(alloc, &Entry::Tick, now, out, steps)?;
         Ok(())
@@ -102,19 +102,19 @@ impl Tree {
     ) -> Result<(), Memory>
         ensures plan { plan_of self.new ≡ plan_of self.old }
         ensures grew { OnOk result ((h : History) → Represents self.old h → moment_of (h ▸ entry.now) ≡ now →
-            Grew out.old steps.old out.new steps.new (all_happens (plan_of self.old) (h ▸ entry.now))) }
+            Performs out.old steps.old out.new steps.new (plan_effects (plan_of self.old) (h ▸ entry.now))) }
         ensures represents { OnOk result ((h : History) → Represents self.old h → moment_of (h ▸ entry.now) ≡ now →
             Represents self.new (h ▸ entry.now)) }
         ensures poisoned { IsTrue (is_poisoned self.old) → IsErr result }
         ensures err { OnErr result (IsTrue (is_poisoned self.new)) }
         ensures sound { OnOk result (is_poisoned self.new ≡ false) }
-        ensures front { Extends out.old out.new }
+        ensures prefix { IsPrefix out.old out.new }
     {
         if self.poisoned {
             return Err(Memory);
         }
         self.poisoned = true;
-        let setting = Setting {
+        let context = Context {
             patterns: self.plan.patterns(),
             moment: now,
         };
@@ -124,7 +124,7 @@ impl Tree {
             streams,
             &mut self.forest,
             entry,
-            &setting,
+            &context,
             out,
             steps,
         )?;

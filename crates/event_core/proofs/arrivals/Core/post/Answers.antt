@@ -1,19 +1,19 @@
 use Rattle.std.proofs.Common.{false, [], ◌∷◌, ap, refl, sym}
 use Rattle.stream_meaning.specs.Arrivals.{Post}
-use Rattle.event_core.specs.Core.{setting_of, state_by}
+use Rattle.event_core.specs.Core.{config_of, state_by}
 use Rattle.event_core.proofs.Longer.{longer-represents, longer-heard}
 use Rattle.event_core.proofs.arrivals.Core.post.Goals as goal
 
 pub returns-clause-represents : goal.returns-clause-represents
 returns-clause-represents g c = λ arrivals before.
     let old = c.args.self.now in
-    let setting = setting_of old in
-    let moved = c.in_ok-item.ensures.moved (state_by setting arrivals) before.holds (sym before.now) in
-    longer-represents (record { streams = c.item.new.self; clock = old.clock; poisoned = false }) setting arrivals (Post c.args.event ∷ [])
+    let config = config_of old in
+    let moved = c.in_ok-item.ensures.moved (state_by config arrivals) before.holds (sym before.now) in
+    longer-represents (record { streams = c.item.new.self; clock = old.clock; poisoned = false }) config arrivals (Post c.args.event ∷ [])
     refl (ap (λ plan. record { plan = plan; expiry = old.clock.expiry; start = old.clock.start }) c.in_ok-item.ensures.plan) moved.holds before.now
 
 pub returns-clause-heard : goal.returns-clause-heard
 returns-clause-heard g c = λ arrivals before.
-    let setting = setting_of c.args.self.now in
-    longer-heard setting c.item.new.self arrivals (Post c.args.event ∷ []) c.args.out.now c.args.steps.now.forks c.item.new.out c.item.new.steps.forks
-    (c.in_ok-item.ensures.moved (state_by setting arrivals) before.holds (sym before.now))
+    let config = config_of c.args.self.now in
+    longer-heard config c.item.new.self arrivals (Post c.args.event ∷ []) c.args.out.now c.args.steps.now.forks c.item.new.out c.item.new.steps.forks
+    (c.in_ok-item.ensures.moved (state_by config arrivals) before.holds (sym before.now))

@@ -21,5 +21,5 @@ loop-now-preserved g c =
           c.args.out.now c.args.steps.now.forks c.loop-now.out c.loop-now.steps.forks c.second.new.out c.second.new.steps.forks
           c.loop-now.auto.now c.loop-now.invariant.0 first
           (c.in_ok-second.ensures.moved before first.holds moment (moments.1 ∙ begins)),
-      both-fronts c.args.out.now c.loop-now.out c.second.new.out c.loop-now.invariant.2 c.in_ok-second.ensures.front,
+      both-fronts c.args.out.now c.loop-now.out c.second.new.out c.loop-now.invariant.2 c.in_ok-second.ensures.prefix,
     )

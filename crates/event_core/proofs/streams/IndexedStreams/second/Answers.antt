@@ -13,5 +13,5 @@ returns-clause-moved g c = λ state holds at begins.
     c.args.out.now c.args.steps.now.forks c.tick.new.out c.tick.new.steps.forks c.sweep.new.out c.sweep.new.steps.forks
     c.in_ok-tick.ensures.plan first (c.in_ok-sweep.ensures.moved (entered plan Tick state) first.holds at begins)
 
-pub returns-clause-front : goal.returns-clause-front
-returns-clause-front g c = both-fronts c.args.out.now c.tick.new.out c.sweep.new.out c.in_ok-tick.ensures.front c.in_ok-sweep.ensures.front
+pub returns-clause-prefix : goal.returns-clause-prefix
+returns-clause-prefix g c = both-fronts c.args.out.now c.tick.new.out c.sweep.new.out c.in_ok-tick.ensures.prefix c.in_ok-sweep.ensures.prefix

@@ -20,5 +20,5 @@ loop-event-preserved g c =
           c.args.out.now c.args.steps.now.forks c.loop-event.out c.loop-event.steps.forks c.item.new.out c.item.new.steps.forks
           c.loop-event.invariant.0 c.in_ok-copy.ensures first
           (c.in_ok-item.ensures.moved (streamed plan copies state) first.holds (streamed-moment plan copies state now at)),
-      both-fronts c.args.out.now c.loop-event.out c.item.new.out c.loop-event.invariant.2 c.in_ok-item.ensures.front,
+      both-fronts c.args.out.now c.loop-event.out c.item.new.out c.loop-event.invariant.2 c.in_ok-item.ensures.prefix,
     )
