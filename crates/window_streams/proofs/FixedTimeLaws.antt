@@ -78,7 +78,7 @@ module _ (secs : ℕ) (event : Event) where
   entered stretch latest waiting = cond (is_later stretch latest) (event ∷ []) (cond (is_same stretch latest) (waiting ++ event ∷ []) waiting)
 
   module _ (f : Event → ℤ) (first : Event) (more : List Event) where
-    at : ℤ → List Event
+    abbrev at : ℤ → List Event
     at z = filter (λ other. int_eq (f other) z) (first ∷ more)
 
     none_above : (z : ℤ) → int_lt (greatest (f first) (map f more)) z ≡ true → filter (λ other. int_eq (f other) z) (first ∷ more) ≡ []
