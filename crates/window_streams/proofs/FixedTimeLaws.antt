@@ -16,27 +16,11 @@ use Rattle.stream_meaning.specs.History.{History, ◌▸◌, TicksAlone}
 use Rattle.stream_meaning.specs.Windows.{floor_div, stretch_of, greatest, stretch_before, fixed_time_items}
 use Rattle.window_streams.specs.FixedTime.{FixedTimeRepresents, first_time, latest_stretch, latest_events}
 use Rattle.window_streams.specs.declared.fixed_time.FixedTimeState.{FixedTimeState}
+use Rattle.window_streams.proofs.EventLaws.{greatest-more, map-more, filter-more}
 use Rattle.window_streams.proofs.TickedLaws.{events-ticks}
 use Rattle.window_streams.specs.Stretch.{stretch_from, is_later, is_same, later_of}
 
 -- ---- the greatest of a list
-
-greatest-more : (a : ℤ) (bs : List ℤ) (b : ℤ) → greatest a (bs ++ b ∷ []) ≡ int_max (greatest a bs) b
-greatest-more a [] b = refl
-greatest-more a (first ∷ bs) b = greatest-more (int_max a first) bs b
-
-map-more : (f : Event → ℤ) (es : List Event) (event : Event) → map f (es ++ event ∷ []) ≡ map f es ++ f event ∷ []
-map-more f [] event = refl
-map-more f (first ∷ es) event = ap (λ bs. f first ∷ bs) (map-more f es event)
-
-filter-more : (p : Event → Bool) (es : List Event) (event : Event) → filter p (es ++ event ∷ []) ≡ filter p es ++ cond (p event) (event ∷ []) []
-filter-more p [] event = refl
-filter-more p (first ∷ es) event = by_test (p first) (filter-more p es event)
-  where
-    by_test : (t : Bool) → filter p (es ++ event ∷ []) ≡ filter p es ++ cond (p event) (event ∷ []) [] →
-        cond t (first ∷ filter p (es ++ event ∷ [])) (filter p (es ++ event ∷ [])) ≡ cond t (first ∷ filter p es) (filter p es) ++ cond (p event) (event ∷ []) []
-    by_test true e = ap (λ rest. first ∷ rest) e
-    by_test false e = e
 
 below_both : (a b z : ℤ) → int_lt (int_max a b) z ≡ true → (int_lt a z ≡ true) × (int_lt b z ≡ true)
 below_both a b z h = by_test (int_lt b a) refl h

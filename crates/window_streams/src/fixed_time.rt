@@ -105,7 +105,7 @@ impl FixedTimeState {
             out.new ≡ out.old ++ fixed_time_emissions self.old (h ▸ Tick)) }
         ensures represents { OnOk result ((h : History) → FixedTimeRepresents self.old h →
             moment_of h + 1 ≡ _now → FixedTimeRepresents self.new (h ▸ Tick)) }
-        ensures quiet { (h : History) → FixedTimeRepresents self.old h →
+        ensures quiet { (h : History) → FixedTimeRepresents self.old h → moment_of h + 1 ≡ _now →
             fixed_time_emissions self.old (h ▸ Tick) ≡ [] → IsOk result }
         ensures poisoned { IsTrue (fixed_time_poisoned self.old) → IsErr result }
         ensures err { OnErr result (IsTrue (fixed_time_poisoned self.new)) }

@@ -6,11 +6,16 @@
 //! [`Memory`](ev_types::Memory) does.
 #![tactic(auto)]
 
+mod coalesce;
 mod fixed_event;
 mod fixed_time;
+mod last_events;
 mod moving_event;
+mod moving_time;
 mod send;
 
+pub use coalesce::{CoalesceParams, CoalesceState};
 pub use fixed_event::{FixedEventParams, FixedEventState};
 pub use fixed_time::{FixedTimeParams, FixedTimeState};
 pub use moving_event::{MovingEventParams, MovingEventState};
+pub use moving_time::{MovingTimeParams, MovingTimeState};

@@ -94,7 +94,7 @@ impl MovingEventState {
             out.new ≡ out.old ++ moving_event_emissions self.old (h ▸ Tick)) }
         ensures represents { OnOk result ((h : History) → MovingEventRepresents self.old h →
             moment_of h + 1 ≡ _now → MovingEventRepresents self.new (h ▸ Tick)) }
-        ensures quiet { (h : History) → MovingEventRepresents self.old h →
+        ensures quiet { (h : History) → MovingEventRepresents self.old h → moment_of h + 1 ≡ _now →
             moving_event_emissions self.old (h ▸ Tick) ≡ [] → IsOk result }
         ensures poisoned { IsTrue (moving_event_poisoned self.old) → IsErr result }
         ensures err { OnErr result (IsTrue (moving_event_poisoned self.new)) }

@@ -1,0 +1,5 @@
+//! Tests of the states of streams, by their public calls.
+#![tactic(auto)]
+
+#[cfg(test)]
+mod windows;
