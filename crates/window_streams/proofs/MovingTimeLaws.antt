@@ -31,11 +31,19 @@ greatest-first a b (c ∷ cs) = ap (λ m. greatest m cs) (max-joined a b c) ∙ 
 
 -- what is recent at a later time is recent at an earlier one
 recent_before : (secs : ℕ) (a t : ℤ) (other : Event) → is_recent secs (int_max a t) other ≡ true → is_recent secs a other ≡ true
-recent_before secs a t other h = grind (arith, ints)
+recent_before secs a t other h = by_test (int_lt t a) refl h
+  where
+    by_test : (u : Bool) → int_lt t a ≡ u → int_lt (cond u a t -ℤ pos secs) other.time ≡ true → is_recent secs a other ≡ true
+    by_test true e k = k
+    by_test false e k = grind (arith, ints)
 
 -- an event that is not recent does not have the greatest time
 late : (secs : ℕ) (a : ℤ) (event : Event) → 0 < secs → is_recent secs (int_max a event.time) event ≡ false → int_max a event.time ≡ a
-late secs a event positive h = grind (arith, ints)
+late secs a event positive h = by_test (int_lt event.time a) refl h
+  where
+    by_test : (u : Bool) → int_lt event.time a ≡ u → int_lt (cond u a event.time -ℤ pos secs) event.time ≡ false → cond u a event.time ≡ a
+    by_test true e k = refl
+    by_test false e k = let lt : int_lt (event.time -ℤ pos secs) event.time ≡ true = grind (arith, ints) in absurd (true≢false (sym lt ∙ k))
 
 filter-both : (p q : Event → Bool) (es : List Event) → ((other : Event) → q other ≡ true → p other ≡ true) → filter q (filter p es) ≡ filter q es
 filter-both p q [] h = refl
