@@ -206,8 +206,8 @@ coalesce-item old new event h represents positive secs start sound last boundary
       sound = sound;
       start = start ∙ represents.start;
       last = last ∙ ap (λ es. placed event (elsewhere event es)) represents.last
-        ∙ sym (coalesced-more old.secs t (timed_events h) came (last-true (is_expired t event) (is_expired (t - old.secs) event) (nat_le (t - old.secs) (moment_of h)) test))
-        ∙ ap (λ n. coalesced n (next_window n h) (timed_events h ++ came ∷ [])) (sym secs);
+          ∙ sym (coalesced-more old.secs t (timed_events h) came (last-true (is_expired t event) (is_expired (t - old.secs) event) (nat_le (t - old.secs) (moment_of h)) test))
+          ∙ ap (λ n. coalesced n (next_window n h) (timed_events h ++ came ∷ [])) (sym secs);
       boundary = λ some. boundary ∙ ap (λ n. next_window n h) (sym secs);
     }
 
@@ -232,26 +232,28 @@ coalesce-waits state h represents positive nothing = by_test (moment_of h + 1 ==
         let at : moment_of h + 1 ≡ next_window state.secs h = grind (arith, nat_tests) in
         let none : state.last ≡ [] = none_of state.last (λ some. nothing some (at ∙ sym (represents.boundary some))) in
         let empty : coalesced state.secs (next_window state.secs h) (timed_events h) ≡ [] = sym represents.last ∙ none in
-        let next = next-tick state.secs h positive ∙ ap (λ t. cond t (next_window state.secs h + state.secs) (next_window state.secs h)) e in
-        (items_at state h positive ∙ ap (λ t. cond t (vector (coalesced state.secs (moment_of h + 1) (timed_events h))) []) e
-          ∙ ap (λ t. vector (coalesced state.secs t (timed_events h))) at ∙ ap vector empty,
+        let next = next-tick state.secs h positive ∙ ap (λ t. cond t (next_window state.secs h + state.secs) (next_window state.secs h)) e in (
+          items_at state h positive ∙ ap (λ t. cond t (vector (coalesced state.secs (moment_of h + 1) (timed_events h))) []) e
+              ∙ ap (λ t. vector (coalesced state.secs t (timed_events h))) at ∙ ap vector empty,
           record {
             sound = represents.sound;
             start = represents.start;
             last = none ∙ sym (ap (λ t. coalesced state.secs t (timed_events h)) next
-              ∙ coalesced-next state.secs (next_window state.secs h) (timed_events h) (came-before (next_window state.secs h) h (omega arith))
-              ∙ ap (λ es. filter (λ event. not (is_expired (next_window state.secs h) event)) es) empty);
+                ∙ coalesced-next state.secs (next_window state.secs h) (timed_events h) (came-before (next_window state.secs h) h (omega arith))
+                ∙ ap (λ es. filter (λ event. not (is_expired (next_window state.secs h) event)) es) empty);
             boundary = λ some. absurd (let size : length state.last ≡ 0 = ap length none in let no : ⊥ = omega arith in no);
-          })
+          },
+        )
     by_test false e =
-        let next = next-tick state.secs h positive ∙ ap (λ t. cond t (next_window state.secs h + state.secs) (next_window state.secs h)) e in
-        (items_at state h positive ∙ ap (λ t. cond t (vector (coalesced state.secs (moment_of h + 1) (timed_events h))) []) e,
+        let next = next-tick state.secs h positive ∙ ap (λ t. cond t (next_window state.secs h + state.secs) (next_window state.secs h)) e in (
+          items_at state h positive ∙ ap (λ t. cond t (vector (coalesced state.secs (moment_of h + 1) (timed_events h))) []) e,
           record {
             sound = represents.sound;
             start = represents.start;
             last = represents.last ∙ ap (λ t. coalesced state.secs t (timed_events h)) (sym next);
             boundary = λ some. represents.boundary some ∙ sym next;
-          })
+          },
+        )
 
 pub coalesce-emits : (state : CoalesceState) (h : History) → CoalesceRepresents state h → 0 < state.secs → 0 < length state.last → moment_of h + 1 ≡ state.boundary →
     coalesce_items state.secs (h ▸ Tick) ≡ vector state.last
@@ -278,8 +280,8 @@ coalesce-passed old new h represents positive some now secs start sound last bou
       sound = sound;
       start = start ∙ represents.start;
       last = last ∙ ap (λ m. filter (λ event. not (is_expired m event)) old.last) at ∙ ap (filter (λ event. not (is_expired t event))) represents.last
-        ∙ sym (ap (λ t. coalesced old.secs t (timed_events h)) next ∙ coalesced-next old.secs t (timed_events h) (came-before t h (omega arith)))
-        ∙ ap (λ n. coalesced n (next_window n (h ▸ Tick)) (timed_events h)) (sym secs);
+          ∙ sym (ap (λ t. coalesced old.secs t (timed_events h)) next ∙ coalesced-next old.secs t (timed_events h) (came-before t h (omega arith)))
+          ∙ ap (λ n. coalesced n (next_window n (h ▸ Tick)) (timed_events h)) (sym secs);
       boundary = λ more. boundary ∙ ap (λ m. m + old.secs) at ∙ sym next ∙ ap (λ n. next_window n (h ▸ Tick)) (sym secs);
     }
 

@@ -143,7 +143,7 @@ module _ (secs : ℕ) (event : Event) where
         first = ap Some from;
         latest = ap (λ z. pos (later_of (stretch_from z) top)) zero_stretch ∙ ap (λ n. pos (max n 0)) none ∙ sym stretch_of-self;
         waiting = ap (λ z. entered (stretch_from z) top kept) zero_stretch ∙ ap (λ n. entered (Some 0) n kept) none ∙ ap (λ es. es ++ event ∷ []) keeps.waiting
-          ∙ sym (ap (λ z. filter (λ other. int_eq (stretch_of secs event other) z) (event ∷ [])) stretch_of-self ∙ ap (λ z. cond (int_eq z (pos 0)) (event ∷ []) []) stretch_of-self);
+            ∙ sym (ap (λ z. filter (λ other. int_eq (stretch_of secs event other) z) (event ∷ [])) stretch_of-self ∙ ap (λ z. cond (int_eq z (pos 0)) (event ∷ []) []) stretch_of-self);
       }
     where
       nat_of : (z : ℤ) (n : ℕ) → z ≡ pos n → unsigned_abs z ≡ n
@@ -155,9 +155,9 @@ module _ (secs : ℕ) (event : Event) where
         first = ap Some from;
         latest = ap (λ z. pos (later_of (stretch_from z) top)) own ∙ later_is top (stretch_of secs first event) ∙ ap (λ z. int_max z (stretch_of secs first event)) keeps.latest ∙ sym (latest-more first more);
         waiting = ap (λ z. entered (stretch_from z) top kept) own
-          ∙ ap (λ es. entered (stretch_from (stretch_of secs first event)) top es) (keeps.waiting ∙ ap (λ z. filter (λ other. int_eq (stretch_of secs first other) z) (first ∷ more)) (sym keeps.latest))
-          ∙ waits (stretch_of secs first) first more top (stretch_of secs first event) keeps.latest refl
-          ∙ ap (λ z. filter (λ other. int_eq (stretch_of secs first other) z) ((first ∷ more) ++ event ∷ [])) (ap (λ z. int_max z (stretch_of secs first event)) keeps.latest ∙ sym (latest-more first more));
+            ∙ ap (λ es. entered (stretch_from (stretch_of secs first event)) top es) (keeps.waiting ∙ ap (λ z. filter (λ other. int_eq (stretch_of secs first other) z) (first ∷ more)) (sym keeps.latest))
+            ∙ waits (stretch_of secs first) first more top (stretch_of secs first event) keeps.latest refl
+            ∙ ap (λ z. filter (λ other. int_eq (stretch_of secs first other) z) ((first ∷ more) ++ event ∷ [])) (ap (λ z. int_max z (stretch_of secs first event)) keeps.latest ∙ sym (latest-more first more));
       }
 
 -- what is passed on at an event
@@ -190,7 +190,7 @@ pub fixed_time-represents : (old new : FixedTimeState) (event : Event) (h : Hist
     new.secs ≡ old.secs → new.poisoned ≡ false → new.first ≡ Some start →
     new.latest ≡ later_of (stretch_from (floor_div (event.time -ℤ start) old.secs)) old.latest →
     new.waiting ≡ cond (is_later (stretch_from (floor_div (event.time -ℤ start) old.secs)) old.latest) (event ∷ [])
-        (cond (is_same (stretch_from (floor_div (event.time -ℤ start) old.secs)) old.latest) (old.waiting ++ event ∷ []) old.waiting) →
+    (cond (is_same (stretch_from (floor_div (event.time -ℤ start) old.secs)) old.latest) (old.waiting ++ event ∷ []) old.waiting) →
     FixedTimeRepresents new (h ▸ In (One event))
 fixed_time-represents old new event h start represents e secs sound first latest waiting =
     let keeps = keeps-more old.secs event old.first old.latest old.waiting (events h) start (record { first = represents.first; latest = represents.latest; waiting = represents.waiting }) e in

@@ -102,7 +102,7 @@ moving_time-emits state event h latest represents e =
     let es = events h in
     let own : latest ≡ int_max (unwrap_or (greatest_time es) event.time) event.time = e ∙ ap (λ o. int_max (unwrap_or o event.time) event.time) represents.latest in
     by_test (is_recent state.secs latest event) refl
-        (ap (λ kept. filter (is_recent state.secs latest) kept ++ event ∷ []) represents.recent ∙ ap (λ kept. kept ++ event ∷ []) (recent_is state.secs event es latest own))
+    (ap (λ kept. filter (is_recent state.secs latest) kept ++ event ∷ []) represents.recent ∙ ap (λ kept. kept ++ event ∷ []) (recent_is state.secs event es latest own))
     ∙ ap (λ z. cond (is_recent state.secs z event) (vector (filter (is_recent state.secs z) (es ++ event ∷ []))) []) (own ∙ latest_is state.secs event es)
   where
     by_test : (t : Bool) → is_recent state.secs latest event ≡ t → filter (is_recent state.secs latest) state.recent ++ event ∷ [] ≡ filter (is_recent state.secs latest) (events h) ++ event ∷ [] →
@@ -121,7 +121,7 @@ moving_time-represents old new event h latest represents positive e secs sound n
       sound = sound;
       latest = newest ∙ ap Some own ∙ sym (greatest_is old.secs event es);
       recent = recent ∙ ap (λ kept. cond (is_recent old.secs latest event) (filter (is_recent old.secs latest) kept ++ event ∷ []) kept) represents.recent
-        ∙ entered_is old.secs event es latest positive own ∙ ap (λ n. recent_events n (es ++ event ∷ [])) (sym secs);
+          ∙ entered_is old.secs event es latest positive own ∙ ap (λ n. recent_events n (es ++ event ∷ [])) (sym secs);
     }
 
 pub moving_time-fresh : (state : MovingTimeState) (h : History) → TicksAlone h → state.poisoned ≡ false → state.latest ≡ None → state.recent ≡ [] → MovingTimeRepresents state h

@@ -39,11 +39,7 @@ impl CoalesceState {
     ghost use Rattle.window_streams.specs.Coalesce.{CoalesceRepresents, coalesce_kind, coalesce_poisoned, coalesce_emissions};
 
     /// The state of a stream to which nothing but seconds has come since the moment `start`.
-    pub fn fresh(
-        alloc: Global,
-        params: CoalesceParams,
-        start: u64,
-    ) -> Result<CoalesceState, Memory>
+    pub fn fresh(alloc: Global, params: CoalesceParams, start: u64) -> Result<CoalesceState, Memory>
         requires secs { IsTrue (is_secs params.secs) }
         ensures kind { IfOk result (λ state. coalesce_kind state ≡ Coalesce params.secs) }
         ensures represents { IfOk result (λ state. (h : History) → TicksAlone h →
@@ -90,12 +86,7 @@ impl CoalesceState {
 
     /// Takes the second that ends at the moment `now`, at most 2^40. At a boundary the last events are appended to
     /// `out` as a vector, and those that have expired are dropped.
-    pub fn tick(
-        &mut self,
-        alloc: Global,
-        now: u64,
-        out: &mut Emissions,
-    ) -> Result<(), Memory>
+    pub fn tick(&mut self, alloc: Global, now: u64, out: &mut Emissions) -> Result<(), Memory>
         ensures kind { coalesce_kind self.new ≡ coalesce_kind self.old }
         ensures emits { OnOk result ((h : History) → CoalesceRepresents self.old h →
             moment_of h + 1 ≡ now →

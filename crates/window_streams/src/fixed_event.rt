@@ -81,12 +81,7 @@ impl FixedEventState {
     }
 
     /// Takes the second that ends at the moment `now`. Nothing is appended.
-    pub fn tick(
-        &mut self,
-        _alloc: Global,
-        _now: u64,
-        out: &mut Emissions,
-    ) -> Result<(), Memory>
+    pub fn tick(&mut self, _alloc: Global, _now: u64, out: &mut Emissions) -> Result<(), Memory>
         ensures kind { fixed_event_kind self.new ≡ fixed_event_kind self.old }
         ensures emits { OnOk result ((h : History) → FixedEventRepresents self.old h →
             moment_of h + 1 ≡ _now →

@@ -86,19 +86,21 @@ impl FixedTimeState {
         self.poisoned = true;
         let first = self.first.unwrap_or(event.time);
         let stretch = stretch_of(self.secs, first, event.time);
-        enter(alloc, &mut self.latest, &mut self.waiting, stretch, event, out)?;
+        enter(
+            alloc,
+            &mut self.latest,
+            &mut self.waiting,
+            stretch,
+            event,
+            out,
+        )?;
         self.first = Some(first);
         self.poisoned = false;
         Ok(())
     }
 
     /// Takes the second that ends at the moment `now`. Nothing is appended.
-    pub fn tick(
-        &mut self,
-        _alloc: Global,
-        _now: u64,
-        out: &mut Emissions,
-    ) -> Result<(), Memory>
+    pub fn tick(&mut self, _alloc: Global, _now: u64, out: &mut Emissions) -> Result<(), Memory>
         ensures kind { fixed_time_kind self.new ≡ fixed_time_kind self.old }
         ensures emits { OnOk result ((h : History) → FixedTimeRepresents self.old h →
             moment_of h + 1 ≡ _now →

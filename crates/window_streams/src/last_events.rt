@@ -81,8 +81,7 @@ impl LastEvents {
             (IsPartitionPoint (λ other. index_key_cmp other event.now ≡ Ordering.Less)
             (λ other. index_key_cmp other event.now ≡ Ordering.Greater) self.now) }
     {
-        self.events
-            .binary_search_by(|other| key_cmp(other, event))
+        self.events.binary_search_by(|other| key_cmp(other, event))
     }
 }
 

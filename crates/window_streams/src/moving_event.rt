@@ -82,12 +82,7 @@ impl MovingEventState {
     }
 
     /// Takes the second that ends at the moment `now`. Nothing is appended.
-    pub fn tick(
-        &mut self,
-        _alloc: Global,
-        _now: u64,
-        out: &mut Emissions,
-    ) -> Result<(), Memory>
+    pub fn tick(&mut self, _alloc: Global, _now: u64, out: &mut Emissions) -> Result<(), Memory>
         ensures kind { moving_event_kind self.new ≡ moving_event_kind self.old }
         ensures emits { OnOk result ((h : History) → MovingEventRepresents self.old h →
             moment_of h + 1 ≡ _now →
@@ -120,12 +115,7 @@ impl MovingEventState {
 }
 
 /// Appends the event to the latest ones, of which at most `count` stay.
-fn push_latest(
-    alloc: Global,
-    latest: &mut Events,
-    event: Event,
-    count: usize,
-) -> Result<(), Memory>
+fn push_latest(alloc: Global, latest: &mut Events, event: Event, count: usize) -> Result<(), Memory>
     ensures { OnOk result (length latest.old ≤ count →
         latest.new ≡ last_of count (latest.old ++ event ∷ [])) }
 {

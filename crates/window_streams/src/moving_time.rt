@@ -89,12 +89,7 @@ impl MovingTimeState {
     }
 
     /// Takes the second that ends at the moment `now`. Nothing is appended.
-    pub fn tick(
-        &mut self,
-        _alloc: Global,
-        _now: u64,
-        out: &mut Emissions,
-    ) -> Result<(), Memory>
+    pub fn tick(&mut self, _alloc: Global, _now: u64, out: &mut Emissions) -> Result<(), Memory>
         ensures kind { moving_time_kind self.new ≡ moving_time_kind self.old }
         ensures emits { OnOk result ((h : History) → MovingTimeRepresents self.old h →
             moment_of h + 1 ≡ _now →
