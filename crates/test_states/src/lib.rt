@@ -5,3 +5,5 @@
 mod flow;
 #[cfg(test)]
 mod rates;
+#[cfg(test)]
+mod windows;
