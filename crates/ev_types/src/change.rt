@@ -122,7 +122,8 @@ fn set_attribute(
     key: &Text,
     value: &Value,
 ) -> Result<Attrs, Memory>
-    ensures { IfOk result (λ set. set ≡ other_attributes key.now attributes.now ++ attribute_of key.now (text_of value.now)) }
+    ensures { IfOk result (λ set. set ≡ other_attributes key.now attributes.now
+        ++ attribute_of key.now (text_of value.now)) }
 {
     let mut set = copied_others(alloc, attributes.as_slice(), key)?;
     if let Value::Text(text) = value {

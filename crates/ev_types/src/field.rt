@@ -71,7 +71,8 @@ pub fn field_is(event: &Event, field: &Field, value: &Value) -> bool
 
 /// Whether both events hold the same value in the field. It takes no memory.
 pub fn same_field(a: &Event, b: &Event, field: &Field) -> bool
-    ensures test { result ≡ same_value (field_value a.now field.now) (field_value b.now field.now) }
+    ensures test { result ≡ same_value (field_value a.now field.now)
+        (field_value b.now field.now) }
     ensures same { IsTrue result ↔ (field_value a.now field.now ≡ field_value b.now field.now) }
 {
     lend_field(a, field).is(lend_field(b, field))

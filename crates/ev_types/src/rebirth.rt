@@ -101,7 +101,8 @@ fn kept_number<N: Copy>(keep: &[KeepKey], field: &Field, held: Option<N>) -> Opt
 }
 
 fn kept_tags(alloc: Global, keep: &[KeepKey], tags: &Tags) -> Result<Tags, Memory>
-    ensures { IfOk result (λ kept. kept ≡ (if list_any names_tags keep.now then tags.now else [])) }
+    ensures { IfOk result (λ kept. kept ≡ (if list_any names_tags keep.now then tags.now else
+        [])) }
 {
     if keeps_tags(keep) {
         copy_tags(alloc, tags)

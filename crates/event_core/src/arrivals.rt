@@ -36,9 +36,11 @@ impl Core {
         start: u64,
     ) -> Result<Core, Memory>
         requires moment { start ≤ 2 ^ 40 }
-        requires interval { ForSome expiry (λ set. (1 ≤ set.interval) × (set.interval ≤ 604800)) }
+        requires interval { ForSome expiry (λ set. (1 ≤ set.interval) ×
+            (set.interval ≤ 604800)) }
         requires built { is_built_plan plan ≡ true }
-        ensures config { IfOk result (λ core. config_of core ≡ record { plan = plan; expiry = expiry; start = start }) }
+        ensures config { IfOk result (λ core.
+            config_of core ≡ record { plan = plan; expiry = expiry; start = start }) }
         ensures represents { IfOk result (λ core. Represents core []) }
         ensures now { IfOk result (λ core. now_of core ≡ start) }
     {
@@ -150,7 +152,8 @@ impl Core {
         ensures now { now_of self.new ≡ now_of self.old }
         ensures pred { pred.new ≡ pred.old }
         ensures found { OnOk result ((arrivals : List Arrival) → Represents self.old arrivals
-            → out.new ≡ out.old ++ matching_events pred.old (state_by (config_of self.old) arrivals).log) }
+            → out.new ≡ out.old ++ matching_events pred.old
+            (state_by (config_of self.old) arrivals).log) }
         ensures forks { steps.new.forks ≡ steps.old.forks }
         ensures poisoned { IsTrue (is_poisoned self.old) → IsErr result }
         ensures sound { OnOk result (is_poisoned self.new ≡ false) }

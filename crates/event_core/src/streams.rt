@@ -38,7 +38,8 @@ impl IndexedStreams {
         requires moment { start ≤ 2 ^ 40 }
         requires built { is_built_plan plan ≡ true }
         ensures plan { IfOk result (λ streams. plan_of streams ≡ plan) }
-        ensures holds { IfOk result (λ streams. Holds streams (record { history = since start; log = [] })) }
+        ensures holds { IfOk result (λ streams.
+            Holds streams (record { history = since start; log = [] })) }
     {
         Ok(IndexedStreams {
             tree: Tree::fresh(alloc, plan, start)?,
@@ -57,8 +58,10 @@ impl IndexedStreams {
     ) -> Result<(), Memory>
         requires { now ≤ 2 ^ 40 }
         ensures plan { plan_of self.new ≡ plan_of self.old }
-        ensures moved { OnOk result ((state : CoreState) → Holds self.old state → moment_of state.history ≡ now
-            → Moved (plan_of self.old) self.new state (entered (plan_of self.old) (In (One event)) state)
+        ensures moved { OnOk result ((state : CoreState) → Holds self.old state →
+            moment_of state.history ≡ now
+            → Moved (plan_of self.old) self.new state
+            (entered (plan_of self.old) (In (One event)) state)
             out.old steps.old.forks out.new steps.new.forks) }
         ensures prefix { IsPrefix out.old out.new }
     {
@@ -78,7 +81,8 @@ impl IndexedStreams {
     ) -> Result<(), Memory>
         requires { now ≤ 2 ^ 40 }
         ensures plan { plan_of self.new ≡ plan_of self.old }
-        ensures moved { OnOk result ((state : CoreState) → Holds self.old state → moment_of state.history + 1 ≡ now
+        ensures moved { OnOk result ((state : CoreState) → Holds self.old state →
+            moment_of state.history + 1 ≡ now
             → Moved (plan_of self.old) self.new state (entered (plan_of self.old) Tick state)
             out.old steps.old.forks out.new steps.new.forks) }
         ensures prefix { IsPrefix out.old out.new }
@@ -101,9 +105,11 @@ impl IndexedStreams {
     ) -> Result<(), Memory>
         requires { now ≤ 2 ^ 40 }
         ensures plan { plan_of self.new ≡ plan_of self.old }
-        ensures moved { OnOk result ((state : CoreState) → Holds self.old state → moment_of state.history ≡ now
+        ensures moved { OnOk result ((state : CoreState) → Holds self.old state →
+            moment_of state.history ≡ now
             → Moved (plan_of self.old) self.new state
-            (streamed (plan_of self.old) (map (λ event. expired_copy keep.now event now) expired) state)
+            (streamed (plan_of self.old) (map (λ event. expired_copy keep.now event now) expired)
+            state)
             out.old steps.old.forks out.new steps.new.forks) }
         ensures prefix { IsPrefix out.old out.new }
     {
@@ -126,7 +132,8 @@ impl IndexedStreams {
     ) -> Result<(), Memory>
         requires { now ≤ 2 ^ 40 }
         ensures plan { plan_of self.new ≡ plan_of self.old }
-        ensures moved { OnOk result ((state : CoreState) → Holds self.old state → moment_of state.history ≡ now
+        ensures moved { OnOk result ((state : CoreState) → Holds self.old state →
+            moment_of state.history ≡ now
             → Moved (plan_of self.old) self.new state (fed_back (plan_of self.old) keep.now state)
             out.old steps.old.forks out.new steps.new.forks) }
         ensures prefix { IsPrefix out.old out.new }
@@ -148,9 +155,11 @@ impl IndexedStreams {
     ) -> Result<(), Memory>
         requires { now ≤ 2 ^ 40 }
         ensures plan { plan_of self.new ≡ plan_of self.old }
-        ensures moved { OnOk result ((state : CoreState) → Holds self.old state → moment_of state.history ≡ now
+        ensures moved { OnOk result ((state : CoreState) → Holds self.old state →
+            moment_of state.history ≡ now
             → begun state.history ≡ clock.now.start
-            → Moved (plan_of self.old) self.new state (swept (plan_of self.old) clock.now.expiry state)
+            → Moved (plan_of self.old) self.new state
+            (swept (plan_of self.old) clock.now.expiry state)
             out.old steps.old.forks out.new steps.new.forks) }
         ensures prefix { IsPrefix out.old out.new }
     {
@@ -175,9 +184,11 @@ impl IndexedStreams {
     ) -> Result<(), Memory>
         requires { now ≤ 2 ^ 40 }
         ensures plan { plan_of self.new ≡ plan_of self.old }
-        ensures moved { OnOk result ((state : CoreState) → Holds self.old state → moment_of state.history + 1 ≡ now
+        ensures moved { OnOk result ((state : CoreState) → Holds self.old state →
+            moment_of state.history + 1 ≡ now
             → begun state.history ≡ clock.now.start
-            → Moved (plan_of self.old) self.new state (arrived (plan_of self.old) clock.now.expiry Elapsed state)
+            → Moved (plan_of self.old) self.new state
+            (arrived (plan_of self.old) clock.now.expiry Elapsed state)
             out.old steps.old.forks out.new steps.new.forks) }
         ensures prefix { IsPrefix out.old out.new }
     {
@@ -198,10 +209,12 @@ impl IndexedStreams {
         requires from { clock.now.moment ≤ to }
         requires bound { to ≤ 2 ^ 40 }
         ensures plan { plan_of self.new ≡ plan_of self.old }
-        ensures moved { OnOk result ((state : CoreState) → Holds self.old state → moment_of state.history ≡ clock.now.moment
+        ensures moved { OnOk result ((state : CoreState) → Holds self.old state →
+            moment_of state.history ≡ clock.now.moment
             → begun state.history ≡ clock.now.start
             → Moved (plan_of self.old) self.new state
-            (state_from (plan_of self.old) clock.now.expiry (replicate (to - clock.now.moment) Elapsed) state)
+            (state_from (plan_of self.old) clock.now.expiry
+            (replicate (to - clock.now.moment) Elapsed) state)
             out.old steps.old.forks out.new steps.new.forks) }
         ensures prefix { IsPrefix out.old out.new }
     {
@@ -232,7 +245,8 @@ impl IndexedStreams {
 
     /// How many events are live.
     pub(crate) fn live(&self) -> usize
-        ensures { (state : CoreState) → Holds self.now state → result ≡ length (live_events state.log) }
+        ensures { (state : CoreState) → Holds self.now state →
+            result ≡ length (live_events state.log) }
     {
         self.index.len()
     }

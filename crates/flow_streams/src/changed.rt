@@ -35,7 +35,8 @@ impl ChangedState {
     pub fn fresh(_alloc: Global, params: ChangedParams, start: u64) -> Result<ChangedState, Memory>
         ensures ok { IsOk result }
         ensures kind { IfOk result (λ s. changed_kind s ≡ Changed params.field params.init) }
-        ensures represents { IfOk result (λ s. (h : History) → TicksAlone h → begun h ≡ start →
+        ensures represents { IfOk result (λ s. (h : History) → TicksAlone h →
+            begun h ≡ start →
             ChangedRepresents s h) }
     {
         Ok(ChangedState {
@@ -89,7 +90,8 @@ impl ChangedState {
         ensures represents { OnOk result ((h : History) → ChangedRepresents self.old h →
             moment_of h + 1 ≡ now →
             ChangedRepresents self.new (h ▸ Tick)) }
-        ensures quiet { (h : History) → ChangedRepresents self.old h → moment_of h + 1 ≡ now →
+        ensures quiet { (h : History) → ChangedRepresents self.old h →
+            moment_of h + 1 ≡ now →
             changed_at self.old (h ▸ Tick) ≡ [] → IsOk result }
         ensures poisoned { IsTrue (is_poisoned self.old) → IsErr result }
         ensures err { OnErr result (IsTrue (is_poisoned self.new)) }

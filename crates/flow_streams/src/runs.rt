@@ -38,7 +38,8 @@ impl RunsState {
     pub fn fresh(_alloc: Global, params: RunsParams, start: u64) -> Result<RunsState, Memory>
         ensures ok { IsOk result }
         ensures kind { IfOk result (λ s. runs_kind s ≡ Runs params.count params.field) }
-        ensures represents { IfOk result (λ s. (h : History) → TicksAlone h → begun h ≡ start →
+        ensures represents { IfOk result (λ s. (h : History) → TicksAlone h →
+            begun h ≡ start →
             RunsRepresents s h) }
     {
         Ok(RunsState {
@@ -59,7 +60,8 @@ impl RunsState {
         out: &mut Emissions,
     ) -> Result<(), Memory>
         ensures kind { runs_kind self.new ≡ runs_kind self.old }
-        ensures emits { OnOk result ((h : History) → RunsRepresents self.old h → moment_of h ≡ now →
+        ensures emits { OnOk result ((h : History) → RunsRepresents self.old h →
+            moment_of h ≡ now →
             out.new ≡ out.old ++ emitted (runs_at self.old (h ▸ In (One event)))) }
         ensures represents { OnOk result ((h : History) → RunsRepresents self.old h →
             moment_of h ≡ now →

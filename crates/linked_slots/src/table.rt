@@ -56,7 +56,8 @@ impl<T: Drop> StepTable<T> {
         ensures forks { steps.new.forks ≡ steps.old.forks }
         ensures entries { steps.new.entries ≡ steps.old.entries + 1 }
         ensures forks_told { G.forks steps.new.ledger ≡ G.forks steps.old.ledger }
-        ensures entries_told { G.entries steps.new.ledger ≡ one_more (G.entries steps.old.ledger) }
+        ensures entries_told { G.entries steps.new.ledger
+            ≡ one_more (G.entries steps.old.ledger) }
     {
         steps.visit_entry();
         &self.values[number]
@@ -70,7 +71,8 @@ impl<T: Drop> StepTable<T> {
         ensures forks { steps.new.forks ≡ steps.old.forks }
         ensures entries { steps.new.entries ≡ steps.old.entries + 1 }
         ensures forks_told { G.forks steps.new.ledger ≡ G.forks steps.old.ledger }
-        ensures entries_told { G.entries steps.new.ledger ≡ one_more (G.entries steps.old.ledger) }
+        ensures entries_told { G.entries steps.new.ledger
+            ≡ one_more (G.entries steps.old.ledger) }
     {
         steps.visit_entry();
         &mut self.values[number]

@@ -4,7 +4,8 @@ ghost use Rattle.list_laws.specs.Asking.{IsAskable, AnswersBy, KeepsMoreThan};
 /// How many of the items the test is true of.
 pub fn count_where<T, F: Fn(&T) -> bool>(items: &[T], test: F) -> usize
     requires { IsAskable F.Fn test items.now }
-    ensures { (p : T → Bool) → AnswersBy F.Fn test p items.now → result ≡ count_by p items.now }
+    ensures { (p : T → Bool) → AnswersBy F.Fn test p items.now →
+        result ≡ count_by p items.now }
 {
     let mut count = 0;
     for item in items {
@@ -22,7 +23,8 @@ pub fn keep_where<T, F: Fn(&T) -> bool>(items: &[T], test: F, nth: usize) -> usi
     ensures within { result < length items.now }
 
     // As many of the items before the place are kept, and the item there is the one of that number among the kept.
-    ensures before { (p : T → Bool) → AnswersBy F.Fn test p items.now → count_by p (take result items.now) ≡ nth }
+    ensures before { (p : T → Bool) → AnswersBy F.Fn test p items.now →
+        count_by p (take result items.now) ≡ nth }
     ensures kept { (p : T → Bool) → AnswersBy F.Fn test p items.now
         → slice_get (filter p items.now) nth ≡ slice_get items.now result }
 {

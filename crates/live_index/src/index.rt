@@ -47,7 +47,8 @@ impl LiveIndex {
     /// Writes an event in the place of the live one of its host and service. One whose state is "expired" only
     /// ends that one. After `Memory` the index is poisoned.
     pub fn write(&mut self, _alloc: Global, event: Event) -> Result<(), Memory>
-        ensures ok { OnOk result ((log : IndexLog) → Represents self.old log → Represents self.new (log ++ Write event ∷ [])) }
+        ensures ok { OnOk result ((log : IndexLog) → Represents self.old log →
+            Represents self.new (log ++ Write event ∷ [])) }
         ensures err { OnErr result (IsTrue self.new.poisoned) }
         ensures poisoned { IsTrue self.old.poisoned → IsErr result }
     {
@@ -71,8 +72,10 @@ impl LiveIndex {
         steps: &mut Steps<G>,
     ) -> Result<(), Memory>
         requires { now ≤ 2 ^ 40 }
-        ensures ok { OnOk result ((log : IndexLog) → Represents self.old log → Represents self.new (log ++ Reap now ∷ [])) }
-        ensures expired { OnOk result (out.new ≡ out.old ++ filter (is_expired now) self.old.events) }
+        ensures ok { OnOk result ((log : IndexLog) → Represents self.old log →
+            Represents self.new (log ++ Reap now ∷ [])) }
+        ensures expired { OnOk result (out.new ≡ out.old
+            ++ filter (is_expired now) self.old.events) }
         ensures err { OnErr result (IsTrue self.new.poisoned) }
         ensures prefix { OnErr result (IsPrefix out.old out.new) }
         ensures poisoned { IsTrue self.old.poisoned → IsErr result }
@@ -119,7 +122,8 @@ impl LiveIndex {
         _steps: &mut Steps<G>,
     ) -> Option<&Event>
         ensures* same { sem 𝓛 (StaysTheSame self.entry) }
-        ensures event { option_copied result ≡ event_at (option_copied host.entry) (option_copied service.entry) self.old.events }
+        ensures event { option_copied result
+            ≡ event_at (option_copied host.entry) (option_copied service.entry) self.old.events }
         ensures steps { _steps.new ≡ _steps.old }
     {
         self.events.get(host, service)

@@ -72,8 +72,10 @@ impl SortedEvents {
         expired: &mut Events,
     ) -> Result<(), Memory>
         requires { now ≤ 2 ^ 40 }
-        ensures kept { OnOk result (self.new ≡ filter (λ event. not (is_expired now event)) self.old) }
-        ensures gone { OnOk result (expired.new ≡ expired.old ++ filter (is_expired now) self.old) }
+        ensures kept { OnOk result (self.new
+            ≡ filter (λ event. not (is_expired now event)) self.old) }
+        ensures gone { OnOk result (expired.new ≡ expired.old
+            ++ filter (is_expired now) self.old) }
         ensures prefix { OnErr result (IsPrefix expired.old expired.new) }
     {
         let events = mem::replace(&mut self.events, Vec::new(alloc));
@@ -89,7 +91,8 @@ impl SortedEvents {
 
     /// The event of this host and this service, where there is one. It takes no memory.
     pub(crate) fn get(&self, host: Option<&Text>, service: Option<&Text>) -> Option<&Event>
-        ensures { option_copied result ≡ event_at (option_copied host.entry) (option_copied service.entry) self.now }
+        ensures { option_copied result ≡ event_at (option_copied host.entry)
+            (option_copied service.entry) self.now }
     {
         match self.place_at(host, service) {
             Ok(at) => Some(&self.events[at]),
@@ -112,9 +115,12 @@ impl SortedEvents {
     fn place_at(&self, host: Option<&Text>, service: Option<&Text>) -> Result<usize, usize>
         ensures bound { IsSearchInRange result (length self.now) }
         ensures place { MatchResult result
-            (HoldsAt (λ other. cmp_at (option_copied host.entry) (option_copied service.entry) other ≡ Ordering.Equal) self.now)
-            (IsPartitionPoint (λ other. cmp_at (option_copied host.entry) (option_copied service.entry) other ≡ Ordering.Less)
-            (λ other. cmp_at (option_copied host.entry) (option_copied service.entry) other ≡ Ordering.Greater) self.now) }
+            (HoldsAt (λ other. cmp_at (option_copied host.entry)
+            (option_copied service.entry) other ≡ Ordering.Equal) self.now)
+            (IsPartitionPoint (λ other. cmp_at (option_copied host.entry)
+            (option_copied service.entry) other ≡ Ordering.Less)
+            (λ other. cmp_at (option_copied host.entry) (option_copied service.entry) other
+            ≡ Ordering.Greater) self.now) }
     {
         self.events
             .binary_search_by(|other| cmp_at(host, service, other))
@@ -129,8 +135,10 @@ fn part_expired(
     expired: &mut Events,
 ) -> Result<Vec<Event>, Memory>
     requires { now ≤ 2 ^ 40 }
-    ensures kept { IfOk result (λ kept. kept.items ≡ filter (λ event. not (is_expired now event)) events.items) }
-    ensures gone { OnOk result (expired.new ≡ expired.old ++ filter (is_expired now) events.items) }
+    ensures kept { IfOk result (λ kept. kept.items
+        ≡ filter (λ event. not (is_expired now event)) events.items) }
+    ensures gone { OnOk result (expired.new ≡ expired.old
+        ++ filter (is_expired now) events.items) }
     ensures prefix { OnErr result (IsPrefix expired.old expired.new) }
 {
     let mut kept = Vec::new(alloc);

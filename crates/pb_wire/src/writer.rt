@@ -31,7 +31,8 @@ pub fn put_field(
 ) -> Result<(), Memory>
     requires positive { 0 < number }
     requires small { number < 2 ^ 29 }
-    ensures ok { OnOk result (out.new ≡ out.old ++ field_spelling number (content_of body.entry)) }
+    ensures ok { OnOk result (out.new ≡ out.old
+        ++ field_spelling number (content_of body.entry)) }
     ensures err { OnErr result (IsPrefix out.old out.new) }
 {
     match body {

@@ -129,7 +129,8 @@ pub fn build_all<P: Patterns>(
 ) -> Result<Vec<Regex>, BuildFault>
     requires { length texts.now < 2 ^ 32 }
     ensures built { IfOk result (λ regexes. AreReadFrom (texts_of texts.now) regexes.items) }
-    ensures cause { HasCause (texts_of texts.now) (P.refusals patterns.old) (P.refusals patterns.new)
+    ensures cause { HasCause (texts_of texts.now) (P.refusals patterns.old)
+        (P.refusals patterns.new)
         result }
     ensures told { P.refused patterns.new ≡ option_map
         (λ refused. refused ++ refused_of (texts_of texts.now) result) (P.refused patterns.old) }

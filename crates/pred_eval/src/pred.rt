@@ -46,10 +46,12 @@ impl Pred {
     ) -> Result<Pred, BuildFault>
         requires { length (searches (tree_of rule)) < 2 ^ 32 }
         ensures rule { IfOk result (λ pred. pred ≡ tree_of rule) }
-        ensures cause { HasCause (searches (tree_of rule)) (P.refusals patterns.old) (P.refusals patterns.new)
+        ensures cause { HasCause (searches (tree_of rule)) (P.refusals patterns.old)
+            (P.refusals patterns.new)
             result }
         ensures told { P.refused patterns.new ≡ option_map
-            (λ texts. texts ++ refused_of (searches (tree_of rule)) result) (P.refused patterns.old) }
+            (λ texts. texts ++ refused_of (searches (tree_of rule)) result)
+            (P.refused patterns.old) }
         ensures refusals { P.refusals patterns.old ≤ P.refusals patterns.new }
     {
         let patterns = build_patterns(alloc, &rule, patterns)?;
@@ -98,7 +100,8 @@ pub fn append_texts<'a>(
 #[cycle(collect)]
 fn append_all<'a>(alloc: Global, rules: &'a Rules, texts: &mut Vec<&'a Text>) -> Result<(), Memory>
     ensures ok { OnOk result
-        (texts_of texts.new.items ≡ texts_of texts.old.items ++ searches_of (trees_in rules.now.items)) }
+        (texts_of texts.new.items ≡ texts_of texts.old.items
+        ++ searches_of (trees_in rules.now.items)) }
     ensures err { OnErr result (IsPrefix (texts_of texts.old.items) (texts_of texts.new.items)) }
 {
     for rule in rules {
@@ -114,11 +117,14 @@ fn build_patterns<P: Patterns>(
     patterns: &mut P,
 ) -> Result<Vec<Regex>, BuildFault>
     requires { length (searches (tree_of rule.now)) < 2 ^ 32 }
-    ensures built { IfOk result (λ regexes. AreReadFrom (searches (tree_of rule.now)) regexes.items) }
-    ensures cause { HasCause (searches (tree_of rule.now)) (P.refusals patterns.old) (P.refusals patterns.new)
+    ensures built { IfOk result (λ regexes. AreReadFrom
+        (searches (tree_of rule.now)) regexes.items) }
+    ensures cause { HasCause (searches (tree_of rule.now)) (P.refusals patterns.old)
+        (P.refusals patterns.new)
         result }
     ensures told { P.refused patterns.new ≡ option_map
-        (λ texts. texts ++ refused_of (searches (tree_of rule.now)) result) (P.refused patterns.old) }
+        (λ texts. texts ++ refused_of (searches (tree_of rule.now)) result)
+        (P.refused patterns.old) }
     ensures refusals { P.refusals patterns.old ≤ P.refusals patterns.new }
 {
     let mut texts = Vec::new(alloc);

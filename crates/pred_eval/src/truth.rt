@@ -147,7 +147,8 @@ fn count_patterns(rules: &Rules) -> usize
 
 // Whether the first of the patterns is found in the text, where there is one.
 fn search(alloc: Global, patterns: &[Regex], text: Option<&Text>) -> Result<bool, Memory>
-    ensures { IfOk result (λ found. (pattern : List ℕ) → AreReadFrom (pattern ∷ []) patterns.now →
+    ensures { IfOk result (λ found. (pattern : List ℕ) →
+        AreReadFrom (pattern ∷ []) patterns.now →
         found ≡ is_text_with (finds pattern) (option_copied text.entry)) }
 {
     match (patterns.first(), text) {

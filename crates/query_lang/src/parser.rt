@@ -75,7 +75,9 @@ impl Group {
 
     /// Ends an alternative, whose parts these are.
     fn end_alternative(&mut self, alloc: Global) -> Result<(), Memory>
-        ensures { OnOk result (group_of self.new ≡ record { alternatives = (group_of self.old).alternatives ++ all_of (group_of self.old).parts ∷ []; parts = []; nots = self.old.nots }) }
+        ensures { OnOk result (group_of self.new
+            ≡ record { alternatives = (group_of self.old).alternatives
+            ++ all_of (group_of self.old).parts ∷ []; parts = []; nots = self.old.nots }) }
     {
         let parts = mem::replace(&mut self.parts, Vec::new(alloc));
         self.alternatives.push(all_of(parts))?;
@@ -125,7 +127,8 @@ impl Parser {
     ) -> Result<(), QueryFault>
         requires few { self.old.openings ≤ MAX_OPENINGS }
         requires nots { self.old.group.nots ≤ self.old.openings }
-        ensures { Leaves result (state_of self.new) (within_limit place (step (state_of self.old) token)) }
+        ensures { Leaves result (state_of self.new)
+            (within_limit place (step (state_of self.old) token)) }
     {
         match mem::replace(&mut self.wants, Wants::Joint) {
             Wants::Operand => self.take_operand(alloc, token, place)?,
@@ -153,7 +156,8 @@ impl Parser {
     fn take_operand(&mut self, alloc: Global, token: Token, place: usize) -> Result<(), QueryFault>
         requires few { self.old.openings ≤ MAX_OPENINGS }
         requires nots { self.old.group.nots ≤ self.old.openings }
-        ensures { Leaves result (state_of self.new) (within_limit place (operand_step (state_of self.old) token)) }
+        ensures { Leaves result (state_of self.new)
+            (within_limit place (operand_step (state_of self.old) token)) }
     {
         match token {
             Token::Open => self.open(alloc, place)?,
@@ -169,7 +173,8 @@ impl Parser {
 
     fn take_name(&mut self, name: Text, place: usize) -> Result<(), QueryFault>
         requires { self.old.openings ≤ MAX_OPENINGS }
-        ensures { Leaves result (state_of self.new) (within_limit place (operand_step (state_of self.old) (Token.Name name))) }
+        ensures { Leaves result (state_of self.new)
+            (within_limit place (operand_step (state_of self.old) (Token.Name name))) }
     {
         let Some(field) = Field::named(name) else {
             return Err(QueryFault::Refused { place });
@@ -180,7 +185,8 @@ impl Parser {
 
     fn take_tag(&mut self, alloc: Global, token: Token, place: usize) -> Result<(), QueryFault>
         requires { self.old.openings ≤ MAX_OPENINGS }
-        ensures { Leaves result (state_of self.new) (within_limit place (tag_step (state_of self.old) token)) }
+        ensures { Leaves result (state_of self.new)
+            (within_limit place (tag_step (state_of self.old) token)) }
     {
         let Token::Quoted(tag) = token else {
             return Err(QueryFault::Refused { place });
@@ -191,7 +197,8 @@ impl Parser {
 
     fn take_operator(&mut self, field: Field, token: Token, place: usize) -> Result<(), QueryFault>
         requires { self.old.openings ≤ MAX_OPENINGS }
-        ensures { Leaves result (state_of self.new) (within_limit place (operator_step field (state_of self.old) token)) }
+        ensures { Leaves result (state_of self.new)
+            (within_limit place (operator_step field (state_of self.old) token)) }
     {
         let Token::Operator(operator) = token else {
             return Err(QueryFault::Refused { place });
@@ -209,7 +216,8 @@ impl Parser {
         place: usize,
     ) -> Result<(), QueryFault>
         requires { self.old.openings ≤ MAX_OPENINGS }
-        ensures { Leaves result (state_of self.new) (within_limit place (literal_step field operator (state_of self.old) token)) }
+        ensures { Leaves result (state_of self.new)
+            (within_limit place (literal_step field operator (state_of self.old) token)) }
     {
         let Some(rule) = test_of(alloc, field, operator, token)? else {
             return Err(QueryFault::Refused { place });
@@ -220,7 +228,8 @@ impl Parser {
 
     fn take_joint(&mut self, alloc: Global, token: Token, place: usize) -> Result<(), QueryFault>
         requires { self.old.openings ≤ MAX_OPENINGS }
-        ensures { Leaves result (state_of self.new) (within_limit place (joint_step (state_of self.old) token)) }
+        ensures { Leaves result (state_of self.new)
+            (within_limit place (joint_step (state_of self.old) token)) }
     {
         match token {
             Token::And => self.wants = Wants::Operand,
@@ -246,7 +255,8 @@ impl Parser {
     /// Begins a group.
     fn open(&mut self, alloc: Global, place: usize) -> Result<(), QueryFault>
         requires { self.old.openings ≤ MAX_OPENINGS }
-        ensures { Leaves result (state_of self.new) (within_limit place (Some (opened (state_of self.old)))) }
+        ensures { Leaves result (state_of self.new)
+            (within_limit place (Some (opened (state_of self.old)))) }
     {
         self.count_opening(place)?;
         self.push_group(alloc)?;
@@ -254,7 +264,8 @@ impl Parser {
     }
 
     fn push_group(&mut self, alloc: Global) -> Result<(), Memory>
-        ensures { OnOk result (state_of self.new ≡ record (opened (state_of self.old)) { openings = self.old.openings }) }
+        ensures { OnOk result (state_of self.new
+            ≡ record (opened (state_of self.old)) { openings = self.old.openings }) }
     {
         let group = mem::replace(&mut self.group, Group::fresh(alloc));
         self.outer.push(group)?;
@@ -266,7 +277,8 @@ impl Parser {
     fn deny_next(&mut self, place: usize) -> Result<(), QueryFault>
         requires few { self.old.openings ≤ MAX_OPENINGS }
         requires nots { self.old.group.nots ≤ self.old.openings }
-        ensures { Leaves result (state_of self.new) (within_limit place (Some (denied (state_of self.old)))) }
+        ensures { Leaves result (state_of self.new)
+            (within_limit place (Some (denied (state_of self.old)))) }
     {
         self.count_opening(place)?;
         self.group.nots += 1;
@@ -276,8 +288,10 @@ impl Parser {
 
     fn count_opening(&mut self, place: usize) -> Result<(), QueryFault>
         requires { self.old.openings ≤ MAX_OPENINGS }
-        ensures ok { OnOk result ((self.old.openings < MAX_OPENINGS) × (self.new ≡ record self.old { openings = self.old.openings + 1 })) }
-        ensures err { IfErr result (λ fault. (self.old.openings ≡ MAX_OPENINGS) × (fault ≡ QueryFault.TooDeep place)) }
+        ensures ok { OnOk result ((self.old.openings < MAX_OPENINGS) ×
+            (self.new ≡ record self.old { openings = self.old.openings + 1 })) }
+        ensures err { IfErr result (λ fault. (self.old.openings ≡ MAX_OPENINGS) ×
+            (fault ≡ QueryFault.TooDeep place)) }
     {
         if self.openings >= MAX_OPENINGS {
             return Err(QueryFault::TooDeep { place });
@@ -289,7 +303,8 @@ impl Parser {
     /// Ends the innermost group, which is an operand of the one around it.
     fn close(&mut self, alloc: Global, place: usize) -> Result<(), QueryFault>
         requires { self.old.openings ≤ MAX_OPENINGS }
-        ensures { Leaves result (state_of self.new) (within_limit place (closed (state_of self.old).outer (state_of self.old))) }
+        ensures { Leaves result (state_of self.new)
+            (within_limit place (closed (state_of self.old).outer (state_of self.old))) }
     {
         let Some(outer) = self.outer.pop() else {
             return Err(QueryFault::Refused { place });

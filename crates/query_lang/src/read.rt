@@ -22,8 +22,10 @@ pub const MAX_BYTES: usize = 4096;
 /// and at most 64 tokens that are `(` or `not`.
 pub fn read_query(alloc: Global, text: &[u8]) -> Result<Rule, QueryFault>
     ensures query { IfOk result (λ rule. IsAnswer text.now (Ok (tree_of rule))) }
-    ensures fault { IfErr result (λ fault. fault ≢ QueryFault.Memory → IsAnswer text.now (Err fault)) }
-    ensures only { (answer : Result Tree QueryFault) → IsAnswer text.now answer → Says result answer }
+    ensures fault { IfErr result (λ fault. fault ≢ QueryFault.Memory →
+        IsAnswer text.now (Err fault)) }
+    ensures only { (answer : Result Tree QueryFault) → IsAnswer text.now answer →
+        Says result answer }
 {
     if text.len() > MAX_BYTES {
         return Err(QueryFault::TooLong { length: text.len() });
@@ -53,7 +55,8 @@ fn take_next<'a>(
 ) -> Result<&'a [u8], QueryFault>
     requires few { parser.old.openings ≤ MAX_OPENINGS }
     requires nots { parser.old.group.nots ≤ parser.old.openings }
-    ensures { Takes result (state_of parser.new) (taken place (state_of parser.old) (token_at rest.now)) }
+    ensures { Takes result (state_of parser.new)
+        (taken place (state_of parser.old) (token_at rest.now)) }
 {
     match token_at(alloc, rest) {
         Ok((token, after)) => {

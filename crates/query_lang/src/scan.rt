@@ -148,7 +148,8 @@ fn is(bytes: &[u8], wanted: &[u8]) -> bool
 /// The text of these bytes.
 #[tactic(auto, using(crate::proofs::ScanLaws::read_utf8, crate::proofs::ScanLaws::no_utf8))]
 fn read_text(alloc: Global, bytes: &[u8]) -> Result<Text, ScanFault>
-    ensures { Gives (λ text. text) ScanFault.Unreadable result (if is_utf8 bytes.now then Some bytes.now else None) }
+    ensures { Gives (λ text. text) ScanFault.Unreadable result
+        (if is_utf8 bytes.now then Some bytes.now else None) }
 {
     match Text::read(alloc, bytes) {
         Ok(text) => Ok(text),

@@ -69,7 +69,8 @@ fn put_rule(alloc: Global, rule: &Rule, under: Under, out: &mut Blob) -> Result<
 #[tactic(auto, using(crate::proofs::SpellingLaws::grouped_parts))]
 fn put_all(alloc: Global, parts: &[Rule], under: Under, out: &mut Blob) -> Result<(), Memory>
     ensures ok { OnOk result
-        (out.new ≡ out.old ++ grouped (groups_all under) (joined_spelling (codes " and ") Under.All (listed (map tree_of parts.now)))) }
+        (out.new ≡ out.old ++ grouped (groups_all under)
+        (joined_spelling (codes " and ") Under.All (listed (map tree_of parts.now)))) }
     ensures err { OnErr result (IsPrefix out.old out.new) }
 {
     let group = matches!(under, Under::All | Under::Not);
@@ -84,7 +85,8 @@ fn put_all(alloc: Global, parts: &[Rule], under: Under, out: &mut Blob) -> Resul
 #[tactic(auto, using(crate::proofs::SpellingLaws::grouped_parts))]
 fn put_any(alloc: Global, parts: &[Rule], under: Under, out: &mut Blob) -> Result<(), Memory>
     ensures ok { OnOk result
-        (out.new ≡ out.old ++ grouped (groups_any under) (joined_spelling (codes " or ") Under.Any (listed (map tree_of parts.now)))) }
+        (out.new ≡ out.old ++ grouped (groups_any under)
+        (joined_spelling (codes " or ") Under.Any (listed (map tree_of parts.now)))) }
     ensures err { OnErr result (IsPrefix out.old out.new) }
 {
     let group = !matches!(under, Under::Query);
@@ -150,7 +152,8 @@ fn put_tagged(alloc: Global, tag: &Text, out: &mut Blob) -> Result<(), Memory>
 
 fn put_equal(alloc: Global, field: &Field, value: &Value, out: &mut Blob) -> Result<(), Memory>
     ensures ok { OnOk result
-        (out.new ≡ out.old ++ (field_name field.now ++ (codes " = " ++ value_spelling value.now))) }
+        (out.new ≡ out.old ++ (field_name field.now ++ (codes " = " ++ value_spelling value.now)))
+        }
     ensures err { OnErr result (IsPrefix out.old out.new) }
 {
     out.append(alloc, field.name())?;
@@ -171,7 +174,8 @@ fn put_order(
     out: &mut Blob,
 ) -> Result<(), Memory>
     ensures ok { OnOk result
-        (out.new ≡ out.old ++ (field_name field.now ++ (order_symbol order ++ signed_decimal number))) }
+        (out.new ≡ out.old ++ (field_name field.now
+        ++ (order_symbol order ++ signed_decimal number))) }
     ensures err { OnErr result (IsPrefix out.old out.new) }
 {
     out.append(alloc, field.name())?;
@@ -193,7 +197,8 @@ fn put_pattern(
     out: &mut Blob,
 ) -> Result<(), Memory>
     ensures ok { OnOk result
-        (out.new ≡ out.old ++ (field_name field.now ++ (symbol.now ++ string_literal pattern.now))) }
+        (out.new ≡ out.old ++ (field_name field.now
+        ++ (symbol.now ++ string_literal pattern.now))) }
     ensures err { OnErr result (IsPrefix out.old out.new) }
 {
     out.append(alloc, field.name())?;

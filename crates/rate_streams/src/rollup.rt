@@ -44,7 +44,8 @@ impl RollupState {
     /// The state to which nothing has come, at the moment `start`, in seconds since 1970. It takes no memory.
     pub fn fresh(alloc: Global, params: RollupParams, start: u64) -> Result<RollupState, Memory>
         requires { IsTrue (is_in_range (Rollup params.count params.secs)) }
-        ensures kind { IfOk result (λ state. rollup_kind state ≡ Rollup params.count params.secs) }
+        ensures kind { IfOk result (λ state.
+            rollup_kind state ≡ Rollup params.count params.secs) }
         ensures represents { IfOk result (λ state. (h : History) →
             TicksAlone h → begun h ≡ start → RollupRepresents state h) }
     {
@@ -99,7 +100,8 @@ impl RollupState {
         ensures represents { OnOk result ((h : History) →
             RollupRepresents self.old h → moment_of h + 1 ≡ now →
             RollupRepresents self.new (h ▸ Tick)) }
-        ensures quiet { (h : History) → RollupRepresents self.old h → moment_of h + 1 ≡ now →
+        ensures quiet { (h : History) → RollupRepresents self.old h →
+            moment_of h + 1 ≡ now →
             rollup_passes self.old (h ▸ Tick) ≡ [] → IsOk result }
         ensures poisoned { IsTrue (rollup_poisoned self.old) → IsErr result }
         ensures sound { OnOk result (rollup_poisoned self.new ≡ false) }

@@ -43,7 +43,8 @@ impl StableState {
     /// The state to which nothing has come, at the moment `start`, in seconds since 1970. It takes no memory.
     pub fn fresh(alloc: Global, params: StableParams, start: u64) -> Result<StableState, Memory>
         requires { IsTrue (is_in_range (Stable params.secs params.field)) }
-        ensures kind { IfOk result (λ state. stable_kind state ≡ Stable params.secs params.field) }
+        ensures kind { IfOk result (λ state.
+            stable_kind state ≡ Stable params.secs params.field) }
         ensures represents { IfOk result (λ state. (h : History) →
             TicksAlone h → begun h ≡ start → StableRepresents state h) }
     {
@@ -97,7 +98,8 @@ impl StableState {
         ensures represents { OnOk result ((h : History) →
             StableRepresents self.old h → moment_of h + 1 ≡ now →
             StableRepresents self.new (h ▸ Tick)) }
-        ensures quiet { (h : History) → StableRepresents self.old h → moment_of h + 1 ≡ now →
+        ensures quiet { (h : History) → StableRepresents self.old h →
+            moment_of h + 1 ≡ now →
             stable_passes self.old (h ▸ Tick) ≡ [] → IsOk result }
         ensures poisoned { IsTrue (stable_poisoned self.old) → IsErr result }
         ensures sound { OnOk result (stable_poisoned self.new ≡ false) }

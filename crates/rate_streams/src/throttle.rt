@@ -97,7 +97,8 @@ impl ThrottleState {
         ensures represents { OnOk result ((h : History) →
             ThrottleRepresents self.old h → moment_of h + 1 ≡ now →
             ThrottleRepresents self.new (h ▸ Tick)) }
-        ensures quiet { (h : History) → ThrottleRepresents self.old h → moment_of h + 1 ≡ now →
+        ensures quiet { (h : History) → ThrottleRepresents self.old h →
+            moment_of h + 1 ≡ now →
             throttle_passes self.old (h ▸ Tick) ≡ [] → IsOk result }
         ensures poisoned { IsTrue (throttle_poisoned self.old) → IsErr result }
         ensures sound { OnOk result (throttle_poisoned self.new ≡ false) }
@@ -115,7 +116,8 @@ impl ThrottleState {
         ensures due { (h : History) → ThrottleRepresents self.now h → moment_of h ≤ 2 ^ 40 →
             result ≡ next_deadline (throttle_kind self.now) h }
         ensures still { (h : History) → ThrottleRepresents self.now h →
-            throttle_passes self.now (h ▸ Tick) ≡ [] → ThrottleRepresents self.now (h ▸ Tick) }
+            throttle_passes self.now (h ▸ Tick) ≡ [] →
+            ThrottleRepresents self.now (h ▸ Tick) }
     {
         None
     }

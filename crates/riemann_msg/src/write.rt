@@ -69,7 +69,8 @@ fn put_query(alloc: Global, query: &Option<QueryPart>, out: &mut Blob) -> Result
 
 /// Appends the events.
 fn put_events(alloc: Global, events: &[Event], out: &mut Blob) -> Result<(), Memory>
-    ensures ok { OnOk result (out.new ≡ out.old ++ spelled (repeated 6 event_content events.now)) }
+    ensures ok { OnOk result (out.new ≡ out.old
+        ++ spelled (repeated 6 event_content events.now)) }
     ensures err { OnErr result (IsPrefix out.old out.new) }
 {
     for event in events {

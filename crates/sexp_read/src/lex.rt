@@ -26,7 +26,8 @@ pub(crate) fn piece_at(
 ) -> Result<(Piece, usize), SexpFault>
     requires within { place < length text.now }
     requires utf8 { IsUtf8 text.now }
-    ensures gives { Gives result (piece_from place (slice_index text.now place) (drop (place + 1) text.now)) }
+    ensures gives { Gives result (piece_from place (slice_index text.now place)
+        (drop (place + 1) text.now)) }
     ensures moves { IfOk result (λ read. (place < read.1) × (read.1 ≤ length text.now)) }
 {
     match class_of(text[place]) {

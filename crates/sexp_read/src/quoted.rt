@@ -82,9 +82,11 @@ fn take_one(
     requires within { place < length text.now }
     requires inside { slice_index text.now place ≢ QUOTE }
     ensures moves { IfOk result (λ next. (place < next) × (next ≤ length text.now)) }
-    ensures takes { IfOk result (λ next. with_prefix bytes.old (quoted_from kind start place (drop place text.now))
+    ensures takes { IfOk result (λ next. with_prefix bytes.old
+        (quoted_from kind start place (drop place text.now))
         ≡ with_prefix bytes.new (quoted_from kind start next (drop next text.now))) }
-    ensures refused { IfErr result (λ fault. Fails fault (quoted_from kind start place (drop place text.now))) }
+    ensures refused { IfErr result (λ fault.
+        Fails fault (quoted_from kind start place (drop place text.now))) }
 {
     let byte = text[place];
     if byte != BACKSLASH {
@@ -109,7 +111,8 @@ fn put_escape(
     place: usize,
     bytes: &mut Blob,
 ) -> Result<(), SexpFault>
-    ensures ok { OnOk result (option_map (λ front. bytes.old ++ front) (escape_of kind byte) ≡ Some bytes.new) }
+    ensures ok { OnOk result (option_map (λ front. bytes.old ++ front) (escape_of kind byte)
+        ≡ Some bytes.new) }
     ensures refused { IfErr result (λ fault. IsEscapeFault fault place (escape_of kind byte)) }
 {
     match kind {

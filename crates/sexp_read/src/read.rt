@@ -58,7 +58,8 @@ pub fn read_forms(alloc: Global, text: &[u8]) -> Result<Forms, SexpFault>
 /// The forms of a text that is within the limit and UTF-8.
 fn read_pieces(alloc: Global, text: &[u8]) -> Result<Forms, SexpFault>
     requires { IsUtf8 text.now }
-    ensures forms { IfOk result (λ forms. AreRead (lexed text.now) (form_trees forms.items) × (forms_fault text.now ≡ None)) }
+    ensures forms { IfOk result (λ forms. AreRead (lexed text.now) (form_trees forms.items) ×
+        (forms_fault text.now ≡ None)) }
     ensures refused { IfErr result (λ fault. IsFault fault (forms_fault text.now)) }
 {
     let mut reader = Reader::fresh(alloc);
@@ -109,8 +110,10 @@ impl Reader {
         end: usize,
     ) -> Result<(), SexpFault>
         requires { start < end }
-        ensures ok { OnOk result (with_piece (reading_of self.old) start piece end ≡ Ok (reading_of self.new)) }
-        ensures refused { IfErr result (λ fault. Fails fault (with_piece (reading_of self.old) start piece end)) }
+        ensures ok { OnOk result (with_piece (reading_of self.old) start piece end
+            ≡ Ok (reading_of self.new)) }
+        ensures refused { IfErr result (λ fault.
+            Fails fault (with_piece (reading_of self.old) start piece end)) }
     {
         match piece {
             Piece::Blank => {}
@@ -124,7 +127,8 @@ impl Reader {
     #[tactic(auto, using(crate::proofs::Forms::form_pushed))]
     fn put_form(&mut self, form: Form) -> Result<(), SexpFault>
         ensures ok { OnOk result (reading_of self.new
-            ≡ record { stack = (reading_of self.old).stack; forms = with_form (reading_of self.old).forms (form_tree form) }) }
+            ≡ record { stack = (reading_of self.old).stack; forms = with_form
+            (reading_of self.old).forms (form_tree form) }) }
         ensures err { IfErr result (λ fault. fault ≡ SexpFault.Memory) }
     {
         self.forms.push(form)?;
@@ -132,8 +136,10 @@ impl Reader {
     }
 
     fn open(&mut self, alloc: Global, bracket: Bracket, place: usize) -> Result<(), SexpFault>
-        ensures ok { OnOk result (opened (reading_of self.old) bracket place ≡ Ok (reading_of self.new)) }
-        ensures refused { IfErr result (λ fault. Fails fault (opened (reading_of self.old) bracket place)) }
+        ensures ok { OnOk result (opened (reading_of self.old) bracket place
+            ≡ Ok (reading_of self.new)) }
+        ensures refused { IfErr result (λ fault.
+            Fails fault (opened (reading_of self.old) bracket place)) }
     {
         if self.open.len() >= DEEPEST {
             return Err(SexpFault::Refused {
@@ -152,8 +158,11 @@ impl Reader {
 
     fn close(&mut self, bracket: Bracket, end: usize) -> Result<(), SexpFault>
         requires { 0 < end }
-        ensures ok { OnOk result (closed (reading_of self.old).stack (reading_of self.old).forms bracket end ≡ Ok (reading_of self.new)) }
-        ensures refused { IfErr result (λ fault. Fails fault (closed (reading_of self.old).stack (reading_of self.old).forms bracket end)) }
+        ensures ok { OnOk result (closed (reading_of self.old).stack
+            (reading_of self.old).forms bracket end ≡ Ok (reading_of self.new)) }
+        ensures refused { IfErr result (λ fault.
+            Fails fault (closed (reading_of self.old).stack
+            (reading_of self.old).forms bracket end)) }
     {
         let refused = SexpFault::Refused {
             place: end - 1,
@@ -172,8 +181,10 @@ impl Reader {
 
     /// The forms, where no bracket is open.
     fn finish(mut self) -> Result<Forms, SexpFault>
-        ensures ok { IfOk result (λ forms. ((reading_of self).stack ≡ []) × (form_trees forms.items ≡ (reading_of self).forms)) }
-        ensures refused { IfErr result (λ fault. IsFault fault (unclosed (brackets_of (reading_of self).stack))) }
+        ensures ok { IfOk result (λ forms. ((reading_of self).stack ≡ []) ×
+            (form_trees forms.items ≡ (reading_of self).forms)) }
+        ensures refused { IfErr result (λ fault.
+            IsFault fault (unclosed (brackets_of (reading_of self).stack))) }
     {
         match self.open.pop() {
             None => Ok(self.forms),

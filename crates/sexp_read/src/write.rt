@@ -18,7 +18,8 @@ use string_literals::put_literal;
 /// as escapes. After `Memory` the old bytes of `out` are a prefix of it.
 #[tactic(auto, using(crate::proofs::WritingLaws::lines_all))]
 pub fn write_forms(alloc: Global, forms: &[Form], out: &mut Blob) -> Result<(), Memory>
-    ensures ok { OnOk result (out.new ≡ out.old ++ lines_text (bare_trees (form_trees forms.now))) }
+    ensures ok { OnOk result (out.new ≡ out.old
+        ++ lines_text (bare_trees (form_trees forms.now))) }
     ensures err { OnErr result (IsPrefix out.old out.new) }
 {
     for form in forms {
@@ -67,7 +68,8 @@ fn put_group(alloc: Global, bracket: Bracket, forms: &[Form], out: &mut Blob) ->
 #[cycle(write)]
 #[tactic(auto, using(crate::proofs::WritingLaws::behind_all))]
 fn put_between(alloc: Global, forms: &[Form], out: &mut Blob) -> Result<(), Memory>
-    ensures ok { OnOk result (out.new ≡ out.old ++ between_text (bare_trees (form_trees forms.now))) }
+    ensures ok { OnOk result (out.new ≡ out.old
+        ++ between_text (bare_trees (form_trees forms.now))) }
     ensures err { OnErr result (IsPrefix out.old out.new) }
 {
     let Some((first, rest)) = forms.split_first() else {

@@ -72,7 +72,8 @@ pub fn build_plan<P: Patterns>(
 ) -> Result<ReadyPlan, BuildFault>
     requires { length (plan_patterns plan) < 2 ^ 32 }
     ensures plan { IfOk result (λ ready. ready ≡ plan) }
-    ensures cause { HasCause (plan_patterns plan) (P.refusals patterns.old) (P.refusals patterns.new)
+    ensures cause { HasCause (plan_patterns plan) (P.refusals patterns.old)
+        (P.refusals patterns.new)
         result }
     ensures told { P.refused patterns.new ≡ option_map
         (λ texts. texts ++ refused_of (plan_patterns plan) result) (P.refused patterns.old) }
@@ -111,7 +112,8 @@ fn append_streams<'a>(
     texts: &mut Vec<&'a Text>,
 ) -> Result<(), Memory>
     ensures ok { OnOk result
-        (texts_of texts.new.items ≡ texts_of texts.old.items ++ plan_patterns (list_trees streams.now)) }
+        (texts_of texts.new.items ≡ texts_of texts.old.items
+        ++ plan_patterns (list_trees streams.now)) }
     ensures err { OnErr result (IsPrefix (texts_of texts.old.items) (texts_of texts.new.items)) }
 {
     for stream in streams {
@@ -128,7 +130,8 @@ fn append_stream<'a>(
     texts: &mut Vec<&'a Text>,
 ) -> Result<(), Memory>
     ensures ok { OnOk result
-        (texts_of texts.new.items ≡ texts_of texts.old.items ++ stream_patterns (opened stream.now)) }
+        (texts_of texts.new.items ≡ texts_of texts.old.items
+        ++ stream_patterns (opened stream.now)) }
     ensures err { OnErr result (IsPrefix (texts_of texts.old.items) (texts_of texts.new.items)) }
 {
     append_kind(alloc, &stream.kind, texts)?;
@@ -139,7 +142,8 @@ fn append_stream<'a>(
 
 fn append_kind<'a>(alloc: Global, kind: &'a Kind, texts: &mut Vec<&'a Text>) -> Result<(), Memory>
     ensures ok { OnOk result
-        (texts_of texts.new.items ≡ texts_of texts.old.items ++ kind_patterns (kind_tree kind.now)) }
+        (texts_of texts.new.items ≡ texts_of texts.old.items
+        ++ kind_patterns (kind_tree kind.now)) }
     ensures err { OnErr result (IsPrefix (texts_of texts.old.items) (texts_of texts.new.items)) }
 {
     if let Kind::Where(rule) = kind {

@@ -30,7 +30,8 @@ struct Search {
 
 /// The path of the first stream that is refused for the cause.
 pub(crate) fn place_of(alloc: Global, plan: &Plan, why: PlanWhy) -> Result<Option<Path>, Memory>
-    ensures { IfOk result (λ place. place ≡ option_map (λ s. s.path) (place_of why (preorder_of (plan_tree plan.now)))) }
+    ensures { IfOk result (λ place. place ≡ option_map (λ s. s.path)
+        (place_of why (preorder_of (plan_tree plan.now)))) }
 {
     let mut search = Search {
         why,
@@ -112,7 +113,8 @@ fn allowed(why: PlanWhy) -> usize
 /// Whether the stream at the path, to which this comes, counts against the cause.
 #[tactic(auto, unfolding(crate::specs::Search::opened))]
 fn counts(why: PlanWhy, path: &[usize], stream: &Stream, flow: Flow) -> bool
-    ensures { result ≡ counts why (record { path = path.now; flow = flow; tree = opened stream.now }) }
+    ensures { result ≡ counts why (record { path = path.now; flow = flow; tree = opened stream.now
+        }) }
 {
     match why {
         PlanWhy::Many => true,

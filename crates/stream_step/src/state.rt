@@ -25,9 +25,12 @@ impl State {
     /// those of the plan from number `next` on, which becomes the number after them.
     pub fn fresh(kind: &Kind, next: &mut usize) -> State
         ensures stands { (before after : List (List ℕ)) (h : History) →
-            is_built_kind (kind_tree kind.now) ≡ true → is_in_range (kind_tree kind.now) ≡ true →
-            length before ≡ next.old → length (kind_patterns (kind_tree kind.now)) ≤ greatest →
-            StateRepresents (before ++ (kind_patterns (kind_tree kind.now) ++ after)) (kind_tree kind.now) result h }
+            is_built_kind (kind_tree kind.now) ≡ true →
+            is_in_range (kind_tree kind.now) ≡ true →
+            length before ≡ next.old → length
+            (kind_patterns (kind_tree kind.now)) ≤ greatest →
+            StateRepresents (before ++ (kind_patterns (kind_tree kind.now) ++ after))
+            (kind_tree kind.now) result h }
         ensures next { next.old + length (kind_patterns (kind_tree kind.now)) ≤ greatest →
             next.new ≡ next.old + length (kind_patterns (kind_tree kind.now)) }
     {
@@ -40,7 +43,8 @@ impl State {
     fn of_rule(rule: &Rule, next: &mut usize) -> State
         ensures stands { (before after : List (List ℕ)) →
             length before ≡ next.old → length (searches (tree_of rule.now)) ≤ greatest →
-            Keeps (before ++ (searches (tree_of rule.now) ++ after)) (Where (tree_of rule.now)) result }
+            Keeps (before ++ (searches (tree_of rule.now) ++ after))
+            (Where (tree_of rule.now)) result }
         ensures next { next.old + length (searches (tree_of rule.now)) ≤ greatest →
             next.new ≡ next.old + length (searches (tree_of rule.now)) }
     {

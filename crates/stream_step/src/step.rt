@@ -42,8 +42,10 @@ pub fn act(
     context: &Context,
     out: &mut Outputs,
 ) -> Result<Passed, Memory>
-    ensures acts { IfOk result (λ passed. (texts : List (List ℕ)) (h : History) → AreReadFrom texts context.now.patterns.now →
-        StateRepresents texts (kind_tree kind.now) state.old h → moment_of (h ▸ entry.now) ≡ context.now.moment →
+    ensures acts { IfOk result (λ passed. (texts : List (List ℕ)) (h : History) →
+        AreReadFrom texts context.now.patterns.now →
+        StateRepresents texts (kind_tree kind.now) state.old h →
+        moment_of (h ▸ entry.now) ≡ context.now.moment →
         Acts texts (kind_tree kind.now) state.old state.new h entry.now out.old out.new passed) }
     ensures prefix { IsPrefix out.old out.new }
 {
@@ -108,7 +110,8 @@ fn pass_on(
     entry: &Entry,
     patterns: &[Regex],
 ) -> Result<Passed, Memory>
-    ensures { IfOk result (λ passed. (texts : List (List ℕ)) (h : History) → AreReadFrom texts patterns.now →
+    ensures { IfOk result (λ passed. (texts : List (List ℕ)) (h : History) →
+        AreReadFrom texts patterns.now →
         StateRepresents texts (kind_tree kind.now) state.now h →
         emissions_meant passed entry.now ≡ emissions (kind_tree kind.now) (h ▸ entry.now)) }
 {
@@ -121,8 +124,10 @@ fn pass_on(
 
 /// What the stream passes on of a vector.
 fn pass_vector(kind: &Kind) -> Passed
-    ensures { (es : List CameEvent) (h : History) → is_built_kind (kind_tree kind.now) ≡ true →
-        emissions_meant result (In (Many es)) ≡ emissions (kind_tree kind.now) (h ▸ In (Many es)) }
+    ensures { (es : List CameEvent) (h : History) →
+        is_built_kind (kind_tree kind.now) ≡ true →
+        emissions_meant result (In (Many es))
+        ≡ emissions (kind_tree kind.now) (h ▸ In (Many es)) }
 {
     match kind {
         Kind::Sdo => Passed::Same(Branch::Children),
@@ -138,9 +143,11 @@ fn pass_event(
     event: &Event,
     patterns: &[Regex],
 ) -> Result<Passed, Memory>
-    ensures { IfOk result (λ passed. (texts : List (List ℕ)) (h : History) → AreReadFrom texts patterns.now →
+    ensures { IfOk result (λ passed. (texts : List (List ℕ)) (h : History) →
+        AreReadFrom texts patterns.now →
         StateRepresents texts (kind_tree kind.now) state.now h →
-        emissions_meant passed (In (One event.now)) ≡ emissions (kind_tree kind.now) (h ▸ In (One event.now))) }
+        emissions_meant passed (In (One event.now))
+        ≡ emissions (kind_tree kind.now) (h ▸ In (One event.now))) }
 {
     match kind {
         Kind::Sdo => Ok(Passed::Same(Branch::Children)),
@@ -157,7 +164,8 @@ fn pass_event(
 
 /// The event for the children.
 fn send(alloc: Global, event: Event) -> Result<Passed, Memory>
-    ensures { IfOk result (λ passed. (x : CameEntry) → emissions_meant passed x ≡ to children (One event)) }
+    ensures { IfOk result (λ passed. (x : CameEntry) →
+        emissions_meant passed x ≡ to children (One event)) }
 {
     let mut made = Emissions::fresh(alloc);
     let emission = Emission {
@@ -176,8 +184,11 @@ fn branch_of_rule(
     event: &Event,
     patterns: &[Regex],
 ) -> Result<Branch, Memory>
-    ensures { IfOk result (λ branch. (texts : List (List ℕ)) → AreReadFrom texts patterns.now →
-        Keeps texts (Where (tree_of rule.now)) state.now → branch_meant branch ≡ (if holds (tree_of rule.now) event.now then children else otherwise)) }
+    ensures { IfOk result (λ branch. (texts : List (List ℕ)) →
+        AreReadFrom texts patterns.now →
+        Keeps texts (Where (tree_of rule.now)) state.now →
+        branch_meant branch ≡ (if holds (tree_of rule.now) event.now then children else
+        otherwise)) }
 {
     let met = rule_holds(alloc, rule, own_patterns(state, patterns), event)?;
     Ok(if met {
@@ -200,7 +211,8 @@ fn own_patterns<'a>(state: &State, patterns: &'a [Regex]) -> &'a [Regex]
 
 /// `count` of the regular expressions from number `first` on, as far as there are some.
 fn part<'a>(patterns: &'a [Regex], first: usize, count: usize) -> &'a [Regex]
-    ensures { first + count ≤ length patterns.now → result.now ≡ take count (drop first patterns.now) }
+    ensures { first + count ≤ length patterns.now →
+        result.now ≡ take count (drop first patterns.now) }
 {
     let rest = &patterns[first.min(patterns.len())..];
     &rest[..count.min(rest.len())]

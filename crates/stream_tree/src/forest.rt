@@ -27,7 +27,8 @@ pub(crate) fn fresh_forest(
     streams: &[Stream],
     next: &mut usize,
 ) -> Result<Forest, Memory>
-    ensures { IfOk result (λ forest. ForestIsFresh (list_trees streams.now) next.old next.new forest.items) }
+    ensures { IfOk result (λ forest. ForestIsFresh
+        (list_trees streams.now) next.old next.new forest.items) }
 {
     let mut forest = Vec::with_capacity(alloc, streams.len())?;
     for stream in streams {

@@ -27,7 +27,8 @@ pub(crate) fn run_forest<G: Ledger>(
     out: &mut Outputs,
     steps: &mut Steps<G>,
 ) -> Result<(), Memory>
-    ensures runs { OnOk result (ForestRuns context.now.patterns.now context.now.moment entry.now out.old steps.old out.new steps.new
+    ensures runs { OnOk result (ForestRuns context.now.patterns.now context.now.moment entry.now
+        out.old steps.old out.new steps.new
         (list_trees streams.now) forest.old.items forest.new.items) }
     ensures prefix { IsPrefix out.old out.new }
 {
@@ -57,9 +58,12 @@ fn run_node<G: Ledger>(
     out: &mut Outputs,
     steps: &mut Steps<G>,
 ) -> Result<(), Memory>
-    ensures runs { OnOk result (StreamRuns context.now.patterns.now context.now.moment entry.now out.old steps.old out.new steps.new
-        (opened stream.now) (out-Node node.old).state (out-Node node.old).children.items (out-Node node.old).otherwise.items
-        (out-Node node.new).state (out-Node node.new).children.items (out-Node node.new).otherwise.items) }
+    ensures runs { OnOk result (StreamRuns context.now.patterns.now context.now.moment entry.now
+        out.old steps.old out.new steps.new
+        (opened stream.now) (out-Node node.old).state (out-Node node.old).children.items
+        (out-Node node.old).otherwise.items
+        (out-Node node.new).state (out-Node node.new).children.items
+        (out-Node node.new).otherwise.items) }
     ensures prefix { IsPrefix out.old out.new }
 {
     run_stream(
@@ -90,8 +94,10 @@ fn run_stream<G: Ledger>(
     out: &mut Outputs,
     steps: &mut Steps<G>,
 ) -> Result<(), Memory>
-    ensures runs { OnOk result (StreamRuns context.now.patterns.now context.now.moment entry.now out.old steps.old out.new steps.new
-        (opened stream.now) state.old children.old.items otherwise.old.items state.new children.new.items otherwise.new.items) }
+    ensures runs { OnOk result (StreamRuns context.now.patterns.now context.now.moment entry.now
+        out.old steps.old out.new steps.new
+        (opened stream.now) state.old children.old.items otherwise.old.items state.new
+        children.new.items otherwise.new.items) }
     ensures prefix { IsPrefix out.old out.new }
 {
     let passed = act(alloc, &stream.kind, state, entry, context, out)?;
@@ -116,8 +122,10 @@ fn run_tick<G: Ledger>(
     out: &mut Outputs,
     steps: &mut Steps<G>,
 ) -> Result<(), Memory>
-    ensures runs { OnOk result (TickRuns context.now.patterns.now context.now.moment out.old steps.old out.new steps.new
-        (opened stream.now) children.old.items otherwise.old.items children.new.items otherwise.new.items entry.now) }
+    ensures runs { OnOk result (TickRuns context.now.patterns.now context.now.moment out.old
+        steps.old out.new steps.new
+        (opened stream.now) children.old.items otherwise.old.items children.new.items
+        otherwise.new.items entry.now) }
     ensures prefix { IsPrefix out.old out.new }
 {
     if let Entry::Tick = entry {
@@ -156,8 +164,10 @@ fn run_passed<G: Ledger>(
     out: &mut Outputs,
     steps: &mut Steps<G>,
 ) -> Result<(), Memory>
-    ensures runs { OnOk result (EmissionsRun context.now.patterns.now context.now.moment out.old steps.old out.new steps.new
-        (opened stream.now) children.old.items otherwise.old.items children.new.items otherwise.new.items
+    ensures runs { OnOk result (EmissionsRun context.now.patterns.now context.now.moment out.old
+        steps.old out.new steps.new
+        (opened stream.now) children.old.items otherwise.old.items children.new.items
+        otherwise.new.items
         (emissions_meant passed entry.now)) }
     ensures prefix { IsPrefix out.old out.new }
 {
@@ -190,8 +200,10 @@ fn run_emissions<G: Ledger>(
     out: &mut Outputs,
     steps: &mut Steps<G>,
 ) -> Result<(), Memory>
-    ensures runs { OnOk result (EmissionsRun context.now.patterns.now context.now.moment out.old steps.old out.new steps.new
-        (opened stream.now) children.old.items otherwise.old.items children.new.items otherwise.new.items
+    ensures runs { OnOk result (EmissionsRun context.now.patterns.now context.now.moment out.old
+        steps.old out.new steps.new
+        (opened stream.now) children.old.items otherwise.old.items children.new.items
+        otherwise.new.items
         (map emission_meant emissions)) }
     ensures prefix { IsPrefix out.old out.new }
 {
@@ -215,8 +227,10 @@ fn run_emission<G: Ledger>(
     out: &mut Outputs,
     steps: &mut Steps<G>,
 ) -> Result<(), Memory>
-    ensures runs { OnOk result (BranchRuns context.now.patterns.now context.now.moment out.old steps.old out.new steps.new
-        (opened stream.now) children.old.items otherwise.old.items children.new.items otherwise.new.items
+    ensures runs { OnOk result (BranchRuns context.now.patterns.now context.now.moment out.old
+        steps.old out.new steps.new
+        (opened stream.now) children.old.items otherwise.old.items children.new.items
+        otherwise.new.items
         (branch_numbered emission.branch) (Given emission.item)) }
     ensures prefix { IsPrefix out.old out.new }
 {
@@ -242,8 +256,10 @@ fn run_branch<G: Ledger>(
     out: &mut Outputs,
     steps: &mut Steps<G>,
 ) -> Result<(), Memory>
-    ensures runs { OnOk result (BranchRuns context.now.patterns.now context.now.moment out.old steps.old out.new steps.new
-        (opened stream.now) children.old.items otherwise.old.items children.new.items otherwise.new.items
+    ensures runs { OnOk result (BranchRuns context.now.patterns.now context.now.moment out.old
+        steps.old out.new steps.new
+        (opened stream.now) children.old.items otherwise.old.items children.new.items
+        otherwise.new.items
         (branch_meant branch) entry.now) }
     ensures prefix { IsPrefix out.old out.new }
 {

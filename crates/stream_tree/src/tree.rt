@@ -31,7 +31,8 @@ impl Tree {
         requires start { start ≤ 2 ^ 40 }
         requires built { is_built_plan plan ≡ true }
         ensures plan { IfOk result (λ tree. plan_of tree ≡ plan) }
-        ensures represents { IfOk result (λ tree. (h : History) → TicksAlone h → begun h ≡ start → Represents tree h) }
+        ensures represents { IfOk result (λ tree. (h : History) → TicksAlone h →
+            begun h ≡ start → Represents tree h) }
     {
         let forest = fresh_forest(alloc, &plan.plan().streams, &mut 0)?;
         Ok(Tree {
@@ -53,9 +54,12 @@ impl Tree {
     ) -> Result<(), Memory>
         requires { now ≤ 2 ^ 40 }
         ensures plan { plan_of self.new ≡ plan_of self.old }
-        ensures grew { OnOk result ((h : History) → Represents self.old h → moment_of h ≡ now →
-            Performs out.old steps.old out.new steps.new (plan_effects (plan_of self.old) (h ▸ In (One event)))) }
-        ensures represents { OnOk result ((h : History) → Represents self.old h → moment_of h ≡ now →
+        ensures grew { OnOk result ((h : History) → Represents self.old h →
+            moment_of h ≡ now →
+            Performs out.old steps.old out.new steps.new
+            (plan_effects (plan_of self.old) (h ▸ In (One event)))) }
+        ensures represents { OnOk result ((h : History) → Represents self.old h →
+            moment_of h ≡ now →
             Represents self.new (h ▸ In (One event))) }
         ensures poisoned { IsTrue (is_poisoned self.old) → IsErr result }
         ensures err { OnErr result (IsTrue (is_poisoned self.new)) }
@@ -78,9 +82,12 @@ impl Tree {
     ) -> Result<(), Memory>
         requires { now ≤ 2 ^ 40 }
         ensures plan { plan_of self.new ≡ plan_of self.old }
-        ensures grew { OnOk result ((h : History) → Represents self.old h → moment_of h + 1 ≡ now →
-            Performs out.old steps.old out.new steps.new (plan_effects (plan_of self.old) (h ▸ Tick))) }
-        ensures represents { OnOk result ((h : History) → Represents self.old h → moment_of h + 1 ≡ now →
+        ensures grew { OnOk result ((h : History) → Represents self.old h →
+            moment_of h + 1 ≡ now →
+            Performs out.old steps.old out.new steps.new
+            (plan_effects (plan_of self.old) (h ▸ Tick))) }
+        ensures represents { OnOk result ((h : History) → Represents self.old h →
+            moment_of h + 1 ≡ now →
             Represents self.new (h ▸ Tick)) }
         ensures poisoned { IsTrue (is_poisoned self.old) → IsErr result }
         ensures err { OnErr result (IsTrue (is_poisoned self.new)) }
@@ -101,9 +108,12 @@ impl Tree {
         steps: &mut Steps<G>,
     ) -> Result<(), Memory>
         ensures plan { plan_of self.new ≡ plan_of self.old }
-        ensures grew { OnOk result ((h : History) → Represents self.old h → moment_of (h ▸ entry.now) ≡ now →
-            Performs out.old steps.old out.new steps.new (plan_effects (plan_of self.old) (h ▸ entry.now))) }
-        ensures represents { OnOk result ((h : History) → Represents self.old h → moment_of (h ▸ entry.now) ≡ now →
+        ensures grew { OnOk result ((h : History) → Represents self.old h →
+            moment_of (h ▸ entry.now) ≡ now →
+            Performs out.old steps.old out.new steps.new
+            (plan_effects (plan_of self.old) (h ▸ entry.now))) }
+        ensures represents { OnOk result ((h : History) → Represents self.old h →
+            moment_of (h ▸ entry.now) ≡ now →
             Represents self.new (h ▸ entry.now)) }
         ensures poisoned { IsTrue (is_poisoned self.old) → IsErr result }
         ensures err { OnErr result (IsTrue (is_poisoned self.new)) }

@@ -91,7 +91,8 @@ impl DueQueue {
     ) -> Result<(), Memory>
         ensures ids { OnOk result (out.new ≡ out.old ++ due_ids now self.old) }
         ensures later { OnOk result (self.new ≡ due_later now self.old) }
-        ensures entries { OnOk result (steps.new.entries ≡ steps.old.entries + length (due_ids now self.old)) }
+        ensures entries { OnOk result (steps.new.entries
+            ≡ steps.old.entries + length (due_ids now self.old)) }
         ensures entries_told { OnOk result (G.entries steps.new.ledger
             ≡ more_by (length (due_ids now self.old)) (G.entries steps.old.ledger)) }
 
@@ -134,7 +135,8 @@ impl DueQueue {
 
     /// Removes the moments of the ids.
     fn clear_all(&mut self, ids: &BTreeSet<usize>)
-        ensures { self.new ≡ filter (λ entry. not (list_any (is_at (nat_cmp entry.0)) ids.now.keys)) self.old }
+        ensures { self.new ≡ filter (λ entry.
+            not (list_any (is_at (nat_cmp entry.0)) ids.now.keys)) self.old }
     {
         for id in ids {
             self.clear(*id);
@@ -196,7 +198,8 @@ fn schedule(
     id: usize,
     due: u64,
 ) -> Result<(), Memory>
-    ensures tied { IsTied moments.old.entries order.old.keys → IsTied moments.new.entries order.new.keys }
+    ensures tied { IsTied moments.old.entries order.old.keys →
+        IsTied moments.new.entries order.new.keys }
     ensures ok { OnOk result (Sets moments.old.entries moments.new.entries id (Some due)) }
     ensures err { OnErr result (moments.new.entries ≡ moments.old.entries) }
     ensures rising { IsRising moments.old.entries → IsRising moments.new.entries }

@@ -92,8 +92,10 @@ impl CoalesceState {
             moment_of h + 1 ≡ now →
             out.new ≡ out.old ++ coalesce_emissions self.old (h ▸ Tick)) }
         ensures represents { OnOk result ((h : History) → CoalesceRepresents self.old h →
-            moment_of h + 1 ≡ now → now ≤ 2 ^ 40 → CoalesceRepresents self.new (h ▸ Tick)) }
-        ensures quiet { (h : History) → CoalesceRepresents self.old h → moment_of h + 1 ≡ now →
+            moment_of h + 1 ≡ now → now ≤ 2 ^ 40 →
+            CoalesceRepresents self.new (h ▸ Tick)) }
+        ensures quiet { (h : History) → CoalesceRepresents self.old h →
+            moment_of h + 1 ≡ now →
             coalesce_emissions self.old (h ▸ Tick) ≡ [] → IsOk result }
         ensures poisoned { IsTrue (coalesce_poisoned self.old) → IsErr result }
         ensures err { OnErr result (IsTrue (coalesce_poisoned self.new)) }
@@ -135,7 +137,8 @@ impl CoalesceState {
 /// The first boundary after the moment `now`.
 fn next_boundary(start: u64, secs: u32, now: u64) -> u64
     requires { 0 < secs }
-    ensures { start ≤ now → now ≤ 2 ^ 40 → result ≡ start + ((now - start) / secs + 1) * secs }
+    ensures { start ≤ now → now ≤ 2 ^ 40 → result
+        ≡ start + ((now - start) / secs + 1) * secs }
 {
     let secs = u64::from(secs);
     let passed = now.saturating_sub(start) % secs;

@@ -88,7 +88,8 @@ impl FixedEventState {
             out.new ≡ out.old ++ fixed_event_emissions self.old (h ▸ Tick)) }
         ensures represents { OnOk result ((h : History) → FixedEventRepresents self.old h →
             moment_of h + 1 ≡ _now → FixedEventRepresents self.new (h ▸ Tick)) }
-        ensures quiet { (h : History) → FixedEventRepresents self.old h → moment_of h + 1 ≡ _now →
+        ensures quiet { (h : History) → FixedEventRepresents self.old h →
+            moment_of h + 1 ≡ _now →
             fixed_event_emissions self.old (h ▸ Tick) ≡ [] → IsOk result }
         ensures poisoned { IsTrue (fixed_event_poisoned self.old) → IsErr result }
         ensures err { OnErr result (IsTrue (fixed_event_poisoned self.new)) }

@@ -107,7 +107,8 @@ impl FixedTimeState {
             out.new ≡ out.old ++ fixed_time_emissions self.old (h ▸ Tick)) }
         ensures represents { OnOk result ((h : History) → FixedTimeRepresents self.old h →
             moment_of h + 1 ≡ _now → FixedTimeRepresents self.new (h ▸ Tick)) }
-        ensures quiet { (h : History) → FixedTimeRepresents self.old h → moment_of h + 1 ≡ _now →
+        ensures quiet { (h : History) → FixedTimeRepresents self.old h →
+            moment_of h + 1 ≡ _now →
             fixed_time_emissions self.old (h ▸ Tick) ≡ [] → IsOk result }
         ensures poisoned { IsTrue (fixed_time_poisoned self.old) → IsErr result }
         ensures err { OnErr result (IsTrue (fixed_time_poisoned self.new)) }
@@ -154,7 +155,8 @@ fn enter(
     out: &mut Emissions,
 ) -> Result<(), Memory>
     ensures latest { OnOk result (latest.new ≡ later_of stretch latest.old) }
-    ensures waiting { OnOk result (waiting.new ≡ (if is_later stretch latest.old then event ∷ [] else
+    ensures waiting { OnOk result (waiting.new
+        ≡ (if is_later stretch latest.old then event ∷ [] else
         (if is_same stretch latest.old then waiting.old ++ event ∷ [] else waiting.old))) }
     ensures sent { OnOk result (out.new ≡ out.old ++ emitted
         (if is_later stretch latest.old then vector waiting.old else [])) }

@@ -66,7 +66,8 @@ impl LastEvents {
     pub(crate) fn pass(&mut self, alloc: Global, now: u64) -> Result<Events, Memory>
         requires { now ≤ 2 ^ 40 }
         ensures passed { IfOk result (λ passed. passed ≡ self.old) }
-        ensures kept { OnOk result (self.new ≡ filter (λ event. not (is_expired now event)) self.old) }
+        ensures kept { OnOk result (self.new
+            ≡ filter (λ event. not (is_expired now event)) self.old) }
     {
         let events = mem::replace(&mut self.events, Vec::new(alloc));
         self.events = copy_unexpired(alloc, events.as_slice(), now)?;
@@ -88,7 +89,8 @@ impl LastEvents {
 /// Copies of the events that have not expired, in order.
 fn copy_unexpired(alloc: Global, events: &[Event], now: u64) -> Result<Vec<Event>, Memory>
     requires { now ≤ 2 ^ 40 }
-    ensures { IfOk result (λ kept. kept.items ≡ filter (λ event. not (is_expired now event)) events.now) }
+    ensures { IfOk result (λ kept. kept.items
+        ≡ filter (λ event. not (is_expired now event)) events.now) }
 {
     let mut kept = Vec::new(alloc);
     for event in events {

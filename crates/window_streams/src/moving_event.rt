@@ -39,7 +39,8 @@ impl MovingEventState {
         _start: u64,
     ) -> Result<MovingEventState, Memory>
         requires count { IsTrue (is_count params.count) }
-        ensures kind { IfOk result (λ state. moving_event_kind state ≡ MovingEvent params.count) }
+        ensures kind { IfOk result (λ state.
+            moving_event_kind state ≡ MovingEvent params.count) }
         ensures represents { IfOk result (λ state. (h : History) → TicksAlone h →
             begun h ≡ _start → MovingEventRepresents state h) }
     {
@@ -89,7 +90,8 @@ impl MovingEventState {
             out.new ≡ out.old ++ moving_event_emissions self.old (h ▸ Tick)) }
         ensures represents { OnOk result ((h : History) → MovingEventRepresents self.old h →
             moment_of h + 1 ≡ _now → MovingEventRepresents self.new (h ▸ Tick)) }
-        ensures quiet { (h : History) → MovingEventRepresents self.old h → moment_of h + 1 ≡ _now →
+        ensures quiet { (h : History) → MovingEventRepresents self.old h →
+            moment_of h + 1 ≡ _now →
             moving_event_emissions self.old (h ▸ Tick) ≡ [] → IsOk result }
         ensures poisoned { IsTrue (moving_event_poisoned self.old) → IsErr result }
         ensures err { OnErr result (IsTrue (moving_event_poisoned self.new)) }
@@ -128,7 +130,8 @@ fn push_latest(alloc: Global, latest: &mut Events, event: Event, count: usize) -
 
 /// Drops the first event where there are more than `count`.
 fn drop_oldest(events: &mut Vec<Event>, count: usize)
-    ensures { vec_len events.old ≤ count + 1 → events.new.items ≡ last_of count events.old.items }
+    ensures { vec_len events.old ≤ count + 1 →
+        events.new.items ≡ last_of count events.old.items }
 {
     if events.len() > count {
         events.remove(0);

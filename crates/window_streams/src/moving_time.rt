@@ -96,7 +96,8 @@ impl MovingTimeState {
             out.new ≡ out.old ++ moving_time_emissions self.old (h ▸ Tick)) }
         ensures represents { OnOk result ((h : History) → MovingTimeRepresents self.old h →
             moment_of h + 1 ≡ _now → MovingTimeRepresents self.new (h ▸ Tick)) }
-        ensures quiet { (h : History) → MovingTimeRepresents self.old h → moment_of h + 1 ≡ _now →
+        ensures quiet { (h : History) → MovingTimeRepresents self.old h →
+            moment_of h + 1 ≡ _now →
             moving_time_emissions self.old (h ▸ Tick) ≡ [] → IsOk result }
         ensures poisoned { IsTrue (moving_time_poisoned self.old) → IsErr result }
         ensures err { OnErr result (IsTrue (moving_time_poisoned self.new)) }
