@@ -76,8 +76,12 @@ impl Group {
     /// Ends an alternative, whose parts these are.
     fn end_alternative(&mut self, alloc: Global) -> Result<(), Memory>
         ensures { OnOk result (group_of self.new
-            ≡ record { alternatives = (group_of self.old).alternatives
-            ++ all_of (group_of self.old).parts ∷ []; parts = []; nots = self.old.nots }) }
+            ≡ record {
+              alternatives = (group_of self.old).alternatives
+                  ++ all_of (group_of self.old).parts ∷ [];
+              parts = [];
+              nots = self.old.nots;
+            }) }
     {
         let parts = mem::replace(&mut self.parts, Vec::new(alloc));
         self.alternatives.push(all_of(parts))?;

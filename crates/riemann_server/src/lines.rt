@@ -55,13 +55,7 @@ fn report_refused<E: Sink>(place: usize, why: ConfigWhy, err: &mut E)
     let place = digits.format(place);
     put_line(
         err,
-        &[
-            "riemann: config refused at ",
-            place,
-            ": ",
-            why.name(),
-            "\n",
-        ],
+        &["riemann: config refused at ", place, ": ", why.name(), "\n"],
     );
 }
 

@@ -127,8 +127,11 @@ impl Reader {
     #[tactic(auto, using(crate::proofs::Forms::form_pushed))]
     fn put_form(&mut self, form: Form) -> Result<(), SexpFault>
         ensures ok { OnOk result (reading_of self.new
-            ≡ record { stack = (reading_of self.old).stack; forms = with_form
-            (reading_of self.old).forms (form_tree form) }) }
+            ≡ record {
+              stack = (reading_of self.old).stack;
+              forms = with_form
+                  (reading_of self.old).forms (form_tree form);
+            }) }
         ensures err { IfErr result (λ fault. fault ≡ SexpFault.Memory) }
     {
         self.forms.push(form)?;

@@ -113,8 +113,11 @@ fn allowed(why: PlanWhy) -> usize
 /// Whether the stream at the path, to which this comes, counts against the cause.
 #[tactic(auto, unfolding(crate::specs::Search::opened))]
 fn counts(why: PlanWhy, path: &[usize], stream: &Stream, flow: Flow) -> bool
-    ensures { result ≡ counts why (record { path = path.now; flow = flow; tree = opened stream.now
-        }) }
+    ensures { result ≡ counts why (record {
+      path = path.now;
+      flow = flow;
+      tree = opened stream.now;
+    }) }
 {
     match why {
         PlanWhy::Many => true,

@@ -14,7 +14,7 @@ use std::alloc::Global;
 use step_count::{Ledger, Steps};
 use stream_meaning::Entry;
 use stream_plan::Stream;
-use stream_step::{Branch, Passed, Context, State, act};
+use stream_step::{Branch, Context, Passed, State, act};
 
 /// The entry comes to each of the streams, one after another.
 #[cycle(run)]

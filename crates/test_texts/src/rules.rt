@@ -237,7 +237,9 @@ fn refused<P: Patterns>(
 }
 
 #[test]
-fn the_first_pattern_that_is_not_valid_is_numbered_and_recorded(rt: HostRuntime) -> Result<(), Fail> {
+fn the_first_pattern_that_is_not_valid_is_numbered_and_recorded(
+    rt: HostRuntime,
+) -> Result<(), Fail> {
     let alloc = rt.alloc();
     let mut untold = RegexPatterns { refusals: u64::MAX };
     let mut told = ListPatterns {
