@@ -1,4 +1,4 @@
-ghost use Rattle.std.specs.Prelude.{◌≡◌, ◌<◌, ◌^◌, ℕ, true, false, List, [], length, OnOk, OnErr};
+ghost use Rattle.std.specs.Prelude.{◌≡◌, ◌<◌, ◌^◌, true, false, [], length, OnOk, OnErr};
 ghost use Rattle.framing.specs.Frames.{HasFrame, IsOversized, Represents, first_body, length_at};
 ghost use Rattle.frame_link.specs.Held.{pushed, HandsOut, Lends, Takes, KeepsOnPush, KeepsOnTake};
 ghost use Rattle.frame_link.specs.Sight.{Sees};

@@ -87,7 +87,7 @@ within_enough (suc n) (suc m) b p q =
       )
     ]
 
--- where a frame stands, where none stands, and of nothing
+-- at a frame, where there is none, and of nothing
 
 pub frames_at_frame : (b : List ℕ) → HasFrame b → frames_of b ≡ first_body b ∷ frames_of (after_frame b)
 unfolding frames_of
@@ -121,7 +121,7 @@ pub partial_of_nothing : partial [] ≡ []
 unfolding partial after_within
 partial_of_nothing = refl
 
--- a frame that stands is still there with more bytes behind it
+-- a frame is still there with more bytes after it
 
 pub length_at_append : (b more : List ℕ) → 4 ≤ length b → length_at (b ++ more) ≡ length_at b
 unfolding length_at
@@ -188,7 +188,7 @@ frames_append b more = (cut_within (length b) b more (omega arith)).0
 pub partial_append : (b more : List ℕ) → partial (b ++ more) ≡ partial (partial b ++ more)
 partial_append b more = (cut_within (length b) b more (omega arith)).1
 
--- nothing comes behind a length over the limit
+-- nothing comes after a length over the limit
 
 pub oversized_has_none : (b : List ℕ) → IsOversized b → HasFrame b → ⊥
 oversized_has_none b large h = let over = large.over in let small = h.small in omega arith
@@ -208,7 +208,7 @@ pub partial_oversized : (b more : List ℕ) → IsOversized b → partial (b ++ 
 partial_oversized b more large =
     partial_at_none (b ++ more) (oversized_has_none (b ++ more) (oversized_stays b more large))
 
--- what is left stands for what came
+-- what is left represents what came
 
 pub represents_nothing : Represents [] [] []
 represents_nothing = record { frames = refl; rest = refl }

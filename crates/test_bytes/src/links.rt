@@ -1,4 +1,4 @@
-use frame_link::{FrameLink, Taken};
+use frame_link::{FirstFrame, FrameLink, Taken};
 use list_laws::Memory;
 use std::alloc::Global;
 use std::test::Fail;
@@ -27,6 +27,20 @@ fn take_all(
         }
     }
     Ok(None)
+}
+
+/// Adds each body that is whole, read where it is in the link, with a bar after it.
+fn read_all(link: &mut FrameLink, bodies: &mut Vec<u8>) -> Result<(), Memory> {
+    for _ in 0..4 {
+        let FirstFrame::Whole(body) = link.front() else {
+            return Ok(());
+        };
+        let length = body.len();
+        bodies.extend_from_slice(body)?;
+        bodies.push(b'|')?;
+        link.advance(length);
+    }
+    Ok(())
 }
 
 /// Whether a link that gets these pieces hands out these bodies, and then stops at this length.
@@ -69,6 +83,16 @@ fn a_stream_in_single_bytes_gives_the_same_bodies(rt: HostRuntime) -> Result<(),
     link.push(alloc, b"rst")?;
     let _ = take_all(alloc, &mut link, &mut bodies)?;
     assert!(rt; bodies.as_slice() == b"|a|xyz|pqrst|".as_slice());
+    Ok(())
+}
+
+#[test]
+fn bodies_are_read_where_they_are(rt: HostRuntime) -> Result<(), Fail> {
+    let mut link = FrameLink::fresh(rt.alloc());
+    let mut bodies = Vec::new(rt.alloc());
+    link.push(rt.alloc(), STREAM)?;
+    read_all(&mut link, &mut bodies)?;
+    assert!(rt; bodies.as_slice() == BODIES && link.len() == 6);
     Ok(())
 }
 

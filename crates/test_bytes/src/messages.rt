@@ -1,5 +1,5 @@
 use crate::show::{event_line, shown};
-use ev_types::{Blob, Events, Memory, Text};
+use ev_types::{Blob, Event, Events, Memory, Text};
 use riemann_msg::{
     Msg, MsgFault, QueryPart, bits_of_ttl, msg_len, read_msg, ttl_of_bits, write_msg,
 };
@@ -286,17 +286,23 @@ fn messages_are_written_in_their_shortest_form(rt: HostRuntime) -> Result<(), Fa
     Ok(())
 }
 
-#[test]
-fn a_refusal_is_written(rt: HostRuntime) -> Result<(), Fail> {
-    let alloc = rt.alloc();
-    let refusal = Msg {
-        ok: Some(false),
-        error: Some(Text::from_str(alloc, "x")?),
-        query: Some(QueryPart { string: None }),
-        events: Events::fresh(alloc),
-    };
+/// Whether the message is written so.
+fn is_written(alloc: Global, msg: &Msg, wanted: &[u8]) -> Result<bool, Memory> {
     let mut out = Blob::fresh(alloc);
-    write_msg(alloc, &refusal, &mut out)?;
-    assert!(rt; out.as_slice() == b"\x10\x00\x1a\x01x\x2a\x00".as_slice());
+    write_msg(alloc, msg, &mut out)?;
+    Ok(out.as_slice() == wanted)
+}
+
+#[test]
+fn replies_are_written(rt: HostRuntime) -> Result<(), Fail> {
+    let alloc = rt.alloc();
+    assert!(rt; is_written(alloc, &Msg::accepted(alloc), b"\x10\x01")?);
+    let mut refused = Msg::refused(alloc, Text::from_str(alloc, "x")?);
+    assert!(rt; is_written(alloc, &refused, b"\x10\x00\x1a\x01x")?);
+    refused.query = Some(QueryPart { string: None });
+    assert!(rt; is_written(alloc, &refused, b"\x10\x00\x1a\x01x\x2a\x00")?);
+    let mut events = Events::fresh(alloc);
+    events.push(alloc, Event::at(alloc, 1))?;
+    assert!(rt; is_written(alloc, &Msg::found(events), b"\x10\x01\x32\x02\x08\x01")?);
     Ok(())
 }
