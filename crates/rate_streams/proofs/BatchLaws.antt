@@ -2,7 +2,6 @@
 use Rattle.std.proofs.Common.{◌≡◌, ℕ, zero, suc, ◌+◌, ◌-◌, ◌*◌, ◌/◌, ◌%◌, ◌^◌, ◌<◌, ◌≤◌, ◌==◌, ◌⊎◌, inl, inr, nat_le, Bool, true, false, not, cond, List, [], ◌∷◌, ◌++◌, length, drop, Some, refl, sym, ap, subst, ◌∙◌, arith}
 use Rattle.std.proofs.Math.Nat.{div-eq_of_lt-le, mod-lt, mod-le}
 use Rattle.std.proofs.lemmas.Nat.{div-add-mod'}
-use Rattle.std.proofs.lemmas.Bool.{eq-eqb}
 use Rattle.std.proofs.lemmas.Bool.Decides.{nat_tests}
 use Rattle.std.proofs.lemmas.List.{length_push, length-drop, drop_all, drop-append-le, nil_from_length}
 use Rattle.ev_types.specs.declared.event.Event.{Event}
@@ -46,7 +45,7 @@ last_more k es event within =
 last_none : (k : ℕ) (es : List Event) → k ≡ 0 → last_of k es ≡ []
 last_none k es none = drop_all (length es - k) es (omega arith)
 
-pub last_nothing : (n : ℕ) (es : List Event) → es ≡ [] → last_of (length es % n) es ≡ []
+last_nothing : (n : ℕ) (es : List Event) → es ≡ [] → last_of (length es % n) es ≡ []
 last_nothing n es none = let empty = ap length none in drop_all (length es - length es % n) es (omega arith)
 
 length_last : (k : ℕ) (es : List Event) → k ≤ length es → length (last_of k es) ≡ k
@@ -141,9 +140,6 @@ module _ (old : BatchState) (h : History) (now : ℕ) (before : BatchRepresents 
   ahead : number_at old.windows now ≡ window_of secs (h ▸ Tick)
   ahead = number_now old.windows (h ▸ Tick) now before.start moment
 
-  passes_same : window_of secs (h ▸ Tick) ≡ window_of secs h → batch_passes old (h ▸ Tick) ≡ []
-  passes_same same = ap (λ t. cond t [] (vector (last_of (length came % old.count) came))) (eq-eqb (window_of secs (h ▸ Tick)) (window_of secs h) same)
-
   passes_later : window_of secs h < window_of secs (h ▸ Tick) → batch_passes old (h ▸ Tick) ≡ vector old.waiting
   passes_later later =
       ap (λ t. cond t [] (vector (last_of (length came % old.count) came))) (let apart : (window_of secs (h ▸ Tick) == window_of secs h) ≡ false = grind (arith, nat_tests) in apart)
@@ -161,7 +157,7 @@ module _ (old : BatchState) (h : History) (now : ℕ) (before : BatchRepresents 
     window = λ some. before.window some ∙ sym same;
   }
 
-  pub represents_later : (state : BatchState) → state ≡ record old { waiting = [] } → window_of secs h < window_of secs (h ▸ Tick) → BatchRepresents state (h ▸ Tick)
+  represents_later : (state : BatchState) → state ≡ record old { waiting = [] } → window_of secs h < window_of secs (h ▸ Tick) → BatchRepresents state (h ▸ Tick)
   represents_later state is later = subst (λ (s : BatchState). BatchRepresents s (h ▸ Tick)) (sym is) (record {
     sound = before.sound;
     positive = before.positive;
@@ -182,12 +178,6 @@ module _ (old : BatchState) (h : History) (now : ℕ) (before : BatchRepresents 
       none (suc n) number window w w' still here there later =
           absurd (let a = still (omega arith) in let b = here (omega arith) in omega arith)
 
-  pub quiet_passes : is_batch_due old now ≡ false → batch_passes old (h ▸ Tick) ≡ []
-  quiet_passes idle = elim (tick_ways old.windows h) [
-    | inl same ↦ passes_same same
-    | inr later ↦ passes_later later ∙ ap vector (none_waits idle later)
-  ]
-
   pub quiet_represents : is_batch_due old now ≡ false → BatchRepresents old (h ▸ Tick)
   quiet_represents idle = elim (tick_ways old.windows h) [
     | inl same ↦ represents_same same
@@ -204,13 +194,13 @@ module _ (old : BatchState) (h : History) (now : ℕ) (before : BatchRepresents 
         | inr later ↦ later
       ]
 
-  pub due_passes : is_batch_due old now ≡ true → batch_passes old (h ▸ Tick) ≡ vector old.waiting
+  due_passes : is_batch_due old now ≡ true → batch_passes old (h ▸ Tick) ≡ vector old.waiting
   due_passes due = passes_later (turns due)
 
   pub due_represents : is_batch_due old now ≡ true → BatchRepresents (record old { waiting = []; poisoned = false }) (h ▸ Tick)
   due_represents due = represents_later (record old { waiting = []; poisoned = false }) (ap (λ (p : Bool). record old { waiting = []; poisoned = p }) (sym before.sound)) (turns due)
 
-  pub due_loud : is_batch_due old now ≡ true → batch_passes old (h ▸ Tick) ≡ [] → ⊥
+  due_loud : is_batch_due old now ≡ true → batch_passes old (h ▸ Tick) ≡ [] → ⊥
   due_loud due none = vector_some old.waiting (due_parts (length old.waiting) (number_at old.windows now) old.window due).0 (sym (due_passes due) ∙ none)
 
 pub still_represents : (state : BatchState) (h : History) → BatchRepresents state h → batch_passes state (h ▸ Tick) ≡ [] → BatchRepresents state (h ▸ Tick)

@@ -1,4 +1,3 @@
-pub mod SendLaws
 pub mod WindowEvents
 pub mod ThrottleLaws
 pub mod BatchLaws

@@ -264,12 +264,6 @@ module _ (old : RollupState) (h : History) (now : ℕ) (before : RollupRepresent
       sub_none : (m : ℕ) → m ≡ m - 0
       sub_none m = omega arith
 
-  pub quiet_passes : is_rollup_due old now ≡ false → rollup_passes old (h ▸ Tick) ≡ []
-  quiet_passes idle = elim (tick_ways old.windows h) [
-    | inl same ↦ ap (λ t. cond t [] (cond (rolls_into count seconds (suc here_at) h) (vector (drop (count - one_if rolled) came)) [])) (eq-eqb next here_at same)
-    | inr later ↦ passes_later later ∙ ap vector (none_waits idle later)
-  ]
-
   pub quiet_represents : is_rollup_due old now ≡ false → RollupRepresents old (h ▸ Tick)
   quiet_represents idle = elim (tick_ways old.windows h) [
     | inl same ↦ represents_same same
@@ -284,7 +278,7 @@ module _ (old : RollupState) (h : History) (now : ℕ) (before : RollupRepresent
         | inr later ↦ later
       ]
 
-  pub due_passes : is_rollup_due old now ≡ true → rollup_passes old (h ▸ Tick) ≡ vector old.waiting
+  due_passes : is_rollup_due old now ≡ true → rollup_passes old (h ▸ Tick) ≡ vector old.waiting
   due_passes due = passes_later (turns due)
 
   pub due_represents : is_rollup_due old now ≡ true → RollupRepresents (record old { window = number_at old.windows now; room = old.count - 1; waiting = []; poisoned = false }) (h ▸ Tick)
@@ -302,7 +296,7 @@ module _ (old : RollupState) (h : History) (now : ℕ) (before : RollupRepresent
         window = λ some. absurd (omega arith);
       }
 
-  pub due_loud : is_rollup_due old now ≡ true → rollup_passes old (h ▸ Tick) ≡ [] → ⊥
+  due_loud : is_rollup_due old now ≡ true → rollup_passes old (h ▸ Tick) ≡ [] → ⊥
   due_loud due none = vector_some old.waiting (due_parts (length old.waiting) (number_at old.windows now) old.window due).0 (sym (due_passes due) ∙ none)
 
 pub still_represents : (state : RollupState) (h : History) → RollupRepresents state h → rollup_passes state (h ▸ Tick) ≡ [] → RollupRepresents state (h ▸ Tick)

@@ -14,7 +14,7 @@ began_step : (t : Bool) (now began : ℕ) → began ≤ now → cond t now began
 began_step true now began before = omega arith
 began_step false now began before = before
 
-pub began_before : (field : Field) (h : History) → run_began field h ≤ moment_of h
+began_before : (field : Field) (h : History) → run_began field h ≤ moment_of h
 began_before field (since start) = omega arith
 began_before field (h ▸ Tick) = let before = began_before field h in omega arith
 began_before field (h ▸ In (One event)) = began_step (differs_from field (last_value field None h) event) (moment_of h) (run_began field h) (began_before field h)

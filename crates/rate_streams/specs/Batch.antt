@@ -26,7 +26,7 @@ is_batch_full state = nat_le state.count (length state.waiting)
 abbrev pub is_batch_due : BatchState → ℕ → Bool
 is_batch_due state now = nat_lt 0 (length state.waiting) && not (number_at state.windows now == state.window)
 
--- The state keeps what it has to of this history.
+-- The state holds what the stream has to know of this history.
 pub record BatchRepresents (state : BatchState) (h : History) : Type 0 where
   pub sound : state.poisoned ≡ false
   pub positive : 0 < state.count

@@ -29,7 +29,7 @@ is_rollup_due state now = nat_lt 0 (length state.waiting) && not (number_at stat
 abbrev pub calls_now : ℕ → ℕ → History → ℕ
 calls_now n secs h = length (events_now secs h) + one_if (rolls_into n secs (window_of secs h) h)
 
--- The state keeps what it has to of this history.
+-- The state holds what the stream has to know of this history.
 pub record RollupRepresents (state : RollupState) (h : History) : Type 0 where
   pub sound : state.poisoned ≡ false
   pub positive : 0 < state.count

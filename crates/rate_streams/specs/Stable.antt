@@ -20,7 +20,7 @@ stable_passes state = stable_items state.secs state.field
 abbrev pub is_stable_due : StableState → ℕ → Bool
 is_stable_due state now = nat_lt 0 (length state.waiting) && nat_le state.secs (now - state.began)
 
--- The state keeps what it has to of this history.
+-- The state holds what the stream has to know of this history.
 pub record StableRepresents (state : StableState) (h : History) : Type 0 where
   pub sound : state.poisoned ≡ false
   pub positive : 0 < state.secs

@@ -20,7 +20,7 @@ throttle_passes state = throttle_items state.count state.windows.secs
 abbrev pub passed_in : ThrottleState → ℕ → ℕ
 passed_in state window = if window == state.window then state.passed else 0
 
--- The state keeps what it has to of this history.
+-- The state holds what the stream has to know of this history.
 pub record ThrottleRepresents (state : ThrottleState) (h : History) : Type 0 where
   pub sound : state.poisoned ≡ false
   pub start : state.windows.start ≡ begun h

@@ -39,6 +39,7 @@ impl BatchState {
     /// The state to which nothing has come, at the moment `start`, in seconds since 1970. It takes no memory.
     pub fn fresh(alloc: Global, params: BatchParams, start: u64) -> Result<BatchState, Memory>
         requires { IsTrue (is_in_range (Batch params.count params.secs)) }
+        ensures ok { IsOk result }
         ensures kind { IfOk result (λ state. batch_kind state ≡ Batch params.count params.secs) }
         ensures represents { IfOk result (λ state. (h : History) →
             TicksAlone h → begun h ≡ start → BatchRepresents state h) }

@@ -44,6 +44,7 @@ impl RollupState {
     /// The state to which nothing has come, at the moment `start`, in seconds since 1970. It takes no memory.
     pub fn fresh(alloc: Global, params: RollupParams, start: u64) -> Result<RollupState, Memory>
         requires { IsTrue (is_in_range (Rollup params.count params.secs)) }
+        ensures ok { IsOk result }
         ensures kind { IfOk result (λ state.
             rollup_kind state ≡ Rollup params.count params.secs) }
         ensures represents { IfOk result (λ state. (h : History) →

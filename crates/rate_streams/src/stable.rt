@@ -43,6 +43,7 @@ impl StableState {
     /// The state to which nothing has come, at the moment `start`, in seconds since 1970. It takes no memory.
     pub fn fresh(alloc: Global, params: StableParams, start: u64) -> Result<StableState, Memory>
         requires { IsTrue (is_in_range (Stable params.secs params.field)) }
+        ensures ok { IsOk result }
         ensures kind { IfOk result (λ state.
             stable_kind state ≡ Stable params.secs params.field) }
         ensures represents { IfOk result (λ state. (h : History) →

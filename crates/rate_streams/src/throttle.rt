@@ -44,6 +44,7 @@ impl ThrottleState {
         start: u64,
     ) -> Result<ThrottleState, Memory>
         requires { IsTrue (is_in_range (Throttle params.count params.secs)) }
+        ensures ok { IsOk result }
         ensures kind { IfOk result (λ state.
             throttle_kind state ≡ Throttle params.count params.secs) }
         ensures represents { IfOk result (λ state. (h : History) →
