@@ -1,5 +1,5 @@
 -- Lists that are one element longer, and the greatest of a list.
-use Rattle.std.proofs.Common.{◌≡◌, ℤ, Bool, true, false, cond, List, [], ◌∷◌, ◌++◌, map, filter, refl, sym, ap, ◌∙◌}
+use Rattle.std.proofs.Common.{◌≡◌, ℤ, Bool, true, false, cond, List, [], ◌∷◌, ◌++◌, map, filter, refl, ap}
 use Rattle.std.specs.Int.{int_max}
 use Rattle.stream_meaning.specs.Windows.{greatest}
 

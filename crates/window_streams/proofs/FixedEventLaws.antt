@@ -6,10 +6,10 @@ use Rattle.std.proofs.lemmas.List.{append-nil}
 use Rattle.std.proofs.lemmas.Nat.{div-add-mod', mod-mul-add}
 use Rattle.std.proofs.lemmas.Bool.Decides.{nat_tests}
 use Rattle.ev_types.specs.declared.event.Event.{Event}
-use Rattle.ev_types.specs.declared.item.Item.TheVariants.{One, Many}
+use Rattle.ev_types.specs.declared.item.Item.TheVariants.{One}
 use Rattle.stream_meaning.specs.Came.{events, vector, last_of}
-use Rattle.stream_meaning.specs.declared.entry.Entry.TheVariants.{Tick, Item as In}
-use Rattle.stream_meaning.specs.History.{History, ◌▸◌, TicksAlone, begun}
+use Rattle.stream_meaning.specs.declared.entry.Entry.TheVariants.{Item as In}
+use Rattle.stream_meaning.specs.History.{History, ◌▸◌, TicksAlone}
 use Rattle.stream_meaning.specs.Windows.{fixed_event_items}
 use Rattle.window_streams.specs.FixedEvent.{FixedEventRepresents}
 use Rattle.window_streams.specs.declared.fixed_event.FixedEventState.{FixedEventState}

@@ -1,5 +1,5 @@
 -- The latest stretch of a list of events, and of one that is one event longer.
-use Rattle.std.proofs.Common.{◌≡◌, ℕ, ◌+◌, ◌-◌, ◌/◌, ◌<◌, ◌≤◌, max, ◌⊎◌, inl, inr, ℤ, pos, negsuc, ◌-ℤ◌, Bool, true, false, cond, List, [], ◌∷◌, ◌++◌, map, filter, Option, Some, None, unwrap_or, refl, sym, ap, subst, ◌∙◌, arith}
+use Rattle.std.proofs.Common.{◌≡◌, ℕ, ◌<◌, ◌≤◌, max, ◌⊎◌, inl, inr, ℤ, pos, negsuc, ◌-ℤ◌, Bool, true, false, cond, List, [], ◌∷◌, ◌++◌, map, filter, Option, Some, None, unwrap_or, refl, sym, ap, subst, ◌∙◌, arith}
 use Rattle.std.specs.Int.{int_max}
 use Rattle.std.specs.Ordering.{int_eq}
 use Rattle.std.specs.Prelude.{int_lt, nat_lt, ◌==◌, unsigned_abs}
@@ -11,7 +11,7 @@ use Rattle.ev_types.specs.declared.event.Event.{Event}
 use Rattle.ev_types.specs.declared.item.Item.{Item}
 use Rattle.ev_types.specs.declared.item.Item.TheVariants.{One}
 use Rattle.stream_meaning.specs.Came.{events, vector}
-use Rattle.stream_meaning.specs.declared.entry.Entry.TheVariants.{Tick, Item as In}
+use Rattle.stream_meaning.specs.declared.entry.Entry.TheVariants.{Item as In}
 use Rattle.stream_meaning.specs.History.{History, ◌▸◌, TicksAlone}
 use Rattle.stream_meaning.specs.Windows.{floor_div, stretch_of, greatest, stretch_before, fixed_time_items}
 use Rattle.window_streams.specs.FixedTime.{FixedTimeRepresents, first_time, latest_stretch, latest_events}

@@ -1,5 +1,5 @@
 -- What the state of a fixed event window represents.
-use Rattle.std.specs.Prelude.{◌≡◌, ℕ, ◌%◌, ◌<◌, Bool, false, List, ◌++◌, length}
+use Rattle.std.specs.Prelude.{◌≡◌, ◌%◌, ◌<◌, Bool, false, List, ◌++◌, length}
 use Rattle.ev_types.specs.declared.event.Event.{Event}
 use Rattle.ev_types.specs.declared.item.Emission.{Emission}
 use Rattle.stream_meaning.specs.Came.{events}

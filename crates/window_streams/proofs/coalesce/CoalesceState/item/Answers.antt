@@ -1,5 +1,5 @@
-use Rattle.std.proofs.Common.{◌≡◌, ◌+◌, ◌-◌, ◌*◌, ◌/◌, ◌≤◌, refl, sym, ap, ◌∙◌, arith}
-use Rattle.stream_meaning.specs.History.{begun, moment_of}
+use Rattle.std.proofs.Common.{◌+◌, ◌-◌, ◌*◌, ◌/◌, ◌≤◌, refl, sym, ap, ◌∙◌, arith}
+use Rattle.stream_meaning.specs.History.{begun}
 use Rattle.stream_meaning.proofs.MomentLaws.{begun-≤}
 use Rattle.window_streams.proofs.CoalesceLaws.{coalesce-item}
 use Rattle.window_streams.proofs.coalesce.CoalesceState.item.Goals as goal

@@ -1,4 +1,4 @@
-use Rattle.std.proofs.Common.{◌≡◌, ◌-ℤ◌, ℤ, Some, unwrap_or, cond, [], ◌∷◌, ◌++◌, rules, refl, sym, ap, ◌∙◌, w64, to_z, of_z}
+use Rattle.std.proofs.Common.{◌≡◌, ◌-ℤ◌, unwrap_or, cond, [], ◌∷◌, ◌++◌, rules, refl, ap, ◌∙◌, w64, to_z, of_z}
 use Rattle.std.proofs.lemmas.Int.{to_z-of_z}
 use mir.Val.{SFits}
 use Rattle.stream_meaning.specs.Came.{vector}

@@ -1,4 +1,4 @@
-use Rattle.std.proofs.Common.{◌≡◌, ℤ, unwrap_or, cond, filter, [], ◌∷◌, ◌++◌, rules, refl, sym, ap, ◌∙◌, w64, to_z, of_z}
+use Rattle.std.proofs.Common.{◌≡◌, unwrap_or, ◌++◌, rules, refl, ap, ◌∙◌, w64, to_z, of_z}
 use Rattle.std.specs.Int.{int_max}
 use Rattle.std.proofs.lemmas.Int.{to_z-of_z}
 use mir.Val.{SFits}
