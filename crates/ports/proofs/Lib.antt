@@ -1,1 +1,5 @@
 pub mod FileLemmas
+pub mod RuleLemmas
+pub mod MarkLemmas
+pub mod ScriptLemmas
+pub mod PieceLemmas

@@ -8,7 +8,7 @@ use Rattle.ports.specs.declared.mem_store.MemStore.{MemStore}
 use Rattle.ports.specs.declared.store.ReadAnswer.{ReadAnswer}
 use Rattle.ports.specs.declared.store.ReadAnswer.TheVariants.{Bytes, Failed, TooLong, Memory}
 
--- the answer for what stands under a name, where there is memory for it
+-- the answer for the file of a name, where there is memory for it
 abbrev pub answer_for : ℕ → Option (List ℕ) → ReadAnswer
 answer_for limit None = Failed
 answer_for limit (Some bytes) = if nat_lt limit (length bytes) then TooLong else Bytes bytes

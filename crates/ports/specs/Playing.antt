@@ -1,24 +1,22 @@
 -- What a script makes links answer.
-use Rattle.std.specs.Prelude.{◌≡◌, ℕ, ◌-◌, ◌==◌, Bool, true, false, if◌then◌else◌, List, [], ◌∷◌, fold, min, length, Option, Some, None, zero, suc}
+use Rattle.std.specs.Prelude.{◌≡◌, ℕ, ◌-◌, ◌==◌, Bool, true, false, not, if◌then◌else◌, List, [], ◌∷◌, filter, fold, take, min, length, Option, Some, None, zero, suc}
+use Rattle.std.specs.List.{flat_map}
 use Rattle.std.specs.Option.{ForSome, option_map}
 use Rattle.ports.specs.declared.entry.Entry.{Entry}
 use Rattle.ports.specs.declared.entry.Entry.TheVariants.{Listen, Next, Send, Close}
-use Rattle.ports.specs.declared.links.ListenAnswer.TheVariants.{Ready}
+use Rattle.ports.specs.declared.links.ListenAnswer.{ListenAnswer}
+use Rattle.ports.specs.declared.links.ListenAnswer.TheVariants as listen
 use Rattle.ports.specs.declared.links.SendAnswer.{SendAnswer}
 use Rattle.ports.specs.declared.links.SendAnswer.TheVariants.{Took, Later, Failed}
 use Rattle.ports.specs.declared.links.Turn.{Turn}
 use Rattle.ports.specs.declared.links.What.{What}
 use Rattle.ports.specs.declared.links.What.TheVariants as what
+use Rattle.ports.specs.declared.rules.SendRule.{SendRule}
 use Rattle.ports.specs.declared.script.LinkEvent.{LinkEvent}
 use Rattle.ports.specs.declared.script.LinkEvent.TheVariants as event
 use Rattle.ports.specs.declared.script.Script.{Script}
 use Rattle.ports.specs.declared.script.Step.{Step}
 use Rattle.ports.specs.declared.script.Step.TheVariants.{Turn as turn_step, Take, Fail}
-
--- how a link answers sends: how many bytes it still takes, None for all, and whether its next send fails
-pub record SendRule : Type 0 where
-  pub left : Option ℕ
-  pub fails : Bool
 
 -- what a link does without a rule: it takes all
 abbrev pub takes_all : SendRule
@@ -46,6 +44,11 @@ SendRules = ℕ → SendRule
 -- the rules, where one link's is replaced
 abbrev pub with_rule : ℕ → SendRule → SendRules → SendRules
 with_rule link rule rules = λ other. if link == other then rule else rules other
+
+abbrev pub is_turn : Step → Bool
+is_turn (turn_step secs event) = true
+is_turn (Take link count) = false
+is_turn (Fail link) = false
 
 -- the rules after the lines up to the next turn
 abbrev pub rules_at_turn : List Step → SendRules → SendRules
@@ -112,13 +115,9 @@ played state (Send link bytes answer) =
     record state { rules = with_rule link (rule_after (state.rules link) (length bytes)) state.rules }
 played state (Close link) = state
 
--- where a script is after these calls
-abbrev pub playing : Script → List Entry → Playing
-playing script entries = fold played (begun script) entries
-
 -- a call is answered as the script says
 abbrev pub IsAnswered : Playing → Entry → Type 0
-IsAnswered state (Listen address answer) = answer ≡ Ready state.secs
+IsAnswered state (Listen address answer) = answer ≡ listen.Ready state.secs
 IsAnswered state (Next wants turn piece) =
     (turn ≡ (first_turn state.steps state.secs).turn) × (piece ≡ (first_turn state.steps state.secs).piece)
 IsAnswered state (Send link bytes answer) = answer ≡ send_answer (state.rules link) (length bytes)
@@ -129,11 +128,46 @@ abbrev pub AreAnswered : Playing → List Entry → Type 0
 AreAnswered state [] = Unit {0}
 AreAnswered state (entry ∷ entries) = IsAnswered state entry × AreAnswered (played state entry) entries
 
--- The log is one of a run of the script: the turns are those of the script, in order, and the sends are answered by
--- its rules.
+-- whether a call of `listen` failed
+abbrev pub is_failed_listen : ListenAnswer → Bool
+is_failed_listen (listen.Ready secs) = false
+is_failed_listen listen.Failed = true
+is_failed_listen listen.Memory = false
+
+-- whether an answer of `next` is a turn
+abbrev pub is_turn_answer : What → Bool
+is_turn_answer what.Failed = false
+is_turn_answer what.Memory = false
+is_turn_answer _ = true
+
+abbrev pub succeeded : Entry → Bool
+succeeded (Listen address answer) = not (is_failed_listen answer)
+succeeded (Next wants turn piece) = is_turn_answer turn.what
+succeeded (Send link bytes answer) = true
+succeeded (Close link) = true
+
+-- The calls are those of a run of the script: the turns are those of the script, in order, and the sends are answered
+-- by its rules. A call of `listen` or `next` that failed changes nothing.
 abbrev pub IsScriptedRun : Script → List Entry → Type 0
-IsScriptedRun script entries = AreAnswered (begun script) entries
+IsScriptedRun script entries = AreAnswered (begun script) (filter succeeded entries)
+
+-- where the script is after these calls
+abbrev pub playing : Script → List Entry → Playing
+playing script entries = fold played (begun script) (filter succeeded entries)
 
 -- the same of links, where they report both
 abbrev pub Plays : Option Script → Option (List Entry) → Type 0
 Plays script log = ForSome script (λ script. ForSome log (λ entries. IsScriptedRun script entries))
+
+-- the bytes that a send took from the link
+abbrev pub taken_by_send : List ℕ → SendAnswer → List ℕ
+taken_by_send bytes (Took count) = take count bytes
+taken_by_send bytes _ = []
+
+abbrev pub taken_by : ℕ → Entry → List ℕ
+taken_by link (Send other bytes answer) = if other == link then taken_by_send bytes answer else []
+taken_by link _ = []
+
+-- all bytes that these calls took from the link, in order
+abbrev pub bytes_taken : ℕ → List Entry → List ℕ
+bytes_taken link entries = flat_map (taken_by link) entries

@@ -1,4 +1,4 @@
--- What a store holds, as far as it tells, and what one read may answer.
+-- What a store holds, as far as it reports it, and what one read may answer.
 use Rattle.std.specs.Prelude.{◌≡◌, ℕ, ◌+◌, ◌<◌, ◌≤◌, true, false, List, [], ◌∷◌, length, Option, Some}
 use Rattle.std.specs.Option.{ForSome}
 use Rattle.ports.specs.Counts.{Rose, RoseBy}
@@ -6,15 +6,15 @@ use Rattle.ports.specs.declared.store.ReadAnswer.{ReadAnswer}
 use Rattle.ports.specs.declared.store.ReadAnswer.TheVariants.{Bytes, Failed, TooLong, Memory}
 use Rattle.ports.specs.declared.store.StoreRead.{StoreRead}
 
--- what stands under a name: None where the store does not tell, Some None where nothing does
+-- the file of a name: None where the store does not report it, Some None where there is no such file
 abbrev pub Content : Type 0
 Content = Option (Option (List ℕ))
 
--- the store tells that these bytes stand under the name
+-- the store reports that the file holds these bytes
 abbrev pub IsHeld : Content → List ℕ → Type 0
 IsHeld content bytes = content ≡ Some (Some bytes)
 
--- bytes longer than the limit stand under the name, as far as the store tells
+-- the file is longer than the limit, as far as the store reports it
 abbrev pub IsOverLimit : Content → ℕ → Type 0
 IsOverLimit content limit = ForSome content (λ held. (bytes : List ℕ) × (held ≡ Some bytes) × (limit < length bytes))
 

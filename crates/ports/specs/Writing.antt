@@ -1,16 +1,16 @@
--- What a sink got, as far as it tells.
+-- What a sink got, as far as it reports it.
 use Rattle.std.specs.Prelude.{◌≡◌, ℕ, ◌⊎◌, List, ◌++◌, take, Option}
 use Rattle.std.specs.Option.{option_map}
 use Rattle.ports.specs.Counts.{Rose}
 
--- the sink got these bytes, or only a front of them
+-- the sink got these bytes, or only a prefix of them
 abbrev pub Got : Option (List ℕ) → List ℕ → Option (List ℕ) → Type 0
 Got old bytes new = new ≡ option_map (λ text. text ++ bytes) old
 
 abbrev pub GotFront : Option (List ℕ) → List ℕ → Option (List ℕ) → Type 0
 GotFront old bytes new = (n : ℕ) × Got old (take n bytes) new
 
--- what a sink tells of itself: all that it got, and how many puts failed
+-- what a sink reports: all that it got, and the number of puts that failed
 pub record SinkState : Type 0 where
   pub text : Option (List ℕ)
   pub faults : ℕ
@@ -18,6 +18,6 @@ pub record SinkState : Type 0 where
 abbrev pub sink_state : Option (List ℕ) → ℕ → SinkState
 sink_state text faults = record { text = text; faults = faults }
 
--- the sink got a line, or a front of it where a put failed
+-- the sink got a line, or a prefix of it where a put failed
 abbrev pub GotLine : SinkState → List ℕ → SinkState → Type 0
 GotLine old line new = Got old.text line new.text ⊎ (GotFront old.text line new.text × Rose old.faults new.faults)

@@ -8,11 +8,11 @@ use std::io::{ErrorKind, Read};
 use std::rt::Files;
 use std::{fs, io};
 
-/// The files of the machine, by their paths. It tells nothing of what they hold.
+/// The files of the machine, by their paths. It does not report what they hold.
 #[derive(Drop)]
 pub struct FileStore<'a, R: Files> {
     rt: &'a R,
-    /// How many bytes were taken from files, but for reads that wanted for memory.
+    /// The number of bytes taken from files, not counting reads that answered out of memory.
     pub taken: u64,
     /// How many reads failed.
     pub faults: u64,
@@ -60,7 +60,7 @@ impl<'a, R: Files> Store for FileStore<'a, R> {
     }
 }
 
-/// Adds the file's bytes at the end of `bytes`, but at most so many. Where it fails, those that came stand there.
+/// Adds the first `most` bytes of the file at the end of `bytes`. Where it fails, those read so far are added.
 fn read_file<R: Files>(rt: &R, path: &str, most: u64, bytes: &mut Vec<u8>) -> io::Result<()> {
     read_front(fs::open(rt, path)?, most, bytes)?;
     Ok(())
@@ -74,7 +74,7 @@ fn read_front<R: Read + Drop>(reader: R, most: u64, bytes: &mut Vec<u8>) -> io::
     Ok(())
 }
 
-/// Whether it failed for want of memory.
+/// Whether it failed because it was out of memory.
 fn wanted_memory(outcome: &io::Result<()>) -> bool
     ensures { IsTrue result ↔ IsErrAnd outcome.now (λ error. error_kind error ≡ ErrorKind.OutOfMemory) }
 {

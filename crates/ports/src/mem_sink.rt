@@ -8,7 +8,7 @@ use crate::sink::{Failed, Sink};
 use ev_types::Memory;
 use std::alloc::Global;
 
-/// A sink in memory, which has room for so many bytes and no more. A put takes no memory.
+/// A sink in memory, with room for `room` bytes. A put takes no memory.
 #[derive(Drop)]
 pub struct MemSink {
     /// All the bytes that it got.
@@ -45,7 +45,7 @@ impl MemSink {
         })
     }
 
-    /// How many of so many bytes a put takes.
+    /// The number of bytes that a put of `count` bytes takes.
     fn count_taken(&self, count: usize) -> usize
         ensures { result ≡ (if list_any (λ number. number == self.now.calls) self.now.failing.items then 0
             else min count (self.now.room - vec_len self.now.text)) }

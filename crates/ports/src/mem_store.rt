@@ -16,7 +16,7 @@ pub struct MemStore {
     pub files: Vec<(Text, Blob)>,
     /// The numbers, from 0, of the reads that fail.
     pub failing: Vec<u64>,
-    /// How many reads were answered, not counting those that wanted for memory.
+    /// The number of reads, not counting those that answered out of memory.
     pub calls: u64,
     /// How many bytes were handed out. A file that is too long counts as its limit and one more.
     pub taken: u64,

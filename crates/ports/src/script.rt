@@ -1,7 +1,10 @@
-ghost use Rattle.std.specs.Prelude.{◌≡◌, ◌<◌, ◌≤◌, length, IfSome, MatchOption};
+ghost use Rattle.std.specs.Prelude.{◌≡◌, ◌<◌, ◌≤◌, length, take, true, IfOk, MatchOption};
+ghost use Rattle.ports.specs.Playing.{bytes_of, is_turn_answer, is_turn, what_of};
+ghost use Rattle.ports.specs.Links.{IsPieceWithin, piece_of};
 
-use crate::links::PIECE_LIMIT;
-use ev_types::{Blob, Items};
+use crate::links::{PIECE_LIMIT, What};
+use ev_types::{Blob, Items, Memory};
+use std::alloc::Global;
 use std::marker::Model;
 
 /// What links in memory play: turns, and rules for the sends between them.
@@ -23,6 +26,14 @@ pub enum Step {
     Fail { link: u64 },
 }
 
+impl Step {
+    pub(crate) fn is_turn(&self) -> bool
+        ensures { result ≡ is_turn self.now }
+    {
+        matches!(self, Step::Turn { .. })
+    }
+}
+
 /// The lines of a script, in order.
 pub type Steps = Items<Step>;
 
@@ -35,6 +46,29 @@ pub enum LinkEvent {
     Ended { link: u64 },
     Broken { link: u64 },
     Room { link: u64 },
+}
+
+impl LinkEvent {
+    /// What the turn is for the server. The bytes of a read are written to the start of `buf`.
+    pub(crate) fn write_to(&self, buf: &mut [u8]) -> What
+        requires { length buf.old ≡ PIECE_LIMIT }
+        ensures what { result ≡ what_of self.now }
+        ensures piece { piece_of result buf.new ≡ bytes_of self.now }
+        ensures within { IsPieceWithin PIECE_LIMIT result }
+        ensures succeeded { is_turn_answer result ≡ true }
+    {
+        match self {
+            LinkEvent::Idle => What::Idle,
+            LinkEvent::Opened { link } => What::Opened { link: *link },
+            LinkEvent::Read { link, piece } => What::Read {
+                link: *link,
+                count: piece.write_to(buf),
+            },
+            LinkEvent::Ended { link } => What::Ended { link: *link },
+            LinkEvent::Broken { link } => What::Broken { link: *link },
+            LinkEvent::Room { link } => What::Room { link: *link },
+        }
+    }
 }
 
 /// The bytes of one read, from 1 to [`PIECE_LIMIT`] of them.
@@ -66,11 +100,35 @@ impl Piece {
         Some(Piece { bytes })
     }
 
+    /// A copy of the bytes.
+    pub(crate) fn copy_of(alloc: Global, bytes: &[u8]) -> Result<Piece, Memory>
+        requires some { 0 < length bytes.now }
+        requires within { length bytes.now ≤ PIECE_LIMIT }
+        ensures { IfOk result (λ piece. piece ≡ bytes.now) }
+    {
+        let bytes = Blob::from_slice(alloc, bytes)?;
+        Ok(Piece { bytes })
+    }
+
     pub fn as_slice(&self) -> &[u8]
         ensures bytes { result.now ≡ self.now }
         ensures some { 0 < length self.now }
         ensures within { length self.now ≤ PIECE_LIMIT }
     {
         self.bytes.as_slice()
+    }
+
+    /// Writes the bytes to the start of `buf`, and gives their number.
+    pub(crate) fn write_to(&self, buf: &mut [u8]) -> usize
+        requires { length buf.old ≡ PIECE_LIMIT }
+        ensures count { result ≡ length self.now }
+        ensures bytes { take result buf.new ≡ self.now }
+        ensures some { 0 < result }
+        ensures within { result ≤ PIECE_LIMIT }
+    {
+        let bytes = self.as_slice();
+        let count = bytes.len();
+        buf[..count].copy_from_slice(bytes);
+        count
     }
 }

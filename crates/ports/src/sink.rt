@@ -9,16 +9,16 @@ use thiserror::Error;
 pub trait Sink {
     ghost use Rattle.std.specs.Prelude.{ℕ, List, Option};
 
-    /// All the bytes that the sink got, where it tells them.
+    /// All bytes that the sink got, where it reports them.
     ghost text: { Self → Option (List ℕ) };
 
-    /// How many puts succeeded, where the sink tells it.
+    /// The number of puts that succeeded, where the sink reports it.
     ghost puts: { Self → Option ℕ };
 
     /// How many puts failed.
     ghost faults: { Self → ℕ };
 
-    /// Writes all the bytes at the end, or, where that fails, a front of them.
+    /// Writes all the bytes at the end, or, where that fails, a prefix of them.
     fn put(&mut self, bytes: &[u8]) -> Result<(), Failed>
         requires { 0 < length bytes.now }
         ensures all { OnOk result (Got (text self.old) bytes.now (text self.new)) }

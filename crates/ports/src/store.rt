@@ -11,10 +11,10 @@ pub trait Store {
     ghost use Rattle.ports.specs.Reading.{Content};
     ghost use Rattle.ports.specs.declared.store.StoreRead.{StoreRead};
 
-    /// What stands under a name, where the store tells it.
+    /// The file of a name, where the store reports it.
     ghost held: { Self → List ℕ → Content };
 
-    /// The reads made so far that did not want for memory, in order, where the store tells them.
+    /// The reads so far that did not answer out of memory, in order, where the store reports them.
     ghost reads: { Self → Option (List StoreRead) };
 
     /// How many bytes were taken from files so far.
@@ -23,7 +23,7 @@ pub trait Store {
     /// How many reads failed so far.
     ghost faults: { Self → ℕ };
 
-    /// Reads all that stands under the name, if that is at most `limit` bytes.
+    /// Reads the whole file of that name, if it has at most `limit` bytes.
     fn read(&mut self, alloc: Global, name: &Text, limit: u64) -> ReadAnswer
         requires { limit < 2 ^ 63 }
         ensures held { held self.new ≡ held self.old }
@@ -38,11 +38,11 @@ pub trait Store {
 /// What a read of a store answers.
 #[derive(Drop)]
 pub enum ReadAnswer {
-    /// All the bytes that stand under the name.
+    /// All bytes of the file.
     Bytes(Blob),
     /// Nothing could be read there.
     Failed,
-    /// More bytes than the limit stand there.
+    /// The file has more bytes than the limit.
     TooLong,
     /// There was no memory for the bytes. The store is as before.
     Memory,

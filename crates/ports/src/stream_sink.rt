@@ -6,7 +6,7 @@ use crate::sink::{Failed, Sink};
 use std::io;
 use std::io::Write;
 
-/// A stream that is written to, as standard output. It tells nothing of what was written.
+/// A stream that is written to, as standard output. It does not report what was written.
 #[derive(Drop)]
 pub struct StreamSink<W: Write> {
     pub writer: W,
