@@ -20,12 +20,12 @@ use Rattle.pred_eval.specs.Tree.{Tree}
 use Rattle.riemann_msg.specs.declared.fault.MsgWhy.{MsgWhy}
 use Rattle.riemann_msg.specs.declared.fault.MsgWhy.TheVariants.{Short, Varint, Tag, Wire, Utf8, Key, Ttl}
 use Rattle.riemann_msg.specs.declared.msg.Msg.{Msg}
-use Rattle.riemann_msg.specs.Fault.{Fault, fault_at, first_fault}
+use Rattle.riemann_msg.specs.Fault.{why_name, Fault, fault_at, first_fault}
 use Rattle.riemann_msg.specs.Spelling.{spelling, message_values}
 use Rattle.riemann_msg.specs.Value.{message_of}
 use Rattle.riemann_server.specs.Bodies.{events_of, log_of, reading_of, rule_of, rule_of_query, rule_read}
 use Rattle.riemann_server.specs.Progress.{After, AnswersMessage, AnswersQuery}
-use Rattle.riemann_server.specs.Replies.{accepted, answer_to_query, answer_to_text, framed, limited, message_refusal, over_limit, pattern_refusal, query_refusal, refused, replies_after, reply_to, why_text}
+use Rattle.riemann_server.specs.Replies.{accepted, answer_to_query, answer_to_text, framed, limited, message_refusal, over_limit, pattern_refusal, query_refusal, refused, replies_after, reply_to}
 use Rattle.riemann_server.specs.Verdicts.{Judged, PatternsState, body_of}
 use Rattle.riemann_server.proofs.VerdictLaws.{more_verdicts, no_verdict}
 
@@ -86,7 +86,7 @@ pub bodies_more : (messages : List Judged) (last : Judged) → map body_of (mess
 bodies_more [] last = refl
 bodies_more (first ∷ messages) last = ap (λ bodies. first.body ∷ bodies) (bodies_more messages last)
 
-why_length : (why : MsgWhy) → length (why_text why) ≤ 6
+why_length : (why : MsgWhy) → length (why_name why) ≤ 6
 why_length Short = omega arith
 why_length Varint = omega arith
 why_length Tag = omega arith

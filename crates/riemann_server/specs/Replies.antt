@@ -7,8 +7,8 @@ use Rattle.framing.specs.Frames.{frame}
 use Rattle.riemann_msg.specs.declared.msg.Msg.{Msg}
 use Rattle.riemann_msg.specs.declared.msg.QueryPart.{QueryPart}
 use Rattle.riemann_msg.specs.declared.fault.MsgWhy.{MsgWhy}
-use Rattle.riemann_msg.specs.declared.fault.MsgWhy.TheVariants.{Short, Varint, Tag, Wire, Utf8, Key, Ttl}
-use Rattle.riemann_msg.specs.Fault.{Fault}
+use Rattle.riemann_msg.specs.Fault.{Fault, why_name}
+pub use Rattle.riemann_msg.specs.Reply.{accepted, found, refused}
 use Rattle.riemann_msg.specs.Spelling.{spelling}
 use Rattle.index_log.specs.Live.{IndexLog, live_events}
 use Rattle.pred_eval.specs.Tree.{Tree}
@@ -18,16 +18,6 @@ use Rattle.query_lang.specs.declared.fault.QueryFault.TheVariants.{TooLong, Refu
 use Rattle.query_lang.specs.Answer.{query_of}
 use Rattle.riemann_server.specs.Bodies.{log_of, query_text, reading_of}
 use Rattle.riemann_server.specs.Verdicts.{Judged, Refusal}
-
--- the message was accepted, or refused for this reason, or asked for these events
-abbrev pub accepted : Msg
-accepted = record { ok = Some true; error = None; query = None; events = [] }
-
-abbrev pub refused : List ℕ → Msg
-refused reason = record { ok = Some false; error = Some reason; query = None; events = [] }
-
-abbrev pub found : List Event → Msg
-found events = record { ok = Some true; error = None; query = None; events = events }
 
 -- a message in a frame
 unfoldable pub framed : Msg → List ℕ
@@ -41,21 +31,11 @@ over_limit size = codes "reply of " ++ (decimal size ++ codes " bytes over 41943
 unfoldable pub limited : Msg → Msg
 limited msg = if nat_le (length (spelling msg)) BODY_LIMIT then msg else refused (over_limit (length (spelling msg)))
 
--- the name of a cause
-abbrev pub why_text : MsgWhy → List ℕ
-why_text Short = codes "short"
-why_text Varint = codes "varint"
-why_text Tag = codes "tag"
-why_text Wire = codes "wire"
-why_text Utf8 = codes "utf8"
-why_text Key = codes "key"
-why_text Ttl = codes "ttl"
-
 -- the reason for which a message is refused for a fault
 unfoldable pub message_refusal : ℕ → MsgWhy → List ℕ
-message_refusal place why = codes "message refused at " ++ (decimal place ++ (codes ": " ++ why_text why))
+message_refusal place why = codes "message refused at " ++ (decimal place ++ (codes ": " ++ why_name why))
 
--- the reason for which a query is refused; want of memory is no answer
+-- the reason for which a query is refused; out of memory is not an answer
 unfoldable pub query_refusal : QueryFault → List ℕ
 query_refusal (TooLong size) = codes "query of " ++ (decimal size ++ codes " bytes over 4096")
 query_refusal (QueryRefused place) = codes "query refused at " ++ decimal place

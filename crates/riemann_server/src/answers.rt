@@ -48,11 +48,15 @@ impl Answers {
         patterns: &mut P,
     ) -> Result<StreamEnd, Memory>
         ensures ok { IfOk result (λ next. (start : PatternsState) (came : List ℕ)
-            → IsSettled self.old start (patterns_state (P.refusals patterns.old) (P.refused patterns.old)) came
-            → Reaches self.new start (patterns_state (P.refusals patterns.new) (P.refused patterns.new)) (came ++ piece.now) next) }
+            → IsSettled self.old start (patterns_state (P.refusals patterns.old)
+            (P.refused patterns.old)) came
+            → Reaches self.new start (patterns_state (P.refusals patterns.new)
+            (P.refused patterns.new)) (came ++ piece.now) next) }
         ensures err { OnErr result ((start : PatternsState) (came : List ℕ)
-            → IsSettled self.old start (patterns_state (P.refusals patterns.old) (P.refused patterns.old)) came
-            → Fails start (patterns_state (P.refusals patterns.new) (P.refused patterns.new)) (came ++ piece.now)) }
+            → IsSettled self.old start (patterns_state (P.refusals patterns.old)
+            (P.refused patterns.old)) came
+            → Fails start (patterns_state (P.refusals patterns.new) (P.refused patterns.new))
+            (came ++ piece.now)) }
     {
         self.link.push(alloc, piece)?;
         let next = self.answer_frames(alloc, patterns)?;
@@ -65,11 +69,15 @@ impl Answers {
         patterns: &mut P,
     ) -> Result<StreamEnd, Memory>
         ensures ok { IfOk result (λ next. (start : PatternsState) (came : List ℕ)
-            → RepresentsStream self.old start (patterns_state (P.refusals patterns.old) (P.refused patterns.old)) came
-            → Reaches self.new start (patterns_state (P.refusals patterns.new) (P.refused patterns.new)) came next) }
+            → RepresentsStream self.old start
+            (patterns_state (P.refusals patterns.old) (P.refused patterns.old)) came
+            → Reaches self.new start (patterns_state (P.refusals patterns.new)
+            (P.refused patterns.new)) came next) }
         ensures err { OnErr result ((start : PatternsState) (came : List ℕ)
-            → RepresentsStream self.old start (patterns_state (P.refusals patterns.old) (P.refused patterns.old)) came
-            → Fails start (patterns_state (P.refusals patterns.new) (P.refused patterns.new)) came) }
+            → RepresentsStream self.old start
+            (patterns_state (P.refusals patterns.old) (P.refused patterns.old)) came
+            → Fails start (patterns_state (P.refusals patterns.new) (P.refused patterns.new))
+            came) }
     {
         'frames: loop {
             match self.link.take(alloc) {

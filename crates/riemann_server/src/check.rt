@@ -26,13 +26,17 @@ pub(crate) fn check<S: Store, O: Sink, P: Patterns>(
     patterns: &mut P,
 ) -> Outcome
     ensures shows { ShowsCheck (S.held store.old config.now) (S.taken store.old) (S.taken store.new)
-        (patterns_state (P.refusals patterns.old) (P.refused patterns.old)) (patterns_state (P.refusals patterns.new) (P.refused patterns.new))
+        (patterns_state (P.refusals patterns.old) (P.refused patterns.old))
+        (patterns_state (P.refusals patterns.new) (P.refused patterns.new))
         (O.text out.old) (O.text out.new) result }
     ensures reads { CheckReads (S.reads store.old) (S.reads store.new) config.now result }
     ensures no_reply { HasNoReply (status_of result) → out.new ≡ out.old }
-    ensures quiet { HasEnded (status_of result) → (S.faults store.new ≡ S.faults store.old) × (O.faults out.new ≡ O.faults out.old) }
-    ensures read_fault { status_of result ≡ Status.ReadFault → Rose (S.faults store.old) (S.faults store.new) }
-    ensures sink_fault { status_of result ≡ Status.SinkFault → Rose (O.faults out.old) (O.faults out.new) }
+    ensures quiet { HasEnded (status_of result) → (S.faults store.new ≡ S.faults store.old) ×
+        (O.faults out.new ≡ O.faults out.old) }
+    ensures read_fault { status_of result ≡ Status.ReadFault →
+        Rose (S.faults store.old) (S.faults store.new) }
+    ensures sink_fault { status_of result ≡ Status.SinkFault →
+        Rose (O.faults out.old) (O.faults out.new) }
 {
     match fetch_config(alloc, config, store) {
         Ok(config) => check_config(alloc, config, out, patterns),
@@ -49,11 +53,13 @@ fn check_config<O: Sink, P: Patterns>(
 ) -> Outcome
     requires few { length (plan_patterns config.plan) ≤ CONFIG_LIMIT }
     ensures builds { Builds config
-        (patterns_state (P.refusals patterns.old) (P.refused patterns.old)) (patterns_state (P.refusals patterns.new) (P.refused patterns.new))
+        (patterns_state (P.refusals patterns.old) (P.refused patterns.old))
+        (patterns_state (P.refusals patterns.new) (P.refused patterns.new))
         (O.text out.old) (O.text out.new) result }
     ensures no_reply { HasNoReply (status_of result) → out.new ≡ out.old }
     ensures quiet { HasEnded (status_of result) → O.faults out.new ≡ O.faults out.old }
-    ensures sink_fault { status_of result ≡ Status.SinkFault → Rose (O.faults out.old) (O.faults out.new) }
+    ensures sink_fault { status_of result ≡ Status.SinkFault →
+        Rose (O.faults out.old) (O.faults out.new) }
 {
     let mut text = Blob::fresh(alloc);
     let Ok(()) = write_config(alloc, &config, &mut text) else {
@@ -70,7 +76,8 @@ fn check_config<O: Sink, P: Patterns>(
 fn put_config<O: Sink>(text: &[u8], out: &mut O) -> Outcome
     ensures puts { PutsText text.now (O.text out.old) (O.text out.new) result }
     ensures quiet { HasEnded (status_of result) → O.faults out.new ≡ O.faults out.old }
-    ensures sink_fault { status_of result ≡ Status.SinkFault → Rose (O.faults out.old) (O.faults out.new) }
+    ensures sink_fault { status_of result ≡ Status.SinkFault →
+        Rose (O.faults out.old) (O.faults out.new) }
 {
     if !text.is_empty() && out.put(text).is_err() {
         Outcome::SinkFault

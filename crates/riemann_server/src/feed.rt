@@ -27,16 +27,23 @@ pub(crate) fn feed<S: Store, O: Sink, P: Patterns>(
     patterns: &mut P,
 ) -> Outcome
     ensures answers { IsAnswered (S.held store.old file.now) (status_of result)
-        (patterns_state (P.refusals patterns.old) (P.refused patterns.old)) (patterns_state (P.refusals patterns.new) (P.refused patterns.new))
+        (patterns_state (P.refusals patterns.old) (P.refused patterns.old))
+        (patterns_state (P.refusals patterns.new) (P.refused patterns.new))
         (O.text out.old) (O.text out.new) }
     ensures not_run { HasNotRun (status_of result) → patterns.new ≡ patterns.old }
-    ensures quiet { HasEnded (status_of result) → (S.faults store.new ≡ S.faults store.old) × (O.faults out.new ≡ O.faults out.old) }
+    ensures quiet { HasEnded (status_of result) → (S.faults store.new ≡ S.faults store.old) ×
+        (O.faults out.new ≡ O.faults out.old) }
     ensures no_reply { HasNoReply (status_of result) → out.new ≡ out.old }
-    ensures explains { Explains (S.held store.old config.now) (S.held store.old file.now) (status_of result) }
-    ensures shows { Shows (S.held store.old config.now) (S.held store.old file.now) (S.taken store.old) (S.taken store.new) result }
-    ensures reads { FeedReads (S.reads store.old) (S.reads store.new) config.now file.now (S.held store.old config.now) result }
-    ensures read_fault { status_of result ≡ Status.ReadFault → Rose (S.faults store.old) (S.faults store.new) }
-    ensures sink_fault { status_of result ≡ Status.SinkFault → Rose (O.faults out.old) (O.faults out.new) }
+    ensures explains { Explains (S.held store.old config.now) (S.held store.old file.now)
+        (status_of result) }
+    ensures shows { Shows (S.held store.old config.now) (S.held store.old file.now)
+        (S.taken store.old) (S.taken store.new) result }
+    ensures reads { FeedReads (S.reads store.old) (S.reads store.new) config.now file.now
+        (S.held store.old config.now) result }
+    ensures read_fault { status_of result ≡ Status.ReadFault →
+        Rose (S.faults store.old) (S.faults store.new) }
+    ensures sink_fault { status_of result ≡ Status.SinkFault →
+        Rose (O.faults out.old) (O.faults out.new) }
 {
     match fetch_config(alloc, config, store) {
         Ok(config) => {
@@ -90,15 +97,20 @@ fn feed_file<S: Store, O: Sink, P: Patterns>(
     patterns: &mut P,
 ) -> Outcome
     ensures answers { IsAnswered (S.held store.old file.now) (status_of result)
-        (patterns_state (P.refusals patterns.old) (P.refused patterns.old)) (patterns_state (P.refusals patterns.new) (P.refused patterns.new))
+        (patterns_state (P.refusals patterns.old) (P.refused patterns.old))
+        (patterns_state (P.refusals patterns.new) (P.refused patterns.new))
         (O.text out.old) (O.text out.new) }
     ensures not_run { HasNotRun (status_of result) → patterns.new ≡ patterns.old }
-    ensures quiet { HasEnded (status_of result) → (S.faults store.new ≡ S.faults store.old) × (O.faults out.new ≡ O.faults out.old) }
+    ensures quiet { HasEnded (status_of result) → (S.faults store.new ≡ S.faults store.old) ×
+        (O.faults out.new ≡ O.faults out.old) }
     ensures no_reply { HasNoReply (status_of result) → out.new ≡ out.old }
-    ensures explains { ExplainsFed (S.held store.old file.now) (S.taken store.old) (S.taken store.new) result }
+    ensures explains { ExplainsFed (S.held store.old file.now) (S.taken store.old)
+        (S.taken store.new) result }
     ensures reads { FedReads (S.reads store.old) (S.reads store.new) file.now result }
-    ensures read_fault { status_of result ≡ Status.ReadFault → Rose (S.faults store.old) (S.faults store.new) }
-    ensures sink_fault { status_of result ≡ Status.SinkFault → Rose (O.faults out.old) (O.faults out.new) }
+    ensures read_fault { status_of result ≡ Status.ReadFault →
+        Rose (S.faults store.old) (S.faults store.new) }
+    ensures sink_fault { status_of result ≡ Status.SinkFault →
+        Rose (O.faults out.old) (O.faults out.new) }
 {
     match store.read(alloc, file, FILE_LIMIT) {
         ReadAnswer::Bytes(bytes) => run(alloc, bytes.as_slice(), out, patterns),

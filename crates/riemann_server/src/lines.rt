@@ -18,7 +18,8 @@ const NOT_BUILT_LINE: &str = "riemann: config not built yet\n";
 
 /// Writes the line of an outcome, with the names of the two files. It takes no memory.
 pub(crate) fn report<E: Sink>(outcome: Outcome, config: &Text, file: &Text, err: &mut E)
-    ensures line { GotLine (sink_state (E.text err.old) (E.faults err.old)) (line_of config.now file.now outcome)
+    ensures line { GotLine (sink_state (E.text err.old) (E.faults err.old))
+        (line_of config.now file.now outcome)
         (sink_state (E.text err.new) (E.faults err.new)) }
     ensures no_line { HasNoLine (status_of outcome) → err.new ≡ err.old }
 {
@@ -76,7 +77,8 @@ fn report_unread<E: Sink>(name: &Text, err: &mut E)
 }
 
 fn report_too_long<E: Sink>(name: &Text, limit: u64, err: &mut E)
-    ensures { GotLine (sink_state (E.text err.old) (E.faults err.old)) (too_long_line name.now limit)
+    ensures { GotLine (sink_state (E.text err.old) (E.faults err.old))
+        (too_long_line name.now limit)
         (sink_state (E.text err.new) (E.faults err.new)) }
 {
     let mut digits = Buffer::new();

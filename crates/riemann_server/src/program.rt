@@ -82,7 +82,8 @@ pub(crate) fn run<S: Store, O: Sink, E: Sink, P: Patterns>(
 fn put_text<O: Sink>(out: &mut O, text: &str) -> Status
     requires { 0 < length text.now }
     ensures done { result ≡ Status.Done → Got (O.text out.old) text.now (O.text out.new) }
-    ensures fault { result ≢ Status.Done → (result ≡ Status.SinkFault) × Rose (O.faults out.old) (O.faults out.new) }
+    ensures fault { result ≢ Status.Done → (result ≡ Status.SinkFault) ×
+        Rose (O.faults out.old) (O.faults out.new) }
 {
     match out.put(text.as_bytes()) {
         Ok(()) => Status::Done,

@@ -30,7 +30,8 @@ pub(crate) fn answer_query<P: Patterns>(
 ) -> Result<(), Memory>
     ensures same { index.new ≡ index.old }
     ensures answers { AnswersQuery (option_and_then rule_of_query query.now) index.old
-        (patterns_state (P.refusals patterns.old) (P.refused patterns.old)) (patterns_state (P.refusals patterns.new) (P.refused patterns.new))
+        (patterns_state (P.refusals patterns.old) (P.refused patterns.old))
+        (patterns_state (P.refusals patterns.new) (P.refused patterns.new))
         replies.old replies.new (λ log refusal. answer_to_query log refusal query.now) result }
 {
     match query {
@@ -58,8 +59,10 @@ fn answer_text<P: Patterns>(
 ) -> Result<(), Memory>
     ensures same { index.new ≡ index.old }
     ensures answers { AnswersQuery (rule_read (query_of text.now)) index.old
-        (patterns_state (P.refusals patterns.old) (P.refused patterns.old)) (patterns_state (P.refusals patterns.new) (P.refused patterns.new))
-        replies.old replies.new (λ log refusal. answer_to_text log refusal (query_of text.now)) result }
+        (patterns_state (P.refusals patterns.old) (P.refused patterns.old))
+        (patterns_state (P.refusals patterns.new) (P.refused patterns.new))
+        replies.old replies.new (λ log refusal.
+        answer_to_text log refusal (query_of text.now)) result }
 {
     match read_query(alloc, text) {
         Ok(rule) => answer_rule(alloc, rule, index, patterns, replies),
@@ -77,7 +80,8 @@ fn answer_rule<P: Patterns>(
     requires { length (searches (tree_of rule)) < 2 ^ 32 }
     ensures same { index.new ≡ index.old }
     ensures answers { AnswersQuery (Some (tree_of rule)) index.old
-        (patterns_state (P.refusals patterns.old) (P.refused patterns.old)) (patterns_state (P.refusals patterns.new) (P.refused patterns.new))
+        (patterns_state (P.refusals patterns.old) (P.refused patterns.old))
+        (patterns_state (P.refusals patterns.new) (P.refused patterns.new))
         replies.old replies.new (λ log refusal. answer_to_rule log refusal (tree_of rule)) result }
 {
     match Pred::build(alloc, rule, patterns) {
@@ -96,16 +100,12 @@ fn put_found(
     replies: &mut Blob,
 ) -> Result<(), Memory>
     ensures same { index.new ≡ index.old }
-    ensures found { OnOk result (replies.new ≡ replies.old ++ framed (limited (found (filter (holds pred.old) index.old.events)))) }
+    ensures found { OnOk result (replies.new ≡ replies.old
+        ++ framed (limited (found (filter (holds pred.old) index.old.events)))) }
 {
     let mut events = Events::fresh(alloc);
     index.search(alloc, pred, &mut events, &mut Steps::fresh(NoLedger))?;
-    let msg = Msg {
-        ok: Some(true),
-        error: None,
-        query: None,
-        events,
-    };
+    let msg = Msg::found(events);
     let size = msg_len(&msg)?;
     if size <= BODY_LIMIT as usize {
         put_frame(alloc, &msg, size, replies)
@@ -122,11 +122,12 @@ fn over_limit(alloc: Global, size: usize) -> Result<String, AllocError>
     format!(in alloc; "reply of {size} bytes over 4194304")
 }
 
-/// Appends a reply that the query is refused for this fault, unless that is want of memory.
+/// Appends a reply that the query is refused for this fault, unless that is out of memory.
 #[tactic(auto, using(crate::proofs::ReplyLaws::query_refusal_length))]
 fn refuse_query(alloc: Global, fault: QueryFault, replies: &mut Blob) -> Result<(), Memory>
     ensures memory { OnOk result (fault ≢ QueryFault.Memory) }
-    ensures reply { OnOk result (replies.new ≡ replies.old ++ framed (refused (query_refusal fault))) }
+    ensures reply { OnOk result (replies.new ≡ replies.old
+        ++ framed (refused (query_refusal fault))) }
 {
     let reason = query_refusal(alloc, fault)?;
     refuse(alloc, reason.as_str(), replies)
@@ -148,7 +149,8 @@ fn query_refusal(alloc: Global, fault: QueryFault) -> Result<String, Memory>
 /// Appends a reply that the query's pattern of this number was refused.
 #[tactic(auto, using(crate::proofs::ReplyLaws::pattern_refusal_length))]
 fn refuse_pattern(alloc: Global, number: u32, replies: &mut Blob) -> Result<(), Memory>
-    ensures { OnOk result (replies.new ≡ replies.old ++ framed (refused (pattern_refusal number))) }
+    ensures { OnOk result (replies.new ≡ replies.old
+        ++ framed (refused (pattern_refusal number))) }
 {
     let reason = pattern_refusal(alloc, number)?;
     refuse(alloc, reason.as_str(), replies)

@@ -4,7 +4,7 @@ ghost use Rattle.index_log.specs.Live.{IndexLog, Write};
 ghost use Rattle.live_index.specs.Index.{Represents};
 ghost use Rattle.riemann_msg.specs.Spelling.{spelling};
 ghost use Rattle.riemann_server.specs.Progress.{AnswersMessage};
-ghost use Rattle.riemann_server.specs.Replies.{accepted, framed, message_refusal, refused, why_text};
+ghost use Rattle.riemann_server.specs.Replies.{accepted, framed, message_refusal, refused};
 ghost use Rattle.riemann_server.specs.Verdicts.{patterns_state};
 
 use crate::queries::answer_query;
@@ -23,7 +23,8 @@ pub(crate) fn answer<P: Patterns>(
     replies: &mut Blob,
 ) -> Result<(), Memory>
     ensures { AnswersMessage body.now index.old index.new
-        (patterns_state (P.refusals patterns.old) (P.refused patterns.old)) (patterns_state (P.refusals patterns.new) (P.refused patterns.new))
+        (patterns_state (P.refusals patterns.old) (P.refused patterns.old))
+        (patterns_state (P.refusals patterns.new) (P.refused patterns.new))
         replies.old replies.new result }
 {
     match read_msg(alloc, body, 0) {
@@ -39,7 +40,8 @@ pub(crate) fn answer<P: Patterns>(
 
 /// Writes the events into the index, in order.
 fn enter(alloc: Global, events: Events, index: &mut LiveIndex) -> Result<(), Memory>
-    ensures { OnOk result ((log : IndexLog) → Represents index.old log → Represents index.new (log ++ map Write events)) }
+    ensures { OnOk result ((log : IndexLog) → Represents index.old log →
+        Represents index.new (log ++ map Write events)) }
 {
     for event in events.into_vec() {
         index.write(alloc, event)?;
@@ -52,19 +54,14 @@ fn enter(alloc: Global, events: Events, index: &mut LiveIndex) -> Result<(), Mem
 pub(crate) fn accept(alloc: Global, replies: &mut Blob) -> Result<(), Memory>
     ensures { OnOk result (replies.new ≡ replies.old ++ framed accepted) }
 {
-    let msg = Msg {
-        ok: Some(true),
-        error: None,
-        query: None,
-        events: Events::fresh(alloc),
-    };
-    put_frame(alloc, &msg, 2, replies)
+    put_frame(alloc, &Msg::accepted(alloc), 2, replies)
 }
 
 /// Appends a reply that the message was refused at a place.
 #[tactic(auto, using(crate::proofs::ReplyLaws::refusal_length))]
 fn refuse_msg(alloc: Global, place: usize, why: MsgWhy, replies: &mut Blob) -> Result<(), Memory>
-    ensures { OnOk result (replies.new ≡ replies.old ++ framed (refused (message_refusal place why))) }
+    ensures { OnOk result (replies.new ≡ replies.old
+        ++ framed (refused (message_refusal place why))) }
 {
     let reason = message_refusal(alloc, place, why)?;
     refuse(alloc, reason.as_str(), replies)
@@ -74,22 +71,8 @@ fn refuse_msg(alloc: Global, place: usize, why: MsgWhy, replies: &mut Blob) -> R
 fn message_refusal(alloc: Global, place: usize, why: MsgWhy) -> Result<String, AllocError>
     ensures { IfOk result (λ reason. string_bytes reason ≡ message_refusal place why) }
 {
-    let why = why_text(why);
+    let why = why.name();
     format!(in alloc; "message refused at {place}: {why}")
-}
-
-fn why_text(why: MsgWhy) -> &'static str
-    ensures { result.now ≡ why_text why }
-{
-    match why {
-        MsgWhy::Short => "short",
-        MsgWhy::Varint => "varint",
-        MsgWhy::Tag => "tag",
-        MsgWhy::Wire => "wire",
-        MsgWhy::Utf8 => "utf8",
-        MsgWhy::Key => "key",
-        MsgWhy::Ttl => "ttl",
-    }
 }
 
 /// Appends a reply that the message was refused for this reason.
@@ -98,12 +81,7 @@ pub(crate) fn refuse(alloc: Global, reason: &str, replies: &mut Blob) -> Result<
     requires { length reason.now < 1000 }
     ensures { OnOk result (replies.new ≡ replies.old ++ framed (refused reason.now)) }
 {
-    let msg = Msg {
-        ok: Some(false),
-        error: Some(Text::from_str(alloc, reason)?),
-        query: None,
-        events: Events::fresh(alloc),
-    };
+    let msg = Msg::refused(alloc, Text::from_str(alloc, reason)?);
     let size = msg_len(&msg)?;
     put_frame(alloc, &msg, size, replies)
 }

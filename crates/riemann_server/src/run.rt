@@ -24,10 +24,12 @@ pub(crate) fn run<O: Sink, P: Patterns>(
     patterns: &mut P,
 ) -> Outcome
     ensures runs { Runs bytes.now
-        (patterns_state (P.refusals patterns.old) (P.refused patterns.old)) (patterns_state (P.refusals patterns.new) (P.refused patterns.new))
+        (patterns_state (P.refusals patterns.old) (P.refused patterns.old))
+        (patterns_state (P.refusals patterns.new) (P.refused patterns.new))
         (O.text out.old) (O.text out.new) result }
     ensures no_reply { HasNoReply (status_of result) → out.new ≡ out.old }
-    ensures sink_fault { status_of result ≡ Status.SinkFault → Rose (O.faults out.old) (O.faults out.new) }
+    ensures sink_fault { status_of result ≡ Status.SinkFault →
+        Rose (O.faults out.old) (O.faults out.new) }
     ensures quiet { HasEnded (status_of result) → O.faults out.new ≡ O.faults out.old }
 {
     match answer_all(alloc, bytes, patterns) {
@@ -39,7 +41,8 @@ pub(crate) fn run<O: Sink, P: Patterns>(
 /// Writes the replies, and says how the run ended with this many bytes left of no whole frame.
 fn put_replies<O: Sink>(replies: &[u8], left: usize, out: &mut O) -> Outcome
     ensures puts { Puts replies.now left (O.text out.old) (O.text out.new) result }
-    ensures sink_fault { status_of result ≡ Status.SinkFault → Rose (O.faults out.old) (O.faults out.new) }
+    ensures sink_fault { status_of result ≡ Status.SinkFault →
+        Rose (O.faults out.old) (O.faults out.new) }
     ensures quiet { HasEnded (status_of result) → O.faults out.new ≡ O.faults out.old }
 {
     if !replies.is_empty() && out.put(replies).is_err() {
@@ -59,10 +62,12 @@ fn answer_all<P: Patterns>(
     patterns: &mut P,
 ) -> Result<(Blob, usize), Memory>
     ensures ok { IfOk result (λ answered. AnswersAll bytes.now
-        (patterns_state (P.refusals patterns.old) (P.refused patterns.old)) (patterns_state (P.refusals patterns.new) (P.refused patterns.new))
+        (patterns_state (P.refusals patterns.old) (P.refused patterns.old))
+        (patterns_state (P.refusals patterns.new) (P.refused patterns.new))
         answered.0 answered.1) }
     ensures err { OnErr result (AnswersSome bytes.now
-        (patterns_state (P.refusals patterns.old) (P.refused patterns.old)) (patterns_state (P.refusals patterns.new) (P.refused patterns.new))) }
+        (patterns_state (P.refusals patterns.old) (P.refused patterns.old))
+        (patterns_state (P.refusals patterns.new) (P.refused patterns.new))) }
 {
     let mut answers = Answers::fresh(alloc);
     let mut start = 0;

@@ -49,48 +49,67 @@ pub fn riemann<S: Store, O: Sink, E: Sink, P: Patterns>(
     // The words are those of no command exactly where the status says so, and then nothing is read or answered.
     ensures usage { (result ≡ Status.Usage) ↔ IsUsage words.now }
     ensures command { result ≢ Status.Usage → IsCommand words.now }
-    ensures idle { result ≡ Status.Usage → (store.new ≡ store.old) × (patterns.new ≡ patterns.old)
-        × GotLine (sink_state (E.text err.old) (E.faults err.old)) usage_line (sink_state (E.text err.new) (E.faults err.new)) }
+    ensures idle { result ≡ Status.Usage → (store.new ≡ store.old) ×
+        (patterns.new ≡ patterns.old)
+        × GotLine (sink_state (E.text err.old) (E.faults err.old)) usage_line
+        (sink_state (E.text err.new) (E.faults err.new)) }
 
     // What `feed` answers, and what each status says of its files.
     ensures answers { OnFeed words.now (λ config file. IsAnswered (S.held store.old file) result
-        (patterns_state (P.refusals patterns.old) (P.refused patterns.old)) (patterns_state (P.refusals patterns.new) (P.refused patterns.new))
+        (patterns_state (P.refusals patterns.old) (P.refused patterns.old))
+        (patterns_state (P.refusals patterns.new) (P.refused patterns.new))
         (O.text out.old) (O.text out.new)) }
-    ensures not_run { OnFeed words.now (λ config file. HasNotRun result → patterns.new ≡ patterns.old) }
+    ensures not_run { OnFeed words.now (λ config file. HasNotRun result →
+        patterns.new ≡ patterns.old) }
     ensures explains { OnFeed words.now (λ config file.
         Explains (S.held store.old config) (S.held store.old file) result) }
-    ensures says { OnFeed words.now (λ config file. Says (S.held store.old config) (S.held store.old file) result
-        (sink_state (E.text err.old) (E.faults err.old)) (sink_state (E.text err.new) (E.faults err.new))) }
+    ensures says { OnFeed words.now (λ config file.
+        Says (S.held store.old config) (S.held store.old file) result
+        (sink_state (E.text err.old) (E.faults err.old))
+        (sink_state (E.text err.new) (E.faults err.new))) }
     ensures reads { OnFeed words.now (λ config file. Reads (S.reads store.old) (S.reads store.new)
-        (S.taken store.old) (S.taken store.new) config file (S.held store.old config) (S.held store.old file) result
-        (sink_state (E.text err.old) (E.faults err.old)) (sink_state (E.text err.new) (E.faults err.new))) }
+        (S.taken store.old) (S.taken store.new) config file (S.held store.old config)
+        (S.held store.old file) result
+        (sink_state (E.text err.old) (E.faults err.old))
+        (sink_state (E.text err.new) (E.faults err.new))) }
 
     // What `check` writes, and what each status says of its file.
     ensures checks { OnCheck words.now (λ config. Checks (S.held store.old config)
-        (patterns_state (P.refusals patterns.old) (P.refused patterns.old)) (patterns_state (P.refusals patterns.new) (P.refused patterns.new))
+        (patterns_state (P.refusals patterns.old) (P.refused patterns.old))
+        (patterns_state (P.refusals patterns.new) (P.refused patterns.new))
         (O.text out.old) (O.text out.new)
-        (sink_state (E.text err.old) (E.faults err.old)) (sink_state (E.text err.new) (E.faults err.new)) result) }
-    ensures checks_read { OnCheck words.now (λ config. ChecksRead (S.reads store.old) (S.reads store.new)
+        (sink_state (E.text err.old) (E.faults err.old))
+        (sink_state (E.text err.new) (E.faults err.new)) result) }
+    ensures checks_read { OnCheck words.now (λ config.
+        ChecksRead (S.reads store.old) (S.reads store.new)
         (S.taken store.old) (S.taken store.new) config (S.held store.old config) result
-        (sink_state (E.text err.old) (E.faults err.old)) (sink_state (E.text err.new) (E.faults err.new))) }
+        (sink_state (E.text err.old) (E.faults err.old))
+        (sink_state (E.text err.new) (E.faults err.new))) }
 
     // Where nothing is written, and the causes of the faults.
     ensures no_reply { HasNoReply result → out.new ≡ out.old }
     ensures no_line { HasNoLine result → err.new ≡ err.old }
-    ensures read_fault { result ≡ Status.ReadFault → Rose (S.faults store.old) (S.faults store.new) }
-    ensures sink_fault { result ≡ Status.SinkFault → Rose (O.faults out.old) (O.faults out.new) }
-    ensures quiet { HasEnded result → (S.faults store.new ≡ S.faults store.old) × (O.faults out.new ≡ O.faults out.old) }
+    ensures read_fault { result ≡ Status.ReadFault →
+        Rose (S.faults store.old) (S.faults store.new) }
+    ensures sink_fault { result ≡ Status.SinkFault →
+        Rose (O.faults out.old) (O.faults out.new) }
+    ensures quiet { HasEnded result → (S.faults store.new ≡ S.faults store.old) ×
+        (O.faults out.new ≡ O.faults out.old) }
 
     // With files within their limits and no fault counted the run goes to its end, or memory is wanted.
     ensures complete { OnFeed words.now (λ config file. (text : List ℕ) (bytes : List ℕ)
-        → IsHeld (S.held store.old config) text → IsPlainText text → IsHeld (S.held store.old file) bytes
-        → length text ≤ CONFIG_LIMIT → length bytes ≤ FILE_LIMIT → IsStill (S.faults store.old) (S.faults store.new)
-        → IsStill (O.faults out.old) (O.faults out.new) → IsStill (E.faults err.old) (E.faults err.new)
+        → IsHeld (S.held store.old config) text → IsPlainText text →
+        IsHeld (S.held store.old file) bytes
+        → length text ≤ CONFIG_LIMIT → length bytes ≤ FILE_LIMIT →
+        IsStill (S.faults store.old) (S.faults store.new)
+        → IsStill (O.faults out.old) (O.faults out.new) →
+        IsStill (E.faults err.old) (E.faults err.new)
         → EndsWell (partial bytes) result) }
     ensures checks_complete { OnCheck words.now (λ config. (text : List ℕ) (read : Config)
         → IsHeld (S.held store.old config) text → IsConfigOf text read
         → length text ≤ CONFIG_LIMIT → IsStill (S.faults store.old) (S.faults store.new)
-        → IsStill (O.faults out.old) (O.faults out.new) → IsStill (P.refusals patterns.old) (P.refusals patterns.new)
+        → IsStill (O.faults out.old) (O.faults out.new) →
+        IsStill (P.refusals patterns.old) (P.refusals patterns.new)
         → HasChecked result) }
 {
     match command_of(words) {
