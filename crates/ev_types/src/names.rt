@@ -5,18 +5,18 @@ use crate::{Field, Text};
 
 impl Field {
     /// The name of the field, by which queries and configurations know it; an attribute's is its key.
-    pub fn name(&self) -> &[u8]
+    pub fn name(&self) -> &str
         ensures { result.now ≡ field_name self.now }
     {
         match self {
-            Field::Host => b"host",
-            Field::Service => b"service",
-            Field::State => b"state",
-            Field::Description => b"description",
-            Field::Time => b"time",
-            Field::Ttl => b"ttl",
-            Field::Metric => b"metric",
-            Field::Attribute(key) => key.as_bytes(),
+            Field::Host => "host",
+            Field::Service => "service",
+            Field::State => "state",
+            Field::Description => "description",
+            Field::Time => "time",
+            Field::Ttl => "ttl",
+            Field::Metric => "metric",
+            Field::Attribute(key) => key.as_str(),
         }
     }
 

@@ -155,7 +155,7 @@ fn put_equal(alloc: Global, field: &Field, value: &Value, out: &mut Blob) -> Res
         (out.new ≡ out.old ++ (field_name field.now ++ (codes " = " ++ value_spelling value.now))) }
     ensures err { OnErr result (IsPrefix out.old out.new) }
 {
-    out.append(alloc, field.name())?;
+    out.append(alloc, field.name().as_bytes())?;
     out.append(alloc, b" = ")?;
     match value {
         Value::Nil => out.append(alloc, b"nil")?,
@@ -177,7 +177,7 @@ fn put_order(
         ++ (order_symbol order ++ signed_decimal number))) }
     ensures err { OnErr result (IsPrefix out.old out.new) }
 {
-    out.append(alloc, field.name())?;
+    out.append(alloc, field.name().as_bytes())?;
     match order {
         Ordering::Less => out.append(alloc, b" < ")?,
         Ordering::LessEqual => out.append(alloc, b" <= ")?,
@@ -200,7 +200,7 @@ fn put_pattern(
         ++ (symbol.now ++ string_literal pattern.now))) }
     ensures err { OnErr result (IsPrefix out.old out.new) }
 {
-    out.append(alloc, field.name())?;
+    out.append(alloc, field.name().as_bytes())?;
     out.append(alloc, symbol)?;
     put_literal(alloc, pattern, out)?;
     Ok(())

@@ -134,14 +134,5 @@ pub(crate) fn value(alloc: Global, value: &Value) -> Result<Form, Memory>
 pub(crate) fn field(alloc: Global, field: &Field) -> Result<Form, Memory>
     ensures { IfOk result (λ form. bare_form form ≡ field_form field.now) }
 {
-    match field {
-        Field::Host => keyword(alloc, "host"),
-        Field::Service => keyword(alloc, "service"),
-        Field::State => keyword(alloc, "state"),
-        Field::Description => keyword(alloc, "description"),
-        Field::Time => keyword(alloc, "time"),
-        Field::Ttl => keyword(alloc, "ttl"),
-        Field::Metric => keyword(alloc, "metric"),
-        Field::Attribute(key) => keyword(alloc, key.as_str()),
-    }
+    keyword(alloc, field.name())
 }

@@ -23,14 +23,8 @@ fn rule_field(alloc: Global, named: &Field) -> Result<Form, Memory>
     ensures { IfOk result (λ form. bare_form form ≡ rule_field_form named.now) }
 {
     match named {
-        Field::Host => symbol(alloc, "host"),
-        Field::Service => symbol(alloc, "service"),
-        Field::State => symbol(alloc, "state"),
-        Field::Description => symbol(alloc, "description"),
-        Field::Time => symbol(alloc, "time"),
-        Field::Ttl => symbol(alloc, "ttl"),
-        Field::Metric => symbol(alloc, "metric"),
         Field::Attribute(key) => keyword(alloc, key.as_str()),
+        _ => symbol(alloc, named.name()),
     }
 }
 

@@ -239,7 +239,7 @@ pub(crate) fn field_of(alloc: Global, name: &Text) -> Result<Option<Field>, Memo
 pub(crate) fn same_field(a: &Field, b: &Field) -> bool
     ensures { result ≡ same_field a.now b.now }
 {
-    is(a.name(), b.name())
+    is(a.name().as_bytes(), b.name().as_bytes())
 }
 
 #[tactic(auto, unfolding(crate::specs::Words::fold_word))]

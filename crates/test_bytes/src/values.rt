@@ -167,7 +167,7 @@ fn holds(
     let field = field(alloc, name)?.copy(alloc)?;
     let value = value(alloc, number, chars)?;
     Ok(
-        field.name() == name.as_bytes()
+        field.name() == name
             && field_number(event, &field) == number
             && is_text(field_text(event, &field), chars)
             && field_is(event, &field, &value)
