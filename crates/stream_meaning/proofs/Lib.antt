@@ -10,3 +10,4 @@ pub mod RootLaws
 pub mod PlanDueLaws
 pub mod ArrivalMoments
 pub mod RunLaws
+pub mod NewestLaws

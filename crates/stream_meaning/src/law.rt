@@ -1,5 +1,5 @@
 ghost use Rattle.stream_meaning.specs.ArrivalLaws.{ArrivalsComeInOrder, ArrivalsAreMoments};
-ghost use Rattle.stream_meaning.specs.CoalesceLaws.{CoalescedAreTheNewest};
+ghost use Rattle.stream_meaning.specs.CoalesceLaws.{CoalescedAreTheNewest, CoalescedRise};
 ghost use Rattle.stream_meaning.specs.DeadlineLaws.{DeadlinesLieAhead, DeadlinesAreMet, DeadlinesStay, DeadlinesAreFirst};
 ghost use Rattle.stream_meaning.specs.DueLaws.{TicksActByEmissions, PlanDeadlinesLieAhead, PlanDeadlinesAreMet, PlanDeadlinesStay};
 ghost use Rattle.stream_meaning.specs.RunLaws.{RunsAreLongest, RunsBeginWithTheirFirst};
@@ -86,7 +86,9 @@ pub fn runs_are_longest()
     ensures began { RunsBeginWithTheirFirst }
 {}
 
-/// What coalesce passes on is exactly the last event of each host and service that still passes, each as often.
+/// What coalesce passes on is exactly the last event of each host and service that still passes, in strictly rising key
+/// order.
 pub fn coalesced_are_the_newest()
-    ensures { CoalescedAreTheNewest }
+    ensures kept { CoalescedAreTheNewest }
+    ensures order { CoalescedRise }
 {}

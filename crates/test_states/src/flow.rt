@@ -39,9 +39,13 @@ fn shown(alloc: Global, passed: &Emissions, due: Option<u64>) -> Result<String, 
     Ok(out)
 }
 
-/// The times of the events that `changed` passes on, by their states. The first value is the only one of `init`.
-fn changed(alloc: Global, init: &[&str], rows: &[(u32, Option<&str>)]) -> Result<String, Memory> {
-    let init = match init.first() {
+/// The times of the events that `changed` passes on, by their states.
+fn changed(
+    alloc: Global,
+    init: Option<&str>,
+    rows: &[(u32, Option<&str>)],
+) -> Result<String, Memory> {
+    let init = match init {
         Some(chars) => Some(Value::Text(Text::from_str(alloc, chars)?)),
         None => None,
     };
@@ -72,23 +76,12 @@ fn runs(alloc: Global, count: u32, rows: &[(u32, Option<&str>)]) -> Result<Strin
 #[test]
 fn an_event_passes_where_its_field_changed(rt: HostRuntime) -> Result<(), Fail> {
     let alloc = rt.alloc();
-    let rows: [(&[&str], &[(u32, Option<&str>)], &str); 4] = [
-        (
-            &[],
-            &[(0, Some("ok")), (1, Some("ok")), (2, Some("bad"))],
-            "0 2 ",
-        ),
-        (
-            &["ok"],
-            &[(0, Some("ok")), (1, Some("ok")), (2, Some("bad"))],
-            "2 ",
-        ),
-        (&["ok"], &[(0, None), (1, Some("ok")), (2, None)], "0 1 2 "),
-        (&[], &[(0, None), (1, None), (2, Some(""))], "0 2 "),
-    ];
-    for (init, states, wanted) in rows {
-        assert_eq!(rt; changed(alloc, init, states)?.as_str(), wanted);
-    }
+    let states = [(0, Some("ok")), (1, Some("ok")), (2, Some("bad"))];
+    assert_eq!(rt; changed(alloc, None, &states)?.as_str(), "0 2 ");
+    assert_eq!(rt; changed(alloc, Some("ok"), &states)?.as_str(), "2 ");
+    let absent = [(0, None), (1, None), (2, Some(""))];
+    assert_eq!(rt; changed(alloc, None, &absent)?.as_str(), "0 2 ");
+    assert_eq!(rt; changed(alloc, Some("ok"), &absent)?.as_str(), "0 2 ");
     Ok(())
 }
 
