@@ -42,6 +42,7 @@ fn put_emissions(alloc: Global, out: &mut String, emissions: &Emissions) -> Resu
 }
 
 /// A window that passes nothing on at a second.
+#[derive(Drop)]
 enum Window {
     FixedEvent(FixedEventState),
     MovingEvent(MovingEventState),
@@ -103,7 +104,10 @@ fn windows_of_a_number_of_events(rt: HostRuntime) -> Result<(), Fail> {
     let alloc = rt.alloc();
     assert_eq!(rt; fixed_event(alloc, 2, &[1, 2, 3])?.as_str(), ";[ 1 2];;");
     assert_eq!(rt; fixed_event(alloc, 1, &[1, 2])?.as_str(), "[ 1];[ 2];");
-    assert_eq!(rt; moving_event(alloc, 2, &[1, 2, 3])?.as_str(), "[ 1];[ 1 2];[ 2 3];");
+    assert_eq!(rt;
+        moving_event(alloc, 2, &[1, 2, 3])?.as_str(),
+        "[ 1];[ 1 2];[ 2 3];"
+    );
     assert_eq!(rt; moving_event(alloc, 1, &[1, 2])?.as_str(), "[ 1];[ 2];");
     Ok(())
 }
@@ -112,7 +116,10 @@ fn windows_of_a_number_of_events(rt: HostRuntime) -> Result<(), Fail> {
 fn windows_of_times(rt: HostRuntime) -> Result<(), Fail> {
     let alloc = rt.alloc();
     for (times, wanted) in [
-        ([100, 112, 105, 125, 135].as_slice(), ";[ 100];;[ 112];[ 125];"),
+        (
+            [100, 112, 105, 125, 135].as_slice(),
+            ";[ 100];;[ 112];[ 125];",
+        ),
         ([5, -1, 14, 15].as_slice(), ";;;[ 5 14];"),
         ([i64::MIN, i64::MAX].as_slice(), ";[ -9223372036854775808];"),
     ] {
@@ -184,13 +191,19 @@ fn last_events_are_passed_on_in_key_order(rt: HostRuntime) -> Result<(), Fail> {
     let rows: [(&[Row], &str); 5] = [
         (&[], "None"),
         (&[(101, "a", 3)], "110:[ 101];None"),
-        (&[(101, "a", 3), (112, "a", 3)], "110:[ 101];120:[ 112];None"),
+        (
+            &[(101, "a", 3), (112, "a", 3)],
+            "110:[ 101];120:[ 112];None",
+        ),
         (
             &[(101, "b", 60), (107, "a", 60), (108, "b", 60)],
             "110:[ 107 108];120:[ 107 108];130:[ 107 108];Some(140)",
         ),
         // At 110 it has expired, as at 120, but it came in the ten seconds before the first.
-        (&[(102, "b", 60), (103, "a", 0)], "110:[ 103 102];120:[ 102];130:[ 102];Some(140)"),
+        (
+            &[(102, "b", 60), (103, "a", 0)],
+            "110:[ 103 102];120:[ 102];130:[ 102];Some(140)",
+        ),
     ];
     for (events, wanted) in rows {
         assert_eq!(rt; coalesced(alloc, events)?.as_str(), wanted);
