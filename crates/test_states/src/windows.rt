@@ -42,6 +42,7 @@ fn put_emissions(alloc: Global, out: &mut String, emissions: &Emissions) -> Resu
 }
 
 /// A window that passes nothing on at a second.
+#[derive(Drop)]
 enum Window {
     FixedEvent(FixedEventState),
     MovingEvent(MovingEventState),
