@@ -49,7 +49,8 @@ within_set old new number bound due sets below within =
 pub within_some : (bound : ℕ) (p : ℕ × ℕ → Bool) (es : List (ℕ × ℕ)) → All (λ n. n < bound) (keys_of es) → All (λ n. n < bound) (keys_of (filter p es))
 within_some bound p [] h = All-nil (λ n. n < bound)
 within_some bound p (e ∷ es) h =
-    elim (p e) as (λ b. All (λ n. n < bound) (keys_of (cond b (e ∷ filter p es) (filter p es))))
-    [ true ↦ All-cons (λ n. n < bound) e.0 (keys_of (filter p es)) (All-head (λ n. n < bound) e.0 (keys_of es) h)
-        (within_some bound p es (All-tail (λ n. n < bound) e.0 (keys_of es) h))
-    | false ↦ within_some bound p es (All-tail (λ n. n < bound) e.0 (keys_of es) h) ]
+    elim (p e) as (λ b. All (λ n. n < bound) (keys_of (cond b (e ∷ filter p es) (filter p es)))) [
+      | true ↦ All-cons (λ n. n < bound) e.0 (keys_of (filter p es)) (All-head (λ n. n < bound) e.0 (keys_of es) h)
+          (within_some bound p es (All-tail (λ n. n < bound) e.0 (keys_of es) h))
+      | false ↦ within_some bound p es (All-tail (λ n. n < bound) e.0 (keys_of es) h)
+    ]

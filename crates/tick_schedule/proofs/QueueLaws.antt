@@ -72,11 +72,12 @@ pub remove-without : (id : ℕ) (es : List (ℕ × ℕ)) → IsRising es → rem
 remove-without id [] s = refl
 remove-without id (e ∷ es) s =
     elim (eqb e.0 id) as (λ b. eqb e.0 id ≡ b → cond (is_at (nat_cmp id) e.0) es (e ∷ remove_entry (is_at (nat_cmp id)) es)
-        ≡ cond (not b) (e ∷ without id es) (without id es))
-    [ true ↦ λ h. rw (at-eqb id e.0 ∙ eqb-comm id e.0 ∙ h)
-        (let same : e.0 ≡ id = grind (arith, nat_tests) in
-         sym (keeps_all id es (rw (sym same) (rising-first e es s))))
-    | false ↦ λ h. rw (at-eqb id e.0 ∙ eqb-comm id e.0 ∙ h, remove-without id es (rising-rest e es s)) refl ] refl
+    ≡ cond (not b) (e ∷ without id es) (without id es)) [
+      | true ↦ λ h. rw (at-eqb id e.0 ∙ eqb-comm id e.0 ∙ h)
+          (let same : e.0 ≡ id = grind (arith, nat_tests) in
+          sym (keeps_all id es (rw (sym same) (rising-first e es s))))
+      | false ↦ λ h. rw (at-eqb id e.0 ∙ eqb-comm id e.0 ∙ h, remove-without id es (rising-rest e es s)) refl
+    ] refl
 
 -- ---- the moment of an id
 -- whether the moment is at or before `now`
@@ -113,13 +114,13 @@ pub later-left : (now : ℕ) (es : List (ℕ × ℕ)) → IsRising es
 later-left now es s =
     filter-agree (λ e. not (list_any (is_at (nat_cmp e.0)) (due_ids now es))) (λ e. not (nat_le e.1 now)) es
     (All-weaker (λ e. moment_at e.0 es ≡ Some e.1) (λ e. not (list_any (is_at (nat_cmp e.0)) (due_ids now es)) ≡ not (nat_le e.1 now))
-        (λ e h. ap not (due-is_by now e.0 es s ∙ ap (is_by now) h)) es (found es s))
+    (λ e h. ap not (due-is_by now e.0 es s ∙ ap (is_by now) h)) es (found es s))
 
 pub none-later : (now : ℕ) (es : List (ℕ × ℕ)) → due_ids now es ≡ [] → due_later now es ≡ es
 none-later now [] h = refl
 none-later now (e ∷ es) h =
     elim (nat_le e.1 now) as (λ b. map (λ (x : ℕ × ℕ). x.0) (cond b (e ∷ filter (λ x. nat_le x.1 now) es) (filter (λ x. nat_le x.1 now) es)) ≡ []
-        → cond (not b) (e ∷ due_later now es) (due_later now es) ≡ e ∷ es)
+    → cond (not b) (e ∷ due_later now es) (due_later now es) ≡ e ∷ es)
     [ true ↦ λ is. absurd (cc) | false ↦ λ is. ap (λ rest. e ∷ rest) (none-later now es is) ] h
 
 -- one more id removed
@@ -129,11 +130,12 @@ without-more ids id [] = refl
 without-more ids id (e ∷ es) =
     rw (list_any-append (is_at (nat_cmp e.0)) ids (id ∷ []), at-eqb e.0 id)
     (elim (list_any (is_at (nat_cmp e.0)) ids) as (λ b. filter (λ (x : ℕ × ℕ). not (eqb x.0 id)) (cond (not b) (e ∷ filter (λ e. not (list_any (is_at (nat_cmp e.0)) ids)) es) (filter (λ e. not (list_any (is_at (nat_cmp e.0)) ids)) es))
-        ≡ cond (not (b || (eqb e.0 id || false))) (e ∷ filter (λ e. not (list_any (is_at (nat_cmp e.0)) (ids ++ id ∷ []))) es) (filter (λ e. not (list_any (is_at (nat_cmp e.0)) (ids ++ id ∷ []))) es))
-    [ true ↦ without-more ids id es
-    | false ↦ elim (eqb e.0 id) as (λ c. cond (not c) (e ∷ without id (filter (λ e. not (list_any (is_at (nat_cmp e.0)) ids)) es)) (without id (filter (λ e. not (list_any (is_at (nat_cmp e.0)) ids)) es))
-        ≡ cond (not (c || false)) (e ∷ filter (λ e. not (list_any (is_at (nat_cmp e.0)) (ids ++ id ∷ []))) es) (filter (λ e. not (list_any (is_at (nat_cmp e.0)) (ids ++ id ∷ []))) es))
-        [ true ↦ without-more ids id es | false ↦ ap (λ rest. e ∷ rest) (without-more ids id es) ] ])
+    ≡ cond (not (b || (eqb e.0 id || false))) (e ∷ filter (λ e. not (list_any (is_at (nat_cmp e.0)) (ids ++ id ∷ []))) es) (filter (λ e. not (list_any (is_at (nat_cmp e.0)) (ids ++ id ∷ []))) es)) [
+      | true ↦ without-more ids id es
+      | false ↦ elim (eqb e.0 id) as (λ c. cond (not c) (e ∷ without id (filter (λ e. not (list_any (is_at (nat_cmp e.0)) ids)) es)) (without id (filter (λ e. not (list_any (is_at (nat_cmp e.0)) ids)) es))
+          ≡ cond (not (c || false)) (e ∷ filter (λ e. not (list_any (is_at (nat_cmp e.0)) (ids ++ id ∷ []))) es) (filter (λ e. not (list_any (is_at (nat_cmp e.0)) (ids ++ id ∷ []))) es))
+          [ true ↦ without-more ids id es | false ↦ ap (λ rest. e ∷ rest) (without-more ids id es) ]
+    ])
 
 pub without-none : (es : List (ℕ × ℕ)) → filter (λ e. not (list_any (is_at (nat_cmp e.0)) [])) es ≡ es
 without-none [] = refl

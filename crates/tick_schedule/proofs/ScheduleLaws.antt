@@ -54,15 +54,18 @@ module _ (has has' : ℕ → ℕ → Bool) (moment moment' : ℕ → Option ℕ)
   tied-put added put only d i =
       rw (added d i, put i, tied d i)
       (elim (bool_cases (eqb id i)) [
-        inl same ↦ rw same (let at : id ≡ i = eqb-true id i same in
-          elim (bool_cases (eqb due d)) [
-            inl here ↦ rw here (sym (eqb-comm d due ∙ here))
-          | inr apart ↦ rw (apart, eqb-comm d due ∙ apart)
-              (elim (bool_cases (is_moment d (moment i))) [
-                inl is ↦ absurd (let was : d ≡ due = only d (rw at is) in
-                    let so : eqb due d ≡ true = rw was (eqb-same due) in cc)
-              | inr is ↦ is ]) ])
-      | inr apart ↦ rw (apart, and_false (eqb due d)) refl ])
+        | inl same ↦ rw same (let at : id ≡ i = eqb-true id i same in
+            elim (bool_cases (eqb due d)) [
+              | inl here ↦ rw here (sym (eqb-comm d due ∙ here))
+              | inr apart ↦ rw (apart, eqb-comm d due ∙ apart)
+                  (elim (bool_cases (is_moment d (moment i))) [
+                    | inl is ↦ absurd (let was : d ≡ due = only d (rw at is) in
+                        let so : eqb due d ≡ true = rw was (eqb-same due) in cc)
+                    | inr is ↦ is
+                  ])
+            ])
+        | inr apart ↦ rw (apart, and_false (eqb due d)) refl
+      ])
 
   -- the id had the moment and loses it
   tied-cut : moment id ≡ Some due
@@ -72,11 +75,13 @@ module _ (has has' : ℕ → ℕ → Bool) (moment moment' : ℕ → Option ℕ)
   tied-cut was cut put d i =
       rw (cut d i, put i, tied d i)
       (elim (bool_cases (eqb id i)) [
-        inl same ↦ rw same (let at : id ≡ i = eqb-true id i same in
-          elim (bool_cases (eqb due d)) [
-            inl here ↦ rw here refl
-          | inr apart ↦ rw (apart, sym (ap moment at) ∙ was) (eqb-comm d due ∙ apart) ])
-      | inr apart ↦ rw (apart, and_false (eqb due d)) refl ])
+        | inl same ↦ rw same (let at : id ≡ i = eqb-true id i same in
+            elim (bool_cases (eqb due d)) [
+              | inl here ↦ rw here refl
+              | inr apart ↦ rw (apart, sym (ap moment at) ∙ was) (eqb-comm d due ∙ apart)
+            ])
+        | inr apart ↦ rw (apart, and_false (eqb due d)) refl
+      ])
 
 -- the id moves from a moment to another
 tied-move : (has has' has'' : ℕ → ℕ → Bool) (moment moment' : ℕ → Option ℕ) (before due id : ℕ)
@@ -89,16 +94,19 @@ tied-move : (has has' has'' : ℕ → ℕ → Bool) (moment moment' : ℕ → Op
 tied-move has has' has'' moment moment' before due id tied was differ added cut put d i =
     rw (cut d i, added d i, put i, tied d i)
     (elim (bool_cases (eqb id i)) [
-      inl same ↦ rw same (let at : id ≡ i = eqb-true id i same in
-        rw (sym (ap moment at) ∙ was)
-        (elim (bool_cases (eqb before d)) [
-          inl old ↦ rw old (let is : before ≡ d = eqb-true before d old in
-            sym (ap (λ x. eqb x due) (sym is) ∙ differ))
-        | inr other ↦ rw other
-            (elim (bool_cases (eqb due d)) [
-              inl here ↦ rw here (sym (eqb-comm d due ∙ here))
-            | inr apart ↦ rw (apart, eqb-comm d due ∙ apart) (eqb-comm d before ∙ other) ]) ]))
-    | inr apart ↦ rw (apart, and_false (eqb before d), and_false (eqb due d)) refl ])
+      | inl same ↦ rw same (let at : id ≡ i = eqb-true id i same in
+          rw (sym (ap moment at) ∙ was)
+          (elim (bool_cases (eqb before d)) [
+            | inl old ↦ rw old (let is : before ≡ d = eqb-true before d old in
+                sym (ap (λ x. eqb x due) (sym is) ∙ differ))
+            | inr other ↦ rw other
+                (elim (bool_cases (eqb due d)) [
+                  | inl here ↦ rw here (sym (eqb-comm d due ∙ here))
+                  | inr apart ↦ rw (apart, eqb-comm d due ∙ apart) (eqb-comm d before ∙ other)
+                ])
+          ]))
+      | inr apart ↦ rw (apart, and_false (eqb before d), and_false (eqb due d)) refl
+    ])
 
 -- a pair that was not there was added and removed again
 tied-undo : (has has' has'' : ℕ → ℕ → Bool) (moment : ℕ → Option ℕ) (due id : ℕ)
@@ -110,10 +118,11 @@ tied-undo : (has has' has'' : ℕ → ℕ → Bool) (moment : ℕ → Option ℕ
 tied-undo has has' has'' moment due id tied was added cut d i =
     rw (cut d i, added d i, tied d i)
     (elim (bool_cases (eqb id i)) [
-      inl same ↦ let at : id ≡ i = eqb-true id i same in
-        rw (sym (ap moment at) ∙ was)
-        (elim (eqb due d && eqb id i) as (λ b. cond b false (cond b true false) ≡ false) [ true ↦ refl | false ↦ refl ])
-    | inr apart ↦ rw (apart, and_false (eqb due d)) refl ])
+      | inl same ↦ let at : id ≡ i = eqb-true id i same in
+          rw (sym (ap moment at) ∙ was)
+          (elim (eqb due d && eqb id i) as (λ b. cond b false (cond b true false) ≡ false) [ true ↦ refl | false ↦ refl ])
+      | inr apart ↦ rw (apart, and_false (eqb due d)) refl
+    ])
 
 -- what a tree of pairs says of one more or one less, and a tree of moments of one id
 abbrev pub PairsChange : List (ℕ × ℕ) → List (ℕ × ℕ) → ℕ → ℕ → Bool → Type 0
@@ -168,9 +177,11 @@ cut-tied queue queue' order order' due id tied was c m =
 -- ---- the least moment
 pub not_after : (a b c d : ℕ) → is_gt (pair_cmp (a, b) (c, d)) ≡ false → a ≤ c
 not_after a b c d h =
-    elim (leb_tells a c) [ inl way ↦ way.1
-    | inr way ↦ absurd (let greater : Greater ≡ nat_cmp a c = nat_cmp_is a c Greater way.1 in
-        let is : is_gt (pair_cmp (a, b) (c, d)) ≡ true = ap (λ o. is_gt (ordering_then o (nat_cmp b d))) (sym greater) in cc) ]
+    elim (leb_tells a c) [
+      | inl way ↦ way.1
+      | inr way ↦ absurd (let greater : Greater ≡ nat_cmp a c = nat_cmp_is a c Greater way.1 in
+          let is : is_gt (pair_cmp (a, b) (c, d)) ≡ true = ap (λ o. is_gt (ordering_then o (nat_cmp b d))) (sym greater) in cc)
+    ]
 
 no_moments : (queue order : List (ℕ × ℕ)) → IsTied queue order → order ≡ [] → values_of queue ≡ []
 no_moments [] order tied h = refl
@@ -181,9 +192,10 @@ no_moments (e ∷ es) order tied h =
 has_value : (queue : List (ℕ × ℕ)) (id moment : ℕ) → moment_at id queue ≡ Some moment → Contains (values_of queue) moment
 has_value [] id moment h = absurd (cc)
 has_value (e ∷ es) id moment h =
-    elim (is_at (nat_cmp id) e.0) as (λ b. cond b (Some e.1) (moment_at id es) ≡ Some moment → Contains (e.1 ∷ values_of es) moment)
-    [ true ↦ λ is. (let same : e.1 ≡ moment = cc in rw same (Contains-append_left (moment ∷ []) (values_of es) moment (Contains-push [] moment)))
-    | false ↦ λ is. Contains-append_right (e.1 ∷ []) (values_of es) moment (has_value es id moment is) ] h
+    elim (is_at (nat_cmp id) e.0) as (λ b. cond b (Some e.1) (moment_at id es) ≡ Some moment → Contains (e.1 ∷ values_of es) moment) [
+      | true ↦ λ is. (let same : e.1 ≡ moment = cc in rw same (Contains-append_left (moment ∷ []) (values_of es) moment (Contains-push [] moment)))
+      | false ↦ λ is. Contains-append_right (e.1 ∷ []) (values_of es) moment (has_value es id moment is)
+    ] h
 
 least_value : (queue order : List (ℕ × ℕ)) (moment : ℕ) → IsTied queue order → IsLeastPair order moment
     → (id : ℕ) (known : Option ℕ) → moment_at id queue ≡ known → IfSome known (λ m. moment ≤ m)
@@ -193,10 +205,11 @@ least_value queue order moment tied least id (Some m) is =
 
 pub next-first : (queue order : List (ℕ × ℕ)) (first : Option ℕ) → IsRising queue → IsTied queue order → IsFirst order first → IsNext queue first
 next-first queue order None rising tied h = no_moments queue order tied h
-next-first queue order (Some moment) rising tied h =
-    (has_value queue h.id moment (moment-is moment (moment_at h.id queue) (sym (tied moment h.id) ∙ h.has)),
-    All-values_from_lookup (eq_by_cmp_equiv nat_cmp_total) (λ m. moment ≤ m) queue (IsDistinct-from_sorted nat_cmp (keys_of queue) rising)
-    (λ id. least_value queue order moment tied h id (moment_at id queue) refl))
+next-first queue order (Some moment) rising tied h = (
+  has_value queue h.id moment (moment-is moment (moment_at h.id queue) (sym (tied moment h.id) ∙ h.has)),
+  All-values_from_lookup (eq_by_cmp_equiv nat_cmp_total) (λ m. moment ≤ m) queue (IsDistinct-from_sorted nat_cmp (keys_of queue) rising)
+      (λ id. least_value queue order moment tied h id (moment_at id queue) refl),
+)
 
 -- ---- whether something is due
 pub due-none : (now next : ℕ) (queue : List (ℕ × ℕ)) → All (λ m. next ≤ m) (values_of queue) → nat_le next now ≡ false → due_ids now queue ≡ []
@@ -214,9 +227,10 @@ all_later : (now : ℕ) (queue : List (ℕ × ℕ)) → due_ids now queue ≡ []
 all_later now [] h = All-nil (λ m. nat_le m now ≡ false)
 all_later now (e ∷ es) h =
     elim (bool_cases (nat_le e.1 now)) [
-      inl due ↦ absurd (let is : map (λ (x : ℕ × ℕ). x.0) (e ∷ filter (λ x. nat_le x.1 now) es) ≡ [] = ap (λ b. map (λ (x : ℕ × ℕ). x.0) (cond b (e ∷ filter (λ x. nat_le x.1 now) es) (filter (λ x. nat_le x.1 now) es))) (sym due) ∙ h in cc)
-    | inr late ↦ All-cons (λ m. nat_le m now ≡ false) e.1 (values_of es) late
-        (all_later now es (ap (λ b. map (λ (x : ℕ × ℕ). x.0) (cond b (e ∷ filter (λ x. nat_le x.1 now) es) (filter (λ x. nat_le x.1 now) es))) (sym late) ∙ h)) ]
+      | inl due ↦ absurd (let is : map (λ (x : ℕ × ℕ). x.0) (e ∷ filter (λ x. nat_le x.1 now) es) ≡ [] = ap (λ b. map (λ (x : ℕ × ℕ). x.0) (cond b (e ∷ filter (λ x. nat_le x.1 now) es) (filter (λ x. nat_le x.1 now) es))) (sym due) ∙ h in cc)
+      | inr late ↦ All-cons (λ m. nat_le m now ≡ false) e.1 (values_of es) late
+          (all_later now es (ap (λ b. map (λ (x : ℕ × ℕ). x.0) (cond b (e ∷ filter (λ x. nat_le x.1 now) es) (filter (λ x. nat_le x.1 now) es))) (sym late) ∙ h))
+    ]
 
 pub due-some : (now moment : ℕ) (queue : List (ℕ × ℕ)) → Contains (values_of queue) moment → nat_le moment now ≡ true → due_ids now queue ≢ []
 due-some now moment queue has due none =
@@ -237,8 +251,9 @@ first_due now [] s = refl
 first_due now (k ∷ ks) s =
     take_while-cons (λ x. nat_le x.0 now) k ks
     ∙ elim (bool_cases (nat_le k.0 now)) [
-      inl due ↦ rw due (ap (λ rest. k ∷ rest) (first_due now ks s.1))
-    | inr late ↦ rw late (sym (all_after now k ks s.0 late)) ]
+      | inl due ↦ rw due (ap (λ rest. k ∷ rest) (first_due now ks s.1))
+      | inr late ↦ rw late (sym (all_after now k ks s.0 late))
+    ]
 
 record DuePair (now q : ℕ) (ks : List (ℕ × ℕ)) : Type 0 where
   due : ℕ
@@ -255,59 +270,67 @@ pair_from_any : (now q : ℕ) (ks : List (ℕ × ℕ)) → list_any (is_at (nat_
 pair_from_any now q [] h = absurd (cc)
 pair_from_any now q (k ∷ ks) h =
     let later : DuePair now q ks → DuePair now q (k ∷ ks) = λ p. record {
-      due = p.due; by_now = p.by_now;
-      has = ap (λ b. is_at (pair_cmp (p.due, q)) k || b) p.has ∙ or_true (is_at (pair_cmp (p.due, q)) k) } in
+      due = p.due;
+      by_now = p.by_now;
+      has = ap (λ b. is_at (pair_cmp (p.due, q)) k || b) p.has ∙ or_true (is_at (pair_cmp (p.due, q)) k);
+    } in
     elim (bool_cases (nat_le k.0 now)) [
-      inl due ↦
-        (let any : (is_at (nat_cmp q) k.1 || list_any (is_at (nat_cmp q)) (ids_by now ks)) ≡ true =
-            ap (λ b. list_any (is_at (nat_cmp q)) (map (λ (x : ℕ × ℕ). x.1) (cond b (k ∷ filter (λ x. nat_le x.0 now) ks) (filter (λ x. nat_le x.0 now) ks)))) (sym due) ∙ h in
-        elim (bool_cases (is_at (nat_cmp q) k.1)) [
-          inl here ↦ record { due = k.0; by_now = due; has = ap (λ b. b || has_pair ks k.0 q) (pair_here q k here) }
-        | inr apart ↦ later (pair_from_any now q ks (ap (λ b. b || list_any (is_at (nat_cmp q)) (ids_by now ks)) (sym apart) ∙ any)) ])
-    | inr late ↦ later (pair_from_any now q ks
-        (ap (λ b. list_any (is_at (nat_cmp q)) (map (λ (x : ℕ × ℕ). x.1) (cond b (k ∷ filter (λ x. nat_le x.0 now) ks) (filter (λ x. nat_le x.0 now) ks)))) (sym late) ∙ h)) ]
+      | inl due ↦
+          (let any : (is_at (nat_cmp q) k.1 || list_any (is_at (nat_cmp q)) (ids_by now ks)) ≡ true =
+          ap (λ b. list_any (is_at (nat_cmp q)) (map (λ (x : ℕ × ℕ). x.1) (cond b (k ∷ filter (λ x. nat_le x.0 now) ks) (filter (λ x. nat_le x.0 now) ks)))) (sym due) ∙ h in
+          elim (bool_cases (is_at (nat_cmp q) k.1)) [
+            | inl here ↦ record { due = k.0; by_now = due; has = ap (λ b. b || has_pair ks k.0 q) (pair_here q k here) }
+            | inr apart ↦ later (pair_from_any now q ks (ap (λ b. b || list_any (is_at (nat_cmp q)) (ids_by now ks)) (sym apart) ∙ any))
+          ])
+      | inr late ↦ later (pair_from_any now q ks
+          (ap (λ b. list_any (is_at (nat_cmp q)) (map (λ (x : ℕ × ℕ). x.1) (cond b (k ∷ filter (λ x. nat_le x.0 now) ks) (filter (λ x. nat_le x.0 now) ks)))) (sym late) ∙ h))
+    ]
 
 pair_is : (d q : ℕ) (k : ℕ × ℕ) → is_at (pair_cmp (d, q)) k ≡ true → (d ≡ k.0) × (q ≡ k.1)
 pair_is d q k h =
     let both : (eqb d k.0 && eqb q k.1) ≡ true = sym (pair-at d q k.0 k.1) ∙ h in
     elim (bool_cases (eqb d k.0)) [
-      inl first ↦ (eqb-true d k.0 first, eqb-true q k.1 (ap (λ b. b && eqb q k.1) (sym first) ∙ both))
-    | inr apart ↦ absurd (let no : (eqb d k.0 && eqb q k.1) ≡ false = ap (λ b. b && eqb q k.1) apart in cc) ]
+      | inl first ↦ (eqb-true d k.0 first, eqb-true q k.1 (ap (λ b. b && eqb q k.1) (sym first) ∙ both))
+      | inr apart ↦ absurd (let no : (eqb d k.0 && eqb q k.1) ≡ false = ap (λ b. b && eqb q k.1) apart in cc)
+    ]
 
 any_from_pair : (now q d : ℕ) (ks : List (ℕ × ℕ)) → has_pair ks d q ≡ true → nat_le d now ≡ true
     → list_any (is_at (nat_cmp q)) (ids_by now ks) ≡ true
 any_from_pair now q d [] h due = absurd (cc)
 any_from_pair now q d (k ∷ ks) h due =
     elim (bool_cases (is_at (pair_cmp (d, q)) k)) [
-      inl here ↦
-        (let is : (d ≡ k.0) × (q ≡ k.1) = pair_is d q k here in
-         let by : nat_le k.0 now ≡ true = ap (λ x. nat_le x now) (sym is.0) ∙ due in
-         let at : is_at (nat_cmp q) k.1 ≡ true = rw (sym is.1) (at-same q) in
-         rw (by, at) refl)
-    | inr apart ↦
-        (let rest : list_any (is_at (nat_cmp q)) (ids_by now ks) ≡ true =
-            any_from_pair now q d ks (ap (λ b. b || has_pair ks d q) (sym apart) ∙ h) due in
-         elim (nat_le k.0 now) as (λ b. list_any (is_at (nat_cmp q)) (map (λ (x : ℕ × ℕ). x.1) (cond b (k ∷ filter (λ x. nat_le x.0 now) ks) (filter (λ x. nat_le x.0 now) ks))) ≡ true)
-         [ true ↦ rw rest (or_true (is_at (nat_cmp q) k.1)) | false ↦ rest ]) ]
+      | inl here ↦
+          (let is : (d ≡ k.0) × (q ≡ k.1) = pair_is d q k here in
+          let by : nat_le k.0 now ≡ true = ap (λ x. nat_le x now) (sym is.0) ∙ due in
+          let at : is_at (nat_cmp q) k.1 ≡ true = rw (sym is.1) (at-same q) in
+          rw (by, at) refl)
+      | inr apart ↦
+          (let rest : list_any (is_at (nat_cmp q)) (ids_by now ks) ≡ true =
+          any_from_pair now q d ks (ap (λ b. b || has_pair ks d q) (sym apart) ∙ h) due in
+          elim (nat_le k.0 now) as (λ b. list_any (is_at (nat_cmp q)) (map (λ (x : ℕ × ℕ). x.1) (cond b (k ∷ filter (λ x. nat_le x.0 now) ks) (filter (λ x. nat_le x.0 now) ks))) ≡ true)
+          [ true ↦ rw rest (or_true (is_at (nat_cmp q) k.1)) | false ↦ rest ])
+    ]
 
 due_by_moment : (now q : ℕ) (queue ks : List (ℕ × ℕ)) (known : Option ℕ) → IsTied queue ks → moment_at q queue ≡ known
     → list_any (is_at (nat_cmp q)) (ids_by now ks) ≡ is_by now known
 due_by_moment now q queue ks known tied is =
     elim (bool_cases (list_any (is_at (nat_cmp q)) (ids_by now ks))) [
-      inl any ↦
-        (let p : DuePair now q ks = pair_from_any now q ks any in
-         let has : known ≡ Some p.due = sym is ∙ moment-is p.due (moment_at q queue) (sym (tied p.due q) ∙ p.has) in
-         any ∙ sym (ap (is_by now) has ∙ p.by_now))
-    | inr none ↦ none ∙ sym (not_by now q queue ks known tied is none) ]
+      | inl any ↦
+          (let p : DuePair now q ks = pair_from_any now q ks any in
+          let has : known ≡ Some p.due = sym is ∙ moment-is p.due (moment_at q queue) (sym (tied p.due q) ∙ p.has) in
+          any ∙ sym (ap (is_by now) has ∙ p.by_now))
+      | inr none ↦ none ∙ sym (not_by now q queue ks known tied is none)
+    ]
   where
-  not_by : (now q : ℕ) (queue ks : List (ℕ × ℕ)) (known : Option ℕ) → IsTied queue ks → moment_at q queue ≡ known
-      → list_any (is_at (nat_cmp q)) (ids_by now ks) ≡ false → is_by now known ≡ false
-  not_by now q queue ks None tied is none = refl
-  not_by now q queue ks (Some m) tied is none =
-      elim (bool_cases (nat_le m now)) [
-        inl due ↦ absurd (let so : list_any (is_at (nat_cmp q)) (ids_by now ks) ≡ true =
-            any_from_pair now q m ks (tied m q ∙ ap (is_moment m) is ∙ eqb-same m) due in cc)
-      | inr late ↦ late ]
+    not_by : (now q : ℕ) (queue ks : List (ℕ × ℕ)) (known : Option ℕ) → IsTied queue ks → moment_at q queue ≡ known
+        → list_any (is_at (nat_cmp q)) (ids_by now ks) ≡ false → is_by now known ≡ false
+    not_by now q queue ks None tied is none = refl
+    not_by now q queue ks (Some m) tied is none =
+        elim (bool_cases (nat_le m now)) [
+          | inl due ↦ absurd (let so : list_any (is_at (nat_cmp q)) (ids_by now ks) ≡ true =
+              any_from_pair now q m ks (tied m q ∙ ap (is_moment m) is ∙ eqb-same m) due in cc)
+          | inr late ↦ late
+        ]
 
 pub ids-are_due : (now q : ℕ) (queue ks : List (ℕ × ℕ)) → IsRising queue → IsTied queue ks
     → list_any (is_at (nat_cmp q)) (ids_by now ks) ≡ list_any (is_at (nat_cmp q)) (due_ids now queue)

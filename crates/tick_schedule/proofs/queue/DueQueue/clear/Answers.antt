@@ -12,7 +12,7 @@ returns-in_default-clause-rest c =
 pub invariant_of-self-2 : goal.invariant_of-self-2
 invariant_of-self-2 c =
     let tied = cut-tied c.self.inside.moments.entries c.remove.new.self.entries c.self.inside.order.keys c.remove-2.new.self.keys
-        c.in-Some.due c.args.id c.self.invariant.tied (sym c.in-Some.ensures.value) c.remove-2.ensures.updates.0 c.remove.ensures.updates.0 in
+    c.in-Some.due c.args.id c.self.invariant.tied (sym c.in-Some.ensures.value) c.remove-2.ensures.updates.0 c.remove.ensures.updates.0 in
     record {
       rising = c.remove.ensures.ordered;
       tied = tied;

@@ -13,9 +13,9 @@ returns-then-not-is_due-clause-later g c = sym (none-later c.args.now c.args.sel
 pub returns-clause-rising : goal.returns-clause-rising
 returns-clause-rising g c =
     let later =
-      c.clear_all.ensures
-      ∙ ap (λ ids. filter (λ entry. not (list_any (is_at (nat_cmp entry.0)) ids)) c.args.self.now) c.in_ok-ids.ensures
-      ∙ later-left c.args.now c.args.self.now c.is_due.ensures.rising in
+    c.clear_all.ensures
+    ∙ ap (λ ids. filter (λ entry. not (list_any (is_at (nat_cmp entry.0)) ids)) c.args.self.now) c.in_ok-ids.ensures
+    ∙ later-left c.args.now c.args.self.now c.is_due.ensures.rising in
     let P : List (ℕ × ℕ) → Type 0 = IsRising in
     subst P (sym later) (rising_some (λ entry. not (nat_le entry.1 c.args.now)) c.args.self.now c.is_due.ensures.rising)
 
