@@ -1,0 +1,2 @@
+pub mod QuotingLemmas
+pub mod JoiningLemmas

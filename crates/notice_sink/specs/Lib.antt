@@ -1,0 +1,3 @@
+pub mod Quoting
+pub mod Joining
+pub mod Lines

@@ -1,0 +1,128 @@
+ghost use Rattle.std.specs.Prelude.{◌≡◌, ◌+◌, ◌<◌, ◌≤◌, ◌++◌, length, min, OnOk, OnErr};
+ghost use Rattle.std.specs.Option.{option_map};
+ghost use Rattle.ports.specs.Counts.{Rose, greatest};
+ghost use Rattle.ports.specs.Writing.{Got, GotFront};
+ghost use Rattle.notice_sink.specs.Lines.{notice_line};
+ghost use Rattle.notice_sink.specs.Quoting.{Grew};
+ghost use Rattle.notice_sink.specs.declared.notice.LineFault.TheVariants.{Memory as out_of_memory};
+
+use crate::item::put_item;
+use crate::quoting::put_quoted;
+use ev_types::{Blob, Memory, Notice};
+use itoa::Buffer;
+use ports::Sink;
+use std::alloc::Global;
+use std::mem;
+use thiserror::Error;
+
+/// Why the line of a notice was not written.
+#[derive(Clone, Copy, Debug, PartialEq, Eq, Error)]
+pub enum LineFault {
+    /// The sink failed. It may have got a prefix of the line.
+    #[error("a notice line could not be written")]
+    SinkFault,
+    /// Out of memory. The sink is as before.
+    #[error("out of memory")]
+    Memory,
+}
+
+impl From<Memory> for LineFault {
+    ghost from_gives = { λ _ fault. fault ≡ out_of_memory };
+
+    fn from(_memory: Memory) -> LineFault {
+        LineFault::Memory
+    }
+}
+
+/// Writes notices as lines, one put each. Its buffer is used again for each line.
+#[derive(Drop)]
+pub struct NoticeWriter {
+    line: Blob,
+}
+
+impl NoticeWriter {
+    /// A writer with an empty buffer. It takes no memory.
+    pub fn fresh(alloc: Global) -> NoticeWriter {
+        NoticeWriter {
+            line: Blob::fresh(alloc),
+        }
+    }
+
+    /// Writes the line of the notice to the sink, in one put.
+    #[tactic(auto, using(crate::proofs::JoiningLemmas::line_is_some))]
+    pub fn write<O: Sink>(
+        &mut self,
+        alloc: Global,
+        notice: &Notice,
+        sink: &mut O,
+    ) -> Result<(), LineFault>
+        ensures ok { OnOk result (Got (O.text sink.old) (notice_line notice.now) (O.text sink.new)) }
+        ensures counted { OnOk result (O.puts sink.new ≡ option_map (λ n. min (n + 1) greatest) (O.puts sink.old)) }
+        ensures no_fault { OnOk result (O.faults sink.new ≡ O.faults sink.old) }
+        ensures front { result ≡ Err LineFault.SinkFault
+            → GotFront (O.text sink.old) (notice_line notice.now) (O.text sink.new) }
+        ensures uncounted { result ≡ Err LineFault.SinkFault → O.puts sink.new ≡ O.puts sink.old }
+        ensures fault { result ≡ Err LineFault.SinkFault → Rose (O.faults sink.old) (O.faults sink.new) }
+        ensures memory { result ≡ Err LineFault.Memory → sink.new ≡ sink.old }
+        ensures faults { O.faults sink.old ≤ O.faults sink.new }
+    {
+        let mut line = mem::replace(&mut self.line, Blob::fresh(alloc)).into_vec();
+        line.clear();
+        self.line = Blob::from_vec(line);
+        put_line(alloc, notice, &mut self.line)?;
+        put_whole(self.line.as_slice(), sink)?;
+        Ok(())
+    }
+}
+
+/// Appends the line of the notice.
+#[tactic(auto, using(crate::proofs::JoiningLemmas::line_written))]
+fn put_line(alloc: Global, notice: &Notice, out: &mut Blob) -> Result<(), Memory>
+    ensures ok { OnOk result (out.new ≡ out.old ++ notice_line notice.now) }
+    ensures err { OnErr result (Grew out.old out.new) }
+{
+    let mut digits = Buffer::new();
+    out.append(alloc, digits.format(notice.moment).as_bytes())?;
+    out.push(alloc, b' ')?;
+    put_quoted(alloc, &notice.name, out)?;
+    out.push(alloc, b' ')?;
+    put_item(alloc, &notice.item, out)?;
+    out.push(alloc, b'\n')?;
+    Ok(())
+}
+
+/// Puts a line once.
+fn put_whole<O: Sink>(line: &[u8], sink: &mut O) -> Result<(), LineFault>
+    requires { 0 < length line.now }
+    ensures ok { OnOk result (Got (O.text sink.old) line.now (O.text sink.new)) }
+    ensures counted { OnOk result (O.puts sink.new ≡ option_map (λ n. min (n + 1) greatest) (O.puts sink.old)) }
+    ensures no_fault { OnOk result (O.faults sink.new ≡ O.faults sink.old) }
+    ensures no_memory { result ≡ Err LineFault.Memory → ⊥ }
+    ensures front { OnErr result (GotFront (O.text sink.old) line.now (O.text sink.new)) }
+    ensures uncounted { OnErr result (O.puts sink.new ≡ O.puts sink.old) }
+    ensures fault { OnErr result (Rose (O.faults sink.old) (O.faults sink.new)) }
+    ensures faults { O.faults sink.old ≤ O.faults sink.new }
+{
+    match sink.put(line) {
+        Ok(()) => Ok(()),
+        Err(_) => Err(LineFault::SinkFault),
+    }
+}
+
+/// Writes the line of the notice to the sink, in one put. [`NoticeWriter`] does the same with a buffer that is used
+/// again.
+pub fn write_notice<O: Sink>(alloc: Global, notice: &Notice, sink: &mut O) -> Result<(), LineFault>
+    ensures ok { OnOk result (Got (O.text sink.old) (notice_line notice.now) (O.text sink.new)) }
+    ensures counted { OnOk result (O.puts sink.new ≡ option_map (λ n. min (n + 1) greatest) (O.puts sink.old)) }
+    ensures no_fault { OnOk result (O.faults sink.new ≡ O.faults sink.old) }
+    ensures front { result ≡ Err LineFault.SinkFault
+        → GotFront (O.text sink.old) (notice_line notice.now) (O.text sink.new) }
+    ensures uncounted { result ≡ Err LineFault.SinkFault → O.puts sink.new ≡ O.puts sink.old }
+    ensures fault { result ≡ Err LineFault.SinkFault → Rose (O.faults sink.old) (O.faults sink.new) }
+    ensures memory { result ≡ Err LineFault.Memory → sink.new ≡ sink.old }
+    ensures faults { O.faults sink.old ≤ O.faults sink.new }
+{
+    let mut writer = NoticeWriter::fresh(alloc);
+    writer.write(alloc, notice, sink)?;
+    Ok(())
+}
