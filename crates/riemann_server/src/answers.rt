@@ -7,8 +7,8 @@ use live_index::LiveIndex;
 use pred_eval::Patterns;
 use std::alloc::Global;
 
-/// The replies so far to the messages of a stream, with the index that they are from and the bytes that are no
-/// whole frame yet.
+/// The replies so far to the messages of a stream of bytes, the index that they are from, and the bytes of the
+/// incomplete frame at the end.
 #[derive(Drop)]
 pub(crate) struct Answers {
     link: FrameLink,
@@ -16,12 +16,12 @@ pub(crate) struct Answers {
     replies: Blob,
 }
 
-/// What comes after the whole frames of a stream.
+/// What comes after the whole frames of a stream of bytes.
 #[derive(Clone, Copy)]
 pub(crate) enum StreamEnd {
     /// More bytes may come.
     Waits,
-    /// A length over the limit stands next, so that nothing more is taken in.
+    /// A length over the limit comes next, so that nothing more is taken in.
     Stops,
 }
 
@@ -40,7 +40,7 @@ impl Answers {
         }
     }
 
-    /// Takes in the bytes that came next, and answers the frames that are whole now.
+    /// Takes in the bytes that came next, and appends the replies to the frames that are whole now.
     pub(crate) fn hear<P: Patterns>(
         &mut self,
         alloc: Global,
@@ -95,7 +95,7 @@ impl Answers {
         }
     }
 
-    /// The replies, and how many bytes are held of no whole frame.
+    /// The replies, and the number of bytes after the last whole frame.
     pub(crate) fn finish(self) -> (Blob, usize)
         ensures replies { result.0 ≡ self.replies }
         ensures left { result.1 ≡ length self.link.bytes }

@@ -11,7 +11,7 @@ pub(crate) enum Command<'a> {
     Check { config: &'a Text },
 }
 
-/// The command of the words, where they are those of one.
+/// The command that matches the words.
 pub(crate) fn command_of<'a>(words: &'a [Text]) -> Option<Command<'a>>
     ensures { MatchOption result (IsUsage words.now) (λ command. IsCommandOf words.now command) }
 {

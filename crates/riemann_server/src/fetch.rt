@@ -10,12 +10,12 @@ use ports::{ReadAnswer, Store};
 use sexp_config::{Config, ConfigFault, ConfigWhy, read_config};
 use std::alloc::Global;
 
-/// Why a configuration could not be had.
+/// Why a configuration was not read.
 #[derive(Clone, Copy)]
 pub(crate) enum FetchFault {
-    /// The text is no configuration, for this cause at the place.
+    /// The text is not a configuration, for this cause at the place.
     Refused { place: usize, why: ConfigWhy },
-    /// Nothing could be read under the name.
+    /// The file could not be read.
     Unread,
     /// The text is longer than a configuration may be.
     TooLong,
@@ -38,7 +38,7 @@ impl FetchFault {
     }
 }
 
-/// Reads the configuration that stands under the name.
+/// Reads the configuration in the file of the name.
 pub(crate) fn fetch_config<S: Store>(
     alloc: Global,
     name: &Text,

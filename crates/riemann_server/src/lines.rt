@@ -122,7 +122,7 @@ fn limit_of(source: Source) -> u64
     }
 }
 
-/// Writes the pieces of a line. A write that fails ends it, and is let go.
+/// Writes the pieces of a line. A write that fails ends the line, and is not reported.
 pub(crate) fn put_line<E: Sink>(err: &mut E, pieces: &[&str])
     ensures { GotLine (sink_state (E.text err.old) (E.faults err.old)) (joined pieces.now)
         (sink_state (E.text err.new) (E.faults err.new)) }

@@ -4,7 +4,7 @@ ghost use Rattle.riemann_server.specs.Outcome.{status_of};
 use crate::Status;
 use sexp_config::ConfigWhy;
 
-/// How a command ended, with what its line names.
+/// How a command ended, with the values that its line shows.
 #[derive(Clone, Copy)]
 pub(crate) enum Outcome {
     Done,
@@ -19,11 +19,11 @@ pub(crate) enum Outcome {
 /// Why a configuration was refused.
 #[derive(Clone, Copy)]
 pub(crate) enum ConfigRefusal {
-    /// The text is none, for this cause at the place.
+    /// The text is not a configuration, for this cause at the place.
     Refused { place: usize, why: ConfigWhy },
     /// The pattern of this number was refused.
     Pattern { number: u32 },
-    /// The command can't run it yet.
+    /// The command cannot run it yet.
     NotBuilt,
 }
 

@@ -25,14 +25,14 @@ options:
   --version         write the version
 ";
 
-/// Why the words of the command line could not be had.
+/// Why the words of the command line could not be read.
 pub(crate) enum WordsFault {
-    /// One of them is no text.
+    /// One of them is not UTF-8.
     NoText,
     Memory,
 }
 
-/// The words of the command line behind the program's name.
+/// The words of the command line after the program's name.
 pub(crate) fn words<R: Env + AllocGlobal>(rt: &R) -> Result<Vec<Text>, WordsFault> {
     let all = env::args(rt).map_err(fault_of)?;
     let mut words = Vec::new(rt.alloc());
@@ -78,7 +78,7 @@ pub(crate) fn run<S: Store, O: Sink, E: Sink, P: Patterns>(
     }
 }
 
-/// Writes a text that was asked for.
+/// Writes the text of `--help` or `--version`.
 fn put_text<O: Sink>(out: &mut O, text: &str) -> Status
     requires { 0 < length text.now }
     ensures done { result ≡ Status.Done → Got (O.text out.old) text.now (O.text out.new) }

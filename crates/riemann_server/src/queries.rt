@@ -91,7 +91,7 @@ fn answer_rule<P: Patterns>(
     }
 }
 
-/// Appends a reply with the events of the index that meet the predicate.
+/// Appends a reply with the live events that meet the predicate, or says that the reply would be over the limit.
 #[tactic(auto, using(crate::proofs::ReplyLaws::limited_within, crate::proofs::ReplyLaws::limited_over, crate::proofs::ReplyLaws::over_limit_length))]
 fn put_found(
     alloc: Global,
@@ -122,7 +122,7 @@ fn over_limit(alloc: Global, size: usize) -> Result<String, AllocError>
     format!(in alloc; "reply of {size} bytes over 4194304")
 }
 
-/// Appends a reply that the query is refused for this fault, unless that is out of memory.
+/// Appends a reply that the query is refused for this fault, unless the fault is out of memory.
 #[tactic(auto, using(crate::proofs::ReplyLaws::query_refusal_length))]
 fn refuse_query(alloc: Global, fault: QueryFault, replies: &mut Blob) -> Result<(), Memory>
     ensures memory { OnOk result (fault ≢ QueryFault.Memory) }

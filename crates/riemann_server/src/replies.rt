@@ -86,7 +86,7 @@ pub(crate) fn refuse(alloc: Global, reason: &str, replies: &mut Blob) -> Result<
     put_frame(alloc, &msg, size, replies)
 }
 
-/// Appends a message whose spelling has this many bytes, in a frame.
+/// Appends a message in a frame. `size` is the number of bytes of its spelling.
 #[tactic(auto, unfolding(crate::specs::Replies::framed))]
 pub(crate) fn put_frame(
     alloc: Global,

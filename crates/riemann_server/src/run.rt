@@ -13,7 +13,7 @@ use ports::Sink;
 use pred_eval::Patterns;
 use std::alloc::Global;
 
-/// The most bytes that are taken in at a time.
+/// The greatest number of bytes that are taken in at a time.
 const PIECE: usize = 65_536;
 
 /// Answers the messages in the bytes, and writes the replies.
@@ -38,7 +38,7 @@ pub(crate) fn run<O: Sink, P: Patterns>(
     }
 }
 
-/// Writes the replies, and says how the run ended with this many bytes left of no whole frame.
+/// Writes the replies, and says how the run ended with `left` bytes after the last whole frame.
 fn put_replies<O: Sink>(replies: &[u8], left: usize, out: &mut O) -> Outcome
     ensures puts { Puts replies.now left (O.text out.old) (O.text out.new) result }
     ensures sink_fault { status_of result ≡ Status.SinkFault →
@@ -55,7 +55,7 @@ fn put_replies<O: Sink>(replies: &[u8], left: usize, out: &mut O) -> Outcome
     }
 }
 
-/// The replies to all messages in the bytes, and how many bytes are left of no whole frame.
+/// The replies to all messages in the bytes, and the number of bytes after the last whole frame.
 fn answer_all<P: Patterns>(
     alloc: Global,
     bytes: &[u8],

@@ -22,10 +22,10 @@ use ports::{Sink, Store};
 use pred_eval::Patterns;
 use std::alloc::Global;
 
-/// The most bytes that a configuration may have.
+/// The greatest number of bytes of a configuration.
 pub const CONFIG_LIMIT: u64 = 1_048_576;
 
-/// The most bytes that a fed file may have.
+/// The greatest number of bytes of a file that is fed.
 pub const FILE_LIMIT: u64 = 67_108_864;
 
 pub(crate) const USAGE: &str =
@@ -33,11 +33,13 @@ pub(crate) const USAGE: &str =
 
 /// Carries out the command that the words name, and says how it ended.
 ///
-/// `feed CONFIG FILE` answers the messages in a file: it decodes the frames, enters their events into an index, and
+/// `feed CONFIG FILE` answers the messages in a file. It reads the frames, enters their events into an index, and
 /// writes the reply to each message, in order, to `out`. The configuration has to be that of an index alone, as
 /// `(streams index)`. `check CONFIG` reads a configuration, builds its regular expressions, and writes its canonical
-/// text to `out`. The regular expressions are built by `patterns`. A status other than `Done` and `SinkFault` has a line
-/// on `err`, which is cut where a write to `err` fails.
+/// text to `out`.
+///
+/// The regular expressions are built by `patterns`. A status other than `Done` and `SinkFault` has a line on `err`,
+/// which is cut where a write to `err` fails.
 pub fn riemann<S: Store, O: Sink, E: Sink, P: Patterns>(
     alloc: Global,
     words: &[Text],
@@ -46,7 +48,7 @@ pub fn riemann<S: Store, O: Sink, E: Sink, P: Patterns>(
     err: &mut E,
     patterns: &mut P,
 ) -> Status
-    // The words are those of no command exactly where the status says so, and then nothing is read or answered.
+    // No command matches the words exactly where the status says so. Then nothing is read or written to `out`.
     ensures usage { (result ≡ Status.Usage) ↔ IsUsage words.now }
     ensures command { result ≢ Status.Usage → IsCommand words.now }
     ensures idle { result ≡ Status.Usage → (store.new ≡ store.old) ×
@@ -54,7 +56,7 @@ pub fn riemann<S: Store, O: Sink, E: Sink, P: Patterns>(
         × GotLine (sink_state (E.text err.old) (E.faults err.old)) usage_line
         (sink_state (E.text err.new) (E.faults err.new)) }
 
-    // What `feed` answers, and what each status says of its files.
+    // What `feed` writes, and what each status says of its files.
     ensures answers { OnFeed words.now (λ config file. IsAnswered (S.held store.old file) result
         (patterns_state (P.refusals patterns.old) (P.refused patterns.old))
         (patterns_state (P.refusals patterns.new) (P.refused patterns.new))
@@ -96,7 +98,7 @@ pub fn riemann<S: Store, O: Sink, E: Sink, P: Patterns>(
     ensures quiet { HasEnded result → (S.faults store.new ≡ S.faults store.old) ×
         (O.faults out.new ≡ O.faults out.old) }
 
-    // With files within their limits and no fault counted the run goes to its end, or memory is wanted.
+    // With files within their limits and no fault counted, the run comes to its end or is out of memory.
     ensures complete { OnFeed words.now (λ config file. (text : List ℕ) (bytes : List ℕ)
         → IsHeld (S.held store.old config) text → IsPlainText text →
         IsHeld (S.held store.old file) bytes

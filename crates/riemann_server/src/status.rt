@@ -5,17 +5,17 @@ ghost use Rattle.std.specs.Prelude.{◌≡◌};
 pub enum Status {
     /// The command was carried out.
     Done,
-    /// The words are those of no command.
+    /// No command matches the words.
     Usage,
     /// The configuration was refused.
     Config,
     /// A file could not be read.
     ReadFault,
-    /// A write failed.
+    /// A write to standard output failed.
     SinkFault,
-    /// There was no memory left.
+    /// Out of memory.
     Memory,
-    /// The fed file ends with bytes of no whole frame.
+    /// The file that was fed ends with an incomplete frame.
     Truncated,
     /// A file is longer than its limit.
     TooLong,

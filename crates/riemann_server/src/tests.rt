@@ -120,7 +120,7 @@ fn are_texts(texts: &[Text], wanted: &[&str]) -> bool {
     true
 }
 
-/// So many bytes, each the same.
+/// `count` bytes, each the same.
 fn filled<R: AllocGlobal>(rt: &R, byte: u8, count: usize) -> Result<Vec<u8>, Fail> {
     Ok(vec![in rt.alloc(); byte; count]?)
 }
