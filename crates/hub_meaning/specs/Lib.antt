@@ -6,3 +6,4 @@ pub mod Links
 pub mod Runs
 pub mod Legal
 pub mod Laws
+pub mod Examples
