@@ -1,0 +1,203 @@
+-- How a message is answered, put together from its steps.
+use Rattle.std.proofs.Common.{◌≡◌, ◌≢◌, ℕ, ◌+◌, ◌<◌, ◌≤◌, Bool, true, false, cond, List, [], ◌∷◌, ◌++◌, length, map, refl, ap, sym, ◌∙◌, subst, arith, append-nil, append_assoc}
+use Rattle.std.proofs.lemmas.List.{map-append}
+use Rattle.std.specs.Prelude.{Option, Some, None, Result, Ok, Err, OnOk, OnErr, option_and_then}
+use Rattle.ev_types.specs.declared.event.Event.{Event}
+use Rattle.event_core.specs.declared.arrivals.Core.{Core}
+use Rattle.event_core.specs.Core.{Heard, Represents, Setting, now_of, notices_by, setting_of, state_by}
+use Rattle.index_log.specs.Live.{IndexLog}
+use Rattle.list_laws.specs.declared.memory.Memory.{Memory}
+use Rattle.pred_eval.specs.Tree.{Tree}
+use Rattle.query_lang.specs.declared.fault.QueryFault.{QueryFault}
+use Rattle.query_lang.specs.declared.fault.QueryFault.TheVariants.{TooLong, Refused as QueryRefused, TooDeep, Memory as NoMemory}
+use Rattle.query_lang.specs.Answer.{query_of}
+use Rattle.query_lang.specs.Queries.{Says}
+use Rattle.riemann_msg.specs.declared.fault.MsgWhy.{MsgWhy}
+use Rattle.riemann_msg.specs.declared.msg.Msg.{Msg}
+use Rattle.riemann_msg.specs.declared.msg.QueryPart.{QueryPart}
+use Rattle.riemann_msg.specs.Fault.{Fault, fault_at, first_fault}
+use Rattle.riemann_msg.specs.Value.{message_of}
+use Rattle.stream_meaning.specs.Arrivals.{Arrival, Post}
+use Rattle.hub_meaning.specs.Messages.{events_of, posts_of, reading_of, rule_of, rule_of_query, rule_read}
+use Rattle.hub_meaning.specs.Replies.{answer_to_query, answer_to_text, framed, message_refusal, query_refusal, refused, reply_to}
+use Rattle.hub_meaning.specs.Verdicts.{PatternsState, Refusal, built_rule, is_busy}
+use Rattle.conn_core.specs.Arriving.{Arrives, Told, told}
+use Rattle.conn_core.specs.Answering.{AfterVerdict, AnswersMessage, AnswersQuery, Replies, asked_of}
+use Rattle.conn_core.proofs.VerdictLaws.{no_verdict}
+
+pub on_ok : {T E : Type 0} {P Q : Type 0} (r : Result T E) → (P → Q) → OnOk r P → OnOk r Q
+on_ok (Ok x) f p = f p
+on_ok (Err e) f p = tt
+
+pub on_error : {T E P : Type 0} (r : Result T E) → P → OnErr r P
+on_error (Ok x) fact = tt
+on_error (Err e) fact = fact
+
+-- ---- arrivals, one after another
+
+pub heard_nothing : (setting : Setting) (arrivals : List Arrival) (old : Told) → Heard setting arrivals [] old.notices old.forks old.notices old.forks
+heard_nothing setting arrivals old = record {
+  made = [];
+  told = sym (append-nil old.notices);
+  notices = ap (notices_by setting) (append-nil arrivals) ∙ sym (append-nil (notices_by setting arrivals));
+  forks = rw (append-nil arrivals) refl;
+}
+
+pub heard_then : (setting : Setting) (arrivals first second : List Arrival) (a b c : Told)
+    → Heard setting arrivals first a.notices a.forks b.notices b.forks → Heard setting (arrivals ++ first) second b.notices b.forks c.notices c.forks
+    → Heard setting arrivals (first ++ second) a.notices a.forks c.notices c.forks
+heard_then setting arrivals first second a b c one two =
+    let f = one.forks in
+    let s = rw (append_assoc arrivals first second) at two.forks in
+    record {
+      made = one.made ++ two.made;
+      told = two.told ∙ ap (λ out. out ++ two.made) one.told ∙ append_assoc a.notices one.made two.made;
+      notices = ap (notices_by setting) (sym (append_assoc arrivals first second)) ∙ two.notices ∙ ap (λ out. out ++ two.made) one.notices
+          ∙ append_assoc (notices_by setting arrivals) one.made two.made;
+      forks = omega arith;
+    }
+
+pub arrives_nothing : (core : Core) (arrivals : List Arrival) (old : Told) → Represents core arrivals → Arrives core core arrivals [] old old
+arrives_nothing core arrivals old stands = record { represents = rw (append-nil arrivals) stands; setting = refl; heard = heard_nothing (setting_of core) arrivals old }
+
+pub arrives_then : (one two three : Core) (arrivals first second : List Arrival) (a b c : Told)
+    → Arrives one two arrivals first a b → Arrives two three (arrivals ++ first) second b c → Arrives one three arrivals (first ++ second) a c
+arrives_then one two three arrivals first second a b c x y = record {
+  represents = rw (← append_assoc arrivals first second) y.represents;
+  setting = y.setting ∙ x.setting;
+  heard = heard_then (setting_of one) arrivals first second a b c x.heard
+      (subst (λ setting. Heard setting (arrivals ++ first) second b.notices b.forks c.notices c.forks) x.setting y.heard);
+}
+
+-- ---- what a body is read as
+
+reading_accepted : (now : ℕ) (body : List ℕ) (msg : Msg) → first_fault body ≡ None → msg ≡ message_of now body → reading_of now body ≡ Ok msg
+unfolding reading_of
+reading_accepted now body msg sound is = rw (sound, is) refl
+
+reading_refused : (now : ℕ) (body : List ℕ) (fault : Fault) → first_fault body ≡ Some fault → reading_of now body ≡ Err fault
+unfolding reading_of
+reading_refused now body fault found = rw found refl
+
+built_accepted : (busy : Bool) (now : ℕ) (body : List ℕ) (msg : Msg) → reading_of now body ≡ Ok msg
+    → cond busy None (rule_of now body) ≡ cond busy None (option_and_then rule_of_query msg.query)
+unfolding rule_of
+built_accepted true now body msg is = refl
+built_accepted false now body msg is = rw is refl
+
+posts_accepted : (now : ℕ) (body : List ℕ) (msg : Msg) → reading_of now body ≡ Ok msg → posts_of now body ≡ map Post msg.events
+unfolding posts_of
+posts_accepted now body msg is = rw is refl
+
+posts_refused : (now : ℕ) (body : List ℕ) (fault : Fault) → reading_of now body ≡ Err fault → posts_of now body ≡ []
+unfolding posts_of
+posts_refused now body fault is = rw is refl
+
+reply_accepted : (now unsent : ℕ) (log : IndexLog) (body : List ℕ) (msg : Msg) (refusal : Option Refusal) → reading_of now body ≡ Ok msg
+    → reply_to now log unsent (record { body = body; refusal = refusal }) ≡ framed (answer_to_query log unsent refusal msg.query)
+unfolding reply_to
+reply_accepted now unsent log body msg refusal is = rw is refl
+
+reply_refused : (now unsent : ℕ) (log : IndexLog) (body : List ℕ) (fault : Fault) (refusal : Option Refusal) → reading_of now body ≡ Err fault
+    → reply_to now log unsent (record { body = body; refusal = refusal }) ≡ framed (refused (message_refusal fault.place fault.why))
+unfolding reply_to
+reply_refused now unsent log body fault refusal is = rw is refl
+
+-- ---- a message
+
+pub answers_accepted : (body : List ℕ) (unsent : ℕ) (msg : Msg) (core posted asked : Core) (patterns patterns' : PatternsState) (replies replies' : List ℕ) (old new : Told) (result : Result (Unit {0}) Memory)
+    → (first_fault body ≡ None) × (msg ≡ message_of (now_of core) body) → now_of posted ≡ now_of core → asked ≡ posted
+    → ((arrivals : List Arrival) → Represents core arrivals → Arrives core posted arrivals (map Post msg.events) old new)
+    → AnswersQuery (asked_of unsent msg.query) posted patterns patterns' replies replies' (λ log refusal. answer_to_query log unsent refusal msg.query) result
+    → AnswersMessage body unsent core asked patterns patterns' replies replies' old new result
+answers_accepted body unsent msg core posted asked patterns patterns' replies replies' old new result read now same arrives query =
+    let is : reading_of (now_of core) body ≡ Ok msg = reading_accepted (now_of core) body msg read.0 read.1 in
+    let posts = posts_accepted (now_of core) body msg is in
+    record {
+      refusal = query.refusal;
+      verdict = subst (λ (rule : Option Tree). AfterVerdict rule query.refusal patterns patterns') (sym (built_accepted (is_busy unsent) (now_of core) body msg is)) query.verdict;
+      answered = on_ok result (λ answered arrivals stands. let comes = arrives arrivals stands in record {
+        arrives = rw (posts, same) comes;
+        now = ap now_of same ∙ now;
+        reply = rw (posts, reply_accepted (now_of core) unsent (state_by (setting_of core) (arrivals ++ map Post msg.events)).log body msg query.refusal is)
+            (subst (λ (setting : Setting). replies' ≡ replies ++ framed (answer_to_query (state_by setting (arrivals ++ map Post msg.events)).log unsent query.refusal msg.query)) comes.setting
+            (answered (arrivals ++ map Post msg.events) comes.represents));
+      }) query.answered;
+    }
+
+-- out of memory when the query of a message was answered
+pub answers_failed : (body : List ℕ) (unsent : ℕ) (msg : Msg) (core posted asked : Core) (patterns patterns' : PatternsState) (replies replies' : List ℕ) (old new : Told) (result : Result (Unit {0}) Memory) (memory : Memory)
+    → (first_fault body ≡ None) × (msg ≡ message_of (now_of core) body)
+    → AnswersQuery (asked_of unsent msg.query) posted patterns patterns' replies replies' (λ log refusal. answer_to_query log unsent refusal msg.query) result
+    → AnswersMessage body unsent core asked patterns patterns' replies replies' old new (Err memory)
+answers_failed body unsent msg core posted asked patterns patterns' replies replies' old new result memory read query =
+    let is : reading_of (now_of core) body ≡ Ok msg = reading_accepted (now_of core) body msg read.0 read.1 in
+    record {
+      refusal = query.refusal;
+      verdict = subst (λ (rule : Option Tree). AfterVerdict rule query.refusal patterns patterns') (sym (built_accepted (is_busy unsent) (now_of core) body msg is)) query.verdict;
+      answered = tt;
+    }
+
+pub answers_refused : (body : List ℕ) (unsent : ℕ) (core : Core) (patterns : PatternsState) (replies replies' : List ℕ) (place : ℕ) (why : MsgWhy) (old : Told) (result : Result (Unit {0}) Memory)
+    → first_fault body ≡ Some (fault_at place why) → OnOk result (replies' ≡ replies ++ framed (refused (message_refusal place why)))
+    → AnswersMessage body unsent core core patterns patterns replies replies' old old result
+answers_refused body unsent core patterns replies replies' place why old result read step =
+    let is : reading_of (now_of core) body ≡ Err (fault_at place why) = reading_refused (now_of core) body (fault_at place why) read in
+    let posts = posts_refused (now_of core) body (fault_at place why) is in
+    record {
+      refusal = None;
+      verdict = no_verdict (built_rule (now_of core) unsent body) patterns;
+      answered = on_ok result (λ wrote arrivals stands. record {
+        arrives = rw posts (arrives_nothing core arrivals old stands);
+        now = refl;
+        reply = wrote ∙ ap (λ more. replies ++ more) (sym (reply_refused (now_of core) unsent (state_by (setting_of core) (arrivals ++ posts_of (now_of core) body)).log body (fault_at place why) None is));
+      }) step;
+    }
+
+-- out of memory before anything was said of the message
+pub answers_nothing : (body : List ℕ) (unsent : ℕ) (core core' : Core) (patterns : PatternsState) (replies replies' : List ℕ) (old new : Told) (memory : Memory)
+    → AnswersMessage body unsent core core' patterns patterns replies replies' old new (Err memory)
+answers_nothing body unsent core core' patterns replies replies' old new memory = record {
+  refusal = None;
+  verdict = no_verdict (built_rule (now_of core) unsent body) patterns;
+  answered = tt;
+}
+
+-- ---- a query
+
+says_fault : (fault : QueryFault) (answer : Result Tree QueryFault) → fault ≢ NoMemory → Says (Err fault) answer → answer ≡ Err fault
+says_fault (TooLong size) answer other says = says
+says_fault (QueryRefused place) answer other says = says
+says_fault (TooDeep place) answer other says = says
+says_fault NoMemory answer other says = absurd (other refl)
+
+-- a text that is not a query is refused
+pub answers_fault : (text : List ℕ) (fault : QueryFault) (core : Core) (patterns : PatternsState) (replies replies' : List ℕ) (result : Result (Unit {0}) Memory)
+    → Says (Err fault) (query_of text) → OnOk result (fault ≢ NoMemory) → OnOk result (replies' ≡ replies ++ framed (refused (query_refusal fault)))
+    → AnswersQuery (rule_read (query_of text)) core patterns patterns replies replies' (λ log refusal. answer_to_text log refusal (query_of text)) result
+answers_fault text fault core patterns replies replies' (Ok done) says other wrote = record {
+  refusal = None;
+  verdict = no_verdict (rule_read (query_of text)) patterns;
+  answered = λ arrivals stands. rw (says_fault fault (query_of text) other says) wrote;
+}
+answers_fault text fault core patterns replies replies' (Err memory) says other wrote = record {
+  refusal = None;
+  verdict = no_verdict (rule_read (query_of text)) patterns;
+  answered = tt;
+}
+
+-- one event more
+pub posted_more : (one two three : Core) (arrivals : List Arrival) (events : List Event) (event : Event) (a b c : Told)
+    → setting_of three ≡ setting_of two
+    → ((before : List Arrival) → Represents two before → Represents three (before ++ Post event ∷ []))
+    → ((before : List Arrival) → Represents two before → Heard (setting_of two) before (Post event ∷ []) b.notices b.forks c.notices c.forks)
+    → Arrives one two arrivals (map Post events) a b
+    → Arrives one three arrivals (map Post (events ++ event ∷ [])) a c
+posted_more one two three arrivals events event a b c setting represents heard before =
+    let last : Arrives two three (arrivals ++ map Post events) (Post event ∷ []) b c = record {
+      represents = represents (arrivals ++ map Post events) before.represents;
+      setting = setting;
+      heard = heard (arrivals ++ map Post events) before.represents;
+    } in
+    subst (λ (more : List Arrival). Arrives one three arrivals more a c) (sym (map-append Post events (event ∷ [])))
+    (arrives_then one two three arrivals (map Post events) (Post event ∷ []) a b c before last)

@@ -1,0 +1,16 @@
+use Rattle.std.proofs.Common.{◌≡◌, [], ◌∷◌, ◌++◌, map, refl, sym, ◌∙◌}
+use Rattle.stream_meaning.specs.Arrivals.{Post}
+use Rattle.conn_core.specs.Arriving.{told}
+use Rattle.conn_core.proofs.AnswerLaws.{arrives_nothing, posted_more}
+use Rattle.conn_core.proofs.replies.post_all.Goals as goal
+
+pub loop-event-init : goal.loop-event-init
+loop-event-init g c = (refl, λ arrivals stands. arrives_nothing c.args.core.now arrivals (told c.args.notices.now c.args.steps.now.forks) stands)
+
+pub loop-event-preserved : goal.loop-event-preserved
+loop-event-preserved g c = (
+  c.in_ok-post.ensures.now ∙ c.loop-event.invariant.0,
+  λ arrivals stands. posted_more c.args.core.now c.loop-event.core c.post.new.self arrivals c.loop-event.yielded c.in-Some.event
+      (told c.args.notices.now c.args.steps.now.forks) (told c.loop-event.notices c.loop-event.steps.forks) (told c.post.new.out c.post.new.steps.forks)
+      c.in_ok-post.ensures.setting c.in_ok-post.ensures.represents c.in_ok-post.ensures.heard (c.loop-event.invariant.1 arrivals stands),
+)

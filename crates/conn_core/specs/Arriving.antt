@@ -1,0 +1,20 @@
+-- What arrives at the core, what it gives, and what is counted.
+use Rattle.std.specs.Prelude.{◌≡◌, ℕ, List, ◌++◌}
+use Rattle.ev_types.specs.declared.item.Notice.{Notice}
+use Rattle.event_core.specs.declared.arrivals.Core.{Core}
+use Rattle.event_core.specs.Core.{Heard, Represents, setting_of}
+use Rattle.stream_meaning.specs.Arrivals.{Arrival}
+
+-- what has come of notices and forks so far
+pub record Told : Type 0 where
+  pub notices : List Notice
+  pub forks : ℕ
+
+abbrev pub told : List Notice → ℕ → Told
+told notices forks = record { notices = notices; forks = forks }
+
+-- after these arrivals came more
+pub record Arrives (core core' : Core) (arrivals more : List Arrival) (old new : Told) : Type 0 where
+  pub represents : Represents core' (arrivals ++ more)
+  pub setting : setting_of core' ≡ setting_of core
+  pub heard : Heard (setting_of core) arrivals more old.notices old.forks new.notices new.forks

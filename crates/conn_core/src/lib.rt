@@ -1,0 +1,8 @@
+//! Messages that come to a server, and what they are answered: their events are posted to the core, and their queries are
+//! answered from its index.
+#![tactic(auto)]
+
+mod queries;
+mod replies;
+
+pub use replies::answer;

@@ -1,0 +1,220 @@
+ghost use Rattle.std.specs.Prelude.{◌≡◌, ◌≢◌, ◌^◌, ◌<◌, ◌≤◌, ◌++◌, ◌∷◌, [], false, filter, length, OnOk, IfOk, codes, Some, None, option_and_then, List};
+ghost use Rattle.std.specs.String.{string_bytes};
+ghost use Rattle.event_core.specs.Core.{Represents, now_of, setting_of, state_by};
+ghost use Rattle.hub_meaning.specs.Messages.{query_text, rule_of_query, rule_read};
+ghost use Rattle.hub_meaning.specs.Replies.{answer_to_query, answer_to_rule, answer_to_text, busy, found, framed, limited, over_limit, pattern_refusal, query_refusal, refused};
+ghost use Rattle.hub_meaning.specs.Verdicts.{is_busy, patterns_state};
+ghost use Rattle.pred_eval.specs.Tree.{tree_of};
+ghost use Rattle.pred_eval.specs.Truth.{searches};
+ghost use Rattle.query_lang.specs.Answer.{query_of};
+ghost use Rattle.stream_meaning.specs.Arrivals.{Arrival, matching_events};
+ghost use Rattle.conn_core.specs.Answering.{AnswersQuery, asked_of};
+
+use crate::replies::{accept, put_frame, refuse};
+use ev_types::{Blob, Events, Memory};
+use event_core::Core;
+use framing::BODY_LIMIT;
+use pred_eval::{BuildFault, Patterns, Pred, Rule};
+use query_lang::{QueryFault, read_query};
+use riemann_msg::{Msg, QueryPart, msg_len};
+use std::alloc::{AllocError, Global};
+use step_count::{Ledger, Steps};
+
+/// Appends the reply to the query of a message that was accepted. `unsent` is how many bytes of earlier replies were not
+/// taken.
+pub(crate) fn answer_query<P: Patterns, G: Ledger>(
+    alloc: Global,
+    query: &Option<QueryPart>,
+    unsent: usize,
+    core: &mut Core,
+    patterns: &mut P,
+    replies: &mut Blob,
+    steps: &mut Steps<G>,
+) -> Result<(), Memory>
+    ensures same { OnOk result (core.new ≡ core.old) }
+    ensures forks { steps.new.forks ≡ steps.old.forks }
+    ensures answers { AnswersQuery (asked_of unsent query.now) core.old
+        (patterns_state (P.refusals patterns.old) (P.refused patterns.old)) (patterns_state (P.refusals patterns.new) (P.refused patterns.new))
+        replies.old replies.new (λ log refusal. answer_to_query log unsent refusal query.now) result }
+{
+    match query {
+        Some(query) => answer_part(alloc, query, unsent, core, patterns, replies, steps),
+        None => accept(alloc, replies),
+    }
+}
+
+/// The same of a query that is there: a link with too many unsent bytes is busy.
+fn answer_part<P: Patterns, G: Ledger>(
+    alloc: Global,
+    query: &QueryPart,
+    unsent: usize,
+    core: &mut Core,
+    patterns: &mut P,
+    replies: &mut Blob,
+    steps: &mut Steps<G>,
+) -> Result<(), Memory>
+    ensures same { OnOk result (core.new ≡ core.old) }
+    ensures forks { steps.new.forks ≡ steps.old.forks }
+    ensures answers { AnswersQuery (asked_of unsent (Some query.now)) core.old
+        (patterns_state (P.refusals patterns.old) (P.refused patterns.old)) (patterns_state (P.refusals patterns.new) (P.refused patterns.new))
+        replies.old replies.new (λ log refusal. answer_to_query log unsent refusal (Some query.now)) result }
+{
+    if unsent >= BODY_LIMIT as usize {
+        refuse_busy(alloc, unsent, replies)
+    } else {
+        answer_text(alloc, text_of(query), core, patterns, replies, steps)
+    }
+}
+
+/// The text of a query; an absent one is empty.
+fn text_of(query: &QueryPart) -> &[u8]
+    ensures { result.now ≡ query_text query.now }
+{
+    match &query.string {
+        Some(string) => string.as_bytes(),
+        None => &[],
+    }
+}
+
+fn answer_text<P: Patterns, G: Ledger>(
+    alloc: Global,
+    text: &[u8],
+    core: &mut Core,
+    patterns: &mut P,
+    replies: &mut Blob,
+    steps: &mut Steps<G>,
+) -> Result<(), Memory>
+    ensures same { OnOk result (core.new ≡ core.old) }
+    ensures forks { steps.new.forks ≡ steps.old.forks }
+    ensures answers { AnswersQuery (rule_read (query_of text.now)) core.old
+        (patterns_state (P.refusals patterns.old) (P.refused patterns.old)) (patterns_state (P.refusals patterns.new) (P.refused patterns.new))
+        replies.old replies.new (λ log refusal. answer_to_text log refusal (query_of text.now)) result }
+{
+    match read_query(alloc, text) {
+        Ok(rule) => answer_rule(alloc, rule, core, patterns, replies, steps),
+        Err(fault) => refuse_query(alloc, fault, replies),
+    }
+}
+
+fn answer_rule<P: Patterns, G: Ledger>(
+    alloc: Global,
+    rule: Rule,
+    core: &mut Core,
+    patterns: &mut P,
+    replies: &mut Blob,
+    steps: &mut Steps<G>,
+) -> Result<(), Memory>
+    requires { length (searches (tree_of rule)) < 2 ^ 32 }
+    ensures same { OnOk result (core.new ≡ core.old) }
+    ensures forks { steps.new.forks ≡ steps.old.forks }
+    ensures answers { AnswersQuery (Some (tree_of rule)) core.old
+        (patterns_state (P.refusals patterns.old) (P.refused patterns.old)) (patterns_state (P.refusals patterns.new) (P.refused patterns.new))
+        replies.old replies.new (λ log refusal. answer_to_rule log refusal (tree_of rule)) result }
+{
+    match Pred::build(alloc, rule, patterns) {
+        Ok(mut pred) => put_found(alloc, &mut pred, core, replies, steps),
+        Err(BuildFault::Pattern { number }) => refuse_pattern(alloc, number, replies),
+        Err(BuildFault::Memory) => Err(Memory),
+    }
+}
+
+/// Appends a reply with the live events that meet the predicate.
+fn put_found<G: Ledger>(
+    alloc: Global,
+    pred: &mut Pred,
+    core: &mut Core,
+    replies: &mut Blob,
+    steps: &mut Steps<G>,
+) -> Result<(), Memory>
+    ensures same { OnOk result (core.new ≡ core.old) }
+    ensures forks { steps.new.forks ≡ steps.old.forks }
+    ensures found { OnOk result ((arrivals : List Arrival) → Represents core.old arrivals
+        → replies.new ≡ replies.old ++ framed (limited (found (matching_events pred.old (state_by (setting_of core.old) arrivals).log)))) }
+{
+    let mut events = Events::fresh(alloc);
+    core.search(alloc, pred, &mut events, steps)?;
+    put_limited(alloc, events, replies)?;
+    Ok(())
+}
+
+/// Appends a reply with these events, or that it would be too long.
+#[tactic(auto, using(crate::proofs::Lengths::limited_within, crate::proofs::Lengths::limited_over, crate::proofs::Lengths::over_limit_length))]
+fn put_limited(alloc: Global, events: Events, replies: &mut Blob) -> Result<(), Memory>
+    ensures { OnOk result (replies.new ≡ replies.old ++ framed (limited (found events))) }
+{
+    let msg = Msg {
+        ok: Some(true),
+        error: None,
+        query: None,
+        events,
+    };
+    let size = msg_len(&msg)?;
+    if size <= BODY_LIMIT as usize {
+        put_frame(alloc, &msg, size, replies)
+    } else {
+        let reason = over_limit(alloc, size)?;
+        refuse(alloc, reason.as_str(), replies)
+    }
+}
+
+#[tactic(auto, unfolding(hub_meaning::specs::Replies::over_limit))]
+fn over_limit(alloc: Global, size: usize) -> Result<String, AllocError>
+    ensures { IfOk result (λ reason. string_bytes reason ≡ over_limit size) }
+{
+    format!(in alloc; "reply of {size} bytes over 4194304")
+}
+
+/// Appends a reply that so many bytes are unsent.
+#[tactic(auto, using(crate::proofs::Lengths::busy_length))]
+fn refuse_busy(alloc: Global, unsent: usize, replies: &mut Blob) -> Result<(), Memory>
+    ensures { OnOk result (replies.new ≡ replies.old ++ framed (refused (busy unsent))) }
+{
+    let reason = busy(alloc, unsent)?;
+    refuse(alloc, reason.as_str(), replies)
+}
+
+#[tactic(auto, unfolding(hub_meaning::specs::Replies::busy))]
+fn busy(alloc: Global, unsent: usize) -> Result<String, AllocError>
+    ensures { IfOk result (λ reason. string_bytes reason ≡ busy unsent) }
+{
+    format!(in alloc; "busy: {unsent} bytes unsent")
+}
+
+/// Appends a reply that the query is refused for this fault, unless that is out of memory.
+#[tactic(auto, using(crate::proofs::Lengths::query_refusal_length))]
+fn refuse_query(alloc: Global, fault: QueryFault, replies: &mut Blob) -> Result<(), Memory>
+    ensures memory { OnOk result (fault ≢ QueryFault.Memory) }
+    ensures reply { OnOk result (replies.new ≡ replies.old ++ framed (refused (query_refusal fault))) }
+{
+    let reason = query_refusal(alloc, fault)?;
+    refuse(alloc, reason.as_str(), replies)
+}
+
+#[tactic(auto, unfolding(hub_meaning::specs::Replies::query_refusal))]
+fn query_refusal(alloc: Global, fault: QueryFault) -> Result<String, Memory>
+    ensures memory { IfOk result (λ _. fault ≢ QueryFault.Memory) }
+    ensures reason { IfOk result (λ reason. string_bytes reason ≡ query_refusal fault) }
+{
+    Ok(match fault {
+        QueryFault::TooLong { length } => format!(in alloc; "query of {length} bytes over 4096")?,
+        QueryFault::Refused { place } => format!(in alloc; "query refused at {place}")?,
+        QueryFault::TooDeep { place } => format!(in alloc; "query too deep at {place}")?,
+        QueryFault::Memory => return Err(Memory),
+    })
+}
+
+/// Appends a reply that the query's pattern of this number was refused.
+#[tactic(auto, using(crate::proofs::Lengths::pattern_refusal_length))]
+fn refuse_pattern(alloc: Global, number: u32, replies: &mut Blob) -> Result<(), Memory>
+    ensures { OnOk result (replies.new ≡ replies.old ++ framed (refused (pattern_refusal number))) }
+{
+    let reason = pattern_refusal(alloc, number)?;
+    refuse(alloc, reason.as_str(), replies)
+}
+
+#[tactic(auto, unfolding(hub_meaning::specs::Replies::pattern_refusal))]
+fn pattern_refusal(alloc: Global, number: u32) -> Result<String, AllocError>
+    ensures { IfOk result (λ reason. string_bytes reason ≡ pattern_refusal number) }
+{
+    format!(in alloc; "query pattern {number} refused")
+}

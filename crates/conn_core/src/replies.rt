@@ -1,0 +1,157 @@
+ghost use Rattle.std.specs.Prelude.{◌≡◌, ℕ, ◌^◌, ◌<◌, ◌++◌, ◌∷◌, [], length, map, OnOk, IfOk, codes, List, Some, None};
+ghost use Rattle.std.specs.String.{string_bytes};
+ghost use Rattle.event_core.specs.Core.{Represents, now_of, setting_of};
+ghost use Rattle.hub_meaning.specs.Replies.{accepted, framed, message_refusal, refused, reply_to_oversized, oversized, why_text};
+ghost use Rattle.hub_meaning.specs.Verdicts.{patterns_state};
+ghost use Rattle.riemann_msg.specs.Spelling.{spelling};
+ghost use Rattle.stream_meaning.specs.Arrivals.{Arrival, Post};
+ghost use Rattle.conn_core.specs.Answering.{AnswersMessage};
+ghost use Rattle.conn_core.specs.Arriving.{Arrives, told};
+
+use crate::queries::answer_query;
+use ev_types::{Blob, Events, Memory, Notices, Text};
+use event_core::Core;
+use pred_eval::Patterns;
+use riemann_msg::{Msg, MsgFault, MsgWhy, msg_len, read_msg, write_msg};
+use std::alloc::{AllocError, Global};
+use step_count::{Ledger, Steps};
+
+/// Posts the events of a message, and appends the reply to it. `unsent` is how many bytes of earlier replies to its link
+/// were not taken.
+pub fn answer<P: Patterns, G: Ledger>(
+    alloc: Global,
+    body: &[u8],
+    unsent: usize,
+    core: &mut Core,
+    patterns: &mut P,
+    replies: &mut Blob,
+    notices: &mut Notices,
+    steps: &mut Steps<G>,
+) -> Result<(), Memory>
+    ensures { AnswersMessage body.now unsent core.old core.new
+        (patterns_state (P.refusals patterns.old) (P.refused patterns.old)) (patterns_state (P.refusals patterns.new) (P.refused patterns.new))
+        replies.old replies.new (told notices.old steps.old.forks) (told notices.new steps.new.forks) result }
+{
+    match read_msg(alloc, body, core.now()) {
+        Ok(msg) => {
+            post_all(alloc, msg.events, core, notices, steps)?;
+            answer_query(alloc, &msg.query, unsent, core, patterns, replies, steps)?;
+        }
+        Err(MsgFault::Refused { place, why }) => refuse_msg(alloc, place, why, replies)?,
+        Err(MsgFault::Memory) => return Err(Memory),
+    }
+    Ok(())
+}
+
+/// The events come to the core, in order.
+fn post_all<G: Ledger>(
+    alloc: Global,
+    events: Events,
+    core: &mut Core,
+    notices: &mut Notices,
+    steps: &mut Steps<G>,
+) -> Result<(), Memory>
+    ensures now { OnOk result (now_of core.new ≡ now_of core.old) }
+    ensures arrives { OnOk result ((arrivals : List Arrival) → Represents core.old arrivals
+        → Arrives core.old core.new arrivals (map Post events) (told notices.old steps.old.forks) (told notices.new steps.new.forks)) }
+{
+    for event in events.into_vec() {
+        core.post(alloc, event, notices, steps)?;
+    }
+    Ok(())
+}
+
+/// Appends a reply that the message was accepted.
+#[tactic(auto, using(crate::proofs::Lengths::accepted_length))]
+pub(crate) fn accept(alloc: Global, replies: &mut Blob) -> Result<(), Memory>
+    ensures { OnOk result (replies.new ≡ replies.old ++ framed accepted) }
+{
+    let msg = Msg {
+        ok: Some(true),
+        error: None,
+        query: None,
+        events: Events::fresh(alloc),
+    };
+    put_frame(alloc, &msg, 2, replies)
+}
+
+/// Appends a reply that the message was refused at a place.
+#[tactic(auto, using(crate::proofs::Lengths::refusal_length))]
+fn refuse_msg(alloc: Global, place: usize, why: MsgWhy, replies: &mut Blob) -> Result<(), Memory>
+    ensures { OnOk result (replies.new ≡ replies.old ++ framed (refused (message_refusal place why))) }
+{
+    let reason = message_refusal(alloc, place, why)?;
+    refuse(alloc, reason.as_str(), replies)
+}
+
+#[tactic(auto, unfolding(hub_meaning::specs::Replies::message_refusal))]
+fn message_refusal(alloc: Global, place: usize, why: MsgWhy) -> Result<String, AllocError>
+    ensures { IfOk result (λ reason. string_bytes reason ≡ message_refusal place why) }
+{
+    let why = why_text(why);
+    format!(in alloc; "message refused at {place}: {why}")
+}
+
+fn why_text(why: MsgWhy) -> &'static str
+    ensures { result.now ≡ why_text why }
+{
+    match why {
+        MsgWhy::Short => "short",
+        MsgWhy::Varint => "varint",
+        MsgWhy::Tag => "tag",
+        MsgWhy::Wire => "wire",
+        MsgWhy::Utf8 => "utf8",
+        MsgWhy::Key => "key",
+        MsgWhy::Ttl => "ttl",
+    }
+}
+
+/// Appends a reply that the message was refused for this reason.
+#[tactic(auto, using(crate::proofs::Lengths::refused_length))]
+pub(crate) fn refuse(alloc: Global, reason: &str, replies: &mut Blob) -> Result<(), Memory>
+    requires { length reason.now < 1000 }
+    ensures { OnOk result (replies.new ≡ replies.old ++ framed (refused reason.now)) }
+{
+    let msg = Msg {
+        ok: Some(false),
+        error: Some(Text::from_str(alloc, reason)?),
+        query: None,
+        events: Events::fresh(alloc),
+    };
+    let size = msg_len(&msg)?;
+    put_frame(alloc, &msg, size, replies)
+}
+
+/// Appends a message whose spelling has this many bytes, in a frame.
+#[tactic(auto, unfolding(hub_meaning::specs::Replies::framed))]
+pub(crate) fn put_frame(
+    alloc: Global,
+    msg: &Msg,
+    size: usize,
+    replies: &mut Blob,
+) -> Result<(), Memory>
+    requires size { size ≡ length (spelling msg.now) }
+    requires fits { size < 2 ^ 32 }
+    ensures { OnOk result (replies.new ≡ replies.old ++ framed msg.now) }
+{
+    let length = size as u32;
+    replies.append(alloc, &length.to_be_bytes())?;
+    write_msg(alloc, msg, replies)?;
+    Ok(())
+}
+
+/// Appends the reply to a length over the limit.
+#[tactic(auto, using(crate::proofs::Lengths::oversized_length), unfolding(hub_meaning::specs::Replies::reply_to_oversized))]
+pub(crate) fn refuse_length(alloc: Global, length: u32, replies: &mut Blob) -> Result<(), Memory>
+    ensures { OnOk result (replies.new ≡ replies.old ++ reply_to_oversized length) }
+{
+    let reason = oversized(alloc, length)?;
+    refuse(alloc, reason.as_str(), replies)
+}
+
+#[tactic(auto, unfolding(hub_meaning::specs::Replies::oversized))]
+fn oversized(alloc: Global, length: u32) -> Result<String, AllocError>
+    ensures { IfOk result (λ reason. string_bytes reason ≡ oversized length) }
+{
+    format!(in alloc; "frame of {length} bytes over 4194304")
+}

@@ -1,0 +1,4 @@
+pub mod RunLaws
+pub mod LinkLaws
+pub mod PrefixLaws
+pub mod ExampleLaws
