@@ -4,7 +4,7 @@ use Rattle.std.proofs.lemmas.List.{map-append}
 use Rattle.std.specs.Prelude.{Option, Some, None, Result, Ok, Err, OnOk, OnErr, option_and_then}
 use Rattle.ev_types.specs.declared.event.Event.{Event}
 use Rattle.event_core.specs.declared.arrivals.Core.{Core}
-use Rattle.event_core.specs.Core.{Heard, Represents, Setting, now_of, notices_by, setting_of, state_by}
+use Rattle.event_core.specs.Core.{Heard, Represents, CoreConfig, now_of, notices_by, config_of, state_by}
 use Rattle.index_log.specs.Live.{IndexLog}
 use Rattle.list_laws.specs.declared.memory.Memory.{Memory}
 use Rattle.pred_eval.specs.Tree.{Tree}
@@ -35,38 +35,38 @@ on_error (Err e) fact = fact
 
 -- ---- arrivals, one after another
 
-pub heard_nothing : (setting : Setting) (arrivals : List Arrival) (old : Told) → Heard setting arrivals [] old.notices old.forks old.notices old.forks
-heard_nothing setting arrivals old = record {
+pub heard_nothing : (config : CoreConfig) (arrivals : List Arrival) (old : Told) → Heard config arrivals [] old.notices old.forks old.notices old.forks
+heard_nothing config arrivals old = record {
   made = [];
   told = sym (append-nil old.notices);
-  notices = ap (notices_by setting) (append-nil arrivals) ∙ sym (append-nil (notices_by setting arrivals));
+  notices = ap (notices_by config) (append-nil arrivals) ∙ sym (append-nil (notices_by config arrivals));
   forks = rw (append-nil arrivals) refl;
 }
 
-pub heard_then : (setting : Setting) (arrivals first second : List Arrival) (a b c : Told)
-    → Heard setting arrivals first a.notices a.forks b.notices b.forks → Heard setting (arrivals ++ first) second b.notices b.forks c.notices c.forks
-    → Heard setting arrivals (first ++ second) a.notices a.forks c.notices c.forks
-heard_then setting arrivals first second a b c one two =
+pub heard_then : (config : CoreConfig) (arrivals first second : List Arrival) (a b c : Told)
+    → Heard config arrivals first a.notices a.forks b.notices b.forks → Heard config (arrivals ++ first) second b.notices b.forks c.notices c.forks
+    → Heard config arrivals (first ++ second) a.notices a.forks c.notices c.forks
+heard_then config arrivals first second a b c one two =
     let f = one.forks in
     let s = rw (append_assoc arrivals first second) at two.forks in
     record {
       made = one.made ++ two.made;
       told = two.told ∙ ap (λ out. out ++ two.made) one.told ∙ append_assoc a.notices one.made two.made;
-      notices = ap (notices_by setting) (sym (append_assoc arrivals first second)) ∙ two.notices ∙ ap (λ out. out ++ two.made) one.notices
-          ∙ append_assoc (notices_by setting arrivals) one.made two.made;
+      notices = ap (notices_by config) (sym (append_assoc arrivals first second)) ∙ two.notices ∙ ap (λ out. out ++ two.made) one.notices
+          ∙ append_assoc (notices_by config arrivals) one.made two.made;
       forks = omega arith;
     }
 
 pub arrives_nothing : (core : Core) (arrivals : List Arrival) (old : Told) → Represents core arrivals → Arrives core core arrivals [] old old
-arrives_nothing core arrivals old stands = record { represents = rw (append-nil arrivals) stands; setting = refl; heard = heard_nothing (setting_of core) arrivals old }
+arrives_nothing core arrivals old stands = record { represents = rw (append-nil arrivals) stands; config = refl; heard = heard_nothing (config_of core) arrivals old }
 
 pub arrives_then : (one two three : Core) (arrivals first second : List Arrival) (a b c : Told)
     → Arrives one two arrivals first a b → Arrives two three (arrivals ++ first) second b c → Arrives one three arrivals (first ++ second) a c
 arrives_then one two three arrivals first second a b c x y = record {
   represents = rw (← append_assoc arrivals first second) y.represents;
-  setting = y.setting ∙ x.setting;
-  heard = heard_then (setting_of one) arrivals first second a b c x.heard
-      (subst (λ setting. Heard setting (arrivals ++ first) second b.notices b.forks c.notices c.forks) x.setting y.heard);
+  config = y.config ∙ x.config;
+  heard = heard_then (config_of one) arrivals first second a b c x.heard
+      (subst (λ config. Heard config (arrivals ++ first) second b.notices b.forks c.notices c.forks) x.config y.heard);
 }
 
 -- ---- what a body is read as
@@ -119,8 +119,8 @@ answers_accepted body unsent msg core posted asked patterns patterns' replies re
       answered = on_ok result (λ answered arrivals stands. let comes = arrives arrivals stands in record {
         arrives = rw (posts, same) comes;
         now = ap now_of same ∙ now;
-        reply = rw (posts, reply_accepted (now_of core) unsent (state_by (setting_of core) (arrivals ++ map Post msg.events)).log body msg query.refusal is)
-            (subst (λ (setting : Setting). replies' ≡ replies ++ framed (answer_to_query (state_by setting (arrivals ++ map Post msg.events)).log unsent query.refusal msg.query)) comes.setting
+        reply = rw (posts, reply_accepted (now_of core) unsent (state_by (config_of core) (arrivals ++ map Post msg.events)).log body msg query.refusal is)
+            (subst (λ (config : CoreConfig). replies' ≡ replies ++ framed (answer_to_query (state_by config (arrivals ++ map Post msg.events)).log unsent query.refusal msg.query)) comes.config
             (answered (arrivals ++ map Post msg.events) comes.represents));
       }) query.answered;
     }
@@ -150,7 +150,7 @@ answers_refused body unsent core patterns replies replies' place why old result 
       answered = on_ok result (λ wrote arrivals stands. record {
         arrives = rw posts (arrives_nothing core arrivals old stands);
         now = refl;
-        reply = wrote ∙ ap (λ more. replies ++ more) (sym (reply_refused (now_of core) unsent (state_by (setting_of core) (arrivals ++ posts_of (now_of core) body)).log body (fault_at place why) None is));
+        reply = wrote ∙ ap (λ more. replies ++ more) (sym (reply_refused (now_of core) unsent (state_by (config_of core) (arrivals ++ posts_of (now_of core) body)).log body (fault_at place why) None is));
       }) step;
     }
 
@@ -188,15 +188,15 @@ answers_fault text fault core patterns replies replies' (Err memory) says other 
 
 -- one event more
 pub posted_more : (one two three : Core) (arrivals : List Arrival) (events : List Event) (event : Event) (a b c : Told)
-    → setting_of three ≡ setting_of two
+    → config_of three ≡ config_of two
     → ((before : List Arrival) → Represents two before → Represents three (before ++ Post event ∷ []))
-    → ((before : List Arrival) → Represents two before → Heard (setting_of two) before (Post event ∷ []) b.notices b.forks c.notices c.forks)
+    → ((before : List Arrival) → Represents two before → Heard (config_of two) before (Post event ∷ []) b.notices b.forks c.notices c.forks)
     → Arrives one two arrivals (map Post events) a b
     → Arrives one three arrivals (map Post (events ++ event ∷ [])) a c
-posted_more one two three arrivals events event a b c setting represents heard before =
+posted_more one two three arrivals events event a b c config represents heard before =
     let last : Arrives two three (arrivals ++ map Post events) (Post event ∷ []) b c = record {
       represents = represents (arrivals ++ map Post events) before.represents;
-      setting = setting;
+      config = config;
       heard = heard (arrivals ++ map Post events) before.represents;
     } in
     subst (λ (more : List Arrival). Arrives one three arrivals more a c) (sym (map-append Post events (event ∷ [])))

@@ -1,7 +1,7 @@
 -- How one message is answered.
 use Rattle.std.specs.Prelude.{◌≡◌, ℕ, ◌+◌, ◌≤◌, IsTrue, IfSome, OnOk, is_some, if◌then◌else◌, List, ◌++◌, Option, None, Result, option_and_then, option_map, option_to_list}
 use Rattle.event_core.specs.declared.arrivals.Core.{Core}
-use Rattle.event_core.specs.Core.{Represents, now_of, setting_of, state_by}
+use Rattle.event_core.specs.Core.{Represents, now_of, config_of, state_by}
 use Rattle.index_log.specs.Live.{IndexLog}
 use Rattle.list_laws.specs.Counts.{Rose}
 use Rattle.list_laws.specs.declared.memory.Memory.{Memory}
@@ -31,13 +31,13 @@ pub record AnswersQuery (asked : Option Tree) (core : Core) (patterns patterns' 
   pub refusal : Option Refusal
   pub verdict : AfterVerdict asked refusal patterns patterns'
   pub answered : OnOk result ((arrivals : List Arrival) → Represents core arrivals
-      → replies' ≡ replies ++ framed (reply (state_by (setting_of core) arrivals).log refusal))
+      → replies' ≡ replies ++ framed (reply (state_by (config_of core) arrivals).log refusal))
 
 -- the events of a message arrived, and its reply is appended
 pub record Replies (body : List ℕ) (unsent : ℕ) (refusal : Option Refusal) (core core' : Core) (replies replies' : List ℕ) (old new : Told) (arrivals : List Arrival) : Type 0 where
   pub arrives : Arrives core core' arrivals (posts_of (now_of core) body) old new
   pub now : now_of core' ≡ now_of core
-  pub reply : replies' ≡ replies ++ reply_to (now_of core) (state_by (setting_of core) (arrivals ++ posts_of (now_of core) body)).log unsent
+  pub reply : replies' ≡ replies ++ reply_to (now_of core) (state_by (config_of core) (arrivals ++ posts_of (now_of core) body)).log unsent
       (record { body = body; refusal = refusal })
 
 -- a message was answered, where so many bytes were unsent

@@ -2,7 +2,7 @@
 use Rattle.std.specs.Prelude.{◌≡◌, ℕ, List, ◌++◌}
 use Rattle.ev_types.specs.declared.item.Notice.{Notice}
 use Rattle.event_core.specs.declared.arrivals.Core.{Core}
-use Rattle.event_core.specs.Core.{Heard, Represents, setting_of}
+use Rattle.event_core.specs.Core.{Heard, Represents, config_of}
 use Rattle.stream_meaning.specs.Arrivals.{Arrival}
 
 -- what has come of notices and forks so far
@@ -16,5 +16,5 @@ told notices forks = record { notices = notices; forks = forks }
 -- after these arrivals came more
 pub record Arrives (core core' : Core) (arrivals more : List Arrival) (old new : Told) : Type 0 where
   pub represents : Represents core' (arrivals ++ more)
-  pub setting : setting_of core' ≡ setting_of core
-  pub heard : Heard (setting_of core) arrivals more old.notices old.forks new.notices new.forks
+  pub config : config_of core' ≡ config_of core
+  pub heard : Heard (config_of core) arrivals more old.notices old.forks new.notices new.forks

@@ -1,6 +1,6 @@
 ghost use Rattle.std.specs.Prelude.{◌≡◌, ◌≢◌, ◌^◌, ◌<◌, ◌≤◌, ◌++◌, ◌∷◌, [], false, filter, length, OnOk, IfOk, codes, Some, None, option_and_then, List};
 ghost use Rattle.std.specs.String.{string_bytes};
-ghost use Rattle.event_core.specs.Core.{Represents, now_of, setting_of, state_by};
+ghost use Rattle.event_core.specs.Core.{Represents, now_of, config_of, state_by};
 ghost use Rattle.hub_meaning.specs.Messages.{query_text, rule_of_query, rule_read};
 ghost use Rattle.hub_meaning.specs.Replies.{answer_to_query, answer_to_rule, answer_to_text, busy, found, framed, limited, over_limit, pattern_refusal, query_refusal, refused};
 ghost use Rattle.hub_meaning.specs.Verdicts.{is_busy, patterns_state};
@@ -34,8 +34,10 @@ pub(crate) fn answer_query<P: Patterns, G: Ledger>(
     ensures same { OnOk result (core.new ≡ core.old) }
     ensures forks { steps.new.forks ≡ steps.old.forks }
     ensures answers { AnswersQuery (asked_of unsent query.now) core.old
-        (patterns_state (P.refusals patterns.old) (P.refused patterns.old)) (patterns_state (P.refusals patterns.new) (P.refused patterns.new))
-        replies.old replies.new (λ log refusal. answer_to_query log unsent refusal query.now) result }
+        (patterns_state (P.refusals patterns.old) (P.refused patterns.old))
+        (patterns_state (P.refusals patterns.new) (P.refused patterns.new))
+        replies.old replies.new (λ log refusal.
+        answer_to_query log unsent refusal query.now) result }
 {
     match query {
         Some(query) => answer_part(alloc, query, unsent, core, patterns, replies, steps),
@@ -56,8 +58,10 @@ fn answer_part<P: Patterns, G: Ledger>(
     ensures same { OnOk result (core.new ≡ core.old) }
     ensures forks { steps.new.forks ≡ steps.old.forks }
     ensures answers { AnswersQuery (asked_of unsent (Some query.now)) core.old
-        (patterns_state (P.refusals patterns.old) (P.refused patterns.old)) (patterns_state (P.refusals patterns.new) (P.refused patterns.new))
-        replies.old replies.new (λ log refusal. answer_to_query log unsent refusal (Some query.now)) result }
+        (patterns_state (P.refusals patterns.old) (P.refused patterns.old))
+        (patterns_state (P.refusals patterns.new) (P.refused patterns.new))
+        replies.old replies.new (λ log refusal.
+        answer_to_query log unsent refusal (Some query.now)) result }
 {
     if unsent >= BODY_LIMIT as usize {
         refuse_busy(alloc, unsent, replies)
@@ -87,8 +91,10 @@ fn answer_text<P: Patterns, G: Ledger>(
     ensures same { OnOk result (core.new ≡ core.old) }
     ensures forks { steps.new.forks ≡ steps.old.forks }
     ensures answers { AnswersQuery (rule_read (query_of text.now)) core.old
-        (patterns_state (P.refusals patterns.old) (P.refused patterns.old)) (patterns_state (P.refusals patterns.new) (P.refused patterns.new))
-        replies.old replies.new (λ log refusal. answer_to_text log refusal (query_of text.now)) result }
+        (patterns_state (P.refusals patterns.old) (P.refused patterns.old))
+        (patterns_state (P.refusals patterns.new) (P.refused patterns.new))
+        replies.old replies.new (λ log refusal.
+        answer_to_text log refusal (query_of text.now)) result }
 {
     match read_query(alloc, text) {
         Ok(rule) => answer_rule(alloc, rule, core, patterns, replies, steps),
@@ -108,7 +114,8 @@ fn answer_rule<P: Patterns, G: Ledger>(
     ensures same { OnOk result (core.new ≡ core.old) }
     ensures forks { steps.new.forks ≡ steps.old.forks }
     ensures answers { AnswersQuery (Some (tree_of rule)) core.old
-        (patterns_state (P.refusals patterns.old) (P.refused patterns.old)) (patterns_state (P.refusals patterns.new) (P.refused patterns.new))
+        (patterns_state (P.refusals patterns.old) (P.refused patterns.old))
+        (patterns_state (P.refusals patterns.new) (P.refused patterns.new))
         replies.old replies.new (λ log refusal. answer_to_rule log refusal (tree_of rule)) result }
 {
     match Pred::build(alloc, rule, patterns) {
@@ -129,7 +136,8 @@ fn put_found<G: Ledger>(
     ensures same { OnOk result (core.new ≡ core.old) }
     ensures forks { steps.new.forks ≡ steps.old.forks }
     ensures found { OnOk result ((arrivals : List Arrival) → Represents core.old arrivals
-        → replies.new ≡ replies.old ++ framed (limited (found (matching_events pred.old (state_by (setting_of core.old) arrivals).log)))) }
+        → replies.new ≡ replies.old ++ framed
+        (limited (found (matching_events pred.old (state_by (config_of core.old) arrivals).log)))) }
 {
     let mut events = Events::fresh(alloc);
     core.search(alloc, pred, &mut events, steps)?;
@@ -184,7 +192,8 @@ fn busy(alloc: Global, unsent: usize) -> Result<String, AllocError>
 #[tactic(auto, using(crate::proofs::Lengths::query_refusal_length))]
 fn refuse_query(alloc: Global, fault: QueryFault, replies: &mut Blob) -> Result<(), Memory>
     ensures memory { OnOk result (fault ≢ QueryFault.Memory) }
-    ensures reply { OnOk result (replies.new ≡ replies.old ++ framed (refused (query_refusal fault))) }
+    ensures reply { OnOk result (replies.new ≡ replies.old
+        ++ framed (refused (query_refusal fault))) }
 {
     let reason = query_refusal(alloc, fault)?;
     refuse(alloc, reason.as_str(), replies)
@@ -206,7 +215,8 @@ fn query_refusal(alloc: Global, fault: QueryFault) -> Result<String, Memory>
 /// Appends a reply that the query's pattern of this number was refused.
 #[tactic(auto, using(crate::proofs::Lengths::pattern_refusal_length))]
 fn refuse_pattern(alloc: Global, number: u32, replies: &mut Blob) -> Result<(), Memory>
-    ensures { OnOk result (replies.new ≡ replies.old ++ framed (refused (pattern_refusal number))) }
+    ensures { OnOk result (replies.new ≡ replies.old
+        ++ framed (refused (pattern_refusal number))) }
 {
     let reason = pattern_refusal(alloc, number)?;
     refuse(alloc, reason.as_str(), replies)

@@ -1,6 +1,6 @@
 ghost use Rattle.std.specs.Prelude.{◌≡◌, ℕ, ◌^◌, ◌<◌, ◌++◌, ◌∷◌, [], length, map, OnOk, IfOk, codes, List, Some, None};
 ghost use Rattle.std.specs.String.{string_bytes};
-ghost use Rattle.event_core.specs.Core.{Represents, now_of, setting_of};
+ghost use Rattle.event_core.specs.Core.{Represents, now_of, config_of};
 ghost use Rattle.hub_meaning.specs.Replies.{accepted, framed, message_refusal, refused, reply_to_oversized, oversized, why_text};
 ghost use Rattle.hub_meaning.specs.Verdicts.{patterns_state};
 ghost use Rattle.riemann_msg.specs.Spelling.{spelling};
@@ -29,8 +29,10 @@ pub fn answer<P: Patterns, G: Ledger>(
     steps: &mut Steps<G>,
 ) -> Result<(), Memory>
     ensures { AnswersMessage body.now unsent core.old core.new
-        (patterns_state (P.refusals patterns.old) (P.refused patterns.old)) (patterns_state (P.refusals patterns.new) (P.refused patterns.new))
-        replies.old replies.new (told notices.old steps.old.forks) (told notices.new steps.new.forks) result }
+        (patterns_state (P.refusals patterns.old) (P.refused patterns.old))
+        (patterns_state (P.refusals patterns.new) (P.refused patterns.new))
+        replies.old replies.new (told notices.old steps.old.forks)
+        (told notices.new steps.new.forks) result }
 {
     match read_msg(alloc, body, core.now()) {
         Ok(msg) => {
@@ -53,7 +55,8 @@ fn post_all<G: Ledger>(
 ) -> Result<(), Memory>
     ensures now { OnOk result (now_of core.new ≡ now_of core.old) }
     ensures arrives { OnOk result ((arrivals : List Arrival) → Represents core.old arrivals
-        → Arrives core.old core.new arrivals (map Post events) (told notices.old steps.old.forks) (told notices.new steps.new.forks)) }
+        → Arrives core.old core.new arrivals (map Post events) (told notices.old steps.old.forks)
+        (told notices.new steps.new.forks)) }
 {
     for event in events.into_vec() {
         core.post(alloc, event, notices, steps)?;
@@ -78,7 +81,8 @@ pub(crate) fn accept(alloc: Global, replies: &mut Blob) -> Result<(), Memory>
 /// Appends a reply that the message was refused at a place.
 #[tactic(auto, using(crate::proofs::Lengths::refusal_length))]
 fn refuse_msg(alloc: Global, place: usize, why: MsgWhy, replies: &mut Blob) -> Result<(), Memory>
-    ensures { OnOk result (replies.new ≡ replies.old ++ framed (refused (message_refusal place why))) }
+    ensures { OnOk result (replies.new ≡ replies.old
+        ++ framed (refused (message_refusal place why))) }
 {
     let reason = message_refusal(alloc, place, why)?;
     refuse(alloc, reason.as_str(), replies)

@@ -64,7 +64,8 @@ impl<F: Drop> ForkTable<F> {
         ensures forks { OnOk result (fork_list self.new ≡ fork_list self.old ++ fork ∷ []) }
         ensures keys { OnOk result (key_number key (fork_keys self.old) ≡ None
             → fork_keys self.new ≡ fork_keys self.old ++ key ∷ []) }
-        ensures table { OnOk result (key_number key (fork_keys self.old) ≡ None → IsTable self.old → IsTable self.new) }
+        ensures table { OnOk result (key_number key (fork_keys self.old) ≡ None →
+            IsTable self.old → IsTable self.new) }
         ensures dues { fork_dues self.new ≡ fork_dues self.old }
         ensures err { OnErr result (SameForks self.old self.new) }
     {
@@ -125,7 +126,8 @@ impl<F: Drop> ForkTable<F> {
         ensures quiet { due_ids now (fork_dues self.old) ≡ [] → IsOk result }
         ensures err { OnErr result (fork_dues self.new ≡ fork_dues self.old) }
         ensures prefix { OnErr result (IsPrefix out.old out.new) }
-        ensures at_most { steps.new.entries ≤ steps.old.entries + length (due_ids now (fork_dues self.old)) }
+        ensures at_most { steps.new.entries ≤ steps.old.entries + length
+            (due_ids now (fork_dues self.old)) }
         ensures forks { steps.new.forks ≡ steps.old.forks }
         ensures forks_told { G.forks steps.new.ledger ≡ G.forks steps.old.ledger }
         ensures same { SameForks self.old self.new }

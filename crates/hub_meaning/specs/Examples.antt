@@ -1,6 +1,6 @@
 -- Small runs, as the definitions compute them.
 use Rattle.std.specs.Prelude.{◌≡◌, ℕ, zero, suc, true, false, List, [], ◌∷◌, ◌++◌, length, map, None}
-use Rattle.event_core.specs.Core.{Setting}
+use Rattle.event_core.specs.Core.{CoreConfig}
 use Rattle.ports.specs.declared.entry.Entry.{Entry}
 use Rattle.ports.specs.declared.entry.Entry.TheVariants.{Next, Send, Close}
 use Rattle.ports.specs.declared.links.SendAnswer.TheVariants.{Took, Later}
@@ -23,7 +23,7 @@ abbrev pub ClockExample : Type 0
 ClockExample = moments 100 (90 ∷ 8000 ∷ 8000 ∷ []) ≡ 100 ∷ 3700 ∷ 7300 ∷ []
 
 -- only the index, from moment 0 on
-abbrev pub index_only : Setting
+abbrev pub index_only : CoreConfig
 index_only = record { plan = alone (above Index none); expiry = None; start = 0 }
 
 -- the reply that a message was accepted

@@ -1,7 +1,7 @@
 -- Laws of runs.
 use Rattle.std.specs.Prelude.{◌≡◌, ℕ, ◌<◌, List, [], ◌∷◌, ◌++◌}
 use Rattle.std.specs.List.{AllByRecursion}
-use Rattle.event_core.specs.Core.{Setting}
+use Rattle.event_core.specs.Core.{CoreConfig}
 use Rattle.framing.specs.Frames.{frames_of, partial}
 use Rattle.list_laws.specs.Prefix.{IsPrefix}
 use Rattle.hub_meaning.specs.Links.{Link}
@@ -10,12 +10,12 @@ use Rattle.hub_meaning.specs.Legal.{IsLegal, IsLegalFrom}
 
 -- what comes later comes to what was there
 abbrev pub StepsComeInOrder : Type 0
-StepsComeInOrder = (setting : Setting) (first more : List Step) (state : RunState) →
-    state_from setting (first ++ more) state ≡ state_from setting more (state_from setting first state)
+StepsComeInOrder = (config : CoreConfig) (first more : List Step) (state : RunState) →
+    state_from config (first ++ more) state ≡ state_from config more (state_from config first state)
 
 abbrev pub LegalInOrder : Type 0
-LegalInOrder = (setting : Setting) (first more : List Step) (state : RunState) →
-    IsLegalFrom setting first state → IsLegalFrom setting more (state_from setting first state) → IsLegalFrom setting (first ++ more) state
+LegalInOrder = (config : CoreConfig) (first more : List Step) (state : RunState) →
+    IsLegalFrom config first state → IsLegalFrom config more (state_from config first state) → IsLegalFrom config (first ++ more) state
 
 -- how a link's bytes are cut decides only with which piece a message is whole
 abbrev pub MessagesComeWhole : Type 0
@@ -29,7 +29,7 @@ abbrev pub SentPrefix : Link → Type 0
 SentPrefix link = IsPrefix link.taken link.replies
 
 abbrev pub PrefixesAreSent : Type 0
-PrefixesAreSent = (setting : Setting) (steps : List Step) → IsLegal setting steps → AllByRecursion SentPrefix (state_after setting steps).links
+PrefixesAreSent = (config : CoreConfig) (steps : List Step) → IsLegal config steps → AllByRecursion SentPrefix (state_after config steps).links
 
 -- the numbers of links rise
 abbrev pub AreAbove : ℕ → List Link → Type 0
@@ -40,4 +40,4 @@ AreRising [] = Unit {0}
 AreRising (link ∷ links) = AreAbove link.number links × AreRising links
 
 abbrev pub NumbersRise : Type 0
-NumbersRise = (setting : Setting) (steps : List Step) → AreRising (state_after setting steps).links
+NumbersRise = (config : CoreConfig) (steps : List Step) → AreRising (state_after config steps).links

@@ -1,7 +1,7 @@
 -- Which calls a server may make, one after another.
 use Rattle.std.specs.Prelude.{◌≡◌, ℕ, ◌+◌, ◌<◌, ◌≤◌, Bool, true, false, List, [], ◌∷◌, ◌++◌, length, take, Option, Some, None}
 use Rattle.std.specs.List.{AllByRecursion}
-use Rattle.event_core.specs.Core.{Setting}
+use Rattle.event_core.specs.Core.{CoreConfig}
 use Rattle.ports.specs.declared.entry.Entry.{Entry}
 use Rattle.ports.specs.declared.entry.Entry.TheVariants.{Listen, Next, Send, Close}
 use Rattle.ports.specs.declared.links.Turn.{Turn}
@@ -32,35 +32,35 @@ AreSettled (link ∷ links) = IsSettled link × AreSettled links
 -- ---- the verdicts on the messages of a turn
 
 -- only a pattern that is built is refused
-abbrev pub ArePossible : Setting → ℕ → List Message → Talk → Type 0
-ArePossible setting now [] talk = Unit {0}
-ArePossible setting now (message ∷ messages) talk =
-    IsPossible now (length (unsent talk.link)) message × ArePossible setting now messages (answered setting now message talk)
+abbrev pub ArePossible : CoreConfig → ℕ → List Message → Talk → Type 0
+ArePossible config now [] talk = Unit {0}
+ArePossible config now (message ∷ messages) talk =
+    IsPossible now (length (unsent talk.link)) message × ArePossible config now messages (answered config now message talk)
 
 -- no message has more than one; a message without one had no pattern refused
-pub record AreVerdicts (setting : Setting) (piece : List ℕ) (verdicts : List (Option Refusal)) (state : RunState) (link : Link) : Type 0 where
+pub record AreVerdicts (config : CoreConfig) (piece : List ℕ) (verdicts : List (Option Refusal)) (state : RunState) (link : Link) : Type 0 where
   pub each : length verdicts ≤ length (new_frames link.came piece)
-  pub possible : ArePossible setting state.now (messages_in piece verdicts link) (talk_of piece state link)
+  pub possible : ArePossible config state.now (messages_in piece verdicts link) (talk_of piece state link)
 
-abbrev pub VerdictsIf : Bool → Setting → List ℕ → List (Option Refusal) → RunState → Link → Type 0
-VerdictsIf true setting piece verdicts state link = AreVerdicts setting piece verdicts state link
-VerdictsIf false setting piece verdicts state link = verdicts ≡ []
+abbrev pub VerdictsIf : Bool → CoreConfig → List ℕ → List (Option Refusal) → RunState → Link → Type 0
+VerdictsIf true config piece verdicts state link = AreVerdicts config piece verdicts state link
+VerdictsIf false config piece verdicts state link = verdicts ≡ []
 
-abbrev pub VerdictsOn : Setting → List ℕ → List (Option Refusal) → RunState → Option Link → Type 0
-VerdictsOn setting piece verdicts state None = verdicts ≡ []
-VerdictsOn setting piece verdicts state (Some link) = VerdictsIf (is_open link) setting piece verdicts state link
+abbrev pub VerdictsOn : CoreConfig → List ℕ → List (Option Refusal) → RunState → Option Link → Type 0
+VerdictsOn config piece verdicts state None = verdicts ≡ []
+VerdictsOn config piece verdicts state (Some link) = VerdictsIf (is_open link) config piece verdicts state link
 
 -- only a turn that reads from an open link has messages
-abbrev pub VerdictsIn : Setting → What → List ℕ → List (Option Refusal) → RunState → Type 0
-VerdictsIn setting Idle piece verdicts state = verdicts ≡ []
-VerdictsIn setting (Opened number) piece verdicts state = verdicts ≡ []
-VerdictsIn setting (Read number count) piece verdicts state = VerdictsOn setting piece verdicts state (find_link number state.links)
-VerdictsIn setting (Ended number) piece verdicts state = verdicts ≡ []
-VerdictsIn setting (Broken number) piece verdicts state = verdicts ≡ []
-VerdictsIn setting (Room number) piece verdicts state = verdicts ≡ []
-VerdictsIn setting Stopped piece verdicts state = verdicts ≡ []
-VerdictsIn setting Failed piece verdicts state = verdicts ≡ []
-VerdictsIn setting Memory piece verdicts state = verdicts ≡ []
+abbrev pub VerdictsIn : CoreConfig → What → List ℕ → List (Option Refusal) → RunState → Type 0
+VerdictsIn config Idle piece verdicts state = verdicts ≡ []
+VerdictsIn config (Opened number) piece verdicts state = verdicts ≡ []
+VerdictsIn config (Read number count) piece verdicts state = VerdictsOn config piece verdicts state (find_link number state.links)
+VerdictsIn config (Ended number) piece verdicts state = verdicts ≡ []
+VerdictsIn config (Broken number) piece verdicts state = verdicts ≡ []
+VerdictsIn config (Room number) piece verdicts state = verdicts ≡ []
+VerdictsIn config Stopped piece verdicts state = verdicts ≡ []
+VerdictsIn config Failed piece verdicts state = verdicts ≡ []
+VerdictsIn config Memory piece verdicts state = verdicts ≡ []
 
 -- ---- when bytes may be sent, and a link closed
 
@@ -87,22 +87,22 @@ OnLink number links P = (link : Link) × (find_link number links ≡ Some link) 
 -- ---- a run
 
 -- a turn is asked for with the wants of all connected links
-pub record MayAsk (setting : Setting) (wants : List Want) (turn : Turn) (piece : List ℕ) (beside : List (Option Refusal)) (state : RunState) : Type 0 where
+pub record MayAsk (config : CoreConfig) (wants : List Want) (turn : Turn) (piece : List ℕ) (beside : List (Option Refusal)) (state : RunState) : Type 0 where
   pub wanted : wants ≡ wants_of state.links
   pub settled : AreSettled state.links
-  pub verdicts : VerdictsIn setting turn.what piece beside (passed (next_moment state.now turn.secs) state)
+  pub verdicts : VerdictsIn config turn.what piece beside (passed (next_moment state.now turn.secs) state)
 
 -- `listen` is called once, before all these
-abbrev pub MayCome : Setting → Entry → List (Option Refusal) → RunState → Type 0
-MayCome setting (Listen address answer) verdicts state = ⊥
-MayCome setting (Next wants turn piece) verdicts state = MayAsk setting wants turn piece verdicts state
-MayCome setting (Send number bytes answer) verdicts state = (verdicts ≡ []) × OnLink number state.links (MaySend bytes)
-MayCome setting (Close number) verdicts state = (verdicts ≡ []) × OnLink number state.links MayClose
+abbrev pub MayCome : CoreConfig → Entry → List (Option Refusal) → RunState → Type 0
+MayCome config (Listen address answer) verdicts state = ⊥
+MayCome config (Next wants turn piece) verdicts state = MayAsk config wants turn piece verdicts state
+MayCome config (Send number bytes answer) verdicts state = (verdicts ≡ []) × OnLink number state.links (MaySend bytes)
+MayCome config (Close number) verdicts state = (verdicts ≡ []) × OnLink number state.links MayClose
 
-abbrev pub IsLegalFrom : Setting → List Step → RunState → Type 0
-IsLegalFrom setting [] state = Unit {0}
-IsLegalFrom setting (step ∷ steps) state = MayCome setting step.entry step.verdicts state × IsLegalFrom setting steps (after_step setting step state)
+abbrev pub IsLegalFrom : CoreConfig → List Step → RunState → Type 0
+IsLegalFrom config [] state = Unit {0}
+IsLegalFrom config (step ∷ steps) state = MayCome config step.entry step.verdicts state × IsLegalFrom config steps (after_step config step state)
 
 -- each call is one that may come then
-abbrev pub IsLegal : Setting → List Step → Type 0
-IsLegal setting steps = IsLegalFrom setting steps (first_state setting)
+abbrev pub IsLegal : CoreConfig → List Step → Type 0
+IsLegal config steps = IsLegalFrom config steps (first_state config)

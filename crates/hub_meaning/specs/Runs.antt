@@ -3,7 +3,7 @@
 use Rattle.std.specs.Prelude.{◌≡◌, ℕ, ◌-◌, ◌<◌, if◌then◌else◌, List, [], ◌∷◌, ◌++◌, length, map, drop, replicate, Option, Some, None, nat_lt, ◌&&◌, nat_le, Bool, true, false}
 use Rattle.std.specs.List.{flat_map}
 use Rattle.ev_types.specs.declared.item.Notice.{Notice}
-use Rattle.event_core.specs.Core.{Setting, state_by, notices_by}
+use Rattle.event_core.specs.Core.{CoreConfig, state_by, notices_by}
 use Rattle.framing.specs.declared.TheConstants.{BODY_LIMIT}
 use Rattle.framing.specs.Frames.{frames_of, partial, length_at}
 use Rattle.ports.specs.declared.entry.Entry.{Entry}
@@ -56,16 +56,16 @@ abbrev pub with_reply : List ℕ → Link → Link
 with_reply reply link = record link { replies = link.replies ++ reply }
 
 -- the events of a message arrive, and then it is answered
-abbrev pub answered : Setting → ℕ → Message → Talk → Talk
-answered setting now message talk =
+abbrev pub answered : CoreConfig → ℕ → Message → Talk → Talk
+answered config now message talk =
     let arrivals = talk.arrivals ++ posts_of now message.body in record {
       arrivals = arrivals;
-      link = with_reply (reply_to now (state_by setting arrivals).log (length (unsent talk.link)) message) talk.link;
+      link = with_reply (reply_to now (state_by config arrivals).log (length (unsent talk.link)) message) talk.link;
     }
 
-abbrev pub all_answered : Setting → ℕ → List Message → Talk → Talk
-all_answered setting now [] talk = talk
-all_answered setting now (message ∷ messages) talk = all_answered setting now messages (answered setting now message talk)
+abbrev pub all_answered : CoreConfig → ℕ → List Message → Talk → Talk
+all_answered config now [] talk = talk
+all_answered config now (message ∷ messages) talk = all_answered config now messages (answered config now message talk)
 
 -- the bytes begin with a length over the limit
 abbrev pub is_oversized : List ℕ → Bool
@@ -94,15 +94,15 @@ with_talk state talk = record {
   links = changed talk.link.number (λ link. cut_off talk.link) state.links;
 }
 
-abbrev pub read_from : Setting → List ℕ → List (Option Refusal) → RunState → Link → RunState
-read_from setting piece verdicts state link =
-    if is_open link then with_talk state (all_answered setting state.now (messages_in piece verdicts link) (talk_of piece state link))
+abbrev pub read_from : CoreConfig → List ℕ → List (Option Refusal) → RunState → Link → RunState
+read_from config piece verdicts state link =
+    if is_open link then with_talk state (all_answered config state.now (messages_in piece verdicts link) (talk_of piece state link))
     else state
 
 -- the piece is read where its link is open
-abbrev pub read_by : Setting → List ℕ → List (Option Refusal) → RunState → Option Link → RunState
-read_by setting piece verdicts state None = state
-read_by setting piece verdicts state (Some link) = read_from setting piece verdicts state link
+abbrev pub read_by : CoreConfig → List ℕ → List (Option Refusal) → RunState → Option Link → RunState
+read_by config piece verdicts state None = state
+read_by config piece verdicts state (Some link) = read_from config piece verdicts state link
 
 -- ---- a turn, and the other calls
 
@@ -113,16 +113,16 @@ passed moment state = record state { now = moment; arrivals = state.arrivals ++ 
 abbrev pub with_links : List Link → RunState → RunState
 with_links links state = record state { links = links }
 
-abbrev pub occurred : Setting → What → List ℕ → List (Option Refusal) → RunState → RunState
-occurred setting Idle piece verdicts state = state
-occurred setting (Opened number) piece verdicts state = with_links (opened number state.links) state
-occurred setting (Read number count) piece verdicts state = read_by setting piece verdicts state (find_link number state.links)
-occurred setting (Ended number) piece verdicts state = with_links (changed number ended state.links) state
-occurred setting (Broken number) piece verdicts state = with_links (changed number broken state.links) state
-occurred setting (Room number) piece verdicts state = with_links (changed number unblocked state.links) state
-occurred setting Stopped piece verdicts state = state
-occurred setting Failed piece verdicts state = state
-occurred setting Memory piece verdicts state = state
+abbrev pub occurred : CoreConfig → What → List ℕ → List (Option Refusal) → RunState → RunState
+occurred config Idle piece verdicts state = state
+occurred config (Opened number) piece verdicts state = with_links (opened number state.links) state
+occurred config (Read number count) piece verdicts state = read_by config piece verdicts state (find_link number state.links)
+occurred config (Ended number) piece verdicts state = with_links (changed number ended state.links) state
+occurred config (Broken number) piece verdicts state = with_links (changed number broken state.links) state
+occurred config (Room number) piece verdicts state = with_links (changed number unblocked state.links) state
+occurred config Stopped piece verdicts state = state
+occurred config Failed piece verdicts state = state
+occurred config Memory piece verdicts state = state
 
 -- the answers that are turns
 abbrev pub is_turn : What → Bool
@@ -137,31 +137,31 @@ is_turn Failed = false
 is_turn Memory = false
 
 -- a turn: its reading of the clock, and then its occurrence
-abbrev pub turned : Setting → Turn → List ℕ → List (Option Refusal) → RunState → RunState
-turned setting turn piece verdicts state =
-    if is_turn turn.what then occurred setting turn.what piece verdicts (passed (next_moment state.now turn.secs) state) else state
+abbrev pub turned : CoreConfig → Turn → List ℕ → List (Option Refusal) → RunState → RunState
+turned config turn piece verdicts state =
+    if is_turn turn.what then occurred config turn.what piece verdicts (passed (next_moment state.now turn.secs) state) else state
 
-abbrev pub after_entry : Setting → Entry → List (Option Refusal) → RunState → RunState
-after_entry setting (Listen address answer) verdicts state = state
-after_entry setting (Next wants turn piece) verdicts state = turned setting turn piece verdicts state
-after_entry setting (Send number bytes answer) verdicts state = with_links (changed number (sent bytes answer) state.links) state
-after_entry setting (Close number) verdicts state = with_links (changed number closed state.links) state
+abbrev pub after_entry : CoreConfig → Entry → List (Option Refusal) → RunState → RunState
+after_entry config (Listen address answer) verdicts state = state
+after_entry config (Next wants turn piece) verdicts state = turned config turn piece verdicts state
+after_entry config (Send number bytes answer) verdicts state = with_links (changed number (sent bytes answer) state.links) state
+after_entry config (Close number) verdicts state = with_links (changed number closed state.links) state
 
-abbrev pub after_step : Setting → Step → RunState → RunState
-after_step setting step state = after_entry setting step.entry step.verdicts state
+abbrev pub after_step : CoreConfig → Step → RunState → RunState
+after_step config step state = after_entry config step.entry step.verdicts state
 
-abbrev pub state_from : Setting → List Step → RunState → RunState
-state_from setting [] state = state
-state_from setting (step ∷ steps) state = state_from setting steps (after_step setting step state)
+abbrev pub state_from : CoreConfig → List Step → RunState → RunState
+state_from config [] state = state
+state_from config (step ∷ steps) state = state_from config steps (after_step config step state)
 
 -- nothing has arrived
-abbrev pub first_state : Setting → RunState
-first_state setting = record { now = setting.start; arrivals = []; links = [] }
+abbrev pub first_state : CoreConfig → RunState
+first_state config = record { now = config.start; arrivals = []; links = [] }
 
--- what the steps after `listen` come to, where the setting's start is the first moment
-abbrev pub state_after : Setting → List Step → RunState
-state_after setting steps = state_from setting steps (first_state setting)
+-- what the steps after `listen` come to, where the config's start is the first moment
+abbrev pub state_after : CoreConfig → List Step → RunState
+state_after config steps = state_from config steps (first_state config)
 
 -- the notices of these steps
-abbrev pub notices_after : Setting → List Step → List Notice
-notices_after setting steps = notices_by setting (state_after setting steps).arrivals
+abbrev pub notices_after : CoreConfig → List Step → List Notice
+notices_after config steps = notices_by config (state_after config steps).arrivals

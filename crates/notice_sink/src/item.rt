@@ -26,7 +26,8 @@ pub fn put_item(alloc: Global, item: &Item, out: &mut Blob) -> Result<(), Memory
 }
 
 fn put_vector(alloc: Global, events: &[Event], out: &mut Blob) -> Result<(), Memory>
-    ensures ok { OnOk result (out.new ≡ out.old ++ (91 ∷ (join_with_byte 32 (map event_text events.now) ++ 93 ∷ []))) }
+    ensures ok { OnOk result (out.new ≡ out.old
+        ++ (91 ∷ (join_with_byte 32 (map event_text events.now) ++ 93 ∷ []))) }
     ensures err { OnErr result (Grew out.old out.new) }
 {
     out.push(alloc, b'[')?;
@@ -38,7 +39,8 @@ fn put_vector(alloc: Global, events: &[Event], out: &mut Blob) -> Result<(), Mem
 /// Appends the events with single spaces between them.
 #[tactic(auto, using(crate::proofs::JoiningLemmas::events_written))]
 fn put_events(alloc: Global, events: &[Event], out: &mut Blob) -> Result<(), Memory>
-    ensures ok { OnOk result (out.new ≡ out.old ++ join_with_byte 32 (map event_text events.now)) }
+    ensures ok { OnOk result (out.new ≡ out.old
+        ++ join_with_byte 32 (map event_text events.now)) }
     ensures err { OnErr result (Grew out.old out.new) }
 {
     let Some((first, rest)) = events.split_first() else {

@@ -57,12 +57,15 @@ impl NoticeWriter {
         sink: &mut O,
     ) -> Result<(), LineFault>
         ensures ok { OnOk result (Got (O.text sink.old) (notice_line notice.now) (O.text sink.new)) }
-        ensures counted { OnOk result (O.puts sink.new ≡ option_map (λ n. min (n + 1) greatest) (O.puts sink.old)) }
+        ensures counted { OnOk result (O.puts sink.new
+            ≡ option_map (λ n. min (n + 1) greatest) (O.puts sink.old)) }
         ensures no_fault { OnOk result (O.faults sink.new ≡ O.faults sink.old) }
         ensures front { result ≡ Err LineFault.SinkFault
             → GotFront (O.text sink.old) (notice_line notice.now) (O.text sink.new) }
-        ensures uncounted { result ≡ Err LineFault.SinkFault → O.puts sink.new ≡ O.puts sink.old }
-        ensures fault { result ≡ Err LineFault.SinkFault → Rose (O.faults sink.old) (O.faults sink.new) }
+        ensures uncounted { result ≡ Err LineFault.SinkFault →
+            O.puts sink.new ≡ O.puts sink.old }
+        ensures fault { result ≡ Err LineFault.SinkFault →
+            Rose (O.faults sink.old) (O.faults sink.new) }
         ensures memory { result ≡ Err LineFault.Memory → sink.new ≡ sink.old }
         ensures faults { O.faults sink.old ≤ O.faults sink.new }
     {
@@ -95,7 +98,8 @@ fn put_line(alloc: Global, notice: &Notice, out: &mut Blob) -> Result<(), Memory
 fn put_whole<O: Sink>(line: &[u8], sink: &mut O) -> Result<(), LineFault>
     requires { 0 < length line.now }
     ensures ok { OnOk result (Got (O.text sink.old) line.now (O.text sink.new)) }
-    ensures counted { OnOk result (O.puts sink.new ≡ option_map (λ n. min (n + 1) greatest) (O.puts sink.old)) }
+    ensures counted { OnOk result (O.puts sink.new
+        ≡ option_map (λ n. min (n + 1) greatest) (O.puts sink.old)) }
     ensures no_fault { OnOk result (O.faults sink.new ≡ O.faults sink.old) }
     ensures no_memory { result ≡ Err LineFault.Memory → ⊥ }
     ensures front { OnErr result (GotFront (O.text sink.old) line.now (O.text sink.new)) }
@@ -113,12 +117,14 @@ fn put_whole<O: Sink>(line: &[u8], sink: &mut O) -> Result<(), LineFault>
 /// again.
 pub fn write_notice<O: Sink>(alloc: Global, notice: &Notice, sink: &mut O) -> Result<(), LineFault>
     ensures ok { OnOk result (Got (O.text sink.old) (notice_line notice.now) (O.text sink.new)) }
-    ensures counted { OnOk result (O.puts sink.new ≡ option_map (λ n. min (n + 1) greatest) (O.puts sink.old)) }
+    ensures counted { OnOk result (O.puts sink.new
+        ≡ option_map (λ n. min (n + 1) greatest) (O.puts sink.old)) }
     ensures no_fault { OnOk result (O.faults sink.new ≡ O.faults sink.old) }
     ensures front { result ≡ Err LineFault.SinkFault
         → GotFront (O.text sink.old) (notice_line notice.now) (O.text sink.new) }
     ensures uncounted { result ≡ Err LineFault.SinkFault → O.puts sink.new ≡ O.puts sink.old }
-    ensures fault { result ≡ Err LineFault.SinkFault → Rose (O.faults sink.old) (O.faults sink.new) }
+    ensures fault { result ≡ Err LineFault.SinkFault →
+        Rose (O.faults sink.old) (O.faults sink.new) }
     ensures memory { result ≡ Err LineFault.Memory → sink.new ≡ sink.old }
     ensures faults { O.faults sink.old ≤ O.faults sink.new }
 {

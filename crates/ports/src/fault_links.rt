@@ -37,11 +37,13 @@ impl FaultLinks {
 
     /// Counts a call, and whether it fails.
     fn count_call(&mut self) -> bool
-        ensures fails { result ≡ list_any (λ number. number == self.old.calls) self.old.failing.items }
+        ensures fails { result ≡ list_any (λ number.
+            number == self.old.calls) self.old.failing.items }
         ensures inner { self.new.inner ≡ self.old.inner }
         ensures calls { self.new.calls ≡ count_after self.old.calls 1 }
         ensures failing { self.new.failing ≡ self.old.failing }
-        ensures counted { MatchBool result (Rose self.old.faults self.new.faults) (self.new.faults ≡ self.old.faults) }
+        ensures counted { MatchBool result (Rose self.old.faults self.new.faults)
+            (self.new.faults ≡ self.old.faults) }
         ensures faults { self.old.faults ≤ self.new.faults }
     {
         let fails = self.failing.contains(&self.calls);

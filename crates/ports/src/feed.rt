@@ -31,7 +31,8 @@ fn push_turn(alloc: Global, event: LinkEvent, steps: &mut Steps) -> Result<(), M
 /// Adds a read of link 0 for each piece of the bytes.
 #[tactic(auto, using(crate::proofs::PieceLemmas::piece_more, crate::proofs::PieceLemmas::pieces_done))]
 fn push_reads(alloc: Global, bytes: &[u8], steps: &mut Steps) -> Result<(), Memory>
-    ensures { OnOk result (steps.new ≡ steps.old ++ map read_step (pieces_of PIECE_LIMIT bytes.now)) }
+    ensures { OnOk result (steps.new ≡ steps.old
+        ++ map read_step (pieces_of PIECE_LIMIT bytes.now)) }
 {
     let mut rest = bytes;
     'pieces: while rest.len() > 0 {

@@ -68,7 +68,8 @@ fn read_file<R: Files>(rt: &R, path: &str, most: u64, bytes: &mut Vec<u8>) -> io
 
 /// The same of what the reader has left, which is taken in pieces.
 fn read_front<R: Read + Drop>(reader: R, most: u64, bytes: &mut Vec<u8>) -> io::Result<()>
-    ensures { OnOk result (IfSome (R.remaining reader) (λ left. bytes.new.items ≡ bytes.old.items ++ take most left)) }
+    ensures { OnOk result (IfSome (R.remaining reader) (λ left.
+        bytes.new.items ≡ bytes.old.items ++ take most left)) }
 {
     reader.take(most).read_to_end(bytes)?;
     Ok(())
@@ -76,7 +77,8 @@ fn read_front<R: Read + Drop>(reader: R, most: u64, bytes: &mut Vec<u8>) -> io::
 
 /// Whether it failed because it was out of memory.
 fn wanted_memory(outcome: &io::Result<()>) -> bool
-    ensures { IsTrue result ↔ IsErrAnd outcome.now (λ error. error_kind error ≡ ErrorKind.OutOfMemory) }
+    ensures { IsTrue result ↔ IsErrAnd outcome.now (λ error.
+        error_kind error ≡ ErrorKind.OutOfMemory) }
 {
     match outcome {
         Ok(()) => false,

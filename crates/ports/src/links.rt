@@ -31,18 +31,21 @@ pub trait Links {
         ensures cause { HasListenCause (faults self.old) (faults self.new) result }
         ensures faults { faults self.old ≤ faults self.new }
         ensures script { script self.new ≡ script self.old }
-        ensures plays { Plays (script self.old) (log self.old) → Plays (script self.new) (log self.new) };
+        ensures plays { Plays (script self.old) (log self.old) →
+            Plays (script self.new) (log self.new) };
 
     /// Waits for the next turn. `wants` has one entry for each connected link, by rising number. The bytes of a read
     /// are the first ones of `buf`.
     fn next(&mut self, alloc: Global, wants: &Wants, buf: &mut [u8]) -> Turn
         requires { length buf.old ≡ PIECE_LIMIT }
         ensures within { IsPieceWithin PIECE_LIMIT result.what }
-        ensures log { log self.new ≡ grown (log self.old) (next_entries wants.now buf.new result) }
+        ensures log { log self.new ≡ grown (log self.old)
+            (next_entries wants.now buf.new result) }
         ensures cause { HasNextCause (faults self.old) (faults self.new) result.what }
         ensures faults { faults self.old ≤ faults self.new }
         ensures script { script self.new ≡ script self.old }
-        ensures plays { Plays (script self.old) (log self.old) → Plays (script self.new) (log self.new) };
+        ensures plays { Plays (script self.old) (log self.old) →
+            Plays (script self.new) (log self.new) };
 
     /// Offers the bytes to the link. A send that fails concerns that link alone, and is not a fault.
     fn send(&mut self, alloc: Global, link: u64, bytes: &[u8]) -> SendAnswer
@@ -51,7 +54,8 @@ pub trait Links {
         ensures log { log self.new ≡ grown (log self.old) (send_entries link bytes.now result) }
         ensures faults { faults self.new ≡ faults self.old }
         ensures script { script self.new ≡ script self.old }
-        ensures plays { Plays (script self.old) (log self.old) → Plays (script self.new) (log self.new) };
+        ensures plays { Plays (script self.old) (log self.old) →
+            Plays (script self.new) (log self.new) };
 
     /// Closes the link. It always succeeds and takes no memory.
     fn close(&mut self, link: u64)
@@ -59,7 +63,8 @@ pub trait Links {
         ensures log { log self.new ≡ grown (log self.old) (Close link ∷ []) }
         ensures faults { faults self.new ≡ faults self.old }
         ensures script { script self.new ≡ script self.old }
-        ensures plays { Plays (script self.old) (log self.old) → Plays (script self.new) (log self.new) };
+        ensures plays { Plays (script self.old) (log self.old) →
+            Plays (script self.new) (log self.new) };
 }
 
 /// What [`Links::listen`] answers.

@@ -32,7 +32,8 @@ impl MemSink {
         ensures text { IfOk result (λ sink. sink.text.items ≡ []) }
         ensures failing { IfOk result (λ sink. sink.failing ≡ failing) }
         ensures room { IfOk result (λ sink. sink.room ≡ room) }
-        ensures counts { IfOk result (λ sink. (sink.calls ≡ 0) × (sink.faults ≡ 0) × (sink.puts ≡ 0)) }
+        ensures counts { IfOk result (λ sink. (sink.calls ≡ 0) × (sink.faults ≡ 0) ×
+            (sink.puts ≡ 0)) }
     {
         let text = Vec::with_capacity(alloc, room as usize)?;
         Ok(MemSink {
@@ -47,7 +48,8 @@ impl MemSink {
 
     /// The number of bytes that a put of `count` bytes takes.
     fn count_taken(&self, count: usize) -> usize
-        ensures { result ≡ (if list_any (λ number. number == self.now.calls) self.now.failing.items then 0
+        ensures { result ≡ (if list_any (λ number.
+            number == self.now.calls) self.now.failing.items then 0
             else min count (self.now.room - vec_len self.now.text)) }
     {
         if self.failing.contains(&self.calls) {
@@ -71,13 +73,15 @@ impl Sink for MemSink {
         ensures all { OnOk result (self.new.text.items ≡ self.old.text.items ++ bytes.now) }
         ensures counted { OnOk result (self.new.puts ≡ min (self.old.puts + 1) greatest) }
         ensures no_fault { OnOk result (self.new.faults ≡ self.old.faults) }
-        ensures front { OnErr result (GotFront (Some self.old.text.items) bytes.now (Some self.new.text.items)) }
+        ensures front { OnErr result (GotFront (Some self.old.text.items) bytes.now
+            (Some self.new.text.items)) }
         ensures uncounted { OnErr result (self.new.puts ≡ self.old.puts) }
         ensures fault { OnErr result (Rose self.old.faults self.new.faults) }
         ensures faults { self.old.faults ≤ self.new.faults }
 
         // Exactly, also of what no sink has to tell.
-        ensures part { self.new.text.items ≡ self.old.text.items ++ part_taken self.old bytes.now }
+        ensures part { self.new.text.items ≡ self.old.text.items
+            ++ part_taken self.old bytes.now }
         ensures succeeds { IsOk result ↔ (part_taken self.old bytes.now ≡ bytes.now) }
         ensures one_fault { OnErr result (self.new.faults ≡ count_after self.old.faults 1) }
         ensures calls { self.new.calls ≡ count_after self.old.calls 1 }

@@ -71,14 +71,16 @@ impl Store for MemStore {
     fn read(&mut self, alloc: Global, name: &Text, limit: u64) -> ReadAnswer
         requires { limit < 2 ^ 63 }
         ensures held { held_in self.new.files.items ≡ held_in self.old.files.items }
-        ensures cause { HasCause (Some (held_in self.old.files.items name.now)) limit self.old.faults self.new.faults
+        ensures cause { HasCause (Some (held_in self.old.files.items name.now)) limit
+            self.old.faults self.new.faults
             self.old.taken self.new.taken result }
         ensures reads { self.new.reads ≡ self.old.reads ++ reads_made name.now result }
         ensures taken { self.old.taken ≤ self.new.taken }
         ensures faults { self.old.faults ≤ self.new.faults }
 
         // Exactly, also of what no store has to tell.
-        ensures answer { result ≢ ReadAnswer.Memory → result ≡ answer_of self.old name.now limit }
+        ensures answer { result ≢ ReadAnswer.Memory →
+            result ≡ answer_of self.old name.now limit }
         ensures after { self.new ≡ store_after self.old name.now limit result }
     {
         let answer = self.answer(alloc, name, limit);
@@ -125,7 +127,8 @@ fn copy_within(alloc: Global, file: &Blob, limit: u64) -> ReadAnswer
 
 /// Adds the read at the end.
 fn note(alloc: Global, reads: &mut Reads, name: &Text, failed: bool) -> Result<(), Memory>
-    ensures ok { OnOk result (reads.new ≡ reads.old ++ record { name = name.now; failed = failed } ∷ []) }
+    ensures ok { OnOk result (reads.new ≡ reads.old
+        ++ record { name = name.now; failed = failed } ∷ []) }
     ensures err { OnErr result (reads.new ≡ reads.old) }
 {
     let name = name.copy(alloc)?;

@@ -115,7 +115,8 @@ pub(crate) fn apply_rules(
 
 /// Makes a line that is not a turn take effect.
 fn apply_rule(step: &Step, rules: &mut HashMap<u64, SendRule>) -> Result<(), Memory>
-    ensures { OnOk result (rules_in rules.new ≡ rules_at_turn (step.now ∷ []) (rules_in rules.old)) }
+    ensures { OnOk result (rules_in rules.new
+        ≡ rules_at_turn (step.now ∷ []) (rules_in rules.old)) }
 {
     match step {
         Step::Turn { .. } => {}
@@ -146,7 +147,8 @@ pub(crate) fn add_taken(
 ) -> Result<(), Memory>
     ensures ok { OnOk result ((other : ℕ) → taken_in taken.new other
         ≡ taken_in taken.old other ++ (if link == other then bytes.now else [])) }
-    ensures err { OnErr result ((other : ℕ) → taken_in taken.new other ≡ taken_in taken.old other) }
+    ensures err { OnErr result ((other : ℕ) →
+        taken_in taken.new other ≡ taken_in taken.old other) }
 {
     if let Some(blob) = taken.get_mut(&link) {
         blob.append(alloc, bytes)?;

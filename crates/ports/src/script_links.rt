@@ -106,8 +106,10 @@ impl ScriptLinks {
     #[tactic(auto, using(crate::proofs::ScriptLemmas::playing_sent, crate::proofs::ScriptLemmas::playing_poisoned))]
     fn play_send(&mut self, alloc: Global, link: u64, bytes: &[u8]) -> Result<SendAnswer, Memory>
         ensures within { IfOk result (IsWithin (length bytes.now)) }
-        ensures some { IfOk result (λ answer. send_entries link bytes.now answer ≡ Send link bytes.now answer ∷ []) }
-        ensures ok { IfOk result (λ answer. self.new.log ≡ self.old.log ++ Send link bytes.now answer ∷ []) }
+        ensures some { IfOk result (λ answer.
+            send_entries link bytes.now answer ≡ Send link bytes.now answer ∷ []) }
+        ensures ok { IfOk result (λ answer. self.new.log ≡ self.old.log
+            ++ Send link bytes.now answer ∷ []) }
         ensures err { OnErr result (self.new.log ≡ self.old.log) }
         ensures script { self.new.script ≡ self.old.script }
         ensures plays { Plays (Some self.new.script) (Some self.new.log) }
@@ -127,7 +129,8 @@ impl ScriptLinks {
     /// Adds a call of [`Links::listen`] that failed to the log.
     #[tactic(auto, using(crate::proofs::ScriptLemmas::playing_failed_listen, crate::proofs::ScriptLemmas::plays_some))]
     pub(crate) fn note_failed_listen(&mut self, address: &Text)
-        ensures log { self.new.log ≡ self.old.log ++ Listen address.now ListenAnswer.Failed ∷ [] }
+        ensures log { self.new.log ≡ self.old.log
+            ++ Listen address.now ListenAnswer.Failed ∷ [] }
         ensures script { self.new.script ≡ self.old.script }
         ensures plays { Plays (Some self.new.script) (Some self.new.log) }
     {
@@ -184,9 +187,11 @@ impl Place {
         ensures next { self.new.next ≡ self.old.next }
         ensures secs { self.new.secs ≡ self.old.secs }
         ensures within { IfOk result (IsWithin count) }
-        ensures answer { IfOk result (λ answer. answer ≡ send_answer (rules_in self.old.rules link) count) }
+        ensures answer { IfOk result (λ answer.
+            answer ≡ send_answer (rules_in self.old.rules link) count) }
         ensures rules { OnOk result (rules_in self.new.rules
-            ≡ with_rule link (rule_after (rules_in self.old.rules link) count) (rules_in self.old.rules)) }
+            ≡ with_rule link (rule_after (rules_in self.old.rules link) count)
+            (rules_in self.old.rules)) }
     {
         let rule = rule_of(&self.rules, link);
         set_rule(&mut self.rules, link, rule.after(count))?;

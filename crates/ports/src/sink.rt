@@ -22,7 +22,8 @@ pub trait Sink {
     fn put(&mut self, bytes: &[u8]) -> Result<(), Failed>
         requires { 0 < length bytes.now }
         ensures all { OnOk result (Got (text self.old) bytes.now (text self.new)) }
-        ensures counted { OnOk result (puts self.new ≡ option_map (λ n. min (n + 1) greatest) (puts self.old)) }
+        ensures counted { OnOk result (puts self.new
+            ≡ option_map (λ n. min (n + 1) greatest) (puts self.old)) }
         ensures no_fault { OnOk result (faults self.new ≡ faults self.old) }
         ensures front { OnErr result (GotFront (text self.old) bytes.now (text self.new)) }
         ensures uncounted { OnErr result (puts self.new ≡ puts self.old) }

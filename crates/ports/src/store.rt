@@ -29,7 +29,8 @@ pub trait Store {
         ensures held { held self.new ≡ held self.old }
         ensures cause { HasCause (held self.old name.now) limit (faults self.old) (faults self.new)
             (taken self.old) (taken self.new) result }
-        ensures reads { reads self.new ≡ option_map (λ made. made ++ reads_made name.now result) (reads self.old) }
+        ensures reads { reads self.new ≡ option_map (λ made. made ++ reads_made name.now result)
+            (reads self.old) }
         ensures taken { taken self.old ≤ taken self.new }
         ensures faults { faults self.old ≤ faults self.new }
         ensures memory { result ≡ ReadAnswer.Memory → self.new ≡ self.old };

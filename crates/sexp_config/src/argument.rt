@@ -85,7 +85,8 @@ pub(crate) fn misfit(argument: Argument<'_>) -> ConfigWhy
 /// The refusal of the argument, which is the form.
 #[tactic(auto, using(crate::proofs::FormLaws::start_of_form))]
 pub(crate) fn unfit(form: &Form, argument: Argument<'_>) -> ConfigFault
-    ensures { result ≡ ConfigFault.Refused (start_of (form_tree form.now)) (misfit_of (argument_in argument.entry)) }
+    ensures { result ≡ ConfigFault.Refused (start_of (form_tree form.now))
+        (misfit_of (argument_in argument.entry)) }
 {
     refused(form.start, misfit(argument))
 }
@@ -118,7 +119,8 @@ fn number_in(argument: Argument<'_>) -> Option<i64>
 }
 
 fn vector_in(argument: Argument<'_>) -> Option<&[Form]>
-    ensures { option_map (λ forms. form_trees forms.now) result ≡ vector_in (argument_in argument.entry) }
+    ensures { option_map (λ forms. form_trees forms.now) result
+        ≡ vector_in (argument_in argument.entry) }
 {
     match argument {
         Argument::Vector(forms) => Some(forms),
@@ -127,7 +129,8 @@ fn vector_in(argument: Argument<'_>) -> Option<&[Form]>
 }
 
 fn map_in(argument: Argument<'_>) -> Option<&[Form]>
-    ensures { option_map (λ forms. form_trees forms.now) result ≡ map_in (argument_in argument.entry) }
+    ensures { option_map (λ forms. form_trees forms.now) result
+        ≡ map_in (argument_in argument.entry) }
 {
     match argument {
         Argument::Map(forms) => Some(forms),
@@ -233,7 +236,8 @@ pub(crate) fn value_at(alloc: Global, env: &[Binding], form: &Form) -> Result<Va
 /// The forms in the vector that the form is.
 #[tactic(auto, unfolding(crate::specs::Arguments::vector_at))]
 pub(crate) fn vector_at<'a>(env: &'a [Binding], form: &'a Form) -> Result<&'a [Form], ConfigFault>
-    ensures { GivesAs (λ forms. form_trees forms.now) result (vector_from env.now (form_tree form.now)) }
+    ensures { GivesAs (λ forms. form_trees forms.now) result
+        (vector_from env.now (form_tree form.now)) }
 {
     let argument = argument_of(env, form);
     match vector_in(argument) {
@@ -245,7 +249,8 @@ pub(crate) fn vector_at<'a>(env: &'a [Binding], form: &'a Form) -> Result<&'a [F
 /// The forms in the map that the form is.
 #[tactic(auto, unfolding(crate::specs::Arguments::map_at))]
 pub(crate) fn map_at<'a>(env: &'a [Binding], form: &'a Form) -> Result<&'a [Form], ConfigFault>
-    ensures { GivesAs (λ forms. form_trees forms.now) result (map_from env.now (form_tree form.now)) }
+    ensures { GivesAs (λ forms. form_trees forms.now) result
+        (map_from env.now (form_tree form.now)) }
 {
     let argument = argument_of(env, form);
     match map_in(argument) {

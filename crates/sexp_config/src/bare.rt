@@ -65,7 +65,8 @@ pub(crate) fn map(forms: Forms) -> Form
 /// Adds the form at the end.
 #[tactic(auto, using(crate::proofs::CanonicalLaws::bare_pushed))]
 pub(crate) fn put(forms: &mut Forms, form: Form) -> Result<(), Memory>
-    ensures { OnOk result (bare_forms forms.new.items ≡ bare_forms forms.old.items ++ bare_form form ∷ []) }
+    ensures { OnOk result (bare_forms forms.new.items ≡ bare_forms forms.old.items
+        ++ bare_form form ∷ []) }
 {
     forms.push(form)?;
     Ok(())
@@ -82,7 +83,8 @@ pub(crate) fn only(alloc: Global, form: Form) -> Result<Forms, Memory>
 
 /// Two forms.
 pub(crate) fn pair(alloc: Global, first: Form, second: Form) -> Result<Forms, Memory>
-    ensures { IfOk result (λ forms. bare_forms forms.items ≡ bare_form first ∷ bare_form second ∷ []) }
+    ensures { IfOk result (λ forms. bare_forms forms.items
+        ≡ bare_form first ∷ bare_form second ∷ []) }
 {
     let mut forms = only(alloc, first)?;
     put(&mut forms, second)?;
@@ -99,7 +101,8 @@ pub(crate) fn word(alloc: Global, name: &str) -> Result<Forms, Memory>
 
 /// The symbol, and one argument.
 pub(crate) fn word_with(alloc: Global, name: &str, argument: Form) -> Result<Forms, Memory>
-    ensures { IfOk result (λ forms. bare_forms forms.items ≡ symbol_form name.now ∷ bare_form argument ∷ []) }
+    ensures { IfOk result (λ forms. bare_forms forms.items
+        ≡ symbol_form name.now ∷ bare_form argument ∷ []) }
 {
     let first = symbol(alloc, name)?;
     pair(alloc, first, argument)
@@ -112,7 +115,8 @@ pub(crate) fn word_with_two(
     argument: Form,
     second: Form,
 ) -> Result<Forms, Memory>
-    ensures { IfOk result (λ forms. bare_forms forms.items ≡ symbol_form name.now ∷ bare_form argument ∷ bare_form second ∷ []) }
+    ensures { IfOk result (λ forms. bare_forms forms.items
+        ≡ symbol_form name.now ∷ bare_form argument ∷ bare_form second ∷ []) }
 {
     let mut forms = word_with(alloc, name, argument)?;
     put(&mut forms, second)?;

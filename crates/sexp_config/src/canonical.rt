@@ -41,14 +41,16 @@ fn order_name(order: Ordering) -> &'static str
 
 /// A test of a field against the form after it.
 fn test_form(alloc: Global, name: &str, named: &Field, against: Form) -> Result<Form, Memory>
-    ensures { IfOk result (λ form. bare_form form ≡ worded_form name.now (rule_field_form named.now ∷ bare_form against ∷ [])) }
+    ensures { IfOk result (λ form. bare_form form
+        ≡ worded_form name.now (rule_field_form named.now ∷ bare_form against ∷ [])) }
 {
     let first = rule_field(alloc, named)?;
     Ok(list(word_with_two(alloc, name, first, against)?))
 }
 
 fn search_form(alloc: Global, named: &Field, sought: &Text) -> Result<Form, Memory>
-    ensures { IfOk result (λ form. bare_form form ≡ rule_form_of (search_tree named.now sought.now)) }
+    ensures { IfOk result (λ form. bare_form form
+        ≡ rule_form_of (search_tree named.now sought.now)) }
 {
     let first = rule_field(alloc, named)?;
     Ok(list(pair(alloc, first, pattern(alloc, sought)?)?))
@@ -96,7 +98,8 @@ fn rule_form(alloc: Global, rule: &Rule) -> Result<Form, Memory>
 #[cycle(canonical_rule)]
 #[tactic(auto, using(crate::proofs::CanonicalLaws::rules_more, crate::proofs::CanonicalLaws::rules_all))]
 fn joined(alloc: Global, name: &str, parts: &[Rule]) -> Result<Form, Memory>
-    ensures { IfOk result (λ form. bare_form form ≡ worded_form name.now (rule_forms (trees_in parts.now))) }
+    ensures { IfOk result (λ form. bare_form form
+        ≡ worded_form name.now (rule_forms (trees_in parts.now))) }
 {
     let mut forms = word(alloc, name)?;
     for part in parts {
@@ -134,7 +137,8 @@ fn texts_form(alloc: Global, texts: &[Text]) -> Result<Form, Memory>
 /// The vector of fields.
 #[tactic(auto, using(crate::proofs::CanonicalLaws::fields_more, crate::proofs::CanonicalLaws::fields_all))]
 fn fields_form(alloc: Global, fields: &[Field]) -> Result<Form, Memory>
-    ensures { IfOk result (λ form. bare_form form ≡ vector_form (each_of field_form fields.now)) }
+    ensures { IfOk result (λ form. bare_form form
+        ≡ vector_form (each_of field_form fields.now)) }
 {
     let mut forms = Vec::new(alloc);
     for one in fields {
@@ -145,7 +149,8 @@ fn fields_form(alloc: Global, fields: &[Field]) -> Result<Form, Memory>
 
 /// What a field was before the first event, where that is said.
 fn put_init(alloc: Global, init: &Option<Value>, forms: &mut Forms) -> Result<(), Memory>
-    ensures { OnOk result (bare_forms forms.new.items ≡ bare_forms forms.old.items ++ init_forms init.now) }
+    ensures { OnOk result (bare_forms forms.new.items ≡ bare_forms forms.old.items
+        ++ init_forms init.now) }
 {
     if let Some(init) = init {
         let key = keyword(alloc, "init")?;
@@ -156,7 +161,8 @@ fn put_init(alloc: Global, init: &Option<Value>, forms: &mut Forms) -> Result<()
 }
 
 fn changed_forms(alloc: Global, named: &Field, init: &Option<Value>) -> Result<Forms, Memory>
-    ensures { IfOk result (λ forms. bare_forms forms.items ≡ symbol_form (codes "changed") ∷ field_form named.now ∷ init_forms init.now) }
+    ensures { IfOk result (λ forms. bare_forms forms.items
+        ≡ symbol_form (codes "changed") ∷ field_form named.now ∷ init_forms init.now) }
 {
     let mut forms = word_with(alloc, "changed", field(alloc, named)?)?;
     put_init(alloc, init, &mut forms)?;
@@ -176,14 +182,16 @@ fn fold_name(fold: Fold) -> &'static str
 
 /// A word and a number.
 fn counted(alloc: Global, name: &str, count: u32) -> Result<Forms, Memory>
-    ensures { IfOk result (λ forms. bare_forms forms.items ≡ symbol_form name.now ∷ number_form (pos count) ∷ []) }
+    ensures { IfOk result (λ forms. bare_forms forms.items
+        ≡ symbol_form name.now ∷ number_form (pos count) ∷ []) }
 {
     word_with(alloc, name, number(i64::from(count)))
 }
 
 /// A word and two numbers.
 fn windowed(alloc: Global, name: &str, count: u32, secs: u32) -> Result<Forms, Memory>
-    ensures { IfOk result (λ forms. bare_forms forms.items ≡ symbol_form name.now ∷ number_form (pos count) ∷ number_form (pos secs) ∷ []) }
+    ensures { IfOk result (λ forms. bare_forms forms.items
+        ≡ symbol_form name.now ∷ number_form (pos count) ∷ number_form (pos secs) ∷ []) }
 {
     word_with_two(
         alloc,
@@ -195,7 +203,8 @@ fn windowed(alloc: Global, name: &str, count: u32, secs: u32) -> Result<Forms, M
 
 /// A word, a number and a field.
 fn compared(alloc: Global, name: &str, count: u32, named: &Field) -> Result<Forms, Memory>
-    ensures { IfOk result (λ forms. bare_forms forms.items ≡ symbol_form name.now ∷ number_form (pos count) ∷ field_form named.now ∷ []) }
+    ensures { IfOk result (λ forms. bare_forms forms.items
+        ≡ symbol_form name.now ∷ number_form (pos count) ∷ field_form named.now ∷ []) }
 {
     let named = field(alloc, named)?;
     word_with_two(alloc, name, number(i64::from(count)), named)
@@ -203,7 +212,8 @@ fn compared(alloc: Global, name: &str, count: u32, named: &Field) -> Result<Form
 
 /// The word of a kind, and the arguments before the streams.
 fn kind_forms(alloc: Global, kind: &Kind) -> Result<Forms, Memory>
-    ensures { IfOk result (λ forms. bare_forms forms.items ≡ forms_of_kind (kind_tree kind.now)) }
+    ensures { IfOk result (λ forms. bare_forms forms.items
+        ≡ forms_of_kind (kind_tree kind.now)) }
 {
     match kind {
         Kind::Index => word(alloc, "index"),
@@ -250,7 +260,8 @@ fn stream_form(alloc: Global, stream: &Stream) -> Result<Form, Memory>
 #[cycle(canonical_stream)]
 #[tactic(auto, using(crate::proofs::CanonicalLaws::streams_all))]
 fn put_streams(alloc: Global, streams: &[Stream], forms: &mut Forms) -> Result<(), Memory>
-    ensures { OnOk result (bare_forms forms.new.items ≡ bare_forms forms.old.items ++ stream_forms (list_trees streams.now)) }
+    ensures { OnOk result (bare_forms forms.new.items ≡ bare_forms forms.old.items
+        ++ stream_forms (list_trees streams.now)) }
 {
     for stream in streams {
         let form = stream_form(alloc, stream)?;
@@ -262,7 +273,8 @@ fn put_streams(alloc: Global, streams: &[Stream], forms: &mut Forms) -> Result<(
 /// Adds the streams that get the rest, where there are some.
 #[cycle(canonical_stream)]
 fn put_else(alloc: Global, streams: &[Stream], forms: &mut Forms) -> Result<(), Memory>
-    ensures { OnOk result (bare_forms forms.new.items ≡ bare_forms forms.old.items ++ else_forms (stream_forms (list_trees streams.now))) }
+    ensures { OnOk result (bare_forms forms.new.items ≡ bare_forms forms.old.items
+        ++ else_forms (stream_forms (list_trees streams.now))) }
 {
     if streams.is_empty() {
         return Ok(());
@@ -314,7 +326,8 @@ fn expiry_form(alloc: Global, expiry: &Expiry) -> Result<Form, Memory>
 }
 
 fn put_expiry(alloc: Global, expiry: &Option<Expiry>, forms: &mut Forms) -> Result<(), Memory>
-    ensures { OnOk result (bare_forms forms.new.items ≡ bare_forms forms.old.items ++ expiry_forms expiry.now) }
+    ensures { OnOk result (bare_forms forms.new.items ≡ bare_forms forms.old.items
+        ++ expiry_forms expiry.now) }
 {
     if let Some(expiry) = expiry {
         let form = expiry_form(alloc, expiry)?;

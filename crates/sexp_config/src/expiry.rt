@@ -82,7 +82,8 @@ fn keys_from(
     env: &[Binding],
     entries: &[Form],
 ) -> Result<KeepKeys, ConfigFault>
-    ensures { Gives result (one_entry keep_text keys_read place env.now None (form_trees entries.now)) }
+    ensures { Gives result (one_entry keep_text keys_read place env.now None
+        (form_trees entries.now)) }
 {
     let mut keys = None;
     let mut left = entries;

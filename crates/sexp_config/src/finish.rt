@@ -43,7 +43,8 @@ fn place_along(sources: &[Source], path: &[usize]) -> usize
 
 /// The source of a number: the children's come first.
 fn follow<'a>(children: &'a [Source], otherwise: &'a [Source], number: usize) -> Option<&'a Source>
-    ensures { option_map (λ found. source_tree found.now) result ≡ nth_source number (with_sources (source_list children.now) (source_list otherwise.now)) }
+    ensures { option_map (λ found. source_tree found.now) result
+        ≡ nth_source number (with_sources (source_list children.now) (source_list otherwise.now)) }
 {
     if number < children.len() {
         return Some(&children[number]);
@@ -89,7 +90,8 @@ fn fault_of(place: usize, why: PlanWhy) -> ConfigFault
 }
 
 fn server_of(alloc: Global, server: Option<Server>) -> Result<Server, ConfigFault>
-    ensures { GivesAs server_made result (Ok (or_default default_server_of (option_map server_made server))) }
+    ensures { GivesAs server_made result (Ok
+        (or_default default_server_of (option_map server_made server))) }
 {
     match server {
         Some(server) => Ok(server),

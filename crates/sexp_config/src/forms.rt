@@ -61,9 +61,11 @@ pub(crate) fn symbol_of(form: &Form) -> Option<&Text>
 pub(crate) fn first(forms: &[Form]) -> Option<(&Form, &[Form])>
     ensures split { MatchOption result (form_trees forms.now ≡ none)
         (λ pair. form_trees forms.now ≡ also (form_tree pair.0.now) (form_trees pair.1.now)) }
-    ensures shorter { MatchOption result (length forms.now ≡ 0) (λ pair. length forms.now ≡ length pair.1.now + 1) }
+    ensures shorter { MatchOption result (length forms.now ≡ 0) (λ pair.
+        length forms.now ≡ length pair.1.now + 1) }
     ensures lighter { MatchOption result (weight (form_trees forms.now) ≡ 0)
-        (λ pair. weight (form_trees forms.now) ≡ form_weight (form_tree pair.0.now) + weight (form_trees pair.1.now) + 1) }
+        (λ pair. weight (form_trees forms.now)
+        ≡ form_weight (form_tree pair.0.now) + weight (form_trees pair.1.now) + 1) }
 {
     forms.split_first()
 }
@@ -83,7 +85,8 @@ pub(crate) fn nth(forms: &[Form], n: usize) -> Option<&Form>
 /// The form of a number, which has to be there: the form that lacks it starts at `start`.
 #[tactic(auto, unfolding(crate::specs::Steps::argument))]
 pub(crate) fn argument(start: usize, n: usize, forms: &[Form]) -> Result<&Form, ConfigFault>
-    ensures { GivesAs (λ form. form_tree form.now) result (argument_at start n (form_trees forms.now)) }
+    ensures { GivesAs (λ form. form_tree form.now) result
+        (argument_at start n (form_trees forms.now)) }
 {
     match nth(forms, n) {
         Some(form) => Ok(form),

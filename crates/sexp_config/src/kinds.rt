@@ -312,7 +312,8 @@ fn smap_kind(env: &[Binding], start: usize, forms: &[Form]) -> Result<Kind, Conf
 
 #[tactic(auto, unfolding(crate::specs::Kinds::count_and_secs))]
 fn count_and_secs(env: &[Binding], start: usize, forms: &[Form]) -> Result<(u32, u32), ConfigFault>
-    ensures { GivesAs (λ both. (both.0, both.1)) result (both_of env.now start (form_trees forms.now)) }
+    ensures { GivesAs (λ both. (both.0, both.1)) result
+        (both_of env.now start (form_trees forms.now)) }
 {
     let count = count_of(env, 0, start, forms)?;
     let secs = secs_of(env, 1, start, forms)?;

@@ -126,7 +126,8 @@ pub(crate) fn set_at(
 
 /// For what a value is refused that does not fit the field.
 fn unfit_value(field: &Field, value: &Value) -> ConfigWhy
-    ensures { result ≡ (if is_ttl_field field.now && is_number value.now then Range else Arguments) }
+    ensures { result ≡ (if is_ttl_field field.now && is_number value.now then Range else
+        Arguments) }
 {
     if matches!(field, Field::Ttl) && is_number(value) {
         ConfigWhy::Range
@@ -210,7 +211,8 @@ pub(crate) fn init_from(
     env: &[Binding],
     entries: &[Form],
 ) -> Result<Value, ConfigFault>
-    ensures { Gives result (one_entry init_text value_from place env.now None (form_trees entries.now)) }
+    ensures { Gives result (one_entry init_text value_from place env.now None
+        (form_trees entries.now)) }
 {
     let mut init = None;
     let mut left = entries;

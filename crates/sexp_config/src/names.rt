@@ -67,7 +67,8 @@ fn bound_at(alloc: Global, env: &[Binding], form: &Form) -> Result<Bound, Config
 
 /// The forms of a vector, where the form is one.
 fn vector_of(form: &Form) -> Option<&[Form]>
-    ensures { option_map (λ forms. form_trees forms.now) result ≡ vector_in_form (form_tree form.now) }
+    ensures { option_map (λ forms. form_trees forms.now) result
+        ≡ vector_in_form (form_tree form.now) }
 {
     match &form.shape {
         Shape::Vector(forms) => Some(forms),
@@ -83,7 +84,8 @@ pub(crate) fn names_at(
 ) -> Result<(), ConfigFault>
     ensures ok { OnOk result (names_read env.old.items (form_tree form.now) ≡ Ok env.new.items) }
     ensures kept { OnOk result (take (length env.old.items) env.new.items ≡ env.old.items) }
-    ensures refused { IfErr result (λ fault. Fails fault (names_read env.old.items (form_tree form.now))) }
+    ensures refused { IfErr result (λ fault.
+        Fails fault (names_read env.old.items (form_tree form.now))) }
 {
     match vector_of(form) {
         Some(entries) => names_from(alloc, form.start, env, entries),
@@ -99,9 +101,11 @@ fn names_from(
     env: &mut Vec<Binding>,
     entries: &[Form],
 ) -> Result<(), ConfigFault>
-    ensures ok { OnOk result (names_of place env.old.items (form_trees entries.now) ≡ Ok env.new.items) }
+    ensures ok { OnOk result (names_of place env.old.items (form_trees entries.now)
+        ≡ Ok env.new.items) }
     ensures kept { OnOk result (take (length env.old.items) env.new.items ≡ env.old.items) }
-    ensures refused { IfErr result (λ fault. Fails fault (names_of place env.old.items (form_trees entries.now))) }
+    ensures refused { IfErr result (λ fault.
+        Fails fault (names_of place env.old.items (form_trees entries.now))) }
 {
     let mut left = entries;
     'names: while let Some((key, rest)) = first(left) {

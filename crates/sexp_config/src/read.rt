@@ -29,7 +29,8 @@ pub fn read_config(alloc: Global, text: &[u8]) -> Result<Config, ConfigFault>
     ensures few { IfOk result (λ config. length (plan_patterns config.plan) ≤ longest) }
     ensures only { (config : Config) → IsConfigOf text.now config → IsReadAs config result }
     ensures refused { IfErr result (λ fault. IsRefusedFor text.now fault) }
-    ensures only_refused { (place : ℕ) (why : ConfigWhy) → IsConfigFault text.now place why → IsRefusedAs place why result }
+    ensures only_refused { (place : ℕ) (why : ConfigWhy) → IsConfigFault text.now place why →
+        IsRefusedAs place why result }
 {
     match read_forms(alloc, text) {
         Ok(forms) => config_of(alloc, forms.as_slice()),

@@ -20,7 +20,8 @@ use std::alloc::Global;
 
 /// The refusal of a symbol that is not a form of its place.
 pub(crate) fn no_form(env: &[Binding], name: &Text, place: usize) -> ConfigFault
-    ensures { result ≡ ConfigFault.Refused (no_form_at place (bound_value name.now env.now)).0 (no_form_at place (bound_value name.now env.now)).1 }
+    ensures { result ≡ ConfigFault.Refused (no_form_at place (bound_value name.now env.now)).0
+        (no_form_at place (bound_value name.now env.now)).1 }
 {
     match value_of(env, name) {
         None => refused(place, ConfigWhy::Name),
@@ -131,7 +132,8 @@ fn tagged_rule(
 
 /// The rule that a pattern is found in the field, or that it holds a value.
 fn sought(alloc: Global, env: &[Binding], field: Field, form: &Form) -> Result<Rule, ConfigFault>
-    ensures { GivesAs tree_of result (sought_in env.now field (form_tree form.now) (argument_from env.now (form_tree form.now))) }
+    ensures { GivesAs tree_of result (sought_in env.now field (form_tree form.now)
+        (argument_from env.now (form_tree form.now))) }
 {
     match argument_of(env, form) {
         Argument::Pattern(pattern) => Ok(Rule::Search {
@@ -169,7 +171,8 @@ fn negated(alloc: Global, rule: Rule) -> Result<Rule, ConfigFault>
 
 /// Takes out the part, where there is exactly one.
 fn only_part(parts: &mut Rules) -> Option<Rule>
-    ensures { MatchOption result ((length parts.old.items ≢ 1) × (parts.new.items ≡ parts.old.items)) (λ part. parts.old.items ≡ part ∷ []) }
+    ensures { MatchOption result ((length parts.old.items ≢ 1) ×
+        (parts.new.items ≡ parts.old.items)) (λ part. parts.old.items ≡ part ∷ []) }
 {
     if parts.len() == 1 { parts.pop() } else { None }
 }
@@ -224,7 +227,8 @@ fn keyed_rule(
     start: usize,
     forms: &[Form],
 ) -> Result<Rule, ConfigFault>
-    ensures { GivesAs tree_of result (headed_rule env.now (field_head (named_field name.now)) start (form_trees forms.now) (readings_of env.now (form_trees forms.now))) }
+    ensures { GivesAs tree_of result (headed_rule env.now (field_head (named_field name.now)) start
+        (form_trees forms.now) (readings_of env.now (form_trees forms.now))) }
 {
     match field_of(alloc, name)? {
         Some(field) => field_rule(alloc, env, field, start, forms),
@@ -241,7 +245,9 @@ fn call_rule(
     start: usize,
     forms: &[Form],
 ) -> Result<Rule, ConfigFault>
-    ensures { GivesAs tree_of result (headed_rule env.now (symbol_head (rule_word_of name.now) (protocol_field name.now)) start (form_trees forms.now) (readings_of env.now (form_trees forms.now))) }
+    ensures { GivesAs tree_of result (headed_rule env.now
+        (symbol_head (rule_word_of name.now) (protocol_field name.now)) start (form_trees forms.now)
+        (readings_of env.now (form_trees forms.now))) }
 {
     if let Some(word) = rule_word(name) {
         return word_rule(alloc, env, word, start, forms);
@@ -262,7 +268,8 @@ fn word_rule(
     start: usize,
     forms: &[Form],
 ) -> Result<Rule, ConfigFault>
-    ensures { GivesAs tree_of result (word_rule_of env.now word start (form_trees forms.now) (readings_of env.now (form_trees forms.now))) }
+    ensures { GivesAs tree_of result (word_rule_of env.now word start (form_trees forms.now)
+        (readings_of env.now (form_trees forms.now))) }
 {
     match word {
         RuleWord::And => {
@@ -310,7 +317,8 @@ fn first_rule(
 #[cycle(rules)]
 #[tactic(auto, unfolding(crate::specs::Rules::rule_at, crate::specs::Rules::all_read))]
 fn rules_in(alloc: Global, env: &[Binding], forms: &[Form]) -> Result<Rules, ConfigFault>
-    ensures { GivesAs (λ rules. trees_in rules.items) result (all_read none (readings_of env.now (form_trees forms.now))) }
+    ensures { GivesAs (λ rules. trees_in rules.items) result
+        (all_read none (readings_of env.now (form_trees forms.now))) }
 {
     let mut rules = Vec::new(alloc);
     let mut left = forms;

@@ -106,7 +106,8 @@ fn with_entry(
     is_host: bool,
     form: &Form,
 ) -> Result<Listens, ConfigFault>
-    ensures { GivesAs listens_made result (entry_read env.now (listens_made listens) is_host (form_tree form.now)) }
+    ensures { GivesAs listens_made result (entry_read env.now (listens_made listens) is_host
+        (form_tree form.now)) }
 {
     if is_host {
         let host = text_at(alloc, env, form)?;
@@ -138,7 +139,8 @@ fn listens_from(
     env: &[Binding],
     entries: &[Form],
 ) -> Result<Listens, ConfigFault>
-    ensures { GivesAs listens_made result (listens_in place env.now no_listens (form_trees entries.now)) }
+    ensures { GivesAs listens_made result (listens_in place env.now no_listens
+        (form_trees entries.now)) }
 {
     let mut listens = Listens {
         host: None,

@@ -58,7 +58,8 @@ impl Located {
 
     #[tactic(auto, using(crate::proofs::StreamLaws::stream_pushed, crate::proofs::StreamLaws::source_pushed))]
     fn push(&mut self, stream: Stream, source: Source) -> Result<(), ConfigFault>
-        ensures ok { OnOk result (located_in self.new ≡ with_one (located_in self.old) (stream_tree stream) (source_tree source)) }
+        ensures ok { OnOk result (located_in self.new
+            ≡ with_one (located_in self.old) (stream_tree stream) (source_tree source)) }
         ensures err { IfErr result (λ fault. fault ≡ ConfigFault.Memory) }
     {
         self.streams.push(stream)?;
@@ -176,7 +177,8 @@ fn call_part(
     start: usize,
     forms: &[Form],
 ) -> Result<Part, ConfigFault>
-    ensures { GivesAs part_in result (worded may_else env.now (stream_word_of name.now) start (form_trees forms.now)
+    ensures { GivesAs part_in result (worded may_else env.now (stream_word_of name.now) start
+        (form_trees forms.now)
         (readings_of (is_where_in (stream_word_of name.now)) env.now (form_trees forms.now))) }
 {
     let Some(word) = stream_word(name) else {
@@ -199,7 +201,8 @@ fn else_part(
     start: usize,
     forms: &[Form],
 ) -> Result<Part, ConfigFault>
-    ensures { GivesAs part_in result (else_part_of may_else start (readings_of false env.now (form_trees forms.now))) }
+    ensures { GivesAs part_in result (else_part_of may_else start
+        (readings_of false env.now (form_trees forms.now))) }
 {
     if !may_else {
         return Err(refused(start, ConfigWhy::Form));
@@ -220,7 +223,8 @@ fn followed(
     own: usize,
     forms: &[Form],
 ) -> Result<Part, ConfigFault>
-    ensures { GivesAs part_in result (followed_by (kind_tree kind) start own (form_trees forms.now) (readings_of may_else env.now (form_trees forms.now))) }
+    ensures { GivesAs part_in result (followed_by (kind_tree kind) start own (form_trees forms.now)
+        (readings_of may_else env.now (form_trees forms.now))) }
 {
     if !may_have_children(&kind) {
         at_most(own, forms)?;
@@ -240,7 +244,8 @@ pub(crate) fn parts_onto(
     may_else: bool,
     before: Below,
 ) -> Result<Below, ConfigFault>
-    ensures { GivesAs below_in result (all_read (below_in before) (readings_of may_else env.now (form_trees forms.now))) }
+    ensures { GivesAs below_in result (all_read (below_in before)
+        (readings_of may_else env.now (form_trees forms.now))) }
 {
     let mut below = before;
     let mut left = forms;

@@ -46,7 +46,8 @@ fn tcp_server(
     forms: &[Form],
     draft: Draft,
 ) -> Result<Draft, ConfigFault>
-    ensures { GivesAs draft_in result (with_server env.now start (form_trees forms.now) (draft_in draft)) }
+    ensures { GivesAs draft_in result (with_server env.now start (form_trees forms.now)
+        (draft_in draft)) }
 {
     if draft.server.is_some() {
         return Err(refused(start, ConfigWhy::Twice));
@@ -66,7 +67,8 @@ fn periodically_expire(
     forms: &[Form],
     draft: Draft,
 ) -> Result<Draft, ConfigFault>
-    ensures { GivesAs draft_in result (with_expiry env.now start (form_trees forms.now) (draft_in draft)) }
+    ensures { GivesAs draft_in result (with_expiry env.now start (form_trees forms.now)
+        (draft_in draft)) }
 {
     if draft.expiry.is_some() {
         return Err(refused(start, ConfigWhy::Twice));
@@ -103,7 +105,8 @@ fn top_at(
     form: &Form,
     draft: Draft,
 ) -> Result<Draft, ConfigFault>
-    ensures gives { GivesAs draft_in result (top_from (form_tree form.now) env.old.items (draft_in draft)) }
+    ensures gives { GivesAs draft_in result (top_from (form_tree form.now) env.old.items
+        (draft_in draft)) }
     ensures same { OnOk result (env.new.items ≡ env.old.items) }
 {
     match view_of(form) {
@@ -125,7 +128,8 @@ fn call_top(
     forms: &[Form],
     draft: Draft,
 ) -> Result<Draft, ConfigFault>
-    ensures gives { GivesAs draft_in result (top_by (top_word_of name.now) env.old.items start (form_trees forms.now) (steps_of (form_trees forms.now)) (draft_in draft)) }
+    ensures gives { GivesAs draft_in result (top_by (top_word_of name.now) env.old.items start
+        (form_trees forms.now) (steps_of (form_trees forms.now)) (draft_in draft)) }
     ensures same { OnOk result (env.new.items ≡ env.old.items) }
 {
     match top_word(name) {
@@ -146,7 +150,8 @@ fn let_in(
     forms: &[Form],
     draft: Draft,
 ) -> Result<Draft, ConfigFault>
-    ensures gives { GivesAs draft_in result (let_by env.old.items start (form_trees forms.now) (steps_of (form_trees forms.now)) (draft_in draft)) }
+    ensures gives { GivesAs draft_in result (let_by env.old.items start (form_trees forms.now)
+        (steps_of (form_trees forms.now)) (draft_in draft)) }
     ensures same { OnOk result (env.new.items ≡ env.old.items) }
 {
     let names = argument(start, 0, forms)?;
@@ -166,7 +171,8 @@ pub(crate) fn run(
     forms: &[Form],
     before: Draft,
 ) -> Result<Draft, ConfigFault>
-    ensures gives { GivesAs draft_in result (run_of env.old.items (draft_in before) (steps_of (form_trees forms.now))) }
+    ensures gives { GivesAs draft_in result (run_of env.old.items (draft_in before)
+        (steps_of (form_trees forms.now))) }
     ensures same { OnOk result (env.new.items ≡ env.old.items) }
 {
     let mut draft = before;

@@ -12,5 +12,5 @@ loop-event-preserved g c = (
   c.in_ok-post.ensures.now ∙ c.loop-event.invariant.0,
   λ arrivals stands. posted_more c.args.core.now c.loop-event.core c.post.new.self arrivals c.loop-event.yielded c.in-Some.event
       (told c.args.notices.now c.args.steps.now.forks) (told c.loop-event.notices c.loop-event.steps.forks) (told c.post.new.out c.post.new.steps.forks)
-      c.in_ok-post.ensures.setting c.in_ok-post.ensures.represents c.in_ok-post.ensures.heard (c.loop-event.invariant.1 arrivals stands),
+      c.in_ok-post.ensures.config c.in_ok-post.ensures.represents c.in_ok-post.ensures.heard (c.loop-event.invariant.1 arrivals stands),
 )

@@ -1,0 +1,7 @@
+//! Tests of the tables, by their public calls: values under numbers, due moments, and forks by key.
+#![tactic(auto)]
+
+#[cfg(test)]
+mod rows;
+#[cfg(test)]
+mod steps;
