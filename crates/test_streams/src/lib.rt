@@ -3,7 +3,7 @@
 #![tactic(auto)]
 
 #[cfg(test)]
-mod core;
+mod arrivals;
 #[cfg(test)]
 mod flow;
 #[cfg(test)]
