@@ -1,20 +1,20 @@
-ghost use Rattle.std.specs.Prelude.{◌≡◌, ◌==◌, ◌^◌, ◌≤◌, [], filter, length, not, option_copied, IfOk, OnOk, OnErr, MatchResult};
+ghost use Rattle.std.specs.Prelude.{◌≡◌, ◌==◌, ◌^◌, ◌≤◌, [], filter, length, not, IfOk, OnErr, OnOk, Some, option_copied, refl};
+ghost use Rattle.std.specs.Cmp.{eq_by_cmp_equiv, partial_equiv_from_equiv, po};
 ghost use Rattle.ev_types.specs.Expiry.{is_expired};
-ghost use Rattle.index_log.specs.IndexKey.{index_key_cmp, text_cmp};
+ghost use Rattle.index_log.specs.IndexKey.{index_key_cmp, same_index_key, text_cmp};
 ghost use Rattle.index_log.specs.Live.{elsewhere, placed};
-ghost use Rattle.std.specs.List.{HoldsAt};
-ghost use Rattle.std.specs.List.Sorted.{IsPartitionPoint, IsSearchInRange};
+ghost use Rattle.index_log.proofs.IndexKeys.{index_key_total};
 
 use ev_types::{Event, Events, Memory, Text};
 use std::alloc::Global;
 use std::cmp::Ordering;
+use std::collections::BTreeSet;
 use std::marker::Model;
-use std::mem;
 
 /// One event for each host and service, in rising key order: by host and then by service, absent before present.
 #[derive(Drop)]
 pub(crate) struct LastEvents {
-    events: Vec<Event>,
+    events: BTreeSet<KeyedEvent>,
 }
 
 impl Model for LastEvents {
@@ -25,9 +25,9 @@ impl Model for LastEvents {
 
     ghost Value = { List Event };
 
-    ghost view = { λ last. last.events.items };
+    ghost view = { λ last. last.events.keys };
 
-    ghost invariant = { λ last. IsStrictlySortedBy index_key_cmp last.events.items };
+    ghost invariant = { λ last. IsStrictlySortedBy index_key_cmp last.events.keys };
 }
 
 impl LastEvents {
@@ -35,14 +35,14 @@ impl LastEvents {
         ensures { result ≡ [] }
     {
         LastEvents {
-            events: Vec::new(alloc),
+            events: BTreeSet::new(alloc),
         }
     }
 
     pub(crate) fn is_empty(&self) -> bool
         ensures { result ≡ (length self.now == 0) }
     {
-        self.events.is_empty()
+        self.events.len() == 0
     }
 
     /// Puts an event in place of the one of its host and service.
@@ -50,55 +50,86 @@ impl LastEvents {
         ensures ok { OnOk result (self.new ≡ placed event (elsewhere event self.old)) }
         ensures err { OnErr result (self.new ≡ self.old) }
     {
-        match self.find(&event) {
-            Ok(at) => {
-                self.events[at] = event;
-            }
-            Err(at) => {
-                self.events.insert(at, event)?;
-            }
-        }
+        self.events.replace(KeyedEvent { event })?;
         Ok(())
     }
 
-    /// Hands the events out in order, and keeps copies of those that have not expired at the moment `now`, at most
-    /// 2^40. Without memory some of them are lost.
+    /// Hands out copies of the events in order, and keeps those events that have not expired at the moment `now`, at most
+    /// 2^40. Without memory all are kept.
     pub(crate) fn pass(&mut self, alloc: Global, now: u64) -> Result<Events, Memory>
         requires { now ≤ 2 ^ 40 }
         ensures passed { IfOk result (λ passed. passed ≡ self.old) }
         ensures kept { OnOk result (self.new
             ≡ filter (λ event. not (is_expired now event)) self.old) }
+        ensures err { OnErr result (self.new ≡ self.old) }
     {
-        let events = mem::replace(&mut self.events, Vec::new(alloc));
-        self.events = copy_unexpired(alloc, events.as_slice(), now)?;
-        Ok(Events::from_vec(events))
-    }
-
-    // Where the event of this one's host and service is, or else where it would be inserted.
-    fn find(&self, event: &Event) -> Result<usize, usize>
-        ensures bound { IsSearchInRange result (length self.now) }
-        ensures found { MatchResult result
-            (HoldsAt (λ other. index_key_cmp other event.now ≡ Ordering.Equal) self.now)
-            (IsPartitionPoint (λ other. index_key_cmp other event.now ≡ Ordering.Less)
-            (λ other. index_key_cmp other event.now ≡ Ordering.Greater) self.now) }
-    {
-        self.events.binary_search_by(|other| key_cmp(other, event))
+        let passed = copy_events(alloc, &self.events)?;
+        self.events.retain(|keyed| !keyed.event.is_expired(now));
+        Ok(passed)
     }
 }
 
-/// Copies of the events that have not expired, in order.
-fn copy_unexpired(alloc: Global, events: &[Event], now: u64) -> Result<Vec<Event>, Memory>
-    requires { now ≤ 2 ^ 40 }
-    ensures { IfOk result (λ kept. kept.items
-        ≡ filter (λ event. not (is_expired now event)) events.now) }
+/// Copies of the events, in order.
+fn copy_events(alloc: Global, events: &BTreeSet<KeyedEvent>) -> Result<Events, Memory>
+    ensures { IfOk result (λ copied. copied ≡ events.now.keys) }
 {
-    let mut kept = Vec::new(alloc);
-    for event in events {
-        if !event.is_expired(now) {
-            kept.push(event.copy(alloc)?)?;
-        }
+    let mut copied = Vec::with_capacity(alloc, events.len())?;
+    for keyed in events {
+        copied.push(keyed.event.copy(alloc)?)?;
     }
-    Ok(kept)
+    Ok(Events::from_vec(copied))
+}
+
+/// An event that is compared by its host and then by its service, and by nothing else of it.
+#[derive(Drop)]
+struct KeyedEvent {
+    event: Event,
+}
+
+impl Model for KeyedEvent {
+    ghost use Rattle.ev_types.specs.declared.event.Event.{Event};
+
+    ghost Value = { Event };
+
+    ghost view = { λ keyed. keyed.event };
+}
+
+impl PartialEq for KeyedEvent {
+    ghost eq = { same_index_key };
+
+    ghost laws = { partial_equiv_from_equiv (eq_by_cmp_equiv index_key_total) };
+
+    fn eq(&self, other: &KeyedEvent) -> bool {
+        self.cmp(other) == Ordering::Equal
+    }
+}
+
+impl Eq for KeyedEvent {
+    ghost laws = { eq_by_cmp_equiv index_key_total };
+}
+
+impl PartialOrd for KeyedEvent {
+    ghost partial_cmp = { λ a b. Some (index_key_cmp a b) };
+
+    ghost laws = { po index_key_total (λ a b. refl) };
+
+    fn partial_cmp(&self, other: &KeyedEvent) -> Option<Ordering> {
+        Some(self.cmp(other))
+    }
+}
+
+impl Ord for KeyedEvent {
+    ghost cmp = { index_key_cmp };
+
+    ghost total = { index_key_total };
+
+    ghost matches_partial_cmp = { λ a b. refl };
+
+    ghost matches_eq = { λ a b. refl };
+
+    fn cmp(&self, other: &KeyedEvent) -> Ordering {
+        key_cmp(&self.event, &other.event)
+    }
 }
 
 // The order of two events: by host, then by service.
