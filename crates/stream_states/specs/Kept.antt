@@ -61,24 +61,29 @@ kept_poisoned (FixedTime state) = fixed_time_poisoned state
 kept_poisoned (MovingTime state) = moving_time_poisoned state
 kept_poisoned (Coalesce state) = coalesce_poisoned state
 
--- the state holds what a stream of its kind has to know of this history
-abbrev pub KeptRepresents : KeptState → History → Type 0
-KeptRepresents (Changed state) h = ChangedRepresents state h
-KeptRepresents (Runs state) h = RunsRepresents state h
-KeptRepresents (Throttle state) h = ThrottleRepresents state h
-KeptRepresents (Rollup state) h = RollupRepresents state h
-KeptRepresents (Batch state) h = BatchRepresents state h
-KeptRepresents (Stable state) h = StableRepresents state h
-KeptRepresents (FixedEvent state) h = FixedEventRepresents state h
-KeptRepresents (MovingEvent state) h = MovingEventRepresents state h
-KeptRepresents (FixedTime state) h = FixedTimeRepresents state h
-KeptRepresents (MovingTime state) h = MovingTimeRepresents state h
-KeptRepresents (Coalesce state) h = CoalesceRepresents state h
+-- the state has what a stream of its kind has to know of this history
+abbrev pub HasHistory : KeptState → History → Type 0
+HasHistory (Changed state) h = ChangedRepresents state h
+HasHistory (Runs state) h = RunsRepresents state h
+HasHistory (Throttle state) h = ThrottleRepresents state h
+HasHistory (Rollup state) h = RollupRepresents state h
+HasHistory (Batch state) h = BatchRepresents state h
+HasHistory (Stable state) h = StableRepresents state h
+HasHistory (FixedEvent state) h = FixedEventRepresents state h
+HasHistory (MovingEvent state) h = MovingEventRepresents state h
+HasHistory (FixedTime state) h = FixedTimeRepresents state h
+HasHistory (MovingTime state) h = MovingTimeRepresents state h
+HasHistory (Coalesce state) h = CoalesceRepresents state h
+
+-- the state is that of a stream of this kind to which all of this history has come
+pub record KeptRepresents (kind : KindTree) (state : KeptState) (h : History) : Type 0 where
+  pub same_kind : kept_kind state ≡ kind
+  pub history : HasHistory state h
 
 -- the state of a stream of this kind to which nothing but ticks has come since this moment
-pub record IsFresh (meant : KindTree) (start : ℕ) (state : KeptState) : Type 0 where
-  pub kind : kept_kind state ≡ meant
-  pub represents : (h : History) → TicksAlone h → begun h ≡ start → KeptRepresents state h
+pub record IsFresh (kind : KindTree) (start : ℕ) (state : KeptState) : Type 0 where
+  pub same_kind : kept_kind state ≡ kind
+  pub represents : (h : History) → TicksAlone h → begun h ≡ start → KeptRepresents kind state h
 
 -- these emissions are appended, each to the children
 pub record Passes (before after : List CodeEmission) (meant : List Emission) : Type 0 where

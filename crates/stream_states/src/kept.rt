@@ -2,7 +2,7 @@ ghost use Rattle.std.specs.Prelude.{◌≡◌, ◌+◌, ◌≤◌, ◌^◌, ◌&
 ghost use Rattle.ev_types.specs.declared.item.Item.TheVariants.{One};
 ghost use Rattle.list_laws.specs.Prefix.{IsPrefix};
 ghost use Rattle.stream_plan.specs.Kinds.{is_in_range};
-ghost use Rattle.stream_plan.specs.Tree.{kind_tree};
+ghost use Rattle.stream_plan.specs.Tree.{KindTree, kind_tree};
 ghost use Rattle.stream_meaning.specs.Deadlines.{next_deadline};
 ghost use Rattle.stream_meaning.specs.Emission.{emissions};
 ghost use Rattle.stream_meaning.specs.declared.entry.Entry.TheVariants.{Tick, Item as In};
@@ -53,6 +53,7 @@ impl KeptState {
     }
 
     /// The event comes at the moment `now`. What the stream passes on is appended to `out`.
+    #[tactic(auto, using(crate::proofs::PassLaws::passes_as))]
     pub fn item(
         &mut self,
         alloc: Global,
@@ -61,12 +62,12 @@ impl KeptState {
         out: &mut Emissions,
     ) -> Result<(), Memory>
         ensures kind { kept_kind self.new ≡ kept_kind self.old }
-        ensures emits { OnOk result ((h : History) → KeptRepresents self.old h →
-            moment_of h ≡ now → now ≤ 2 ^ 40 →
-            Passes out.old out.new (emissions (kept_kind self.old) (h ▸ In (One event)))) }
-        ensures represents { OnOk result ((h : History) → KeptRepresents self.old h →
-            moment_of h ≡ now → now ≤ 2 ^ 40 →
-            KeptRepresents self.new (h ▸ In (One event))) }
+        ensures emits { OnOk result ((kind : KindTree) (h : History) →
+            KeptRepresents kind self.old h → moment_of h ≡ now → now ≤ 2 ^ 40 →
+            Passes out.old out.new (emissions kind (h ▸ In (One event)))) }
+        ensures represents { OnOk result ((kind : KindTree) (h : History) →
+            KeptRepresents kind self.old h → moment_of h ≡ now → now ≤ 2 ^ 40 →
+            KeptRepresents kind self.new (h ▸ In (One event))) }
         ensures poisoned { IsTrue (kept_poisoned self.old) → IsErr result }
         ensures err { OnErr result (IsTrue (kept_poisoned self.new)) }
         ensures sound { OnOk result (kept_poisoned self.new ≡ false) }
@@ -89,18 +90,18 @@ impl KeptState {
 
     /// A second passes, which brings the moment `now`. What the stream passes on is appended to `out`. Where that is
     /// nothing, it takes no memory.
-    #[tactic(auto, using(crate::proofs::PassLaws::none_passed))]
+    #[tactic(auto, using(crate::proofs::PassLaws::passes_as, crate::proofs::PassLaws::none_passed, crate::proofs::PassLaws::silent_as))]
     pub fn tick(&mut self, alloc: Global, now: u64, out: &mut Emissions) -> Result<(), Memory>
         ensures kind { kept_kind self.new ≡ kept_kind self.old }
-        ensures emits { OnOk result ((h : History) → KeptRepresents self.old h →
-            moment_of h + 1 ≡ now → now ≤ 2 ^ 40 →
-            Passes out.old out.new (emissions (kept_kind self.old) (h ▸ Tick))) }
-        ensures represents { OnOk result ((h : History) → KeptRepresents self.old h →
-            moment_of h + 1 ≡ now → now ≤ 2 ^ 40 →
-            KeptRepresents self.new (h ▸ Tick)) }
-        ensures quiet { (h : History) → KeptRepresents self.old h →
-            moment_of h + 1 ≡ now →
-            emissions (kept_kind self.old) (h ▸ Tick) ≡ [] → IsOk result }
+        ensures emits { OnOk result ((kind : KindTree) (h : History) →
+            KeptRepresents kind self.old h → moment_of h + 1 ≡ now → now ≤ 2 ^ 40 →
+            Passes out.old out.new (emissions kind (h ▸ Tick))) }
+        ensures represents { OnOk result ((kind : KindTree) (h : History) →
+            KeptRepresents kind self.old h → moment_of h + 1 ≡ now → now ≤ 2 ^ 40 →
+            KeptRepresents kind self.new (h ▸ Tick)) }
+        ensures quiet { (kind : KindTree) (h : History) →
+            KeptRepresents kind self.old h → moment_of h + 1 ≡ now →
+            emissions kind (h ▸ Tick) ≡ [] → IsOk result }
         ensures poisoned { IsTrue (kept_poisoned self.old) → IsErr result }
         ensures err { OnErr result (IsTrue (kept_poisoned self.new)) }
         ensures sound { OnOk result (kept_poisoned self.new ≡ false) }
@@ -122,12 +123,13 @@ impl KeptState {
     }
 
     /// The moment at which something is passed on next if only seconds follow. It is exact for moments up to 2^40.
+    #[tactic(auto, using(crate::proofs::PassLaws::none_passed, crate::proofs::PassLaws::silent_as, crate::proofs::PassLaws::due_as))]
     pub fn due(&self) -> Option<u64>
-        ensures due { (h : History) → KeptRepresents self.now h → moment_of h ≤ 2 ^ 40 →
-            result ≡ next_deadline (kept_kind self.now) h }
-        ensures still { (h : History) → KeptRepresents self.now h →
-            emissions (kept_kind self.now) (h ▸ Tick) ≡ [] →
-            KeptRepresents self.now (h ▸ Tick) }
+        ensures due { (kind : KindTree) (h : History) →
+            KeptRepresents kind self.now h → moment_of h ≤ 2 ^ 40 → result ≡ next_deadline kind h }
+        ensures still { (kind : KindTree) (h : History) →
+            KeptRepresents kind self.now h → emissions kind (h ▸ Tick) ≡ [] →
+            KeptRepresents kind self.now (h ▸ Tick) }
     {
         match self {
             KeptState::Changed(state) => state.due(),
