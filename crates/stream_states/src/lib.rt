@@ -3,6 +3,8 @@
 
 mod fresh;
 mod kept;
+mod law;
 mod range;
 
 pub use kept::KeptState;
+pub use law::vectors_are_ignored;
