@@ -4,6 +4,8 @@
 #[cfg(test)]
 mod flow;
 #[cfg(test)]
+mod kept;
+#[cfg(test)]
 mod rates;
 #[cfg(test)]
 mod windows;
