@@ -9,10 +9,11 @@ use slab::Slab;
 use std::alloc::Global;
 use std::marker::Model;
 
-/// Lists of ids. Each id is in one list, once. Every call but [`Lists::fresh`] takes constant time.
+/// Lists of ids, by number from 0. An id is in one list, once. After [`Lists::reserve`] the calls take constant time and
+/// no memory.
 #[derive(Drop)]
 pub struct Lists {
-    // Each list is a ring of nodes: its head, and then its ids in order.
+    // Each list is a ring of nodes: its head, and then its ids in order. An id is the key of its node.
     nodes: Slab<Node>,
     heads: Vec<usize>,
 
@@ -55,6 +56,8 @@ impl Lists {
     }
 
     /// Makes room for `n` more ids.
+    ///
+    /// After [`Memory`] the lists are unchanged, and there is room for as many ids as before.
     pub fn reserve(&mut self, _alloc: Global, n: usize) -> Result<(), Memory>
         ensures room { OnOk result (n ≤ self.new.spare) }
         ensures lists { self.new.lists ≡ self.old.lists }
@@ -65,7 +68,7 @@ impl Lists {
         Ok(())
     }
 
-    /// Adds an id that is in no list to the end of the list of this number.
+    /// Adds an id to the end of the list of this number. The table picks one that is in no list.
     pub fn insert(&mut self, list: usize) -> usize
         requires list { list < length self.old.lists }
         requires spare { 0 < self.old.spare }
@@ -100,8 +103,9 @@ impl Lists {
         ensures spare { self.old.spare ≤ self.new.spare }
         ensures apart { AreApart self.new.lists }
     {
+        let head = self.heads[list];
         cut(&mut self.nodes, id);
-        tie(&mut self.nodes, id, self.heads[list]);
+        tie(&mut self.nodes, id, head);
         self.changes = self.changes.and(&Change::Remove(id), &());
         self.changes = self.changes.and(&Change::Append(list, id), &());
     }

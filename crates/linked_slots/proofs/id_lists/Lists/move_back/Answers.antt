@@ -22,13 +22,13 @@ invariant_of-self c =
     let is : lists ≡ c.args.self.now.lists = ap (λ (v : IdLists). v.lists) c.self.view_is in
     let within : list < length lists = number-in list lists c.args.self.now.lists is c.requires.list in
     let listed : IsListed id lists = listed-in id lists c.args.self.now.lists is c.requires.id in
-    let head : c.index.result.now ≡ head_at heads list = head-is heads lists list c.index.result.now c.self.invariant.count within c.index.ensures in
+    let head : c.index-head.result.now ≡ head_at heads list = head-is heads lists list c.index-head.result.now c.self.invariant.count within c.index-head.ensures in
     rw (
       appended-more heads c.and-self-inside.result.items c.and-self-inside-2.result.items list id c.and-self-inside-2.ensures,
       removed-more heads changes c.and-self-inside.result.items id c.and-self-inside.ensures,
     )
     (linked-moved lists c.self.inside.nodes c.cut.new.nodes c.tie.new.nodes heads list id c.self.invariant within listed c.cut.ensures
-    (tied-to c.cut.new.nodes c.tie.new.nodes id c.index.result.now (head_at heads list) head c.tie.ensures))
+    (tied-to c.cut.new.nodes c.tie.new.nodes id c.index-head.result.now (head_at heads list) head c.tie.ensures))
 
 pub returns-clause-moved : goal.returns-clause-moved
 returns-clause-moved c =
