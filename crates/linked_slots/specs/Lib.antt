@@ -1,1 +1,3 @@
+pub mod IdLists
+pub mod Nodes
 pub mod Table

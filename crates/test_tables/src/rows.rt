@@ -1,6 +1,6 @@
 use ev_types::{Key, Value};
 use fork_by::ForkTable;
-use linked_slots::StepTable;
+use linked_slots::{Lists, StepTable};
 use list_laws::{Ids, Memory};
 use std::alloc::{AllocGlobal, Global};
 use std::process::Abort;
@@ -24,6 +24,20 @@ fn a_value_is_visited_by_its_number(rt: HostRuntime) -> Result<(), Fail> {
     assert_eq!(rt; value, 7);
     assert_eq!(rt; steps.ledger().entries, 1);
     assert_eq!(rt; steps.ledger().forks, 0);
+    Ok(())
+}
+
+#[test]
+fn an_id_moves_to_the_end_of_another_list(rt: HostRuntime) -> Result<(), Fail> {
+    let mut lists = Lists::fresh(rt.alloc(), 2)?;
+    lists.reserve(rt.alloc(), 2)?;
+    let first = lists.insert(0);
+    let second = lists.insert(0);
+    lists.move_back(1, first);
+    assert_eq!(rt; lists.front(0), Some(second));
+    assert_eq!(rt; lists.next(second), None);
+    assert_eq!(rt; lists.front(1), Some(first));
+    assert_eq!(rt; lists.next(first), None);
     Ok(())
 }
 
