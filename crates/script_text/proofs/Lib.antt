@@ -1,0 +1,5 @@
+pub mod CutLemmas
+pub mod NumberLemmas
+pub mod PieceLemmas
+pub mod LineLemmas
+pub mod StepLemmas

@@ -1,0 +1,10 @@
+//! Reading scripts: texts that say what happens on links. `docs/SCRIPTS.md` has their lines.
+#![tactic(auto)]
+
+mod cut;
+mod line;
+mod lines;
+mod read;
+mod word;
+
+pub use read::{ScriptFault, read_script};
