@@ -2,9 +2,11 @@
 #![tactic(auto)]
 
 mod cut;
+mod law;
 mod line;
 mod lines;
 mod read;
 mod word;
 
+pub use law::scripts_are_their_lines;
 pub use read::{ScriptFault, read_script};
