@@ -6,4 +6,6 @@ mod links;
 #[cfg(test)]
 mod notices;
 #[cfg(test)]
+mod scripts;
+#[cfg(test)]
 mod stores;
