@@ -126,7 +126,8 @@ impl KeptState {
     #[tactic(auto, using(crate::proofs::PassLaws::none_passed, crate::proofs::PassLaws::silent_as, crate::proofs::PassLaws::due_as))]
     pub fn due(&self) -> Option<u64>
         ensures due { (kind : KindTree) (h : History) →
-            KeptRepresents kind self.now h → moment_of h ≤ 2 ^ 40 → result ≡ next_deadline kind h }
+            KeptRepresents kind self.now h → moment_of h ≤ 2 ^ 40 →
+            result ≡ next_deadline kind h }
         ensures still { (kind : KindTree) (h : History) →
             KeptRepresents kind self.now h → emissions kind (h ▸ Tick) ≡ [] →
             KeptRepresents kind self.now (h ▸ Tick) }
