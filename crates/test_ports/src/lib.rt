@@ -6,6 +6,4 @@ mod links;
 #[cfg(test)]
 mod notices;
 #[cfg(test)]
-mod scripts;
-#[cfg(test)]
 mod stores;

@@ -7,28 +7,17 @@ use std::alloc::{AllocError, Global};
 use std::test::Fail;
 
 /// A buffer for a read.
-pub(crate) fn read_buffer(alloc: Global) -> Result<Vec<u8>, AllocError> {
+fn read_buffer(alloc: Global) -> Result<Vec<u8>, AllocError> {
     vec![in alloc; 0; 65_536]
 }
 
 /// Whether the next turn is this one.
-pub(crate) fn is_next<L: Links>(
-    alloc: Global,
-    links: &mut L,
-    buf: &mut [u8],
-    secs: u64,
-    what: What,
-) -> bool {
+fn is_next<L: Links>(alloc: Global, links: &mut L, buf: &mut [u8], secs: u64, what: What) -> bool {
     buf.len() == PIECE_LIMIT && links.next(alloc, &Wants::fresh(alloc), buf) == Turn { secs, what }
 }
 
 /// Whether a send of these bytes on link 7 is answered so.
-pub(crate) fn is_sent<L: Links>(
-    alloc: Global,
-    links: &mut L,
-    bytes: &[u8],
-    answer: SendAnswer,
-) -> bool {
+fn is_sent<L: Links>(alloc: Global, links: &mut L, bytes: &[u8], answer: SendAnswer) -> bool {
     !bytes.is_empty() && links.send(alloc, 7, bytes) == answer
 }
 
