@@ -110,7 +110,7 @@ closed link = with_status Closed link
 
 -- ---- what is wanted of links
 
--- no more is read while as many bytes as a body may have are unsent
+-- no more is read while so many bytes are unsent
 abbrev pub want_of : Link → Want
 want_of link = record {
   link = link.number;

@@ -55,7 +55,7 @@ why_text Ttl = codes "ttl"
 unfoldable pub message_refusal : ℕ → MsgWhy → List ℕ
 message_refusal place why = codes "message refused at " ++ (decimal place ++ (codes ": " ++ why_text why))
 
--- the reason for which a query is not answered while this many bytes are unsent
+-- the reason for which a query is not answered while so many bytes are unsent
 unfoldable pub busy : ℕ → List ℕ
 busy unsent = codes "busy: " ++ (decimal unsent ++ codes " bytes unsent")
 

@@ -24,7 +24,7 @@ judged [] verdicts = []
 judged (body ∷ bodies) [] = record { body = body; refusal = None } ∷ judged bodies []
 judged (body ∷ bodies) (verdict ∷ verdicts) = record { body = body; refusal = verdict } ∷ judged bodies verdicts
 
--- a query is not answered while as many bytes as a body may have are unsent
+-- a query is not answered while so many bytes are unsent
 abbrev pub is_busy : ℕ → Bool
 is_busy unsent = nat_le BODY_LIMIT unsent
 

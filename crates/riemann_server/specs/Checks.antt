@@ -35,7 +35,7 @@ Checks config patterns patterns' out out' err err' TooLong = patterns' ≡ patte
 Checks config patterns patterns' out out' err err' Usage = ⊥
 Checks config patterns patterns' out out' err err' Truncated = ⊥
 
--- What a call read, and what that says of its status: it read the configuration, once, or ran out of memory.
+-- What a call read, and what that says of its status: it read the configuration, once, or wanted for memory.
 pub record ChecksRead (old new : Option (List StoreRead)) (taken taken' : ℕ) (config : List ℕ) (held : Content) (status : Status) (err err' : SinkState) : Type 0 where
   pub made : List StoreRead
   pub grew : new ≡ option_map (λ reads. reads ++ made) old
@@ -56,7 +56,7 @@ HasChecked SinkFault = ⊥
 HasChecked Truncated = ⊥
 HasChecked TooLong = ⊥
 
--- a pattern of these was refused in this call: it is counted, and reported where refusals are
+-- a pattern of these was refused in this call: it is told, and counted
 pub record IsRefusedPattern (texts : List (List ℕ)) (number : ℕ) (old new : PatternsState) : Type 0 where
   pub pattern : List ℕ
   pub numbered : slice_get texts number ≡ Some pattern

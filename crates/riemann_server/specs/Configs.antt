@@ -13,7 +13,7 @@ use Rattle.riemann_server.specs.declared.outcome.ConfigRefusal.{ConfigRefusal}
 use Rattle.riemann_server.specs.declared.outcome.ConfigRefusal.TheVariants.{Refused, Pattern, NotBuilt}
 use Rattle.riemann_server.specs.Verdicts.{PatternsState}
 
--- where a store reports its contents, it holds bytes under a name, and the fact holds of them
+-- where a store tells its contents, bytes stand under a name, and they are so
 abbrev pub ForHeld : Content → (List ℕ → Type 0) → Type 0
 ForHeld content P = ForSome content (λ held. (bytes : List ℕ) × (held ≡ Some bytes) × P bytes)
 
@@ -59,7 +59,7 @@ pub record RefusesPattern (content : Content) (number : ℕ) (old new : Patterns
   pub rose : Rose old.refusals new.refusals
   pub numbered : ForConfig content (λ config. slice_get (plan_patterns config.plan) number ≡ Some pattern)
 
--- why `check` refuses a configuration; without such a pattern nothing more was refused
+-- why `check` refuses a configuration; without such a pattern what is told of patterns stays the same
 abbrev pub CheckRefuses : Content → PatternsState → PatternsState → ConfigRefusal → Type 0
 CheckRefuses content old new (Refused place why) = ForRefused content place why × (new ≡ old)
 CheckRefuses content old new (Pattern number) = RefusesPattern content number old new

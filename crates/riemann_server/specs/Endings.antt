@@ -26,11 +26,11 @@ code_of Memory = 6
 code_of Truncated = 8
 code_of TooLong = 9
 
--- the file is a configuration of the index alone
+-- a configuration of the index alone stands there
 abbrev pub IsPlain : Content → Type 0
 IsPlain config = ForConfig config IsPlainIndex
 
--- What a status says of the contents of the two files, where the store reports them.
+-- What a status says of the contents of the two files, where the store tells them.
 abbrev pub Explains : Content → Content → Status → Type 0
 Explains config file Done = IsPlain config × ForHeld file (λ bytes. (length bytes ≤ FILE_LIMIT) × (partial bytes ≡ []))
 Explains config file Truncated = IsPlain config × ForHeld file (λ bytes. (length bytes ≤ FILE_LIMIT) × (partial bytes ≢ []))
@@ -61,14 +61,14 @@ last_name [] = []
 last_name (read ∷ []) = read.name
 last_name (read ∷ (next ∷ reads)) = last_name (next ∷ reads)
 
--- the file has more bytes than the limit, where the store reports its contents; one more than the limit were taken; and
--- the line on the error stream names the file
+-- more bytes than the limit stand under the name, as far as the store tells, so many were taken, and the line on the
+-- error stream names the file
 pub record IsTooLong (name : List ℕ) (limit : ℕ) (content : Content) (taken taken' : ℕ) (err err' : SinkState) : Type 0 where
   pub longer : IsOverLimit content limit
   pub taken_more : RoseBy (limit + 1) taken taken'
   pub says : GotLine err (too_long_line name limit) err'
 
--- the statuses of a run over the file that did not run out of memory
+-- the statuses of a run over the file that did not want for memory
 abbrev pub HasRun : Status → Type 0
 HasRun Done = Unit {0}
 HasRun Truncated = Unit {0}
@@ -90,7 +90,7 @@ HasEnded Config = ⊥
 HasEnded ReadFault = ⊥
 HasEnded TooLong = ⊥
 
--- the statuses at which no message of the file was answered
+-- the statuses at which the file's messages were not come to
 abbrev pub HasNotRun : Status → Type 0
 HasNotRun Usage = Unit {0}
 HasNotRun Config = Unit {0}
@@ -126,8 +126,8 @@ pub record AnswersMessages (bytes : List ℕ) (unanswered : List (List ℕ)) (pa
   pub verdicts : AfterVerdicts patterns patterns' messages
   pub wrote : Wrote (replies_to messages)
 
--- All messages were answered, and all replies written where the run went to its end, or a prefix where it did not.
--- The verdicts on patterns are known also where it ran out of memory.
+-- All messages were answered, and all replies written where the run went to its end, or a front where it did not. What
+-- was said of patterns is told also where memory was wanted.
 abbrev pub IsAnswered : Content → Status → PatternsState → PatternsState → Option (List ℕ) → Option (List ℕ) → Type 0
 IsAnswered file Done patterns patterns' out out' = ForHeld file (λ bytes. AnswersMessages bytes [] patterns patterns' (λ replies. Got out replies out'))
 IsAnswered file Truncated patterns patterns' out out' = ForHeld file (λ bytes. AnswersMessages bytes [] patterns patterns' (λ replies. Got out replies out'))
@@ -149,7 +149,7 @@ HasNoReply Config = Unit {0}
 HasNoReply ReadFault = Unit {0}
 HasNoReply TooLong = Unit {0}
 
--- What the error stream got: the line of the status, or a prefix of it where a write failed. The lines that name a
+-- What the error stream got: the line of the status, or a front of it where a write failed. The lines that name a
 -- file are said beside the reads, and the usage line beside its cause.
 abbrev pub Says : Content → Content → Status → SinkState → SinkState → Type 0
 Says config file Config err err' = (refusal : ConfigRefusal) × FeedRefuses config refusal × GotLine err (refusal_line refusal) err'
@@ -172,7 +172,7 @@ HasNoLine Config = ⊥
 HasNoLine ReadFault = ⊥
 HasNoLine TooLong = ⊥
 
--- the status of a run that went to its end, by the bytes after the last whole frame
+-- the status of a run that went to its end, by the bytes of no whole frame
 abbrev pub EndsWell : List ℕ → Status → Type 0
 EndsWell rest Done = rest ≡ []
 EndsWell rest Truncated = rest ≢ []

@@ -41,7 +41,7 @@ pub record AnswersMessage (body : List ℕ) (index index' : Index) (patterns pat
   pub answered : OnOk result ((log : IndexLog) → HoldsLog index log → HoldsLog index' (log ++ writes_of body)
       × (replies' ≡ replies ++ reply_to (log ++ writes_of body) (record { body = body; refusal = refusal })))
 
--- the index, the replies and what is known of patterns after these messages
+-- the index, the replies and what is told of patterns after these messages
 pub record After (index : Index) (start patterns : PatternsState) (replies : List ℕ) (messages : List Judged) : Type 0 where
   pub index_is : HoldsLog index (log_of (map body_of messages))
   pub verdicts : AfterVerdicts start patterns messages
@@ -60,7 +60,7 @@ pub record IsSettled (answers : Answers) (start patterns : PatternsState) (came 
   pub no_frame : frames_of answers.link.bytes ≡ []
   pub rest : partial answers.link.bytes ≡ answers.link.bytes
 
--- all messages in the bytes were answered so, and this many bytes are left after the last whole frame
+-- all messages in the bytes were answered so, and this many bytes are left of no whole frame
 pub record AnswersAll (bytes : List ℕ) (start patterns : PatternsState) (replies : List ℕ) (left : ℕ) : Type 0 where
   pub messages : List Judged
   pub are_framed : map body_of messages ≡ frames_of bytes
@@ -68,18 +68,18 @@ pub record AnswersAll (bytes : List ℕ) (start patterns : PatternsState) (repli
   pub all : replies ≡ replies_to messages
   pub count : left ≡ length (partial bytes)
 
--- it ran out of memory when some messages in the bytes were answered
+-- memory was wanted when some messages in the bytes were answered
 pub record AnswersSome (bytes : List ℕ) (start patterns : PatternsState) : Type 0 where
   pub messages : List Judged
   pub unanswered : List (List ℕ)
   pub are_framed : map body_of messages ++ unanswered ≡ frames_of bytes
   pub verdicts : AfterVerdicts start patterns messages
 
--- what is known once the whole frames were answered: more bytes may come, or whatever comes is ignored
+-- what is known once the whole frames were answered: more bytes may come, or whatever comes counts for nothing
 abbrev pub Reaches : Answers → PatternsState → PatternsState → List ℕ → StreamEnd → Type 0
 Reaches answers start patterns came Waits = IsSettled answers start patterns came
 Reaches answers start patterns came Stops = (more : List ℕ) → AnswersAll (came ++ more) start patterns answers.replies (length answers.link.bytes + length more)
 
--- what is known where it ran out of memory, whatever comes
+-- what is known where it wanted for memory, whatever comes
 abbrev pub Fails : PatternsState → PatternsState → List ℕ → Type 0
 Fails start patterns came = (more : List ℕ) → AnswersSome (came ++ more) start patterns
