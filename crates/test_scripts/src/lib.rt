@@ -1,5 +1,0 @@
-//! Tests of reading scripts, by public calls.
-#![tactic(auto)]
-
-#[cfg(test)]
-mod scripts;
