@@ -4,8 +4,6 @@
 #[cfg(test)]
 mod flow;
 #[cfg(test)]
-mod kept;
-#[cfg(test)]
 mod rates;
 #[cfg(test)]
 mod windows;

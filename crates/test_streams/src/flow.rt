@@ -3,7 +3,7 @@
 use crate::show::put_event;
 use ev_types::{Attr, Event, Field, Memory, Set, Sets, Tags, Text, Value};
 use flow_streams::{apply_defaults, apply_sets, apply_tags, route};
-use pred_eval::{Pred, RegexPatterns};
+use pred_eval::{Pred, RegexPatterns, pattern_count};
 use query_lang::read_query;
 use std::alloc::Global;
 use std::test::Fail;
@@ -219,6 +219,9 @@ fn branches(alloc: Global, query: &str) -> Result<(u32, u32), Memory> {
     let Ok(rule) = read_query(alloc, query.as_bytes()) else {
         return Err(Memory);
     };
+    if pattern_count(&rule) > 1 {
+        return Err(Memory);
+    }
     let Ok(mut pred) = Pred::build(alloc, rule, &mut RegexPatterns { refusals: 0 }) else {
         return Err(Memory);
     };

@@ -5,7 +5,7 @@ ghost use Rattle.std.specs.Prelude.{◌≡◌};
 use crate::show::{put_event, put_short};
 use ev_types::{Attr, Event, Events, Memory, Text};
 use live_index::LiveIndex;
-use pred_eval::{Pred, RegexPatterns};
+use pred_eval::{Pred, RegexPatterns, pattern_count};
 use query_lang::read_query;
 use std::alloc::Global;
 use std::test::Fail;
@@ -53,6 +53,9 @@ fn search(
     let Ok(rule) = read_query(alloc, query.as_bytes()) else {
         return Err(Memory);
     };
+    if pattern_count(&rule) > 0 {
+        return Err(Memory);
+    }
     let Ok(mut pred) = Pred::build(alloc, rule, &mut RegexPatterns { refusals: 0 }) else {
         return Err(Memory);
     };
