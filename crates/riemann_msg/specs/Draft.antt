@@ -18,6 +18,7 @@ use Rattle.riemann_msg.specs.declared.fault.MsgWhy.TheVariants.{Utf8 as why_utf8
 use Rattle.riemann_msg.specs.Ttl.{seconds_of}
 use Rattle.riemann_msg.specs.Fault.{Fault, fault_at, moved, is_among, IsRefusedFor, attribute_fault, query_fault, event_fault}
 use Rattle.riemann_msg.specs.Value.{bytes_in, eight_in, four_in, bool_in, int64_in, sint64_in, ttl_in, attribute_in, event_in, field_in}
+use Rattle.riemann_msg.specs.declared.fields.TheConstants.{ATTRIBUTES, DESCRIPTION, ERROR, EVENTS, HOST, KEY, METRIC_D, METRIC_F, METRIC_SINT64, OK, QUERY, SERVICE, STATE, STRING, TAGS, TIME, TIME_MICROS, TTL, VALUE}
 
 abbrev pub field_at : ℕ → Body → ℕ → FieldAt
 field_at number body place = record { number = number; body = body; place = place }
@@ -27,27 +28,27 @@ value_at bytes field = record { number = field.number; content = content_in byte
 
 -- the draft when one more field was read
 abbrev pub attribute_with : AttrDraft → FieldValue → AttrDraft
-attribute_with draft value = record { key = option_or (field_in bytes_in 1 value) draft.key; value = option_or (field_in bytes_in 2 value) draft.value }
+attribute_with draft value = record { key = option_or (field_in bytes_in KEY value) draft.key; value = option_or (field_in bytes_in VALUE value) draft.value }
 
 abbrev pub query_with : QueryPart → FieldValue → QueryPart
-query_with query value = record { string = option_or (field_in bytes_in 1 value) query.string }
+query_with query value = record { string = option_or (field_in bytes_in STRING value) query.string }
 
 abbrev pub event_with : EventDraft → FieldValue → EventDraft
 event_with draft value = record {
-  time = option_or (field_in int64_in 1 value) draft.time;
+  time = option_or (field_in int64_in TIME value) draft.time;
   event = record {
     time = draft.event.time;
-    state = option_or (field_in bytes_in 2 value) draft.event.state;
-    service = option_or (field_in bytes_in 3 value) draft.event.service;
-    host = option_or (field_in bytes_in 4 value) draft.event.host;
-    description = option_or (field_in bytes_in 5 value) draft.event.description;
-    tags = draft.event.tags ++ option_to_list (field_in bytes_in 7 value);
-    ttl = option_or (field_in ttl_in 8 value) draft.event.ttl;
-    attributes = draft.event.attributes ++ option_to_list (field_in attribute_in 9 value);
-    time_micros = option_or (field_in int64_in 10 value) draft.event.time_micros;
-    metric = option_or (field_in sint64_in 13 value) draft.event.metric;
-    raw_d = option_or (field_in eight_in 14 value) draft.event.raw_d;
-    raw_f = option_or (field_in four_in 15 value) draft.event.raw_f;
+    state = option_or (field_in bytes_in STATE value) draft.event.state;
+    service = option_or (field_in bytes_in SERVICE value) draft.event.service;
+    host = option_or (field_in bytes_in HOST value) draft.event.host;
+    description = option_or (field_in bytes_in DESCRIPTION value) draft.event.description;
+    tags = draft.event.tags ++ option_to_list (field_in bytes_in TAGS value);
+    ttl = option_or (field_in ttl_in TTL value) draft.event.ttl;
+    attributes = draft.event.attributes ++ option_to_list (field_in attribute_in ATTRIBUTES value);
+    time_micros = option_or (field_in int64_in TIME_MICROS value) draft.event.time_micros;
+    metric = option_or (field_in sint64_in METRIC_SINT64 value) draft.event.metric;
+    raw_d = option_or (field_in eight_in METRIC_D value) draft.event.raw_d;
+    raw_f = option_or (field_in four_in METRIC_F value) draft.event.raw_f;
   };
 }
 
@@ -66,10 +67,10 @@ abbrev pub message_with : MsgDraft → FieldValue → MsgDraft
 message_with draft value = record {
   now = draft.now;
   msg = record {
-    ok = option_or (field_in bool_in 2 value) draft.msg.ok;
-    error = option_or (field_in bytes_in 3 value) draft.msg.error;
-    query = query_after draft.msg.query (field_in bytes_in 5 value);
-    events = draft.msg.events ++ option_to_list (field_in (event_in draft.now) 6 value);
+    ok = option_or (field_in bool_in OK value) draft.msg.ok;
+    error = option_or (field_in bytes_in ERROR value) draft.msg.error;
+    query = query_after draft.msg.query (field_in bytes_in QUERY value);
+    events = draft.msg.events ++ option_to_list (field_in (event_in draft.now) EVENTS value);
   };
 }
 
@@ -84,18 +85,18 @@ abbrev pub utf8_fault : ℕ → List ℕ → Option Fault
 utf8_fault place bytes = if is_utf8 bytes then None else Some (fault_at place why_utf8)
 
 abbrev pub four_fault : ℕ → ℕ → ℕ → Option Fault
-four_fault number bits place = if number == 8 then (if is_some (seconds_of bits) then None else Some (fault_at place why_ttl)) else None
+four_fault number bits place = if number == TTL then (if is_some (seconds_of bits) then None else Some (fault_at place why_ttl)) else None
 
 abbrev pub bytes_fault : ℕ → List ℕ → ℕ → ℕ → Option Fault
 bytes_fault number bytes start place =
-    if is_among number (2 ∷ 3 ∷ 4 ∷ 5 ∷ 7 ∷ []) then utf8_fault place bytes
-    else (if number == 9 then option_map (moved start) (attribute_fault bytes) else None)
+    if is_among number (STATE ∷ SERVICE ∷ HOST ∷ DESCRIPTION ∷ TAGS ∷ []) then utf8_fault place bytes
+    else (if number == ATTRIBUTES then option_map (moved start) (attribute_fault bytes) else None)
 
 abbrev pub part_fault : ℕ → List ℕ → ℕ → ℕ → Option Fault
 part_fault number bytes start place =
-    if number == 3 then utf8_fault place bytes
-    else (if number == 5 then option_map (moved start) (query_fault bytes)
-    else (if number == 6 then option_map (moved start) (event_fault bytes) else None))
+    if number == ERROR then utf8_fault place bytes
+    else (if number == QUERY then option_map (moved start) (query_fault bytes)
+    else (if number == EVENTS then option_map (moved start) (event_fault bytes) else None))
 
 -- a field is read into a draft where it has no fault
 abbrev pub Puts : {A U : Type 0} → Option Fault → A → Result U MsgFault → A → Type 0

@@ -16,6 +16,7 @@ use Rattle.riemann_msg.specs.declared.fault.MsgWhy.{MsgWhy}
 use Rattle.riemann_msg.specs.declared.fault.MsgWhy.TheVariants.{Short as why_short, Varint as why_varint, Tag as why_tag, Wire as why_wire, Utf8 as why_utf8, Key as why_key, Ttl as why_ttl}
 use Rattle.riemann_msg.specs.Ttl.{seconds_of}
 use Rattle.riemann_msg.specs.Value.{bytes_in, last_in}
+use Rattle.riemann_msg.specs.declared.fields.TheConstants.{ATTRIBUTES, DESCRIPTION, ERROR, EVENTS, HOST, KEY, QUERY, SERVICE, STATE, STRING, TAGS, TTL, VALUE}
 
 -- the name of a cause
 abbrev pub why_name : MsgWhy → List ℕ
@@ -83,35 +84,35 @@ is_among number numbers = list_any (λ other. number == other) numbers
 -- ---- attributes, events, queries, messages
 
 abbrev pub attribute_field_fault : List ℕ → FieldAt → Option Fault
-attribute_field_fault bytes field = if is_among field.number (1 ∷ 2 ∷ []) then text_fault bytes field.place field.body else None
+attribute_field_fault bytes field = if is_among field.number (KEY ∷ VALUE ∷ []) then text_fault bytes field.place field.body else None
 
 -- an attribute without a key is refused just past its last byte
 abbrev pub key_fault : List ℕ → Option Fault
-key_fault bytes = if is_some (last_in bytes_in 1 (values_of bytes)) then None else Some (fault_at (length bytes) why_key)
+key_fault bytes = if is_some (last_in bytes_in KEY (values_of bytes)) then None else Some (fault_at (length bytes) why_key)
 
 unfoldable pub attribute_fault : List ℕ → Option Fault
 attribute_fault bytes = option_or (first_by (attribute_field_fault bytes) bytes) (key_fault bytes)
 
 abbrev pub event_field_fault : List ℕ → FieldAt → Option Fault
 event_field_fault bytes field =
-    if is_among field.number (2 ∷ 3 ∷ 4 ∷ 5 ∷ 7 ∷ []) then text_fault bytes field.place field.body
-    else (if field.number == 8 then ttl_fault field.place field.body
-    else (if field.number == 9 then embedded_fault attribute_fault bytes field.body else None))
+    if is_among field.number (STATE ∷ SERVICE ∷ HOST ∷ DESCRIPTION ∷ TAGS ∷ []) then text_fault bytes field.place field.body
+    else (if field.number == TTL then ttl_fault field.place field.body
+    else (if field.number == ATTRIBUTES then embedded_fault attribute_fault bytes field.body else None))
 
 unfoldable pub event_fault : List ℕ → Option Fault
 event_fault bytes = first_by (event_field_fault bytes) bytes
 
 abbrev pub query_field_fault : List ℕ → FieldAt → Option Fault
-query_field_fault bytes field = if field.number == 1 then text_fault bytes field.place field.body else None
+query_field_fault bytes field = if field.number == STRING then text_fault bytes field.place field.body else None
 
 unfoldable pub query_fault : List ℕ → Option Fault
 query_fault bytes = first_by (query_field_fault bytes) bytes
 
 abbrev pub message_field_fault : List ℕ → FieldAt → Option Fault
 message_field_fault bytes field =
-    if field.number == 3 then text_fault bytes field.place field.body
-    else (if field.number == 5 then embedded_fault query_fault bytes field.body
-    else (if field.number == 6 then embedded_fault event_fault bytes field.body else None))
+    if field.number == ERROR then text_fault bytes field.place field.body
+    else (if field.number == QUERY then embedded_fault query_fault bytes field.body
+    else (if field.number == EVENTS then embedded_fault event_fault bytes field.body else None))
 
 unfoldable pub first_fault : List ℕ → Option Fault
 first_fault bytes = first_by (message_field_fault bytes) bytes

@@ -12,6 +12,7 @@ use Rattle.pb_wire.specs.ReadBack.{FieldValue, value_spelling}
 use Rattle.riemann_msg.specs.declared.msg.Msg.{Msg}
 use Rattle.riemann_msg.specs.declared.msg.QueryPart.{QueryPart}
 use Rattle.riemann_msg.specs.Ttl.{IsSpellableTtl, bits_of}
+use Rattle.riemann_msg.specs.declared.fields.TheConstants.{ATTRIBUTES, DESCRIPTION, ERROR, EVENTS, HOST, KEY, METRIC_D, METRIC_F, METRIC_SINT64, OK, QUERY, SERVICE, STATE, STRING, TAGS, TIME, TIME_MICROS, TTL, VALUE}
 
 abbrev pub field : ℕ → Content → FieldValue
 field number content = record { number = number; content = content }
@@ -40,45 +41,45 @@ abbrev pub sint64 : ℤ → Content
 sint64 number = Varint (zigzag number)
 
 unfoldable pub attribute_values : Attr → List FieldValue
-attribute_values attribute = field 1 (Bytes attribute.key) ∷ optional 2 Bytes attribute.value
+attribute_values attribute = field KEY (Bytes attribute.key) ∷ optional VALUE Bytes attribute.value
 
 abbrev pub attribute_content : Attr → Content
 attribute_content attribute = Bytes (spelled (attribute_values attribute))
 
 -- the fields up to 5, and those from 10 on
 abbrev pub name_values : Event → List FieldValue
-name_values event = field 1 (int64 event.time) ∷ (optional 2 Bytes event.state
-    ++ (optional 3 Bytes event.service
-    ++ (optional 4 Bytes event.host
-    ++ optional 5 Bytes event.description)))
+name_values event = field TIME (int64 event.time) ∷ (optional STATE Bytes event.state
+    ++ (optional SERVICE Bytes event.service
+    ++ (optional HOST Bytes event.host
+    ++ optional DESCRIPTION Bytes event.description)))
 
 abbrev pub number_values : Event → List FieldValue
-number_values event = optional 10 int64 event.time_micros
-    ++ (optional 13 sint64 event.metric
-    ++ (optional 14 Eight event.raw_d
-    ++ optional 15 Four event.raw_f))
+number_values event = optional TIME_MICROS int64 event.time_micros
+    ++ (optional METRIC_SINT64 sint64 event.metric
+    ++ (optional METRIC_D Eight event.raw_d
+    ++ optional METRIC_F Four event.raw_f))
 
 unfoldable pub event_values : Event → List FieldValue
 event_values event = name_values event
-    ++ (repeated 7 Bytes event.tags
-    ++ (optional 8 (λ ttl. Four (bits_of ttl)) event.ttl
-    ++ (repeated 9 attribute_content event.attributes
+    ++ (repeated TAGS Bytes event.tags
+    ++ (optional TTL (λ ttl. Four (bits_of ttl)) event.ttl
+    ++ (repeated ATTRIBUTES attribute_content event.attributes
     ++ number_values event)))
 
 abbrev pub event_content : Event → Content
 event_content event = Bytes (spelled (event_values event))
 
 unfoldable pub query_values : QueryPart → List FieldValue
-query_values query = optional 1 Bytes query.string
+query_values query = optional STRING Bytes query.string
 
 abbrev pub query_content : QueryPart → Content
 query_content query = Bytes (spelled (query_values query))
 
 unfoldable pub message_values : Msg → List FieldValue
-message_values msg = optional 2 (λ ok. Varint (from_bool ok)) msg.ok
-    ++ (optional 3 Bytes msg.error
-    ++ (optional 5 query_content msg.query
-    ++ repeated 6 event_content msg.events))
+message_values msg = optional OK (λ ok. Varint (from_bool ok)) msg.ok
+    ++ (optional ERROR Bytes msg.error
+    ++ (optional QUERY query_content msg.query
+    ++ repeated EVENTS event_content msg.events))
 
 -- the bytes of a message
 unfoldable pub spelling : Msg → List ℕ

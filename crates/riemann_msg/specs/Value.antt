@@ -11,6 +11,7 @@ use Rattle.pb_wire.specs.ReadBack.{FieldValue, values_of}
 use Rattle.riemann_msg.specs.declared.msg.Msg.{Msg}
 use Rattle.riemann_msg.specs.declared.msg.QueryPart.{QueryPart}
 use Rattle.riemann_msg.specs.Ttl.{seconds_of}
+use Rattle.riemann_msg.specs.declared.fields.TheConstants.{ATTRIBUTES, DESCRIPTION, ERROR, EVENTS, HOST, KEY, METRIC_D, METRIC_F, METRIC_SINT64, OK, QUERY, SERVICE, STATE, STRING, TAGS, TIME, TIME_MICROS, TTL, VALUE}
 
 -- ---- what a body holds, by its type
 
@@ -68,7 +69,7 @@ last_in read number values = last_or None (all_in read number values)
 -- ---- attributes, events, queries, messages
 
 abbrev pub attribute_from : List FieldValue → Attr
-attribute_from values = record { key = unwrap_or (last_in bytes_in 1 values) []; value = last_in bytes_in 2 values }
+attribute_from values = record { key = unwrap_or (last_in bytes_in KEY values) []; value = last_in bytes_in VALUE values }
 
 unfoldable pub attribute_of : List ℕ → Attr
 attribute_of bytes = attribute_from (values_of bytes)
@@ -86,18 +87,18 @@ time_from now micros time = unwrap_or (option_or (option_map second_of micros) t
 
 abbrev pub event_from : ℤ → List FieldValue → Event
 event_from now values = record {
-  time = time_from now (last_in int64_in 10 values) (last_in int64_in 1 values);
-  state = last_in bytes_in 2 values;
-  service = last_in bytes_in 3 values;
-  host = last_in bytes_in 4 values;
-  description = last_in bytes_in 5 values;
-  tags = all_in bytes_in 7 values;
-  ttl = last_in ttl_in 8 values;
-  attributes = all_in attribute_in 9 values;
-  time_micros = last_in int64_in 10 values;
-  metric = last_in sint64_in 13 values;
-  raw_d = last_in eight_in 14 values;
-  raw_f = last_in four_in 15 values;
+  time = time_from now (last_in int64_in TIME_MICROS values) (last_in int64_in TIME values);
+  state = last_in bytes_in STATE values;
+  service = last_in bytes_in SERVICE values;
+  host = last_in bytes_in HOST values;
+  description = last_in bytes_in DESCRIPTION values;
+  tags = all_in bytes_in TAGS values;
+  ttl = last_in ttl_in TTL values;
+  attributes = all_in attribute_in ATTRIBUTES values;
+  time_micros = last_in int64_in TIME_MICROS values;
+  metric = last_in sint64_in METRIC_SINT64 values;
+  raw_d = last_in eight_in METRIC_D values;
+  raw_f = last_in four_in METRIC_F values;
 }
 
 unfoldable pub event_of : ℤ → List ℕ → Event
@@ -107,7 +108,7 @@ abbrev pub event_in : ℤ → Content → Option Event
 event_in now content = option_map (event_of now) (bytes_in content)
 
 unfoldable pub query_of : List ℕ → QueryPart
-query_of bytes = record { string = last_in bytes_in 1 (values_of bytes) }
+query_of bytes = record { string = last_in bytes_in STRING (values_of bytes) }
 
 -- several queries are read as one, whose body is their bodies one after the other
 abbrev pub queries_joined : List (List ℕ) → Option QueryPart
@@ -116,10 +117,10 @@ queries_joined (part ∷ parts) = Some (query_of (concat (part ∷ parts)))
 
 abbrev pub message_from : ℤ → List FieldValue → Msg
 message_from now values = record {
-  ok = last_in bool_in 2 values;
-  error = last_in bytes_in 3 values;
-  query = queries_joined (all_in bytes_in 5 values);
-  events = all_in (event_in now) 6 values;
+  ok = last_in bool_in OK values;
+  error = last_in bytes_in ERROR values;
+  query = queries_joined (all_in bytes_in QUERY values);
+  events = all_in (event_in now) EVENTS values;
 }
 
 -- the message that the bytes are, read at the moment now in seconds
