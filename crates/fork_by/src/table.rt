@@ -1,8 +1,7 @@
 ghost use Rattle.std.specs.Prelude.{◌≡◌, ◌+◌, ◌<◌, ◌≤◌, ◌++◌, [], ◌∷◌, length, None, slice_index_or, IfOk, IfSome, OnOk, OnErr, IsOk};
 ghost use Rattle.std.specs.Borrow.{sem};
 ghost use Rattle.list_laws.specs.Prefix.{IsPrefix};
-ghost use Rattle.step_count.specs.Count.{one_more};
-ghost use Rattle.tick_schedule.specs.Told.{more_by};
+ghost use Rattle.step_count.specs.Count.{one_more, more_by};
 ghost use Rattle.tick_schedule.specs.Queue.{Sets, due_ids, due_later, IsNext};
 ghost use Rattle.fork_by.specs.Table.{fork_keys, fork_list, fork_dues, key_number, IsTable, SameForks, LendsFork};
 

@@ -5,8 +5,7 @@ ghost use Rattle.std.specs.BTreeSet.{IsFromIterResult};
 ghost use Rattle.list_laws.specs.Prefix.{IsPrefix};
 ghost use Rattle.std.specs.Ordering.{nat_cmp};
 ghost use Rattle.std.specs.BTreeMap.{is_at};
-ghost use Rattle.step_count.specs.Count.{one_more};
-ghost use Rattle.tick_schedule.specs.Told.{more_by};
+ghost use Rattle.step_count.specs.Count.{more_by};
 ghost use Rattle.tick_schedule.specs.Queue.{IsRising, Sets, due_ids, due_later, without, IsNext};
 ghost use Rattle.tick_schedule.specs.Schedule.{IsTied, IsFirst, pair_cmp};
 

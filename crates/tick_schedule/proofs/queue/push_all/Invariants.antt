@@ -1,6 +1,6 @@
 use Rattle.std.proofs.Common.{◌≡◌, ◌+◌, ◌++◌, length, map}
 use Rattle.std.specs.Map.Iter.{deref}
-use Rattle.tick_schedule.specs.Told.{more_by}
+use Rattle.step_count.specs.Count.{more_by}
 use Rattle.tick_schedule.proofs.queue.push_all.Given as goal
 
 abbrev pub invariant-loop-id : goal.invariant-loop-id
