@@ -8,16 +8,16 @@ use std::test::Fail;
 use step_count::{NoLedger, Steps};
 use tick_schedule::DueQueue;
 
-const NEVER: u64 = u64::MAX;
+pub(crate) const NEVER: u64 = u64::MAX;
 
 /// A sequence of numbers that is the same in each run.
 #[derive(Drop)]
-struct Random {
-    state: u64,
+pub(crate) struct Random {
+    pub(crate) state: u64,
 }
 
 impl Random {
-    fn below(&mut self, bound: u64) -> u64
+    pub(crate) fn below(&mut self, bound: u64) -> u64
         requires { 0 < bound }
         ensures { result < bound }
     {
@@ -30,7 +30,7 @@ impl Random {
 }
 
 /// Whether the ids are those with a moment at or before `now`, by rising id.
-fn are_due(moments: &[u64], now: u64, ids: &[usize]) -> bool {
+pub(crate) fn are_due(moments: &[u64], now: u64, ids: &[usize]) -> bool {
     let mut ids = ids.iter();
     for (id, due) in moments.iter().enumerate() {
         if *due <= now && ids.next() != Some(&id) {
@@ -40,7 +40,7 @@ fn are_due(moments: &[u64], now: u64, ids: &[usize]) -> bool {
     ids.next().is_none()
 }
 
-fn least(moments: &[u64]) -> Option<u64> {
+pub(crate) fn least(moments: &[u64]) -> Option<u64> {
     let mut least = NEVER;
     for due in moments {
         least = least.min(*due);
@@ -75,12 +75,26 @@ fn take(
     let mut ids = Ids::fresh(alloc);
     queue.take_due(alloc, now, &mut ids, &mut Steps::fresh(NoLedger))?;
     let same = are_due(moments, now, ids.as_slice());
+    clear_due(moments, now);
+    Ok(same && queue.next_due() == least(moments))
+}
+
+pub(crate) fn clear_due(moments: &mut [u64], now: u64) {
     for due in moments.iter_mut() {
         if *due <= now {
             *due = NEVER;
         }
     }
-    Ok(same && queue.next_due() == least(moments))
+}
+
+/// A moment after `now`, or never.
+pub(crate) fn moment_after(random: &mut Random, now: u64) -> u64 {
+    let later = random.below(40);
+    if later < 30 {
+        now.saturating_add(later)
+    } else {
+        NEVER
+    }
 }
 
 fn queue_agrees(alloc: Global, rounds: u64) -> Result<bool, Memory> {
@@ -90,12 +104,7 @@ fn queue_agrees(alloc: Global, rounds: u64) -> Result<bool, Memory> {
     for now in 0..rounds {
         for _ in 0..3 {
             let id = random.below(32) as usize;
-            let later = random.below(40);
-            let due = if later < 30 {
-                now.saturating_add(later)
-            } else {
-                NEVER
-            };
+            let due = moment_after(&mut random, now);
             change(alloc, &mut queue, &mut moments, id, due)?;
         }
         if random.below(3) == 0 && !take(alloc, &mut queue, &mut moments, now)? {

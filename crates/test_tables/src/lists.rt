@@ -1,0 +1,116 @@
+ghost use Rattle.std.specs.Prelude.{◌≡◌, length};
+
+use crate::steps::Random;
+use linked_slots::Lists;
+use list_laws::Memory;
+use std::alloc::{AllocGlobal, Global};
+use std::process::Abort;
+use std::test::Fail;
+
+/// Three lists of ids, and the same ids in plain lists.
+#[derive(Drop)]
+struct ThreeLists {
+    lists: Lists,
+    plain: Vec<Vec<usize>>,
+    ghost three: { length lists.lists ≡ 3 },
+}
+
+impl ThreeLists {
+    fn fresh(alloc: Global) -> Result<ThreeLists, Memory> {
+        Ok(ThreeLists {
+            lists: Lists::fresh(alloc, 3)?,
+            plain: vec![in alloc; Vec::new(alloc), Vec::new(alloc), Vec::new(alloc)]?,
+        })
+    }
+
+    #[tactic(auto, using(crate::proofs::ListSizes::length_append_to))]
+    fn insert(&mut self, alloc: Global, list: usize) -> Result<(), Memory> {
+        if list >= 3 {
+            return Ok(());
+        }
+        self.lists.reserve(alloc, 1)?;
+        let id = self.lists.insert(list);
+        put_last(&mut self.plain, list, id)
+    }
+
+    /// Moves the first id of a list to the end of another one, and says whether it is the one that is known.
+    #[tactic(auto, using(crate::proofs::ListSizes::length_append_to, crate::proofs::ListSizes::length_without, crate::proofs::ListSizes::first_listed))]
+    fn move_first(&mut self, from: usize, to: usize) -> Result<bool, Memory> {
+        if from >= 3 || to >= 3 {
+            return Ok(false);
+        }
+        let Some(id) = self.lists.front(from) else {
+            return Ok(take_first(&mut self.plain, from).is_none());
+        };
+        self.lists.move_back(to, id);
+        let same = take_first(&mut self.plain, from) == Some(id);
+        put_last(&mut self.plain, to, id)?;
+        Ok(same)
+    }
+
+    /// Removes the first id of a list, and says whether it is the one that is known.
+    #[tactic(auto, using(crate::proofs::ListSizes::length_without, crate::proofs::ListSizes::first_listed))]
+    fn remove_first(&mut self, from: usize) -> bool {
+        if from >= 3 {
+            return false;
+        }
+        let Some(id) = self.lists.front(from) else {
+            return take_first(&mut self.plain, from).is_none();
+        };
+        self.lists.unlink(id);
+        take_first(&mut self.plain, from) == Some(id)
+    }
+
+    /// Does one thing to one list.
+    fn change(&mut self, alloc: Global, random: &mut Random) -> Result<bool, Memory> {
+        let list = random.below(3) as usize;
+        match random.below(5) {
+            0 | 1 => {
+                self.insert(alloc, list)?;
+                Ok(true)
+            }
+            2 | 3 => {
+                let other = random.below(3) as usize;
+                self.move_first(list, other)
+            }
+            _ => Ok(self.remove_first(list)),
+        }
+    }
+}
+
+fn put_last(plain: &mut Vec<Vec<usize>>, list: usize, id: usize) -> Result<(), Memory> {
+    if let Some(ids) = plain.get_mut(list) {
+        ids.push(id)?;
+    }
+    Ok(())
+}
+
+fn take_first(plain: &mut Vec<Vec<usize>>, list: usize) -> Option<usize> {
+    let ids = plain.get_mut(list)?;
+    if ids.is_empty() {
+        return None;
+    }
+    Some(ids.remove(0))
+}
+
+fn lists_agree(alloc: Global, rounds: u64) -> Result<bool, Memory> {
+    let mut random = Random { state: 17 };
+    let mut three = ThreeLists::fresh(alloc)?;
+    for _ in 0..rounds {
+        if !three.change(alloc, &mut random)? {
+            return Ok(false);
+        }
+    }
+    for _ in 0..rounds {
+        if !three.remove_first(0) || !three.remove_first(1) || !three.remove_first(2) {
+            return Ok(false);
+        }
+    }
+    Ok(true)
+}
+
+#[test]
+fn lists_agree_with_plain_lists(rt: HostRuntime) -> Result<(), Fail> {
+    assert!(rt; lists_agree(rt.alloc(), 3_000)?);
+    Ok(())
+}
