@@ -4,6 +4,10 @@
 #[cfg(test)]
 mod flow;
 #[cfg(test)]
+mod kept;
+#[cfg(test)]
+mod ranges;
+#[cfg(test)]
 mod rates;
 #[cfg(test)]
 mod windows;
