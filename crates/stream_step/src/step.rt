@@ -119,6 +119,7 @@ fn advance_kept(
     }
 }
 
+#[tactic(auto, using(crate::proofs::KeptLaws::passes_meant))]
 fn tick_kept(alloc: Global, kept: &mut KeptState, now: u64) -> Result<Passed, Memory>
     ensures represents { OnOk result ((kind : KindTree) (h : History) →
         KeptRepresents kind kept.old h → moment_of h + 1 ≡ now → now ≤ 2 ^ 40 →
