@@ -1,1 +1,3 @@
+pub mod KeptLaws
+pub mod RouteLaws
 pub mod StepLaws

@@ -1,17 +1,23 @@
 -- Where a stream's regular expressions stand, and what streams that keep nothing do.
 use Rattle.std.proofs.Common.{◌≡◌, ℕ, ◌+◌, ◌≤◌, Bool, true, false, cond, List, [], ◌++◌, length, take, drop, refl, sym, ap, ◌∙◌, subst, arith, length-append}
+use Rattle.std.specs.Prelude.{None}
 use Rattle.pred_eval.specs.Search.{AreReadFrom}
 use Rattle.pred_eval.specs.Truth.{searches}
 use Rattle.pred_eval.specs.Tree.{Tree}
 use Rattle.pred_eval.proofs.SearchLaws.{read_front, read_back, read_length}
 use Rattle.regex.specs.declared.string.regex.Regex.{Regex}
-use Rattle.stream_plan.specs.Tree.{KindTree, Index, Notice, Sdo, Where, With, Default, Tag}
-use Rattle.stream_meaning.specs.Emission.{Branch, Children, Otherwise, emissions}
-use Rattle.stream_meaning.specs.declared.entry.Entry.TheVariants.{Tick, Item as In}
+use Rattle.stream_plan.specs.Ready.{kind_patterns}
+use Rattle.stream_plan.specs.Tree.{KindTree, Index, Notice, Sdo, Where, With, Default, Tag, By, Changed, Runs, Throttle, Rollup, Batch, Stable, FixedEvent, MovingEvent, FixedTime, MovingTime, Coalesce, Smap}
+use Rattle.stream_meaning.specs.Deadlines.{next_deadline}
+use Rattle.stream_states.specs.Kept.{keeps, KeptRepresents}
+use Rattle.stream_states.specs.declared.kept.KeptState.{KeptState}
+use Rattle.stream_meaning.specs.Emission.{Children, Otherwise, emissions}
+use Rattle.stream_meaning.specs.declared.entry.Entry.TheVariants.{Tick}
 use Rattle.stream_meaning.specs.History.{History, ◌▸◌}
-use Rattle.stream_step.specs.Step.{AreAt, Keeps, is_built_kind}
+use Rattle.stream_step.specs.Step.{AreAt, HasNumbers, is_kept, Keeps, StateRepresents, QuietTicksKeepStates}
 use Rattle.stream_step.specs.declared.state.State.{State}
-use Rattle.stream_step.specs.declared.state.State.TheVariants.{Rule}
+use Rattle.stream_step.specs.declared.state.State.TheVariants.{Bare, Rule, Kept, Forks}
+use Rattle.stream_step.proofs.KeptLaws.{kept_still}
 
 module _ (own : List (List ℕ)) (first count : ℕ) (texts : List (List ℕ)) (regexes : List Regex) (at : AreAt own first count texts) (from : AreReadFrom texts regexes) where
   parts : AreReadFrom (at.before ++ (own ++ at.after)) regexes
@@ -33,9 +39,9 @@ module _ (own : List (List ℕ)) (first count : ℕ) (texts : List (List ℕ)) (
 
 -- what the state of a rule says of the regular expressions
 pub rule_read : (texts : List (List ℕ)) (rule : Tree) (state : State) (first count : ℕ) (regexes part : List Regex) → state ≡ Rule first count →
-    AreReadFrom texts regexes → Keeps texts (Where rule) state → (first + count ≤ length regexes → part ≡ take count (drop first regexes)) → AreReadFrom (searches rule) part
+    AreReadFrom texts regexes → HasNumbers texts (Where rule) state → (first + count ≤ length regexes → part ≡ take count (drop first regexes)) → AreReadFrom (searches rule) part
 rule_read texts rule state first count regexes part is from keeps cut =
-    let at : AreAt (searches rule) first count texts = subst (λ (s : State). Keeps texts (Where rule) s) is keeps in
+    let at : AreAt (searches rule) first count texts = subst (λ (s : State). HasNumbers texts (Where rule) s) is keeps in
     own_read (searches rule) first count texts regexes at from part (cut (own_within (searches rule) first count texts regexes at from))
 
 pub to_children_if : (met test : Bool) → met ≡ test → met ≡ true → Children ≡ cond test Children Otherwise
@@ -43,3 +49,76 @@ to_children_if met test is holds = ap (λ (b : Bool). cond b Children Otherwise)
 
 pub to_otherwise_if : (met test : Bool) → met ≡ test → met ≡ false → Otherwise ≡ cond test Children Otherwise
 to_otherwise_if met test is fails = ap (λ (b : Bool). cond b Children Otherwise) (sym fails ∙ is)
+
+-- ---- states that hold nothing of what came
+
+pub numbers_of : (texts : List (List ℕ)) (kind : KindTree) (state : State) (h : History) → is_kept state ≡ false → Keeps texts kind state h → HasNumbers texts kind state
+numbers_of texts kind Bare h bare keeps = keeps
+numbers_of texts kind (Rule first count) h bare keeps = keeps
+numbers_of texts kind (Kept kept) h bare keeps = cc
+numbers_of texts kind (Forks first) h bare keeps = keeps
+
+-- the next state of a kind that keeps something
+pub kept_stands : (texts : List (List ℕ)) (kind : KindTree) (state : State) (kept next : KeptState) (h after : History) → state ≡ Kept kept →
+    (KeptRepresents kind kept h → KeptRepresents kind next after) → StateRepresents texts kind state h → StateRepresents texts kind (Kept next) after
+kept_stands texts kind state kept next h after is goes represents =
+    record { in_range = represents.in_range; keeps = goes (subst (λ (s : State). Keeps texts kind s h) is represents.keeps) }
+
+keeps_on : (texts : List (List ℕ)) (kind : KindTree) (state : State) (h : History) → emissions kind (h ▸ Tick) ≡ [] → Keeps texts kind state h → Keeps texts kind state (h ▸ Tick)
+keeps_on texts kind Bare h quiet keeps = keeps
+keeps_on texts kind (Rule first count) h quiet keeps = keeps
+keeps_on texts kind (Kept kept) h quiet keeps = kept_still kind kept h keeps quiet
+keeps_on texts kind (Forks first) h quiet keeps = keeps
+
+pub states_stay : QuietTicksKeepStates
+states_stay texts kind state h represents quiet =
+    record { in_range = represents.in_range; keeps = keeps_on texts kind state h quiet represents.keeps }
+
+-- the kinds that keep something of what came have no regular expression
+pub kept_patterns : (kind : KindTree) → keeps kind ≡ true → kind_patterns kind ≡ []
+kept_patterns (Where rule) kept = cc
+kept_patterns Index kept = refl
+kept_patterns (Notice name) kept = refl
+kept_patterns Sdo kept = refl
+kept_patterns (With sets) kept = refl
+kept_patterns (Default sets) kept = refl
+kept_patterns (Tag tags) kept = refl
+kept_patterns (By fields) kept = refl
+kept_patterns (Changed field init) kept = refl
+kept_patterns (Runs count field) kept = refl
+kept_patterns (Throttle count secs) kept = refl
+kept_patterns (Rollup count secs) kept = refl
+kept_patterns (Batch count secs) kept = refl
+kept_patterns (Stable secs field) kept = refl
+kept_patterns (FixedEvent count) kept = refl
+kept_patterns (MovingEvent count) kept = refl
+kept_patterns (FixedTime secs) kept = refl
+kept_patterns (MovingTime secs) kept = refl
+kept_patterns (Coalesce secs) kept = refl
+kept_patterns (Smap fold) kept = refl
+
+numbers_never_due : (texts : List (List ℕ)) (kind : KindTree) (state : State) (h : History) → HasNumbers texts kind state → None ≡ next_deadline kind h
+numbers_never_due texts (Rollup count secs) state h numbers = cc
+numbers_never_due texts (Batch count secs) state h numbers = cc
+numbers_never_due texts (Stable secs field) state h numbers = cc
+numbers_never_due texts (Coalesce secs) state h numbers = cc
+numbers_never_due texts Index state h numbers = refl
+numbers_never_due texts (Notice name) state h numbers = refl
+numbers_never_due texts Sdo state h numbers = refl
+numbers_never_due texts (Where rule) state h numbers = refl
+numbers_never_due texts (With sets) state h numbers = refl
+numbers_never_due texts (Default sets) state h numbers = refl
+numbers_never_due texts (Tag tags) state h numbers = refl
+numbers_never_due texts (By fields) state h numbers = refl
+numbers_never_due texts (Changed field init) state h numbers = refl
+numbers_never_due texts (Runs count field) state h numbers = refl
+numbers_never_due texts (Throttle count secs) state h numbers = refl
+numbers_never_due texts (FixedEvent count) state h numbers = refl
+numbers_never_due texts (MovingEvent count) state h numbers = refl
+numbers_never_due texts (FixedTime secs) state h numbers = refl
+numbers_never_due texts (MovingTime secs) state h numbers = refl
+numbers_never_due texts (Smap fold) state h numbers = refl
+
+-- a stream that keeps nothing of what came is never due
+pub never_due : (texts : List (List ℕ)) (kind : KindTree) (state : State) (h : History) → is_kept state ≡ false → StateRepresents texts kind state h → None ≡ next_deadline kind h
+never_due texts kind state h bare represents = numbers_never_due texts kind state h (numbers_of texts kind state h bare represents.keeps)

@@ -1,32 +1,22 @@
 -- What one stream does at an entry, and what it keeps between entries.
-use Rattle.std.specs.Prelude.{◌≡◌, ℕ, zero, suc, Bool, true, false, List, [], ◌∷◌, ◌++◌, length, map}
+use Rattle.std.specs.Prelude.{◌≡◌, ℕ, zero, suc, Bool, true, false, List, [], ◌++◌, length, map}
 use Rattle.ev_types.specs.declared.item.Emission.{Emission as CodeEmission}
 use Rattle.ev_types.specs.declared.item.Output.{Output}
 use Rattle.pred_eval.specs.Truth.{searches}
 use Rattle.stream_plan.specs.Kinds.{is_in_range}
-use Rattle.stream_plan.specs.Tree.{KindTree, Index, Notice, Sdo, Where, With, Default, Tag}
+use Rattle.stream_plan.specs.Tree.{KindTree, Where, By}
 use Rattle.stream_meaning.specs.declared.entry.Entry.{Entry}
 use Rattle.stream_meaning.specs.declared.entry.Entry.TheVariants.{Tick, Item as In}
 use Rattle.stream_meaning.specs.History.{History, ◌▸◌}
-use Rattle.stream_meaning.specs.Emission.{Branch as MeantBranch, Children as children, Otherwise as otherwise, Emission, to, emissions}
+use Rattle.stream_meaning.specs.Emission.{Branch as MeantBranch, Children as children, Otherwise as otherwise, Fork as fork, Emission, to, emissions}
 use Rattle.stream_meaning.specs.Laws.{own_outputs}
+use Rattle.stream_states.specs.Kept.{keeps, KeptRepresents}
 use Rattle.stream_step.specs.declared.passed.Branch.{Branch}
 use Rattle.stream_step.specs.declared.passed.Branch.TheVariants.{Children, Otherwise}
 use Rattle.stream_step.specs.declared.passed.Passed.{Passed}
-use Rattle.stream_step.specs.declared.passed.Passed.TheVariants.{Nothing, Same, Made}
+use Rattle.stream_step.specs.declared.passed.Passed.TheVariants.{Nothing, Same, Made, Keyed}
 use Rattle.stream_step.specs.declared.state.State.{State}
-use Rattle.stream_step.specs.declared.state.State.TheVariants.{Bare, Rule}
-
--- the kinds that run so far
-abbrev pub is_built_kind : KindTree → Bool
-is_built_kind Index = true
-is_built_kind (Notice name) = true
-is_built_kind Sdo = true
-is_built_kind (Where rule) = true
-is_built_kind (With sets) = true
-is_built_kind (Default sets) = true
-is_built_kind (Tag tags) = true
-is_built_kind _ = false
+use Rattle.stream_step.specs.declared.state.State.TheVariants.{Rule, Kept, Forks}
 
 -- ---- what is passed on
 
@@ -51,6 +41,7 @@ abbrev pub emissions_meant : Passed → Entry → List Emission
 emissions_meant Nothing x = []
 emissions_meant (Same branch) x = passed_same (branch_meant branch) x
 emissions_meant (Made es) x = map emission_meant es
+emissions_meant (Keyed key) x = passed_same (fork key) x
 
 -- ---- what is kept
 
@@ -62,18 +53,34 @@ pub record AreAt (own : List (List ℕ)) (first count : ℕ) (texts : List (List
   pub counted : length own ≡ count
   pub among : texts ≡ before ++ (own ++ after)
 
--- a `where` keeps the numbers of its regular expressions among those of the whole plan, the others keep nothing
-abbrev pub Keeps : List (List ℕ) → KindTree → State → Type 0
-Keeps texts (Where rule) (Rule first count) = AreAt (searches rule) first count texts
-Keeps texts (Where rule) Bare = ⊥
-Keeps texts kind state = Unit {0}
+-- A `where` keeps the numbers of its regular expressions among those of the whole plan, and a `by` the number from which
+-- on its children have theirs. The other kinds that keep nothing of what came need no number.
+abbrev pub HasNumbers : List (List ℕ) → KindTree → State → Type 0
+HasNumbers texts (Where rule) (Rule first count) = AreAt (searches rule) first count texts
+HasNumbers texts (Where rule) state = ⊥
+HasNumbers texts (By fields) (Forks first) = Unit {0}
+HasNumbers texts (By fields) state = ⊥
+HasNumbers texts kind state = keeps kind ≡ false
+
+-- the state holds something of what came
+abbrev pub is_kept : State → Bool
+is_kept (Kept kept) = true
+is_kept state = false
+
+abbrev pub Keeps : List (List ℕ) → KindTree → State → History → Type 0
+Keeps texts kind (Kept kept) h = KeptRepresents kind kept h
+Keeps texts kind state h = HasNumbers texts kind state
 
 -- The state of a stream has come to where it would be if all of this history had come to it. The texts are those of the
 -- regular expressions of the whole plan.
 pub record StateRepresents (texts : List (List ℕ)) (kind : KindTree) (state : State) (h : History) : Type 0 where
-  pub built : is_built_kind kind ≡ true
   pub in_range : is_in_range kind ≡ true
-  pub keeps : Keeps texts kind state
+  pub keeps : Keeps texts kind state h
+
+-- a tick at which a stream passes nothing on leaves what it keeps
+abbrev pub QuietTicksKeepStates : Type 0
+QuietTicksKeepStates = (texts : List (List ℕ)) (kind : KindTree) (state : State) (h : History) →
+    StateRepresents texts kind state h → emissions kind (h ▸ Tick) ≡ [] → StateRepresents texts kind state (h ▸ Tick)
 
 -- ---- what one entry does
 

@@ -1,4 +1,4 @@
-use ev_types::Emissions;
+use ev_types::{Emissions, Key};
 
 /// A branch below a stream.
 #[derive(Clone, Copy, Debug, PartialEq, Eq)]
@@ -16,4 +16,6 @@ pub enum Passed {
     Same(Branch),
     /// Items that were made, in their order. Branch 0 is the children, each other one `else`.
     Made(Emissions),
+    /// The item that came, as it came, to the fork of this key.
+    Keyed(Key),
 }

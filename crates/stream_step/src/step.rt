@@ -1,4 +1,4 @@
-ghost use Rattle.std.specs.Prelude.{◌≡◌, ℕ, ◌+◌, ◌≤◌, true, List, ◌++◌, length, take, drop, if◌then◌else◌, IfOk, OnOk};
+ghost use Rattle.std.specs.Prelude.{◌≡◌, ℕ, ◌+◌, ◌≤◌, ◌^◌, true, false, List, [], ◌++◌, length, take, drop, if◌then◌else◌, IfOk, IsOk, OnOk};
 ghost use Rattle.ev_types.specs.declared.item.Item.TheVariants.{One, Many};
 ghost use Rattle.ev_types.specs.declared.event.Event.{Event as CameEvent};
 ghost use Rattle.list_laws.specs.Prefix.{IsPrefix};
@@ -7,21 +7,25 @@ ghost use Rattle.pred_eval.specs.Tree.{Tree as RuleTree, tree_of};
 ghost use Rattle.pred_eval.specs.Truth.{holds, searches};
 ghost use Rattle.stream_meaning.specs.declared.entry.Entry.{Entry as CameEntry};
 ghost use Rattle.stream_meaning.specs.declared.entry.Entry.TheVariants.{Tick, Item as In};
-ghost use Rattle.stream_meaning.specs.Emission.{to, emissions, Children as children, Otherwise as otherwise};
+ghost use Rattle.stream_meaning.specs.Emission.{to, emissions, fold_of, Children as children, Otherwise as otherwise};
 ghost use Rattle.stream_meaning.specs.History.{History, ◌▸◌, moment_of};
 ghost use Rattle.stream_meaning.specs.Images.{with_sets, with_defaults};
 ghost use Rattle.stream_meaning.specs.Laws.{own_outputs};
-ghost use Rattle.stream_plan.specs.Tree.{kind_tree, Where};
-ghost use Rattle.stream_step.specs.Step.{is_built_kind, branch_meant, emissions_meant, AreAt, StateRepresents, Acts, Keeps};
+ghost use Rattle.stream_plan.specs.Tree.{KindTree, kind_tree, Where};
+ghost use Rattle.stream_states.specs.Kept.{KeptRepresents};
+ghost use Rattle.stream_step.specs.Step.{branch_meant, emissions_meant, AreAt, HasNumbers, is_kept, StateRepresents, Acts};
 
 use crate::{Branch, Passed, State};
-use ev_types::{Emission, Emissions, Event, Item, Memory, Notice, Output, Outputs, Text};
-use flow_streams::{apply_defaults, apply_sets, apply_tags};
+use ev_types::{
+    Emission, Emissions, Event, Events, Fold, Item, Memory, Notice, Output, Outputs, key_of,
+};
+use flow_streams::{apply_defaults, apply_fold, apply_sets, apply_tags};
 use pred_eval::{Rule, rule_holds};
 use regex::Regex;
 use std::alloc::Global;
 use stream_meaning::Entry;
 use stream_plan::Kind;
+use stream_states::KeptState;
 
 /// What streams look up and don't change at an entry.
 #[derive(Drop)]
@@ -30,10 +34,13 @@ pub struct Context<'a> {
     pub patterns: &'a [Regex],
     /// The moment of the entry, in seconds since 1970.
     pub moment: u64,
+    /// The moment at which the whole tree began. A fork that is made now begins with it, since a fork has received all
+    /// ticks from there on.
+    pub start: u64,
 }
 
 /// The entry comes to a stream of the kind. What the stream says by itself is appended to `out`, and what it passes on
-/// is the answer.
+/// is the answer. A tick at which nothing is passed on takes no memory.
 pub fn act(
     alloc: Global,
     kind: &Kind,
@@ -45,13 +52,120 @@ pub fn act(
     ensures acts { IfOk result (λ passed. (texts : List (List ℕ)) (h : History) →
         AreReadFrom texts context.now.patterns.now →
         StateRepresents texts (kind_tree kind.now) state.old h →
-        moment_of (h ▸ entry.now) ≡ context.now.moment →
+        moment_of (h ▸ entry.now) ≡ context.now.moment → context.now.moment ≤ 2 ^ 40 →
         Acts texts (kind_tree kind.now) state.old state.new h entry.now out.old out.new passed) }
+    ensures quiet { (texts : List (List ℕ)) (h : History) →
+        StateRepresents texts (kind_tree kind.now) state.old h → entry.now ≡ Tick →
+        moment_of (h ▸ Tick) ≡ context.now.moment →
+        emissions (kind_tree kind.now) (h ▸ Tick) ≡ [] → IsOk result }
+    ensures tick { entry.now ≡ Tick → out.new ≡ out.old }
+    ensures same { is_kept state.old ≡ false → state.new ≡ state.old }
     ensures prefix { IsPrefix out.old out.new }
 {
     put_own_outputs(alloc, kind, entry, context.moment, out)?;
-    let passed = pass_on(alloc, kind, state, entry, context.patterns)?;
+    let passed = advance(alloc, kind, state, entry, context)?;
     Ok(passed)
+}
+
+/// What the stream passes on. The state goes on to the longer history.
+fn advance(
+    alloc: Global,
+    kind: &Kind,
+    state: &mut State,
+    entry: &Entry,
+    context: &Context,
+) -> Result<Passed, Memory>
+    ensures stands { OnOk result ((texts : List (List ℕ)) (h : History) →
+        StateRepresents texts (kind_tree kind.now) state.old h →
+        moment_of (h ▸ entry.now) ≡ context.now.moment → context.now.moment ≤ 2 ^ 40 →
+        StateRepresents texts (kind_tree kind.now) state.new (h ▸ entry.now)) }
+    ensures passes { IfOk result (λ passed. (texts : List (List ℕ)) (h : History) →
+        AreReadFrom texts context.now.patterns.now →
+        StateRepresents texts (kind_tree kind.now) state.old h →
+        moment_of (h ▸ entry.now) ≡ context.now.moment → context.now.moment ≤ 2 ^ 40 →
+        emissions_meant passed entry.now ≡ emissions (kind_tree kind.now) (h ▸ entry.now)) }
+    ensures quiet { (texts : List (List ℕ)) (h : History) →
+        StateRepresents texts (kind_tree kind.now) state.old h → entry.now ≡ Tick →
+        moment_of (h ▸ Tick) ≡ context.now.moment →
+        emissions (kind_tree kind.now) (h ▸ Tick) ≡ [] → IsOk result }
+    ensures same { is_kept state.old ≡ false → state.new ≡ state.old }
+{
+    match state {
+        State::Kept(kept) => Ok(advance_kept(alloc, kept, entry, context.moment)?),
+        _ => Ok(pass_on(alloc, kind, state, entry, context.patterns)?),
+    }
+}
+
+/// What a stream of a kind that keeps something passes on.
+fn advance_kept(
+    alloc: Global,
+    kept: &mut KeptState,
+    entry: &Entry,
+    now: u64,
+) -> Result<Passed, Memory>
+    ensures represents { OnOk result ((kind : KindTree) (h : History) →
+        KeptRepresents kind kept.old h → moment_of (h ▸ entry.now) ≡ now → now ≤ 2 ^ 40 →
+        KeptRepresents kind kept.new (h ▸ entry.now)) }
+    ensures passes { IfOk result (λ passed. (kind : KindTree) (h : History) →
+        KeptRepresents kind kept.old h → moment_of (h ▸ entry.now) ≡ now → now ≤ 2 ^ 40 →
+        emissions_meant passed entry.now ≡ emissions kind (h ▸ entry.now)) }
+    ensures quiet { (kind : KindTree) (h : History) → KeptRepresents kind kept.old h →
+        entry.now ≡ Tick → moment_of (h ▸ Tick) ≡ now → emissions kind (h ▸ Tick) ≡ [] →
+        IsOk result }
+{
+    match entry {
+        Entry::Tick => Ok(tick_kept(alloc, kept, now)?),
+        Entry::Item(item) => Ok(give_kept(alloc, kept, item, now)?),
+    }
+}
+
+#[tactic(auto, using(crate::proofs::KeptLaws::passes_meant))]
+fn tick_kept(alloc: Global, kept: &mut KeptState, now: u64) -> Result<Passed, Memory>
+    ensures represents { OnOk result ((kind : KindTree) (h : History) →
+        KeptRepresents kind kept.old h → moment_of h + 1 ≡ now → now ≤ 2 ^ 40 →
+        KeptRepresents kind kept.new (h ▸ Tick)) }
+    ensures passes { IfOk result (λ passed. (kind : KindTree) (h : History) →
+        KeptRepresents kind kept.old h → moment_of h + 1 ≡ now → now ≤ 2 ^ 40 →
+        emissions_meant passed Tick ≡ emissions kind (h ▸ Tick)) }
+    ensures quiet { (kind : KindTree) (h : History) → KeptRepresents kind kept.old h →
+        moment_of h + 1 ≡ now → emissions kind (h ▸ Tick) ≡ [] → IsOk result }
+{
+    let mut made = Emissions::fresh(alloc);
+    kept.tick(alloc, now, &mut made)?;
+    Ok(Passed::Made(made))
+}
+
+/// What a stream of a kind that keeps something passes on of an item.
+fn give_kept(alloc: Global, kept: &mut KeptState, item: &Item, now: u64) -> Result<Passed, Memory>
+    ensures represents { OnOk result ((kind : KindTree) (h : History) →
+        KeptRepresents kind kept.old h → moment_of h ≡ now → now ≤ 2 ^ 40 →
+        KeptRepresents kind kept.new (h ▸ In item.now)) }
+    ensures passes { IfOk result (λ passed. (kind : KindTree) (h : History) →
+        KeptRepresents kind kept.old h → moment_of h ≡ now → now ≤ 2 ^ 40 →
+        emissions_meant passed (In item.now) ≡ emissions kind (h ▸ In item.now)) }
+{
+    match item {
+        Item::One(event) => Ok(enter_kept(alloc, kept, event, now)?),
+        Item::Many(_) => Ok(Passed::Nothing),
+    }
+}
+
+fn enter_kept(
+    alloc: Global,
+    kept: &mut KeptState,
+    event: &Event,
+    now: u64,
+) -> Result<Passed, Memory>
+    ensures represents { OnOk result ((kind : KindTree) (h : History) →
+        KeptRepresents kind kept.old h → moment_of h ≡ now → now ≤ 2 ^ 40 →
+        KeptRepresents kind kept.new (h ▸ In (One event.now))) }
+    ensures passes { IfOk result (λ passed. (kind : KindTree) (h : History) →
+        KeptRepresents kind kept.old h → moment_of h ≡ now → now ≤ 2 ^ 40 →
+        emissions_meant passed (In (One event.now)) ≡ emissions kind (h ▸ In (One event.now))) }
+{
+    let mut made = Emissions::fresh(alloc);
+    kept.item(alloc, event.copy(alloc)?, now, &mut made)?;
+    Ok(Passed::Made(made))
 }
 
 /// Appends what the stream says by itself.
@@ -64,6 +178,8 @@ fn put_own_outputs(
 ) -> Result<(), Memory>
     ensures said { OnOk result ((h : History) → moment_of (h ▸ entry.now) ≡ moment →
         out.new ≡ out.old ++ own_outputs (kind_tree kind.now) (h ▸ entry.now)) }
+    ensures quiet { entry.now ≡ Tick → IsOk result }
+    ensures tick { entry.now ≡ Tick → out.new ≡ out.old }
     ensures prefix { IsPrefix out.old out.new }
 {
     match entry {
@@ -102,7 +218,7 @@ fn put_item_outputs(
     }
 }
 
-/// What the stream passes on.
+/// What a stream passes on that keeps nothing of what came.
 fn pass_on(
     alloc: Global,
     kind: &Kind,
@@ -110,28 +226,40 @@ fn pass_on(
     entry: &Entry,
     patterns: &[Regex],
 ) -> Result<Passed, Memory>
-    ensures { IfOk result (λ passed. (texts : List (List ℕ)) (h : History) →
+    ensures passes { IfOk result (λ passed. (texts : List (List ℕ)) (h : History) →
         AreReadFrom texts patterns.now →
-        StateRepresents texts (kind_tree kind.now) state.now h →
+        HasNumbers texts (kind_tree kind.now) state.now →
         emissions_meant passed entry.now ≡ emissions (kind_tree kind.now) (h ▸ entry.now)) }
+    ensures quiet { entry.now ≡ Tick → IsOk result }
 {
     match entry {
         Entry::Tick => Ok(Passed::Nothing),
         Entry::Item(Item::One(event)) => pass_event(alloc, kind, state, event, patterns),
-        Entry::Item(Item::Many(_)) => Ok(pass_vector(kind)),
+        Entry::Item(Item::Many(events)) => pass_vector(alloc, kind, events),
     }
 }
 
 /// What the stream passes on of a vector.
-fn pass_vector(kind: &Kind) -> Passed
-    ensures { (es : List CameEvent) (h : History) →
-        is_built_kind (kind_tree kind.now) ≡ true →
-        emissions_meant result (In (Many es))
-        ≡ emissions (kind_tree kind.now) (h ▸ In (Many es)) }
+fn pass_vector(alloc: Global, kind: &Kind, events: &Events) -> Result<Passed, Memory>
+    ensures { IfOk result (λ passed. (h : History) →
+        emissions_meant passed (In (Many events.now))
+        ≡ emissions (kind_tree kind.now) (h ▸ In (Many events.now))) }
 {
     match kind {
-        Kind::Sdo => Passed::Same(Branch::Children),
-        _ => Passed::Nothing,
+        Kind::Sdo => Ok(Passed::Same(Branch::Children)),
+        Kind::Smap(fold) => pass_fold(alloc, *fold, events),
+        _ => Ok(Passed::Nothing),
+    }
+}
+
+/// The event that is folded of a vector, where there is one.
+fn pass_fold(alloc: Global, fold: Fold, events: &Events) -> Result<Passed, Memory>
+    ensures { IfOk result (λ passed. emissions_meant passed (In (Many events.now))
+        ≡ fold_of fold (In (Many events.now))) }
+{
+    match apply_fold(alloc, fold, events)? {
+        Some(event) => send(alloc, event),
+        None => Ok(Passed::Nothing),
     }
 }
 
@@ -145,7 +273,7 @@ fn pass_event(
 ) -> Result<Passed, Memory>
     ensures { IfOk result (λ passed. (texts : List (List ℕ)) (h : History) →
         AreReadFrom texts patterns.now →
-        StateRepresents texts (kind_tree kind.now) state.now h →
+        HasNumbers texts (kind_tree kind.now) state.now →
         emissions_meant passed (In (One event.now))
         ≡ emissions (kind_tree kind.now) (h ▸ In (One event.now))) }
 {
@@ -158,6 +286,7 @@ fn pass_event(
         Kind::With(sets) => send(alloc, apply_sets(alloc, sets, event.copy(alloc)?)?),
         Kind::Default(sets) => send(alloc, apply_defaults(alloc, sets, event.copy(alloc)?)?),
         Kind::Tag(tags) => send(alloc, apply_tags(alloc, tags, event.copy(alloc)?)?),
+        Kind::By(fields) => Ok(Passed::Keyed(key_of(alloc, event, fields)?)),
         _ => Ok(Passed::Nothing),
     }
 }
@@ -186,7 +315,7 @@ fn branch_of_rule(
 ) -> Result<Branch, Memory>
     ensures { IfOk result (λ branch. (texts : List (List ℕ)) →
         AreReadFrom texts patterns.now →
-        Keeps texts (Where (tree_of rule.now)) state.now →
+        HasNumbers texts (Where (tree_of rule.now)) state.now →
         branch_meant branch ≡ (if holds (tree_of rule.now) event.now then children else
         otherwise)) }
 {
@@ -201,11 +330,11 @@ fn branch_of_rule(
 /// The regular expressions of the stream.
 fn own_patterns<'a>(state: &State, patterns: &'a [Regex]) -> &'a [Regex]
     ensures { (texts : List (List ℕ)) (rule : RuleTree) → AreReadFrom texts patterns.now →
-        Keeps texts (Where rule) state.now → AreReadFrom (searches rule) result.now }
+        HasNumbers texts (Where rule) state.now → AreReadFrom (searches rule) result.now }
 {
     match state {
-        State::Bare => &patterns[..0],
         State::Rule { first, count } => part(patterns, *first, *count),
+        _ => &patterns[..0],
     }
 }
 
