@@ -21,9 +21,9 @@ use Rattle.stream_meaning.specs.Arrivals.{Arrival, Post}
 use Rattle.hub_meaning.specs.Messages.{events_of, posts_of, reading_of, rule_of, rule_of_query, rule_read}
 use Rattle.hub_meaning.specs.Replies.{answer_to_query, answer_to_text, framed, message_refusal, query_refusal, refused, reply_to}
 use Rattle.hub_meaning.specs.Verdicts.{PatternsState, Refusal, built_rule, is_busy}
-use Rattle.conn_core.specs.Arriving.{Arrives, Told, told}
-use Rattle.conn_core.specs.Answering.{AfterVerdict, AnswersMessage, AnswersQuery, Replies, asked_of}
-use Rattle.conn_core.proofs.VerdictLaws.{no_verdict}
+use Rattle.msg_replies.specs.Arriving.{Arrives, Told, told}
+use Rattle.msg_replies.specs.Answering.{AfterVerdict, AnswersMessage, AnswersQuery, Replies, asked_of}
+use Rattle.msg_replies.proofs.VerdictLaws.{no_verdict}
 
 pub on_ok : {T E : Type 0} {P Q : Type 0} (r : Result T E) → (P → Q) → OnOk r P → OnOk r Q
 on_ok (Ok x) f p = f p

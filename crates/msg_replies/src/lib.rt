@@ -5,4 +5,4 @@
 mod queries;
 mod replies;
 
-pub use replies::answer;
+pub use replies::{answer, refuse_length};

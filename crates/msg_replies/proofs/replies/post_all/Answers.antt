@@ -1,8 +1,8 @@
 use Rattle.std.proofs.Common.{◌≡◌, [], ◌∷◌, ◌++◌, map, refl, sym, ◌∙◌}
 use Rattle.stream_meaning.specs.Arrivals.{Post}
-use Rattle.conn_core.specs.Arriving.{told}
-use Rattle.conn_core.proofs.AnswerLaws.{arrives_nothing, posted_more}
-use Rattle.conn_core.proofs.replies.post_all.Goals as goal
+use Rattle.msg_replies.specs.Arriving.{told}
+use Rattle.msg_replies.proofs.AnswerLaws.{arrives_nothing, posted_more}
+use Rattle.msg_replies.proofs.replies.post_all.Goals as goal
 
 pub loop-event-init : goal.loop-event-init
 loop-event-init g c = (refl, λ arrivals stands. arrives_nothing c.args.core.now arrivals (told c.args.notices.now c.args.steps.now.forks) stands)

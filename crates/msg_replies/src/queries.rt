@@ -8,7 +8,7 @@ ghost use Rattle.pred_eval.specs.Tree.{tree_of};
 ghost use Rattle.pred_eval.specs.Truth.{searches};
 ghost use Rattle.query_lang.specs.Answer.{query_of};
 ghost use Rattle.stream_meaning.specs.Arrivals.{Arrival, matching_events};
-ghost use Rattle.conn_core.specs.Answering.{AnswersQuery, asked_of};
+ghost use Rattle.msg_replies.specs.Answering.{AnswersQuery, asked_of};
 
 use crate::replies::{accept, put_frame, refuse};
 use ev_types::{Blob, Events, Memory};

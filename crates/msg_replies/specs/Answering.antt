@@ -12,7 +12,7 @@ use Rattle.riemann_msg.specs.declared.msg.QueryPart.{QueryPart}
 use Rattle.hub_meaning.specs.Messages.{posts_of, rule_of_query}
 use Rattle.hub_meaning.specs.Replies.{framed, reply_to}
 use Rattle.hub_meaning.specs.Verdicts.{IsOfRule, PatternsState, Refusal, built_rule, is_busy, refused_text}
-use Rattle.conn_core.specs.Arriving.{Arrives, Told}
+use Rattle.msg_replies.specs.Arriving.{Arrives, Told}
 
 -- the verdict on the patterns of a rule, where one was asked for
 pub record AfterVerdict (asked : Option Tree) (refusal : Option Refusal) (old new : PatternsState) : Type 0 where

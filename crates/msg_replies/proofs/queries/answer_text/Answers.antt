@@ -2,8 +2,8 @@ use Rattle.std.proofs.Common.{arith}
 use Rattle.pred_eval.specs.Tree.{tree_of}
 use Rattle.query_lang.specs.Answer.{query_of}
 use Rattle.query_lang.proofs.AnsweredLaws.{patterns_are_few, texts_are_answered}
-use Rattle.conn_core.proofs.AnswerLaws.{answers_fault}
-use Rattle.conn_core.proofs.queries.answer_text.Goals as goal
+use Rattle.msg_replies.proofs.AnswerLaws.{answers_fault}
+use Rattle.msg_replies.proofs.queries.answer_text.Goals as goal
 
 pub answer_rule-requires : goal.answer_rule-requires
 answer_rule-requires g c = omega (arith, patterns_are_few c.args.text.now (tree_of c.in-Ok.rule) c.in-Ok.ensures.query)

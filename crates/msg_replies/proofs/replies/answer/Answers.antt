@@ -1,9 +1,9 @@
 use Rattle.std.proofs.Common.{ℕ, map, Ok, subst, sym}
 use Rattle.stream_meaning.specs.Arrivals.{Post}
-use Rattle.conn_core.specs.Arriving.{Arrives, told}
+use Rattle.msg_replies.specs.Arriving.{Arrives, told}
 use Rattle.std.proofs.lemmas.Result.{err_from_is_err_and}
-use Rattle.conn_core.proofs.AnswerLaws.{answers_accepted, answers_failed, answers_refused}
-use Rattle.conn_core.proofs.replies.answer.Goals as goal
+use Rattle.msg_replies.proofs.AnswerLaws.{answers_accepted, answers_failed, answers_refused}
+use Rattle.msg_replies.proofs.replies.answer.Goals as goal
 
 pub returns-in_err-answer_query-in-Ok : goal.returns-in_err-answer_query-in-Ok
 returns-in_err-answer_query-in-Ok g c =

@@ -7,7 +7,7 @@ use Rattle.list_laws.specs.Counts.{Rose}
 use Rattle.pred_eval.specs.Tree.{Tree}
 use Rattle.pred_eval.specs.Truth.{searches}
 use Rattle.hub_meaning.specs.Verdicts.{AfterVerdicts, PatternsState, Refusal, is_refused, refused_text, texts_refused}
-use Rattle.conn_core.specs.Answering.{AfterVerdict}
+use Rattle.msg_replies.specs.Answering.{AfterVerdict}
 
 pub appended_nothing : {X : Type 0} (old : Option (List X)) → old ≡ option_map (λ texts. texts ++ []) old
 appended_nothing None = refl

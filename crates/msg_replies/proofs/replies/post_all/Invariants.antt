@@ -1,8 +1,8 @@
 use Rattle.std.proofs.Common.{◌≡◌, List, map}
 use Rattle.event_core.specs.Core.{Represents, now_of}
 use Rattle.stream_meaning.specs.Arrivals.{Arrival, Post}
-use Rattle.conn_core.specs.Arriving.{Arrives, told}
-use Rattle.conn_core.proofs.replies.post_all.Given as goal
+use Rattle.msg_replies.specs.Arriving.{Arrives, told}
+use Rattle.msg_replies.proofs.replies.post_all.Given as goal
 
 abbrev pub invariant-loop-event : goal.invariant-loop-event
 invariant-loop-event g l =

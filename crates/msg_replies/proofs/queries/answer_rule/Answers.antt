@@ -2,9 +2,9 @@ use Rattle.std.proofs.Common.{[], slice_index_or}
 use Rattle.std.specs.Prelude.{Some}
 use Rattle.pred_eval.specs.Tree.{tree_of}
 use Rattle.pred_eval.specs.Truth.{searches}
-use Rattle.conn_core.proofs.AnswerLaws.{on_ok}
-use Rattle.conn_core.proofs.VerdictLaws.{refused_verdict}
-use Rattle.conn_core.proofs.queries.answer_rule.Goals as goal
+use Rattle.msg_replies.proofs.AnswerLaws.{on_ok}
+use Rattle.msg_replies.proofs.VerdictLaws.{refused_verdict}
+use Rattle.msg_replies.proofs.queries.answer_rule.Goals as goal
 
 pub returns-in-Err-Pattern-clause-answers : goal.returns-in-Err-Pattern-clause-answers
 returns-in-Err-Pattern-clause-answers g c =

@@ -5,8 +5,8 @@ ghost use Rattle.hub_meaning.specs.Replies.{accepted, framed, message_refusal, r
 ghost use Rattle.hub_meaning.specs.Verdicts.{patterns_state};
 ghost use Rattle.riemann_msg.specs.Spelling.{spelling};
 ghost use Rattle.stream_meaning.specs.Arrivals.{Arrival, Post};
-ghost use Rattle.conn_core.specs.Answering.{AnswersMessage};
-ghost use Rattle.conn_core.specs.Arriving.{Arrives, told};
+ghost use Rattle.msg_replies.specs.Answering.{AnswersMessage};
+ghost use Rattle.msg_replies.specs.Arriving.{Arrives, told};
 
 use crate::queries::answer_query;
 use ev_types::{Blob, Events, Memory, Notices, Text};
@@ -146,7 +146,7 @@ pub(crate) fn put_frame(
 
 /// Appends the reply to a length over the limit.
 #[tactic(auto, using(crate::proofs::Lengths::oversized_length), unfolding(hub_meaning::specs::Replies::reply_to_oversized))]
-pub(crate) fn refuse_length(alloc: Global, length: u32, replies: &mut Blob) -> Result<(), Memory>
+pub fn refuse_length(alloc: Global, length: u32, replies: &mut Blob) -> Result<(), Memory>
     ensures { OnOk result (replies.new ≡ replies.old ++ reply_to_oversized length) }
 {
     let reason = oversized(alloc, length)?;
