@@ -1,202 +1,94 @@
--- What a write makes of a list of events in strictly rising order of place, by where the event's place is.
-use Rattle.std.proofs.Common.{◌≡◌, ℕ, suc, ◌+◌, ◌<◌, ◌≤◌, true, false, not, cond, List, [], ◌∷◌, ◌++◌, length, get_or, set, take, drop, Result, Ok, Err, MatchResult, refl, sym, ap, ◌∙◌, subst, add-one, arith}
+-- What a write makes of a list of events in strictly rising key order.
+use Rattle.std.proofs.Common.{◌≡◌, Bool, true, false, not, cond, List, [], ◌∷◌, ◌++◌, refl, sym, ap, ◌∙◌}
+use Rattle.std.specs.declared.cmp.Ordering.{Ordering}
 use Rattle.std.specs.declared.cmp.Ordering.TheVariants.{Less, Equal, Greater}
-use Rattle.std.specs.Ordering.{is_eq, is_lt, ordering_index, ordering_reverse}
-use Rattle.std.specs.List.{AllByRecursion, insert, remove, HoldsAt}
-use Rattle.std.specs.List.Sorted.{IsStrictlySortedBy, IsSortedBy, IsNonDecreasingBy, IsPartitionPoint, IsBinarySearchResult}
-use Rattle.std.proofs.lemmas.Cmp.{alike_right}
-use Rattle.std.proofs.lemmas.List.{take-append-drop, get_or-take, get_or-drop, length-take-le, length-drop, drop_more, set_split}
-use Rattle.std.proofs.lemmas.List.Sorted.{searchable_from_sorted}
-use Rattle.std.proofs.lemmas.Map.Keys.{Less-from_sorted}
+use Rattle.std.specs.BTreeSet.{replace_key}
+use Rattle.std.specs.Set.{remove_key}
+use Rattle.std.specs.BTreeMap.{is_at}
+use Rattle.std.specs.Ordering.{is_eq, is_lt, match_ordering, ordering_reverse}
+use Rattle.std.specs.List.{AllByRecursion}
+use Rattle.std.specs.List.Sorted.{IsStrictlySortedBy}
 use Rattle.ev_types.specs.declared.event.Event.{Event}
-use Rattle.index_log.specs.Live.{is_over, placed, elsewhere, written, live_events, Logged, Write}
 use Rattle.index_log.specs.IndexKey.{index_key_cmp}
+use Rattle.index_log.specs.Live.{IndexLog, Write, is_over, placed, elsewhere, written, live_events}
 use Rattle.index_log.proofs.IndexKeys.{index_key_total, AreAfter, placed-first}
 use Rattle.index_log.proofs.LiveLaws.{live-write}
 use Rattle.index_log.proofs.Rising.{IsRising}
+use Rattle.live_index.specs.Index.{RepresentsWrite}
 
--- each event of the list stands before this one, or behind it
-abbrev AllBefore : Event → List Event → Type 0
-AllBefore event = AllByRecursion (λ other. index_key_cmp other event ≡ Less)
+-- each event of the list comes after this one
+abbrev AllAfter : Event → List Event → Type 0
+AllAfter event = AllByRecursion (λ other. index_key_cmp event other ≡ Less)
 
-abbrev AllBehind : Event → List Event → Type 0
-AllBehind event = AllByRecursion (λ other. index_key_cmp event other ≡ Less)
+turned : (event other : Event) (r : Ordering) → index_key_cmp event other ≡ r → index_key_cmp other event ≡ ordering_reverse r
+turned event other r e = index_key_total.antisymm other event ∙ ap ordering_reverse e
 
--- ---- the order of a list that is put together
+after-less : (event first : Event) (es : List Event) → index_key_cmp event first ≡ Less → AllAfter first es → AllAfter event es
+after-less event first [] less k = tt
+after-less event first (a ∷ es) less k = (index_key_total.trans event first a less k.0, after-less event first es less k.1)
 
-rising-back : (front back : List Event) → IsRising (front ++ back) → IsRising back
+after-same : (event first : Event) (es : List Event) → index_key_cmp event first ≡ Equal → AllAfter first es → AllAfter event es
+after-same event first [] same k = tt
+after-same event first (a ∷ es) same k = (index_key_total.congr event first a same ∙ k.0, after-same event first es same k.1)
+
+elsewhere-after : (event : Event) (es : List Event) → AllAfter event es → elsewhere event es ≡ es
+elsewhere-after event [] k = refl
+elsewhere-after event (a ∷ es) k =
+    ap (λ r. cond (not (is_eq r)) (a ∷ elsewhere event es) (elsewhere event es)) (turned event a Less k.0)
+    ∙ ap (λ es. a ∷ es) (elsewhere-after event es k.1)
+
+are_after : (event : Event) (es : List Event) → AllAfter event es → AreAfter event es
+are_after event [] k = tt
+are_after event (a ∷ es) k = (ap is_lt k.0, are_after event es k.1)
+
+put-before : (event : Event) (es : List Event) → AllAfter event es → placed event (elsewhere event es) ≡ event ∷ es
+put-before event es k = ap (placed event) (elsewhere-after event es k) ∙ placed-first event es (are_after event es k)
+
+put_by : (event first : Event) (es : List Event) (r : Ordering) → index_key_cmp event first ≡ r → AllAfter first es → replace_key index_key_cmp es event ≡ placed event (elsewhere event es) →
+    match_ordering r (event ∷ first ∷ es) (event ∷ es) (first ∷ replace_key index_key_cmp es event) ≡ placed event (elsewhere event (first ∷ es))
+put_by event first es Less e k ih = sym (put-before event (first ∷ es) (e, after-less event first es e k))
+put_by event first es Equal e k ih =
+    sym (ap (λ r. placed event (cond (not (is_eq r)) (first ∷ elsewhere event es) (elsewhere event es))) (turned event first Equal e)
+    ∙ put-before event es (after-same event first es e k))
+put_by event first es Greater e k ih =
+    ap (λ es. first ∷ es) ih
+    ∙ sym (ap (λ r. placed event (cond (not (is_eq r)) (first ∷ elsewhere event es) (elsewhere event es))) (turned event first Greater e)
+    ∙ ap (λ r. cond (is_lt r) (event ∷ (first ∷ elsewhere event es)) (first ∷ placed event (elsewhere event es))) e)
+
+pub replace_is_put : (event : Event) (es : List Event) → IsRising es → replace_key index_key_cmp es event ≡ placed event (elsewhere event es)
 unfolding IsStrictlySortedBy
-rising-back [] back k = k
-rising-back (a ∷ front) back k = rising-back front back k.1
+replace_is_put event [] k = refl
+replace_is_put event (first ∷ es) k = put_by event first es (index_key_cmp event first) refl k.0 (replace_is_put event es k.1)
 
-all-around : (P : Event → Type 0) (front : List Event) (a : Event) (back : List Event) → P a → AllByRecursion P (front ++ back) → AllByRecursion P (front ++ a ∷ back)
-all-around P [] a back h k = (h, k)
-all-around P (b ∷ front) a back h k = (k.0, all-around P front a back h k.1)
+removed_by : (event first : Event) (es : List Event) (r : Ordering) → index_key_cmp event first ≡ r → AllAfter first es → remove_key (is_at (index_key_cmp event)) es ≡ elsewhere event es →
+    cond (is_eq r) es (first ∷ remove_key (is_at (index_key_cmp event)) es) ≡ elsewhere event (first ∷ es)
+removed_by event first es Less e k ih =
+    ap (λ es. first ∷ es) ih
+    ∙ sym (ap (λ r. cond (not (is_eq r)) (first ∷ elsewhere event es) (elsewhere event es)) (turned event first Less e))
+removed_by event first es Equal e k ih =
+    sym (ap (λ r. cond (not (is_eq r)) (first ∷ elsewhere event es) (elsewhere event es)) (turned event first Equal e)
+    ∙ elsewhere-after event es (after-same event first es e k))
+removed_by event first es Greater e k ih =
+    ap (λ es. first ∷ es) ih
+    ∙ sym (ap (λ r. cond (not (is_eq r)) (first ∷ elsewhere event es) (elsewhere event es)) (turned event first Greater e))
 
-all-without : (P : Event → Type 0) (front : List Event) (a : Event) (back : List Event) → AllByRecursion P (front ++ a ∷ back) → P a × AllByRecursion P (front ++ back)
-all-without P [] a back k = k
-all-without P (b ∷ front) a back k = let rest = all-without P front a back k.1 in (rest.0, (k.0, rest.1))
-
-rising-with : (front : List Event) (event : Event) (back : List Event) → AllBefore event front → AllBehind event back → IsRising (front ++ back) → IsRising (front ++ event ∷ back)
+-- without the event of the key
+pub remove_is_elsewhere : (event : Event) (es : List Event) → IsRising es → remove_key (is_at (index_key_cmp event)) es ≡ elsewhere event es
 unfolding IsStrictlySortedBy
-rising-with [] event back before behind k = (behind, k)
-rising-with (a ∷ front) event back before behind k = (all-around (λ other. index_key_cmp a other ≡ Less) front event back before.0 k.0, rising-with front event back before.1 behind k.1)
+remove_is_elsewhere event [] k = refl
+remove_is_elsewhere event (first ∷ es) k = removed_by event first es (index_key_cmp event first) refl k.0 (remove_is_elsewhere event es k.1)
 
-rising-without : (front : List Event) (a : Event) (back : List Event) → IsRising (front ++ a ∷ back) → IsRising (front ++ back)
-unfolding IsStrictlySortedBy
-rising-without [] a back k = k.1
-rising-without (b ∷ front) a back k = let rest = all-without (λ other. index_key_cmp b other ≡ Less) front a back k.0 in (rest.1, rising-without front a back k.1)
+-- ---- the live events of a log with one more write
 
--- ---- an event of one place with one of the list
+represents : (event : Event) (old new : List Event) → new ≡ written event old → RepresentsWrite old event new
+represents event old new e log is_live = e ∙ ap (written event) is_live ∙ sym (live-write log event)
 
-same_before : (front : List Event) (a : Event) (back : List Event) (event : Event) → index_key_cmp a event ≡ Equal → IsRising (front ++ a ∷ back) → AllBefore event front
-unfolding IsStrictlySortedBy
-same_before [] a back event same k = tt
-same_before (b ∷ front) a back event same k =
-    let rest = all-without (λ other. index_key_cmp b other ≡ Less) front a back k.0 in
-    (sym (alike_right index_key_total a event b same) ∙ rest.0, same_before front a back event same k.1)
+pub replaced : (event : Event) (old new : List Event) → IsRising old → is_over event ≡ false → new ≡ replace_key index_key_cmp old event → RepresentsWrite old event new
+replaced event old new rising not_over e =
+    represents event old new
+    (e ∙ replace_is_put event old rising ∙ sym (ap (λ over. cond over (elsewhere event old) (placed event (elsewhere event old))) not_over))
 
-all_after-same : (a event : Event) (back : List Event) → index_key_cmp a event ≡ Equal → AllBehind a back → AllBehind event back
-all_after-same a event [] same k = tt
-all_after-same a event (b ∷ back) same k = (sym (index_key_total.congr a event b same) ∙ k.0, all_after-same a event back same k.1)
-
-same_behind : (front : List Event) (a : Event) (back : List Event) (event : Event) → index_key_cmp a event ≡ Equal → IsRising (front ++ a ∷ back) → AllBehind event back
-unfolding IsStrictlySortedBy
-same_behind front a back event same k = let tail = rising-back front (a ∷ back) k in all_after-same a event back same tail.0
-
--- ---- what is elsewhere, and where the event is put
-
-greater-behind : (event other : Event) → index_key_cmp event other ≡ Less → index_key_cmp other event ≡ Greater
-greater-behind event other k = index_key_total.antisymm other event ∙ ap ordering_reverse k
-
-elsewhere-before : (front back : List Event) (event : Event) → AllBefore event front → elsewhere event (front ++ back) ≡ front ++ elsewhere event back
-elsewhere-before [] back event k = refl
-elsewhere-before (a ∷ front) back event k =
-    ap (λ r. cond (not (is_eq r)) (a ∷ elsewhere event (front ++ back)) (elsewhere event (front ++ back))) k.0
-    ∙ ap (λ es. a ∷ es) (elsewhere-before front back event k.1)
-
-elsewhere-behind : (back : List Event) (event : Event) → AllBehind event back → elsewhere event back ≡ back
-elsewhere-behind [] event k = refl
-elsewhere-behind (a ∷ back) event k =
-    ap (λ r. cond (not (is_eq r)) (a ∷ elsewhere event back) (elsewhere event back)) (greater-behind event a k.0)
-    ∙ ap (λ es. a ∷ es) (elsewhere-behind back event k.1)
-
-elsewhere-same : (a : Event) (back : List Event) (event : Event) → index_key_cmp a event ≡ Equal → elsewhere event (a ∷ back) ≡ elsewhere event back
-elsewhere-same a back event same = ap (λ r. cond (not (is_eq r)) (a ∷ elsewhere event back) (elsewhere event back)) same
-
-less-turned : (event other : Event) → index_key_cmp other event ≡ Less → index_key_cmp event other ≡ Greater
-less-turned event other k = index_key_total.antisymm event other ∙ ap ordering_reverse k
-
-placed-before : (front back : List Event) (event : Event) → AllBefore event front → placed event (front ++ back) ≡ front ++ placed event back
-placed-before [] back event k = refl
-placed-before (a ∷ front) back event k =
-    ap (λ r. cond (is_lt r) (event ∷ (a ∷ (front ++ back))) (a ∷ placed event (front ++ back))) (less-turned event a k.0)
-    ∙ ap (λ es. a ∷ es) (placed-before front back event k.1)
-
-are_behind : (back : List Event) (event : Event) → AllBehind event back → AreAfter event back
-are_behind [] event k = tt
-are_behind (a ∷ back) event k = (ap is_lt k.0, are_behind back event k.1)
-
-placed-between : (front back : List Event) (event : Event) → AllBefore event front → AllBehind event back → placed event (front ++ back) ≡ front ++ event ∷ back
-placed-between front back event before behind = placed-before front back event before ∙ ap (λ es. front ++ es) (placed-first event back (are_behind back event behind))
-
--- the events become these, unless the event is over and only ends what stood in its place
-abbrev pub written_between : Event → List Event → List Event → List Event
-written_between event front back = cond (is_over event) (front ++ back) (front ++ event ∷ back)
-
-written_from_elsewhere : (event : Event) (front back events : List Event) → AllBefore event front → AllBehind event back → elsewhere event events ≡ front ++ back → written event events ≡ written_between event front back
-written_from_elsewhere event front back events before behind e =
-    ap (λ es. cond (is_over event) es (placed event es)) e
-    ∙ ap (λ es. cond (is_over event) (front ++ back) es) (placed-between front back event before behind)
-
-written-gap : (event : Event) (front back : List Event) → AllBefore event front → AllBehind event back → written event (front ++ back) ≡ written_between event front back
-written-gap event front back before behind =
-    written_from_elsewhere event front back (front ++ back) before behind
-    (elsewhere-before front back event before ∙ ap (λ es. front ++ es) (elsewhere-behind back event behind))
-
-written-same : (event : Event) (front : List Event) (a : Event) (back : List Event) → index_key_cmp a event ≡ Equal → IsRising (front ++ a ∷ back) → written event (front ++ a ∷ back) ≡ written_between event front back
-written-same event front a back same k =
-    let before = same_before front a back event same k in
-    let behind = same_behind front a back event same k in
-    written_from_elsewhere event front back (front ++ a ∷ back) before behind
-    (elsewhere-before front (a ∷ back) event before ∙ ap (λ es. front ++ es) (elsewhere-same a back event same ∙ elsewhere-behind back event behind))
-
--- ---- the same, as the code has it
-
--- what a binary search asks
-pub searchable : (events : List Event) (event : Event) → IsRising events → IsNonDecreasingBy (λ other. ordering_index (index_key_cmp other event)) events
-searchable events event rising =
-    let sorted : IsSortedBy (λ a b. is_lt (index_key_cmp a b)) events
-    = λ k d low high. ap is_lt (greater-behind _ _ (Less-from_sorted index_key_cmp events k (k + 1) d rising (omega arith) high)) in
-    searchable_from_sorted index_key_total (λ (other : Event). other) events event sorted
-
-pub searched : (events : List Event) (event : Event) → IsRising events → (r : Result ℕ ℕ) → IsBinarySearchResult (λ other. index_key_cmp other event) events r →
-    MatchResult r (HoldsAt (λ other. index_key_cmp other event ≡ Equal) events) (IsPartitionPoint (λ other. index_key_cmp other event ≡ Less) (λ other. index_key_cmp other event ≡ Greater) events)
-searched events event rising (Ok at) found = found
-searched events event rising (Err at) parted = parted (searchable events event rising)
-
-all_from_places : (P : Event → Type 0) (events : List Event) → ((k : ℕ) (d : Event) → k < length events → P (get_or events k d)) → AllByRecursion P events
-all_from_places P [] h = tt
-all_from_places P (a ∷ events) h = (h 0 a (omega arith), all_from_places P events (λ k d lt. h (suc k) d (omega arith)))
-
-module _ (events : List Event) (event : Event) (at : ℕ) where
-  module _ (rising : IsRising events) (within : at < length events) (same : HoldsAt (λ other. index_key_cmp other event ≡ Equal) events at) where
-    parts : take at events ++ get_or events at event ∷ drop (suc at) events ≡ events
-    parts = ap (λ es. take at events ++ es) (ap (λ n. get_or events at event ∷ drop n events) (sym (add-one at)) ∙ sym (drop_more events at event within)) ∙ take-append-drop at events
-
-    rising_parts : IsRising (take at events ++ get_or events at event ∷ drop (suc at) events)
-    rising_parts = subst IsRising (sym parts) rising
-
-    written_at : written event events ≡ cond (is_over event) (remove events at) (set events at event)
-    written_at =
-        ap (written event) (sym parts)
-        ∙ written-same event (take at events) (get_or events at event) (drop (suc at) events) (same event) rising_parts
-        ∙ ap (λ es. cond (is_over event) (remove events at) es) (sym (set_split events at event within))
-
-    pub removes : is_over event ≡ true → remove events at ≡ written event events
-    removes over = sym (written_at ∙ ap (λ t. cond t (remove events at) (set events at event)) over)
-
-    pub replaces : is_over event ≡ false → set events at event ≡ written event events
-    replaces not_over = sym (written_at ∙ ap (λ t. cond t (remove events at) (set events at event)) not_over)
-
-    pub rising-remove : IsRising (remove events at)
-    rising-remove = rising-without (take at events) (get_or events at event) (drop (suc at) events) rising_parts
-
-    pub rising-set : IsRising (set events at event)
-    rising-set =
-        subst IsRising (sym (set_split events at event within))
-        (rising-with (take at events) event (drop (suc at) events)
-        (same_before (take at events) (get_or events at event) (drop (suc at) events) event (same event) rising_parts)
-        (same_behind (take at events) (get_or events at event) (drop (suc at) events) event (same event) rising_parts)
-        rising-remove)
-
-  module _ (within : at ≤ length events) (gap : IsPartitionPoint (λ other. index_key_cmp other event ≡ Less) (λ other. index_key_cmp other event ≡ Greater) events at) where
-    before : AllBefore event (take at events)
-    before = all_from_places (λ other. index_key_cmp other event ≡ Less) (take at events) (λ k d lt.
-        let below : k < at = omega (arith, lt, length-take-le at events within) in
-        rw (get_or-take at events k d below) (gap.0 k d (omega arith) below))
-
-    behind : AllBehind event (drop at events)
-    behind = all_from_places (λ other. index_key_cmp event other ≡ Less) (drop at events) (λ k d lt.
-        let greater : index_key_cmp (get_or (drop at events) k d) event ≡ Greater
-        = rw (get_or-drop at events k d) (gap.1 (at + k) d (omega arith) (omega (arith, lt, length-drop at events))) in
-        index_key_total.antisymm event (get_or (drop at events) k d) ∙ ap ordering_reverse greater)
-
-    written_in_gap : written event events ≡ cond (is_over event) events (insert events at event)
-    written_in_gap =
-        ap (written event) (sym (take-append-drop at events))
-        ∙ written-gap event (take at events) (drop at events) before behind
-        ∙ ap (λ es. cond (is_over event) es (insert events at event)) (take-append-drop at events)
-
-    pub leaves : is_over event ≡ true → events ≡ written event events
-    leaves over = sym (written_in_gap ∙ ap (λ t. cond t events (insert events at event)) over)
-
-    pub inserts : is_over event ≡ false → insert events at event ≡ written event events
-    inserts not_over = sym (written_in_gap ∙ ap (λ t. cond t events (insert events at event)) not_over)
-
-    pub rising-insert : IsRising events → IsRising (insert events at event)
-    rising-insert rising = rising-with (take at events) event (drop at events) before behind (subst IsRising (sym (take-append-drop at events)) rising)
-
--- the live events of a log with one more write
-pub stands : (old new : List Event) (event : Event) → new ≡ written event old → (log : List Logged) → old ≡ live_events log → new ≡ live_events (log ++ Write event ∷ [])
-stands old new event e log is_live = e ∙ ap (written event) is_live ∙ sym (live-write log event)
+pub removed : (event : Event) (old new : List Event) → IsRising old → is_over event ≡ true → new ≡ remove_key (is_at (index_key_cmp event)) old → RepresentsWrite old event new
+removed event old new rising over e =
+    represents event old new
+    (e ∙ remove_is_elsewhere event old rising ∙ sym (ap (λ over. cond over (elsewhere event old) (placed event (elsewhere event old))) over))

@@ -109,7 +109,7 @@ impl LiveIndex {
         if self.poisoned {
             return Err(Memory);
         }
-        copy_matching(alloc, self.events.as_slice(), pred, out)?;
+        self.events.copy_matching(alloc, pred, out)?;
         Ok(())
     }
 
@@ -133,25 +133,6 @@ impl LiveIndex {
     pub fn len(&self) -> usize
         ensures { result ≡ length self.now.events }
     {
-        self.events.as_slice().len()
+        self.events.len()
     }
-}
-
-/// Appends copies of the events that meet the predicate, in order.
-fn copy_matching(
-    alloc: Global,
-    events: &[Event],
-    pred: &mut Pred,
-    out: &mut Events,
-) -> Result<(), Memory>
-    ensures same { pred.new ≡ pred.old }
-    ensures ok { OnOk result (out.new ≡ out.old ++ filter (holds pred.old) events.now) }
-    ensures prefix { OnErr result (IsPrefix out.old out.new) }
-{
-    for event in events {
-        if pred.holds(alloc, event)? {
-            out.push(alloc, event.copy(alloc)?)?;
-        }
-    }
-    Ok(())
 }

@@ -1,22 +1,23 @@
-ghost use Rattle.std.specs.Prelude.{◌≡◌, ◌^◌, ◌≤◌, List, [], ◌++◌, filter, length, not, option_copied, IfOk, OnOk, OnErr, MatchResult};
+ghost use Rattle.std.specs.Prelude.{◌≡◌, ◌==◌, ◌^◌, ◌≤◌, List, [], ◌++◌, filter, length, not, option_copied, OnOk, OnErr, Some, refl};
+ghost use Rattle.std.specs.Cmp.{eq_by_cmp_equiv, partial_equiv_from_equiv, po};
 ghost use Rattle.list_laws.specs.Prefix.{IsPrefix};
-ghost use Rattle.ev_types.specs.declared.event.Event.{Event as StoredEvent};
 ghost use Rattle.ev_types.specs.Expiry.{is_expired};
-ghost use Rattle.std.specs.List.{HoldsAt};
-ghost use Rattle.std.specs.List.Sorted.{IsPartitionPoint, IsSearchInRange};
-ghost use Rattle.index_log.specs.IndexKey.{index_key_cmp, text_cmp};
-ghost use Rattle.live_index.specs.Index.{RepresentsWrite, cmp_at, event_at};
+ghost use Rattle.index_log.specs.IndexKey.{index_key_cmp, same_index_key, text_cmp};
+ghost use Rattle.index_log.proofs.IndexKeys.{index_key_total};
+ghost use Rattle.pred_eval.specs.Truth.{holds};
+ghost use Rattle.live_index.specs.Index.{RepresentsWrite, event_at, is_at};
 
 use ev_types::{Event, Events, Memory, Text};
+use pred_eval::Pred;
 use std::alloc::Global;
 use std::cmp::Ordering;
+use std::collections::BTreeSet;
 use std::marker::Model;
-use std::mem;
 
 /// Events in strictly rising key order: by host and then by service, absent before present.
 #[derive(Drop)]
 pub(crate) struct SortedEvents {
-    events: Vec<Event>,
+    events: BTreeSet<KeyedEvent>,
 }
 
 impl Model for SortedEvents {
@@ -27,9 +28,9 @@ impl Model for SortedEvents {
 
     ghost Value = { List Event };
 
-    ghost view = { λ index. index.events.items };
+    ghost view = { λ index. index.events.keys };
 
-    ghost invariant = { λ index. IsStrictlySortedBy index_key_cmp index.events.items };
+    ghost invariant = { λ index. IsStrictlySortedBy index_key_cmp index.events.keys };
 }
 
 impl SortedEvents {
@@ -37,7 +38,7 @@ impl SortedEvents {
         ensures { result ≡ [] }
     {
         SortedEvents {
-            events: Vec::new(alloc),
+            events: BTreeSet::new(alloc),
         }
     }
 
@@ -46,25 +47,16 @@ impl SortedEvents {
         ensures ok { OnOk result (RepresentsWrite self.old event self.new) }
         ensures err { OnErr result (self.new ≡ self.old) }
     {
-        match self.place_of(&event) {
-            Ok(at) => {
-                if event.is_over() {
-                    self.events.remove(at);
-                } else {
-                    self.events[at] = event;
-                }
-            }
-            Err(at) => {
-                if !event.is_over() {
-                    self.events.insert(at, event)?;
-                }
-            }
+        if event.is_over() {
+            self.events.remove(&KeyedEvent { event });
+            return Ok(());
         }
+        self.events.replace(KeyedEvent { event })?;
         Ok(())
     }
 
-    /// Takes out the events that are expired at the moment `now`, at most 2^40, and appends them to `expired`. After
-    /// `Memory` some of the others are lost.
+    /// Removes the events that are expired at the moment `now`, at most 2^40, and appends copies of them to `expired`.
+    /// After `Memory` all are kept.
     pub(crate) fn take_expired(
         &mut self,
         alloc: Global,
@@ -78,88 +70,166 @@ impl SortedEvents {
             ++ filter (is_expired now) self.old) }
         ensures prefix { OnErr result (IsPrefix expired.old expired.new) }
     {
-        let events = mem::replace(&mut self.events, Vec::new(alloc));
-        self.events = part_expired(alloc, events, now, expired)?;
+        copy_expired(alloc, &self.events, now, expired)?;
+        self.events.retain(|keyed| !keyed.event.is_expired(now));
         Ok(())
     }
 
-    pub(crate) fn as_slice(&self) -> &[Event]
-        ensures { result.now ≡ self.now }
+    /// Appends copies of the events that meet the predicate, in order.
+    pub(crate) fn copy_matching(
+        &self,
+        alloc: Global,
+        pred: &mut Pred,
+        out: &mut Events,
+    ) -> Result<(), Memory>
+        ensures same { pred.new ≡ pred.old }
+        ensures ok { OnOk result (out.new ≡ out.old ++ filter (holds pred.old) self.now) }
+        ensures prefix { OnErr result (IsPrefix out.old out.new) }
     {
-        self.events.as_slice()
+        copy_matching(alloc, &self.events, pred, out)?;
+        Ok(())
     }
 
-    /// The event of this host and this service, where there is one. It takes no memory.
+    /// The event of this host and this service, where there is one. It takes no memory, and looks at one event after
+    /// another.
     pub(crate) fn get(&self, host: Option<&Text>, service: Option<&Text>) -> Option<&Event>
         ensures { option_copied result ≡ event_at (option_copied host.entry)
             (option_copied service.entry) self.now }
     {
-        match self.place_at(host, service) {
-            Ok(at) => Some(&self.events[at]),
-            Err(_) => None,
+        match find_keyed(&self.events, host, service) {
+            Some(keyed) => Some(&keyed.event),
+            None => None,
         }
     }
 
-    // The number of the live event of this one's key, or else the number at which this one would be inserted.
-    fn place_of(&self, event: &Event) -> Result<usize, usize>
-        ensures bound { IsSearchInRange result (length self.now) }
-        ensures place { MatchResult result
-            (HoldsAt (λ other. index_key_cmp other event.now ≡ Ordering.Equal) self.now)
-            (IsPartitionPoint (λ other. index_key_cmp other event.now ≡ Ordering.Less)
-            (λ other. index_key_cmp other event.now ≡ Ordering.Greater) self.now) }
+    pub(crate) fn len(&self) -> usize
+        ensures { result ≡ length self.now }
     {
-        self.place_at(event.host.as_ref(), event.service.as_ref())
-    }
-
-    // The number of the event of this host and this service, or else the number at which one would be inserted.
-    fn place_at(&self, host: Option<&Text>, service: Option<&Text>) -> Result<usize, usize>
-        ensures bound { IsSearchInRange result (length self.now) }
-        ensures place { MatchResult result
-            (HoldsAt (λ other. cmp_at (option_copied host.entry)
-            (option_copied service.entry) other ≡ Ordering.Equal) self.now)
-            (IsPartitionPoint (λ other. cmp_at (option_copied host.entry)
-            (option_copied service.entry) other ≡ Ordering.Less)
-            (λ other. cmp_at (option_copied host.entry) (option_copied service.entry) other
-            ≡ Ordering.Greater) self.now) }
-    {
-        self.events
-            .binary_search_by(|other| cmp_at(host, service, other))
+        self.events.len()
     }
 }
 
-/// Appends the events that are expired to `expired`, and gives the others.
-fn part_expired(
+/// The event of this host and this service, where there is one.
+fn find_keyed<'a>(
+    events: &'a BTreeSet<KeyedEvent>,
+    host: Option<&Text>,
+    service: Option<&Text>,
+) -> Option<&'a KeyedEvent>
+    ensures { option_copied result ≡ event_at (option_copied host.entry)
+        (option_copied service.entry) events.now.keys }
+{
+    events
+        .iter()
+        .find(|keyed| is_at(host, service, &keyed.event))
+}
+
+/// Appends copies of the events that are expired, in order.
+fn copy_expired(
     alloc: Global,
-    events: Vec<Event>,
+    events: &BTreeSet<KeyedEvent>,
     now: u64,
     expired: &mut Events,
-) -> Result<Vec<Event>, Memory>
+) -> Result<(), Memory>
     requires { now ≤ 2 ^ 40 }
-    ensures kept { IfOk result (λ kept. kept.items
-        ≡ filter (λ event. not (is_expired now event)) events.items) }
     ensures gone { OnOk result (expired.new ≡ expired.old
-        ++ filter (is_expired now) events.items) }
+        ++ filter (is_expired now) events.now.keys) }
     ensures prefix { OnErr result (IsPrefix expired.old expired.new) }
 {
-    let mut kept = Vec::new(alloc);
-    for event in events {
-        if event.is_expired(now) {
-            expired.push(alloc, event)?;
-        } else {
-            kept.push(event)?;
+    for keyed in events {
+        if keyed.event.is_expired(now) {
+            expired.push(alloc, keyed.event.copy(alloc)?)?;
         }
     }
-    Ok(kept)
+    Ok(())
 }
 
-// How the event's key compares with a host and a service: by host, then by service.
-fn cmp_at(host: Option<&Text>, service: Option<&Text>, event: &Event) -> Ordering
-    ensures { result ≡ cmp_at (option_copied host.entry) (option_copied service.entry) event.now }
+/// Appends copies of the events that meet the predicate, in order.
+fn copy_matching(
+    alloc: Global,
+    events: &BTreeSet<KeyedEvent>,
+    pred: &mut Pred,
+    out: &mut Events,
+) -> Result<(), Memory>
+    ensures same { pred.new ≡ pred.old }
+    ensures ok { OnOk result (out.new ≡ out.old ++ filter (holds pred.old) events.now.keys) }
+    ensures prefix { OnErr result (IsPrefix out.old out.new) }
 {
-    match text_cmp(event.host.as_ref(), host) {
-        Ordering::Equal => text_cmp(event.service.as_ref(), service),
+    for keyed in events {
+        if pred.holds(alloc, &keyed.event)? {
+            out.push(alloc, keyed.event.copy(alloc)?)?;
+        }
+    }
+    Ok(())
+}
+
+/// An event that is compared by its host and then by its service, and by nothing else of it.
+#[derive(Drop)]
+struct KeyedEvent {
+    event: Event,
+}
+
+impl Model for KeyedEvent {
+    ghost use Rattle.ev_types.specs.declared.event.Event.{Event};
+
+    ghost Value = { Event };
+
+    ghost view = { λ keyed. keyed.event };
+}
+
+impl PartialEq for KeyedEvent {
+    ghost eq = { same_index_key };
+
+    ghost laws = { partial_equiv_from_equiv (eq_by_cmp_equiv index_key_total) };
+
+    fn eq(&self, other: &KeyedEvent) -> bool {
+        self.cmp(other) == Ordering::Equal
+    }
+}
+
+impl Eq for KeyedEvent {
+    ghost laws = { eq_by_cmp_equiv index_key_total };
+}
+
+impl PartialOrd for KeyedEvent {
+    ghost partial_cmp = { λ a b. Some (index_key_cmp a b) };
+
+    ghost laws = { po index_key_total (λ a b. refl) };
+
+    fn partial_cmp(&self, other: &KeyedEvent) -> Option<Ordering> {
+        Some(self.cmp(other))
+    }
+}
+
+impl Ord for KeyedEvent {
+    ghost cmp = { index_key_cmp };
+
+    ghost total = { index_key_total };
+
+    ghost matches_partial_cmp = { λ a b. refl };
+
+    ghost matches_eq = { λ a b. refl };
+
+    fn cmp(&self, other: &KeyedEvent) -> Ordering {
+        key_cmp(&self.event, &other.event)
+    }
+}
+
+// The order of two events: by host, then by service.
+#[tactic(auto, unfolding(index_log::specs::IndexKey::index_key_cmp))]
+fn key_cmp(a: &Event, b: &Event) -> Ordering
+    ensures { result ≡ index_key_cmp a.now b.now }
+{
+    match text_cmp(a.host.as_ref(), b.host.as_ref()) {
+        Ordering::Equal => text_cmp(a.service.as_ref(), b.service.as_ref()),
         apart => apart,
     }
+}
+
+// Whether the event is of the host and the service.
+fn is_at(host: Option<&Text>, service: Option<&Text>, event: &Event) -> bool
+    ensures { result ≡ is_at (option_copied host.entry) (option_copied service.entry) event.now }
+{
+    text_cmp(event.host.as_ref(), host).is_eq() && text_cmp(event.service.as_ref(), service).is_eq()
 }
 
 // An absent text comes before one that is present.

@@ -1,11 +1,8 @@
-use Rattle.std.specs.List.Sorted.{IsStrictlySortedBy}
-use Rattle.index_log.proofs.Rising.{rising-filter}
+use Rattle.std.proofs.Common.{not, rules}
+use Rattle.std.proofs.lemmas.Fn.{filter_same}
+use Rattle.ev_types.specs.Expiry.{is_expired}
 use Rattle.live_index.proofs.sorted.SortedEvents.take_expired.Goals as goal
 
--- memory was wanted, and no event is left
-pub invariant_of-self : goal.invariant_of-self
-unfolding IsStrictlySortedBy
-invariant_of-self c = rw (c.replace-events.ensures.after, c.new.ensures.items) tt
-
-pub invariant_of-self-2 : goal.invariant_of-self-2
-invariant_of-self-2 c = rw (c.in_ok-self-inside.ensures.kept, c.replace-events.ensures.value) (rising-filter _ _ c.self.invariant)
+pub returns-clause-kept : goal.returns-clause-kept
+returns-clause-kept c =
+    rw (← c.self.view_is) (filter_same _ (λ event. not (is_expired c.args.now event)) _ (λ x b f' k. search rules) _ _ c.retain.ensures.filtered)
