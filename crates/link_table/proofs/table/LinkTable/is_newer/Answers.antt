@@ -1,0 +1,12 @@
+use Rattle.std.proofs.Common.{◌≡◌, ◌<◌, ℕ, List, ap, sym, subst, arith}
+use Rattle.std.specs.Prelude.{Option, Some}
+use Rattle.link_table.specs.Kept.{AreOld, Kept}
+use Rattle.ports.specs.declared.links.Want.{Want}
+use Rattle.link_table.proofs.Numbers.{new_is_absent}
+use Rattle.link_table.proofs.table.LinkTable.is_newer.Goals as goal
+
+pub returns-in-Some-clause-absent : goal.returns-in-Some-clause-absent
+returns-in-Some-clause-absent g c = λ newer.
+    let wants = ap (λ (table : Kept g.row.T.Denot). table.wants) c.self.view_is in
+    let old = subst (λ (n : Option ℕ). AreOld n c.self.inside.wants) c.in-Some.is c.self.invariant.1 in
+    new_is_absent (Some c.in-Some.newest) c.args.self.now.wants c.args.number (subst (AreOld (Some c.in-Some.newest)) wants old) newer
