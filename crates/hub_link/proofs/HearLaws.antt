@@ -1,0 +1,232 @@
+-- How messages are answered one after another, and what the link is then.
+use Rattle.std.proofs.Common.{◌≡◌, ℕ, ◌+◌, ◌<◌, ◌≤◌, Bool, true, false, List, [], ◌∷◌, ◌++◌, length, map, take, drop, refl, ap, sym, ◌∙◌, subst, arith, append-nil, append_assoc, length-append}
+use Rattle.std.specs.Prelude.{IfSome, Option, Some, None, Result, Ok, Err, OnOk}
+use Rattle.std.proofs.lemmas.List.{drop-append-le, map-append}
+use Rattle.event_core.specs.declared.arrivals.Core.{Core}
+use Rattle.event_core.specs.Core.{CoreConfig, Represents, config_of, now_of, state_by}
+use Rattle.frame_link.specs.Held.{Held, HandsOut}
+use Rattle.framing.specs.Frames.{HasFrame, after_frame, first_body, frames_of, partial}
+use Rattle.framing.proofs.FrameLaws.{frames_at_frame, frames_at_none}
+use Rattle.list_laws.specs.declared.memory.Memory.{Memory}
+use Rattle.stream_meaning.specs.Arrivals.{Arrival}
+use Rattle.hub_meaning.specs.Legal.{ArePossible}
+use Rattle.hub_meaning.specs.Links.{Link, unsent}
+use Rattle.hub_meaning.specs.Messages.{posts_of}
+use Rattle.hub_meaning.specs.Replies.{reply_to}
+use Rattle.hub_meaning.specs.Runs.{Talk, all_answered, answered, with_reply}
+use Rattle.hub_meaning.specs.Verdicts.{AfterVerdicts, IsOfRule, IsPossible, Message, PatternsState, Refusal, built_rule, judged}
+use Rattle.msg_replies.specs.Answering.{AfterVerdict, AnswersMessage, Replies}
+use Rattle.msg_replies.specs.Arriving.{Arrives, Told}
+use Rattle.msg_replies.proofs.AnswerLaws.{arrives_nothing, arrives_then}
+use Rattle.msg_replies.proofs.VerdictLaws.{more_verdicts, no_verdicts}
+use Rattle.hub_link.specs.Answering.{Answered, AnswersFirst, AnswersFrames, IsSame, IsTalk}
+
+-- ---- messages and their verdicts
+
+abbrev pub body_of : Message → List ℕ
+body_of message = message.body
+
+abbrev pub verdict_of : Message → Option Refusal
+verdict_of message = message.refusal
+
+abbrev message_with : List ℕ → Option Refusal → Message
+message_with body refusal = record { body = body; refusal = refusal }
+
+judged_all : (messages : List Message) → judged (map body_of messages) (map verdict_of messages) ≡ messages
+judged_all [] = refl
+judged_all (message ∷ messages) = ap (λ (ms : List Message). message ∷ ms) (judged_all messages)
+
+judged_more : (messages : List Message) (body : List ℕ) (bodies : List (List ℕ)) (verdict : Option Refusal)
+    → judged (map body_of messages ++ (body ∷ bodies)) (map verdict_of messages ++ verdict ∷ []) ≡ messages ++ (message_with body verdict ∷ judged bodies [])
+judged_more [] body bodies verdict = refl
+judged_more (message ∷ messages) body bodies verdict = ap (λ (ms : List Message). message ∷ ms) (judged_more messages body bodies verdict)
+
+all_answered_append : (config : CoreConfig) (now : ℕ) (first second : List Message) (talk : Talk)
+    → all_answered config now (first ++ second) talk ≡ all_answered config now second (all_answered config now first talk)
+all_answered_append config now [] second talk = refl
+all_answered_append config now (message ∷ first) second talk = all_answered_append config now first second (answered config now message talk)
+
+possible_append : (config : CoreConfig) (now : ℕ) (first second : List Message) (talk : Talk) → ArePossible config now first talk
+    → ArePossible config now second (all_answered config now first talk) → ArePossible config now (first ++ second) talk
+possible_append config now [] second talk before after = after
+possible_append config now (message ∷ first) second talk before after =
+    (before.0, possible_append config now first second (answered config now message talk) before.1 after)
+
+pub none_refused : (config : CoreConfig) (now : ℕ) (bodies : List (List ℕ)) (talk : Talk) → ArePossible config now (judged bodies []) talk
+none_refused config now [] talk = tt
+none_refused config now (body ∷ bodies) talk = (tt, none_refused config now bodies (answered config now (message_with body None) talk))
+
+-- ---- one message more
+
+answered_nothing : (core : Core) (left : List ℕ) (old : Told) (talk : Talk) → IsTalk core left talk → Answered core core left old old [] talk
+answered_nothing core left old talk is = record {
+  more = [];
+  arrivals = sym (append-nil talk.arrivals);
+  arrives = arrives_nothing core talk.arrivals old is.arrivals;
+  now = refl;
+  left_is = is.left_is;
+  within = is.within;
+}
+
+-- a reply is appended to what is unsent
+pub unsent_with_reply : (reply : List ℕ) (link : Link) → length link.taken ≤ length link.replies → unsent (with_reply reply link) ≡ unsent link ++ reply
+unsent_with_reply reply link within = drop-append-le (length link.taken) link.replies reply within
+
+pub within_with_reply : (reply : List ℕ) (link : Link) → length link.taken ≤ length link.replies → length link.taken ≤ length (link.replies ++ reply)
+within_with_reply reply link within = omega (arith, length-append link.replies reply)
+
+possible_there : (refusal : Option Refusal) (core one : Core) (left : List ℕ) (body : List ℕ) (talk : Talk) → now_of one ≡ now_of core → left ≡ unsent talk.link
+    → IfSome refusal (IsOfRule (built_rule (now_of one) (length left) body)) → IsPossible (now_of core) (length (unsent talk.link)) (message_with body refusal)
+possible_there refusal core one left body talk now is possible =
+    subst (λ (n : ℕ). IfSome refusal (IsOfRule (built_rule n (length (unsent talk.link)) body))) now
+    (subst (λ (bs : List ℕ). IfSome refusal (IsOfRule (built_rule (now_of one) (length bs) body))) is possible)
+
+-- what one message comes to, after the others
+module _ (core one two : Core) (left left' left'' : List ℕ) (a b c : Told) (messages : List Message) (body : List ℕ) (refusal : Option Refusal) (talk : Talk) where
+  one_more : Answered core one left' a b messages talk
+      → ((arrivals : List Arrival) → Represents one arrivals → Replies body (length left') refusal one two left' left'' b c arrivals)
+      → Answered core two left'' a c (messages ++ message_with body refusal ∷ []) talk
+  one_more before replies =
+      let there : Talk = all_answered (config_of core) (now_of core) messages talk in
+      let reply = replies there.arrivals (subst (Represents one) (sym before.arrivals) before.arrives.represents) in
+      let posts : List Arrival = posts_of (now_of core) body in
+      let comes : Arrives one two (talk.arrivals ++ before.more) posts b c =
+      subst (λ (arrivals : List Arrival). Arrives one two arrivals posts b c) before.arrivals
+      (subst (λ (n : ℕ). Arrives one two there.arrivals (posts_of n body) b c) before.now reply.arrives) in
+      let is : all_answered (config_of core) (now_of core) (messages ++ message_with body refusal ∷ []) talk ≡ answered (config_of core) (now_of core) (message_with body refusal) there =
+      all_answered_append (config_of core) (now_of core) messages (message_with body refusal ∷ []) talk in
+      let written : left'' ≡ left' ++ reply_to (now_of core) (state_by (config_of core) (there.arrivals ++ posts)).log (length (unsent there.link)) (message_with body refusal) =
+      reply.reply
+      ∙ ap (λ (n : ℕ). left' ++ reply_to n (state_by (config_of one) (there.arrivals ++ posts_of n body)).log (length left') (message_with body refusal)) before.now
+      ∙ ap (λ (config : CoreConfig). left' ++ reply_to (now_of core) (state_by config (there.arrivals ++ posts)).log (length left') (message_with body refusal)) before.arrives.config
+      ∙ ap (λ (bs : List ℕ). left' ++ reply_to (now_of core) (state_by (config_of core) (there.arrivals ++ posts)).log (length bs) (message_with body refusal)) before.left_is in
+      record {
+        more = before.more ++ posts;
+        arrivals = ap (λ (t : Talk). t.arrivals) is ∙ ap (λ (arrivals : List Arrival). arrivals ++ posts) before.arrivals ∙ append_assoc talk.arrivals before.more posts;
+        arrives = arrives_then core one two talk.arrivals before.more posts a b c before.arrives comes;
+        now = reply.now ∙ before.now;
+        left_is = written
+            ∙ ap (λ (bs : List ℕ). bs ++ reply_to (now_of core) (state_by (config_of core) (there.arrivals ++ posts)).log (length (unsent there.link)) (message_with body refusal)) before.left_is
+            ∙ sym (unsent_with_reply (reply_to (now_of core) (state_by (config_of core) (there.arrivals ++ posts)).log (length (unsent there.link)) (message_with body refusal)) there.link before.within)
+            ∙ ap (λ (t : Talk). unsent t.link) (sym is);
+        within = subst (λ (t : Talk). length t.link.taken ≤ length t.link.replies) (sym is)
+            (within_with_reply (reply_to (now_of core) (state_by (config_of core) (there.arrivals ++ posts)).log (length (unsent there.link)) (message_with body refusal)) there.link before.within);
+      }
+
+-- ---- the loop over the frames
+
+-- these messages were answered, and removed from what is held
+pub record SoFar (input input' : Held) (left left' : List ℕ) (core core' : Core) (patterns patterns' : PatternsState) (old new : Told) : Type 0 where
+  pub messages : List Message
+  pub frames : frames_of input.bytes ≡ map body_of messages ++ frames_of input'.bytes
+  pub rest : partial input.bytes ≡ partial input'.bytes
+  pub goes_on : input.stopped ≡ false → input'.stopped ≡ false
+  pub reported : AfterVerdicts patterns patterns' (map verdict_of messages)
+  pub possible : (talk : Talk) → IsTalk core left talk → ArePossible (config_of core) (now_of core) messages talk
+  pub answered : (talk : Talk) → IsTalk core left talk → Answered core core' left' old new messages talk
+
+pub so_far_nothing : (input : Held) (left : List ℕ) (core : Core) (patterns : PatternsState) (old : Told) → SoFar input input left left core core patterns patterns old old
+so_far_nothing input left core patterns old = record {
+  messages = [];
+  frames = refl;
+  rest = refl;
+  goes_on = λ is. is;
+  reported = no_verdicts patterns;
+  possible = λ talk is. tt;
+  answered = λ talk is. answered_nothing core left old talk is;
+}
+
+module _ (input input' input'' : Held) (left left' left'' : List ℕ) (core one two : Core) (patterns patterns' patterns'' : PatternsState) (a b c : Told) where
+  -- one message more
+  pub so_far_more : SoFar input input' left left' core one patterns patterns' a b
+      → AnswersFirst input' input'' left' left'' one two patterns' patterns'' b c (Ok true)
+      → SoFar input input'' left left'' core two patterns patterns'' a c
+  so_far_more so_far first =
+      let hands : HandsOut input' (first_body input'.bytes) input'' = first.0 in
+      let answers : AnswersMessage (first_body input'.bytes) (length left') one two patterns' patterns'' left' left'' b c (Ok tt) = first.1 in
+      let body : List ℕ = first_body input'.bytes in
+      let message : Message = message_with body answers.refusal in
+      record {
+        messages = so_far.messages ++ message ∷ [];
+        frames = so_far.frames ∙ ap (λ (fs : List (List ℕ)). map body_of so_far.messages ++ fs) hands.frames
+            ∙ sym (append_assoc (map body_of so_far.messages) (body ∷ []) (frames_of input''.bytes))
+            ∙ ap (λ (fs : List (List ℕ)). fs ++ frames_of input''.bytes) (sym (map-append body_of so_far.messages (message ∷ [])));
+        rest = so_far.rest ∙ hands.rest;
+        goes_on = λ is. hands.goes_on;
+        reported = subst (λ (vs : List (Option Refusal)). AfterVerdicts patterns patterns'' vs) (sym (map-append verdict_of so_far.messages (message ∷ [])))
+            (more_verdicts (built_rule (now_of one) (length left') body) patterns patterns' patterns'' (map verdict_of so_far.messages) answers.refusal so_far.reported answers.verdict);
+        possible = λ talk is.
+            let before = so_far.answered talk is in
+            possible_append (config_of core) (now_of core) so_far.messages (message ∷ []) talk (so_far.possible talk is)
+            (possible_there answers.refusal core one left' body (all_answered (config_of core) (now_of core) so_far.messages talk) before.now before.left_is answers.verdict.possible, tt);
+        answered = λ talk is. one_more core one two left left' left'' a b c so_far.messages body answers.refusal talk (so_far.answered talk is) answers.answered;
+      }
+
+  -- memory ran out at a message
+  pub so_far_failed : (memory : Memory) → SoFar input input' left left' core one patterns patterns' a b
+      → AnswersFirst input' input'' left' left'' one two patterns' patterns'' b c (Err memory)
+      → AnswersFrames input input'' left left'' core two patterns patterns'' a c (Err memory)
+  so_far_failed memory so_far first =
+      let has : HasFrame input'.bytes = first.0 in
+      let answers : AnswersMessage (first_body input'.bytes) (length left') one two patterns' patterns'' left' left'' b c (Err memory) = first.1 in
+      let body : List ℕ = first_body input'.bytes in
+      let later : List (List ℕ) = frames_of (after_frame input'.bytes) in
+      let frames : frames_of input.bytes ≡ map body_of so_far.messages ++ (body ∷ later) =
+      so_far.frames ∙ ap (λ (fs : List (List ℕ)). map body_of so_far.messages ++ fs) (frames_at_frame input'.bytes has) in
+      let is : judged (frames_of input.bytes) (map verdict_of so_far.messages ++ answers.refusal ∷ []) ≡ so_far.messages ++ (message_with body answers.refusal ∷ judged later []) =
+      ap (λ (fs : List (List ℕ)). judged fs (map verdict_of so_far.messages ++ answers.refusal ∷ [])) frames ∙ judged_more so_far.messages body later answers.refusal in
+      record {
+        verdicts = map verdict_of so_far.messages ++ answers.refusal ∷ [];
+        few = rw frames (shorter so_far.messages body later answers.refusal);
+        reported = more_verdicts (built_rule (now_of one) (length left') body) patterns patterns' patterns'' (map verdict_of so_far.messages) answers.refusal so_far.reported answers.verdict;
+        possible = λ talk is_talk.
+            let before = so_far.answered talk is_talk in
+            let there : Talk = all_answered (config_of core) (now_of core) so_far.messages talk in
+            subst (λ (ms : List Message). ArePossible (config_of core) (now_of core) ms talk) (sym is)
+            (possible_append (config_of core) (now_of core) so_far.messages (message_with body answers.refusal ∷ judged later []) talk (so_far.possible talk is_talk) (
+              possible_there answers.refusal core one left' body there before.now before.left_is answers.verdict.possible,
+              none_refused (config_of core) (now_of core) later (answered (config_of core) (now_of core) (message_with body answers.refusal) there),
+            ));
+        answered = tt;
+        rest = tt;
+      }
+    where
+      shorter : (messages : List Message) (body : List ℕ) (bodies : List (List ℕ)) (verdict : Option Refusal) → length (map verdict_of messages ++ verdict ∷ []) ≤ length (map body_of messages ++ (body ∷ bodies))
+      shorter [] body bodies verdict = omega arith
+      shorter (message ∷ messages) body bodies verdict = let h = shorter messages body bodies verdict in omega arith
+
+module _ (input input' : Held) (left left' : List ℕ) (core one : Core) (patterns patterns' : PatternsState) (a b : Told) where
+  -- no frame is left
+  pub so_far_all : SoFar input input' left left' core one patterns patterns' a b → (HasFrame input'.bytes → ⊥) → AnswersFrames input input' left left' core one patterns patterns' a b (Ok tt)
+  so_far_all so_far bare =
+      let frames : frames_of input.bytes ≡ map body_of so_far.messages =
+      so_far.frames ∙ ap (λ (fs : List (List ℕ)). map body_of so_far.messages ++ fs) (frames_at_none input'.bytes bare) ∙ append-nil (map body_of so_far.messages) in
+      let is : judged (frames_of input.bytes) (map verdict_of so_far.messages) ≡ so_far.messages =
+      ap (λ (fs : List (List ℕ)). judged fs (map verdict_of so_far.messages)) frames ∙ judged_all so_far.messages in
+      record {
+        verdicts = map verdict_of so_far.messages;
+        few = rw frames (same_length so_far.messages);
+        reported = so_far.reported;
+        possible = λ talk is_talk. subst (λ (ms : List Message). ArePossible (config_of core) (now_of core) ms talk) (sym is) (so_far.possible talk is_talk);
+        answered = λ talk is_talk. subst (λ (ms : List Message). Answered core one left' a b ms talk) (sym is) (so_far.answered talk is_talk);
+        rest = (so_far.rest, so_far.goes_on);
+      }
+    where
+      same_length : (messages : List Message) → length (map verdict_of messages) ≤ length (map body_of messages)
+      same_length [] = omega arith
+      same_length (message ∷ messages) = let h = same_length messages in omega arith
+
+module _ (input input' input'' : Held) (left left' left'' : List ℕ) (core one two : Core) (patterns patterns' patterns'' : PatternsState) (a b c : Told) where
+  -- after one round of the loop
+  pub so_far_next : (whole : Bool) → whole ≡ true → SoFar input input' left left' core one patterns patterns' a b
+      → AnswersFirst input' input'' left' left'' one two patterns' patterns'' b c (Ok whole) → SoFar input input'' left left'' core two patterns patterns'' a c
+  so_far_next true is so_far first = so_far_more input input' input'' left left' left'' core one two patterns patterns' patterns'' a b c so_far first
+  so_far_next false is so_far first = absurd (cc is)
+
+  -- after its last round
+  pub so_far_end : (whole : Bool) → whole ≡ false → SoFar input input' left left' core one patterns patterns' a b
+      → AnswersFirst input' input'' left' left'' one two patterns' patterns'' b c (Ok whole) → AnswersFrames input input'' left left'' core two patterns patterns'' a c (Ok tt)
+  so_far_end true is so_far first = absurd (cc is)
+  so_far_end false is so_far first =
+      let same : IsSame input' input'' left' left'' one two patterns' patterns'' b c = first.1 in
+      rw (same.input_is, same.left_is, same.core_is, same.patterns_are, same.told_is) (so_far_all input input' left left' core one patterns patterns' a b so_far first.0)

@@ -1,0 +1,324 @@
+-- How a link that a piece comes on follows what it represents.
+use Rattle.std.proofs.Common.{◌≡◌, ℕ, ◌≤◌, ◌<◌, ◌==◌, ◌↔◌, Bool, true, false, cond, ◌&&◌, ◌||◌, List, [], ◌∷◌, ◌++◌, length, refl, ap, sym, ◌∙◌, subst, arith, append-nil}
+use Rattle.std.specs.Prelude.{IsTrue, Option, Result, Ok, Err, OnOk, nat_le, nat_lt}
+use Rattle.std.proofs.lemmas.Bool.{and_parts, eqb-true, leb-true, ltb-true}
+use Rattle.std.proofs.lemmas.Bool.Decides.{nat_tests}
+use Rattle.event_core.specs.declared.arrivals.Core.{Core}
+use Rattle.event_core.specs.Core.{CoreConfig, config_of, now_of}
+use Rattle.frame_link.specs.Held.{Held, pushed}
+use Rattle.framing.specs.Frames.{HasFrame, IsOversized, frames_of, length_at, partial}
+use Rattle.framing.specs.declared.TheConstants.{BODY_LIMIT}
+use Rattle.framing.proofs.FrameLaws.{oversized_has_none, partial_append, partial_at_none, partial_of_nothing}
+use Rattle.list_laws.specs.declared.memory.Memory.{Memory}
+use Rattle.ports.specs.declared.links.Want.{Want}
+use Rattle.hub_meaning.specs.Legal.{ArePossible, AreVerdicts, MayClose, MayCloseAs, VerdictsIf}
+use Rattle.hub_meaning.specs.Links.{Link, broken, connected, connected_limit, ended, is_connected, is_open, is_open_status, is_read_closed_status, new_link, unblocked, unsent, want_of, with_status}
+use Rattle.hub_meaning.specs.declared.status.Status.{Status}
+use Rattle.hub_meaning.specs.declared.status.Status.TheVariants.{Open, ReadClosed, Closing, Closed}
+use Rattle.hub_meaning.specs.Replies.{reply_to_oversized}
+use Rattle.hub_meaning.specs.Runs.{RunState, Talk, all_answered, answered, cut_off, is_oversized, messages_in, new_frames, talk_of, with_reply}
+use Rattle.hub_meaning.specs.Verdicts.{AfterVerdicts, Message, PatternsState, Refusal, judged}
+use Rattle.hub_meaning.proofs.RunLaws.{new_frames_rest}
+use Rattle.msg_replies.specs.Arriving.{Arrives, Told}
+use Rattle.msg_replies.proofs.AnswerLaws.{arrives_nothing}
+use Rattle.msg_replies.proofs.VerdictLaws.{no_verdicts}
+use Rattle.hub_link.specs.declared.link.HubLink.{HubLink}
+use Rattle.hub_link.specs.Answering.{Answered, AnswersFrames, IsTalk}
+use Rattle.hub_link.specs.Hearing.{Hears, HearsPiece, IsAt, read_talk, talk_after}
+use Rattle.hub_link.specs.HubLink.{Follows, RepresentsLink}
+use Rattle.hub_link.specs.Sending.{is_over_as}
+use Rattle.hub_link.proofs.HearLaws.{none_refused, unsent_with_reply, within_with_reply}
+use Rattle.hub_link.proofs.SendLaws.{closes}
+
+held_is : (held : Held) (bytes : List ℕ) (stopped : Bool) → held.bytes ≡ bytes → held.stopped ≡ stopped → held ≡ record { bytes = bytes; stopped = stopped }
+held_is held bytes stopped same is =
+    ap (λ (b : List ℕ). let h : Held = record { bytes = b; stopped = held.stopped } in h) same ∙ ap (λ (s : Bool). let h : Held = record { bytes = bytes; stopped = s } in h) is
+
+-- what is held of a piece once its frames are answered
+held_after : (came piece : List ℕ) (pushed held : Held) → pushed ≡ record { bytes = partial came ++ piece; stopped = false } → partial pushed.bytes ≡ partial held.bytes
+    → (pushed.stopped ≡ false → held.stopped ≡ false) → (HasFrame held.bytes → ⊥) → held ≡ record { bytes = partial (came ++ piece); stopped = false }
+held_after came piece pushed held is rest goes_on bare =
+    held_is held (partial (came ++ piece)) false
+    (sym (partial_at_none held.bytes bare) ∙ sym rest ∙ ap (λ (h : Held). partial h.bytes) is ∙ sym (partial_append came piece))
+    (goes_on (ap (λ (h : Held). h.stopped) is))
+
+-- messages that are answered change the replies of a link alone
+answered_link : (config : CoreConfig) (now : ℕ) (messages : List Message) (talk : Talk)
+    → (all_answered config now messages talk).link ≡ record talk.link { replies = (all_answered config now messages talk).link.replies }
+answered_link config now [] talk = refl
+answered_link config now (message ∷ messages) talk = answered_link config now messages (answered config now message talk)
+
+talk_at : (piece : List ℕ) (core : Core) (link : HubLink) (state : RunState) (meant : Link) → IsAt core link state meant → IsTalk core link.unsent (talk_of piece state meant)
+talk_at piece core link state meant is = record { arrivals = is.arrivals; left_is = is.represents.unsent; within = is.represents.within }
+
+-- the link whose frames were answered
+represents_answered : (piece : List ℕ) (link one : HubLink) (core core' : Core) (old new : Told) (messages : List Message) (state : RunState) (meant : Link)
+    → IsAt core link state meant → one.number ≡ link.number → one.status ≡ link.status → one.blocked ≡ link.blocked
+    → one.input ≡ record { bytes = partial (meant.came ++ piece); stopped = false }
+    → Answered core core' one.unsent old new messages (talk_of piece state meant)
+    → RepresentsLink one (all_answered (config_of core) (now_of core) messages (talk_of piece state meant)).link
+represents_answered piece link one core core' old new messages state meant is number status blocked input answers =
+    let same = answered_link (config_of core) (now_of core) messages (talk_of piece state meant) in
+    record {
+      number = number ∙ is.represents.number ∙ ap (λ (l : Link). l.number) (sym same);
+      status = status ∙ is.represents.status ∙ ap (λ (l : Link). l.status) (sym same);
+      blocked = blocked ∙ is.represents.blocked ∙ ap (λ (l : Link). l.blocked) (sym same);
+      input = λ _. input ∙ ap (λ (l : Link). let h : Held = record { bytes = partial l.came; stopped = false } in h) (sym same);
+      unsent = answers.left_is;
+      within = answers.within;
+    }
+
+-- ---- the verdicts
+
+abbrev pub IsHeldOf : HubLink → List ℕ → Held → Type 0
+IsHeldOf link piece pushed = (meant : Link) → RepresentsLink link meant → pushed ≡ record { bytes = partial meant.came ++ piece; stopped = false }
+
+abbrev pub IsOpenLink : HubLink → Type 0
+IsOpenLink link = (meant : Link) → RepresentsLink link meant → is_open meant ≡ true
+
+frames_in : (link : HubLink) (piece : List ℕ) (pushed : Held) (meant : Link) → IsHeldOf link piece pushed → RepresentsLink link meant → frames_of pushed.bytes ≡ new_frames meant.came piece
+frames_in link piece pushed meant held is = ap (λ (h : Held). frames_of h.bytes) (held meant is) ∙ sym (new_frames_rest meant.came piece)
+
+are_verdicts : (piece : List ℕ) (verdicts : List (Option Refusal)) (link : HubLink) (pushed : Held) (core : Core)
+    → IsOpenLink link → IsHeldOf link piece pushed → length verdicts ≤ length (frames_of pushed.bytes)
+    → ((talk : Talk) → IsTalk core link.unsent talk → ArePossible (config_of core) (now_of core) (judged (frames_of pushed.bytes) verdicts) talk)
+    → (state : RunState) (meant : Link) → IsAt core link state meant → VerdictsIf (is_open meant) (config_of core) piece verdicts state meant
+are_verdicts piece verdicts link pushed core opened held few possible state meant is =
+    let frames = frames_in link piece pushed meant held is.represents in
+    let all : AreVerdicts (config_of core) piece verdicts state meant = record {
+      each = subst (λ (fs : List (List ℕ)). length verdicts ≤ length fs) frames few;
+      possible = subst (λ (now : ℕ). ArePossible (config_of core) now (messages_in piece verdicts meant) (talk_of piece state meant)) is.now
+          (subst (λ (fs : List (List ℕ)). ArePossible (config_of core) (now_of core) (judged fs verdicts) (talk_of piece state meant)) frames
+          (possible (talk_of piece state meant) (talk_at piece core link state meant is)));
+    } in
+    subst (λ (t : Bool). VerdictsIf t (config_of core) piece verdicts state meant) (sym (opened meant is.represents)) all
+
+-- no frame was answered
+no_verdicts_are : (piece : List ℕ) (link : HubLink) (core : Core) (state : RunState) (meant : Link) → VerdictsIf (is_open meant) (config_of core) piece [] state meant
+no_verdicts_are piece link core state meant = by_case (is_open meant)
+  where
+    by_case : (t : Bool) → VerdictsIf t (config_of core) piece [] state meant
+    by_case true = record { each = omega arith; possible = none_refused (config_of core) state.now (new_frames meant.came piece) (talk_of piece state meant) }
+    by_case false = refl
+
+-- ---- the piece
+
+abbrev no_talk : RunState → Link → Talk
+no_talk state meant = record { arrivals = state.arrivals; link = meant }
+
+pub hears_nothing : (piece : List ℕ) (link : HubLink) (core : Core) (patterns : PatternsState) (old : Told) → ((meant : Link) → RepresentsLink link meant → is_open meant ≡ false)
+    → HearsPiece piece link link core core patterns patterns old old (Ok tt)
+hears_nothing piece link core patterns old shut = record {
+  verdicts = [];
+  reported = no_verdicts patterns;
+  possible = λ state meant is. no_verdicts_are piece link core state meant;
+  heard = λ state meant is.
+      let same : no_talk state meant ≡ talk_after (config_of core) piece [] state meant =
+      sym (ap (λ (t : Bool). cond t (read_talk (all_answered (config_of core) state.now (messages_in piece [] meant) (talk_of piece state meant))) (no_talk state meant)) (shut meant is.represents)) in
+      record {
+        more = [];
+        arrivals = ap (λ (t : Talk). t.arrivals) (sym same) ∙ sym (append-nil state.arrivals);
+        arrives = arrives_nothing core state.arrivals old is.arrivals;
+        now = refl;
+        link = subst (λ (t : Talk). RepresentsLink link t.link) same is.represents;
+      };
+}
+
+-- there was no memory for the piece
+pub hears_no_piece : (piece : List ℕ) (link link' : HubLink) (core : Core) (patterns : PatternsState) (old : Told) (memory : Memory) → HearsPiece piece link link' core core patterns patterns old old (Err memory)
+hears_no_piece piece link link' core patterns old memory = record {
+  verdicts = [];
+  reported = no_verdicts patterns;
+  possible = λ state meant is. no_verdicts_are piece link core state meant;
+  heard = tt;
+}
+
+module _ (piece : List ℕ) (link : HubLink) (pushed held : Held) (left : List ℕ) (core core' : Core) (patterns patterns' : PatternsState) (old new : Told)
+    (opened : IsOpenLink link) (is_held : IsHeldOf link piece pushed) where
+  -- memory ran out at one of the messages, or at a length over the limit
+  pub hears_in_part : (link' : HubLink) (memory : Memory) (result : Result (Unit {0}) Memory) → AnswersFrames pushed held link.unsent left core core' patterns patterns' old new result
+      → HearsPiece piece link link' core core' patterns patterns' old new (Err memory)
+  hears_in_part link' memory result frames = record {
+    verdicts = frames.verdicts;
+    reported = frames.reported;
+    possible = are_verdicts piece frames.verdicts link pushed core opened is_held frames.few frames.possible;
+    heard = tt;
+  }
+
+  -- all frames were answered, and a length over the limit where one follows
+  pub hears_all : (one link' : HubLink) → AnswersFrames pushed held link.unsent left core core' patterns patterns' old new (Ok tt) → (HasFrame held.bytes → ⊥)
+      → one.number ≡ link.number → one.status ≡ link.status → one.blocked ≡ link.blocked → one.input ≡ held → one.unsent ≡ left
+      → ((meant : Link) → is_open meant ≡ true → RepresentsLink one meant → RepresentsLink link' (cut_off meant))
+      → HearsPiece piece link link' core core' patterns patterns' old new (Ok tt)
+  hears_all one link' frames bare number status blocked input unsent_is cut = record {
+    verdicts = frames.verdicts;
+    reported = frames.reported;
+    possible = are_verdicts piece frames.verdicts link pushed core opened is_held frames.few frames.possible;
+    heard = λ state meant is.
+        let config : CoreConfig = config_of core in
+        let open_now : is_open meant ≡ true = opened meant is.represents in
+        let talked : Talk = all_answered config (now_of core) (judged (frames_of pushed.bytes) frames.verdicts) (talk_of piece state meant) in
+        let answers = frames.answered (talk_of piece state meant) (talk_at piece core link state meant is) in
+        let there : RepresentsLink one talked.link =
+        represents_answered piece link one core core' old new (judged (frames_of pushed.bytes) frames.verdicts) state meant is number status blocked
+        (input ∙ held_after meant.came piece pushed held (is_held meant is.represents) frames.rest.0 frames.rest.1 bare)
+        (subst (λ (bs : List ℕ). Answered core core' bs old new (judged (frames_of pushed.bytes) frames.verdicts) (talk_of piece state meant)) (sym unsent_is) answers) in
+        let still_open : is_open talked.link ≡ true =
+        ap (λ (l : Link). is_open l) (answered_link config (now_of core) (judged (frames_of pushed.bytes) frames.verdicts) (talk_of piece state meant)) ∙ open_now in
+        let same : read_talk talked ≡ talk_after config piece frames.verdicts state meant =
+        ap (λ (now : ℕ). read_talk (all_answered config now (judged (frames_of pushed.bytes) frames.verdicts) (talk_of piece state meant))) is.now
+        ∙ ap (λ (fs : List (List ℕ)). read_talk (all_answered config state.now (judged fs frames.verdicts) (talk_of piece state meant))) (frames_in link piece pushed meant is_held is.represents)
+        ∙ ap (λ (t : Bool). cond t (read_talk (all_answered config state.now (messages_in piece frames.verdicts meant) (talk_of piece state meant))) (no_talk state meant)) (sym open_now) in
+        record {
+          more = answers.more;
+          arrivals = ap (λ (t : Talk). t.arrivals) (sym same) ∙ answers.arrivals;
+          arrives = answers.arrives;
+          now = answers.now;
+          link = subst (λ (t : Talk). RepresentsLink link' t.link) same (cut talked.link still_open there);
+        };
+  }
+
+-- ---- a length over the limit
+
+oversized_test : (bytes : List ℕ) → IsOversized bytes → is_oversized bytes ≡ true
+oversized_test bytes over = let head = over.head in let above = over.over in grind (arith, nat_tests)
+
+within_test : (bytes : List ℕ) → (IsOversized bytes → ⊥) → is_oversized bytes ≡ false
+within_test bytes other = by_case (is_oversized bytes) refl
+  where
+    by_case : (t : Bool) → is_oversized bytes ≡ t → is_oversized bytes ≡ false
+    by_case true is =
+        let both = and_parts (nat_le 4 (length bytes)) (nat_lt BODY_LIMIT (length_at bytes)) is in
+        absurd (other (record { head = leb-true 4 (length bytes) both.0; over = ltb-true BODY_LIMIT (length_at bytes) both.1 }))
+    by_case false is = is
+
+-- the reply to the length is appended, and no more is read
+pub cuts_off : (link link' : HubLink) (size : ℕ) → IsOversized link.input.bytes → size ≡ length_at link.input.bytes
+    → link'.number ≡ link.number → link'.status ≡ ReadClosed → link'.blocked ≡ link.blocked → link'.unsent ≡ link.unsent ++ reply_to_oversized size
+    → (meant : Link) → is_open meant ≡ true → RepresentsLink link meant → RepresentsLink link' (cut_off meant)
+cuts_off link link' size over size_is number status blocked unsent_is meant opened is =
+    let held : partial meant.came ≡ link.input.bytes = sym (ap (λ (h : Held). h.bytes) (is.input opened)) in
+    let test : is_oversized (partial meant.came) ≡ true = ap is_oversized held ∙ oversized_test link.input.bytes over in
+    let size_there : size ≡ length_at (partial meant.came) = size_is ∙ ap length_at (sym held) in
+    let reply : List ℕ = reply_to_oversized (length_at (partial meant.came)) in
+    let there : RepresentsLink link' (with_status ReadClosed (with_reply reply meant)) = record {
+      number = number ∙ is.number;
+      status = status;
+      blocked = blocked ∙ is.blocked;
+      input = λ open_now. absurd (cc open_now);
+      unsent = unsent_is ∙ ap (λ (n : ℕ). link.unsent ++ reply_to_oversized n) size_there ∙ ap (λ (bs : List ℕ). bs ++ reply) is.unsent ∙ sym (unsent_with_reply reply meant is.within);
+      within = within_with_reply reply meant is.within;
+    } in
+    subst (λ (t : Bool). RepresentsLink link' (cond t (with_status ReadClosed (with_reply reply meant)) meant)) (sym test) there
+
+pub cuts_nothing : (link : HubLink) → (IsOversized link.input.bytes → ⊥) → (meant : Link) → is_open meant ≡ true → RepresentsLink link meant → RepresentsLink link (cut_off meant)
+cuts_nothing link other meant opened is =
+    let held : link.input.bytes ≡ partial meant.came = ap (λ (h : Held). h.bytes) (is.input opened) in
+    let test : is_oversized (partial meant.came) ≡ false = within_test (partial meant.came) (subst (λ (bs : List ℕ). IsOversized bs → ⊥) held other) in
+    subst (λ (t : Bool). RepresentsLink link (cond t (with_status ReadClosed (with_reply (reply_to_oversized (length_at (partial meant.came))) meant)) meant)) (sym test) is
+
+pub frame_is_within : (bytes : List ℕ) → HasFrame bytes → IsOversized bytes → ⊥
+frame_is_within bytes has over = oversized_has_none bytes over has
+
+-- ---- what changes a link
+
+connected_as : (link : HubLink) (meant : Link) (t : Bool) → (is_open_status link.status || is_read_closed_status link.status) ≡ t → RepresentsLink link meant → is_connected meant ≡ t
+connected_as link meant t is represents = ap (λ (s : Status). is_open_status s || is_read_closed_status s) (sym represents.status) ∙ is
+
+open_as : (link : HubLink) (meant : Link) (t : Bool) → is_open_status link.status ≡ t → RepresentsLink link meant → is_open meant ≡ t
+open_as link meant t is represents = ap is_open_status (sym represents.status) ∙ is
+
+pub is_shut : (link : HubLink) → is_open_status link.status ≡ false → (meant : Link) → RepresentsLink link meant → is_open meant ≡ false
+is_shut link is meant represents = open_as link meant false is represents
+
+pub is_opened : (link : HubLink) → is_open_status link.status ≡ true → (meant : Link) → RepresentsLink link meant → is_open meant ≡ true
+is_opened link is meant represents = open_as link meant true is represents
+
+pub stays_ended : (link : HubLink) → is_open_status link.status ≡ false → Follows ended link link
+stays_ended link is meant represents =
+    subst (λ (t : Bool). RepresentsLink link (cond t (with_status ReadClosed meant) meant)) (sym (open_as link meant false is represents)) represents
+
+pub ends : (link link' : HubLink) → is_open_status link.status ≡ true → link'.number ≡ link.number → link'.status ≡ ReadClosed → link'.blocked ≡ link.blocked → link'.unsent ≡ link.unsent → Follows ended link link'
+ends link link' is number status blocked unsent_is meant represents =
+    let there : RepresentsLink link' (with_status ReadClosed meant) = record {
+      number = number ∙ represents.number;
+      status = status;
+      blocked = blocked ∙ represents.blocked;
+      input = λ opened. absurd (cc opened);
+      unsent = unsent_is ∙ represents.unsent;
+      within = represents.within;
+    } in
+    subst (λ (t : Bool). RepresentsLink link' (cond t (with_status ReadClosed meant) meant)) (sym (open_as link meant true is represents)) there
+
+pub stays_broken : (link : HubLink) → (is_open_status link.status || is_read_closed_status link.status) ≡ false → Follows broken link link
+stays_broken link is meant represents =
+    subst (λ (t : Bool). RepresentsLink link (cond t (with_status Closing meant) meant)) (sym (connected_as link meant false is represents)) represents
+
+pub breaks : (link link' : HubLink) → (is_open_status link.status || is_read_closed_status link.status) ≡ true → link'.number ≡ link.number → link'.status ≡ Closing → link'.blocked ≡ link.blocked
+    → link'.unsent ≡ link.unsent → Follows broken link link'
+breaks link link' is number status blocked unsent_is meant represents =
+    subst (λ (t : Bool). RepresentsLink link' (cond t (with_status Closing meant) meant)) (sym (connected_as link meant true is represents))
+    (closes link link' number status blocked unsent_is meant represents)
+
+pub stays_unblocked : (link : HubLink) → (is_open_status link.status || is_read_closed_status link.status) ≡ false → Follows unblocked link link
+stays_unblocked link is meant represents =
+    subst (λ (t : Bool). RepresentsLink link (cond t (record meant { blocked = false }) meant)) (sym (connected_as link meant false is represents)) represents
+
+pub unblocks : (link link' : HubLink) → (is_open_status link.status || is_read_closed_status link.status) ≡ true → link'.number ≡ link.number → link'.status ≡ link.status → link'.blocked ≡ false
+    → link'.input ≡ link.input → link'.unsent ≡ link.unsent → Follows unblocked link link'
+unblocks link link' is number status blocked input unsent_is meant represents =
+    let there : RepresentsLink link' (record meant { blocked = false }) = record {
+      number = number ∙ represents.number;
+      status = status ∙ represents.status;
+      blocked = blocked;
+      input = λ opened. input ∙ represents.input opened;
+      unsent = unsent_is ∙ represents.unsent;
+      within = represents.within;
+    } in
+    subst (λ (t : Bool). RepresentsLink link' (cond t (record meant { blocked = false }) meant)) (sym (connected_as link meant true is represents)) there
+
+pub opens : (link : HubLink) (number : ℕ) (has_room : Bool) (links : List Link) → link.number ≡ number → link.status ≡ cond has_room Open Closing → link.blocked ≡ false → link.input.bytes ≡ []
+    → link.input.stopped ≡ false → link.unsent ≡ [] → has_room ≡ nat_lt (length (connected links)) connected_limit → RepresentsLink link (new_link number links)
+opens link number has_room links number_is status blocked bytes goes_on unsent_is room = record {
+  number = number_is;
+  status = status ∙ ap (λ (t : Bool). cond t Open Closing) room;
+  blocked = blocked;
+  input = λ _. held_is link.input (partial []) false (bytes ∙ sym partial_of_nothing) goes_on;
+  unsent = unsent_is;
+  within = omega arith;
+}
+
+-- ---- what is wanted of a link, and whether it is to be closed
+
+pub wants_so : (link : HubLink) (meant : Link) (want : Want) → want.link ≡ link.number → want.read ≡ (is_open_status link.status && nat_lt (length link.unsent) BODY_LIMIT)
+    → want.room ≡ nat_lt 0 (length link.unsent) → RepresentsLink link meant → want ≡ want_of meant
+wants_so link meant want number read room represents =
+    ap (λ (n : ℕ). let w : Want = record { link = n; read = want.read; room = want.room } in w) (number ∙ represents.number)
+    ∙ ap (λ (t : Bool). let w : Want = record { link = meant.number; read = t; room = want.room } in w)
+    (read ∙ ap (λ (s : Status). is_open_status s && nat_lt (length link.unsent) BODY_LIMIT) represents.status ∙ ap (λ (bs : List ℕ). is_open meant && nat_lt (length bs) BODY_LIMIT) represents.unsent)
+    ∙ ap (λ (t : Bool). let w : Want = record { link = meant.number; read = is_open meant && nat_lt (length (unsent meant)) BODY_LIMIT; room = t } in w)
+    (room ∙ ap (λ (bs : List ℕ). nat_lt 0 (length bs)) represents.unsent)
+
+over_as : (meant : Link) (status : Status) → IsTrue (is_over_as status (length (unsent meant))) ↔ MayCloseAs meant status
+over_as meant Open = (λ is. absurd (cc is), λ may. absurd may)
+over_as meant ReadClosed = (λ is. none_left (unsent meant) is, λ none. ap (λ (bs : List ℕ). length bs == 0) none)
+  where
+    none_left : (bytes : List ℕ) → IsTrue (length bytes == 0) → bytes ≡ []
+    none_left [] is = refl
+    none_left (byte ∷ bytes) is = let none = eqb-true (length (byte ∷ bytes)) 0 is in absurd (omega arith)
+over_as meant Closing = (λ _. tt, λ _. refl)
+over_as meant Closed = (λ is. absurd (cc is), λ may. absurd may)
+
+pub tells_over : (link : HubLink) (meant : Link) (over : Bool) → over ≡ is_over_as link.status (length link.unsent) → RepresentsLink link meant → IsTrue over ↔ MayClose meant
+tells_over link meant over is represents =
+    subst (λ (t : Bool). IsTrue t ↔ MayClose meant)
+    (sym (is ∙ ap (λ (s : Status). is_over_as s (length link.unsent)) represents.status ∙ ap (λ (bs : List ℕ). is_over_as meant.status (length bs)) represents.unsent))
+    (over_as meant meant.status)
+
+-- the piece is held after what was held
+pub pushed_is : (link : HubLink) (piece : List ℕ) (held : Held) → is_open_status link.status ≡ true → held ≡ pushed piece link.input → IsHeldOf link piece held
+pushed_is link piece held is same meant represents = same ∙ ap (pushed piece) (represents.input (open_as link meant true is represents))
+
+pub on_ok_three : {T E A B C D : Type 0} (r : Result T E) → (A → B → C → D) → OnOk r A → OnOk r B → OnOk r C → OnOk r D
+on_ok_three (Ok x) f a b c = f a b c
+on_ok_three (Err e) f a b c = tt

@@ -1,0 +1,62 @@
+-- What is unsent, in two buffers.
+use Rattle.std.proofs.Common.{◌≡◌, ℕ, ◌+◌, ◌-◌, ◌<◌, ◌≤◌, List, [], ◌∷◌, ◌++◌, length, take, drop, refl, ap, sym, ◌∙◌, subst, arith, append-nil, append_assoc, length-append, length-drop}
+use Rattle.std.specs.Prelude.{Result, Ok, Err, OnOk}
+use Rattle.std.proofs.lemmas.List.{drop-append-le, drop-drop, drop_at, take_all, take-append-le}
+use Rattle.std.proofs.Math.Seq.{drop-append-add}
+use Rattle.event_core.specs.declared.arrivals.Core.{Core}
+use Rattle.list_laws.specs.declared.memory.Memory.{Memory}
+use Rattle.hub_meaning.specs.Verdicts.{PatternsState}
+use Rattle.msg_replies.specs.Answering.{AnswersMessage, Replies}
+use Rattle.msg_replies.specs.Arriving.{Told}
+use Rattle.msg_replies.proofs.AnswerLaws.{on_ok}
+
+-- a reply that is appended to what came later is appended to the whole
+pub answers_after : (front later later' : List ℕ) (body : List ℕ) (count : ℕ) (core core' : Core) (patterns patterns' : PatternsState) (old new : Told) (result : Result (Unit {0}) Memory)
+    → AnswersMessage body count core core' patterns patterns' later later' old new result
+    → AnswersMessage body count core core' patterns patterns' (front ++ later) (front ++ later') old new result
+answers_after front later later' body count core core' patterns patterns' old new result answers = record {
+  refusal = answers.refusal;
+  verdict = answers.verdict;
+  answered = on_ok result (λ replies arrivals is. let reply = replies arrivals is in record {
+    arrives = reply.arrives;
+    now = reply.now;
+    reply = ap (λ (bytes : List ℕ). front ++ bytes) reply.reply ∙ sym (append_assoc front later _);
+  }) answers.answered;
+}
+
+-- the first buffer comes first
+pub front_first : (taken : ℕ) (first later : List ℕ) → drop taken first ≡ take (length (drop taken first)) (drop taken first ++ later)
+front_first taken first later =
+    sym (take_all (length (drop taken first)) (drop taken first) (let same : length (drop taken first) ≤ length (drop taken first) = omega arith in same))
+    ∙ sym (take-append-le (length (drop taken first)) (drop taken first) later (let same : length (drop taken first) ≤ length (drop taken first) = omega arith in same))
+
+pub front_some : (taken : ℕ) (first : List ℕ) → taken < length first → 0 < length (drop taken first)
+front_some taken first some = omega (arith, length-drop taken first)
+
+none_of_first : (taken : ℕ) (first : List ℕ) → length first ≤ taken → drop taken first ≡ []
+none_of_first taken first all = nothing (drop taken first) (omega (arith, length-drop taken first))
+  where
+    nothing : (bytes : List ℕ) → length bytes ≤ 0 → bytes ≡ []
+    nothing [] short = refl
+    nothing (byte ∷ bytes) short = absurd (omega arith)
+
+-- the first buffer was taken whole
+pub later_first : (taken : ℕ) (first later : List ℕ) → length first ≤ taken → later ≡ drop taken first ++ later
+later_first taken first later all = ap (λ (bytes : List ℕ). bytes ++ later) (sym (none_of_first taken first all))
+
+pub later_next : (taken : ℕ) (first later : List ℕ) → length first ≤ taken → later ≡ take (length later) (drop taken first ++ later)
+later_next taken first later all =
+    sym (take_all (length later) later (let same : length later ≤ length later = omega arith in same)) ∙ ap (take (length later)) (later_first taken first later all)
+
+-- some of the first buffer are taken
+pub advanced_within : (taken count : ℕ) (first later : List ℕ) → taken ≤ length first → count < length first - taken → drop (taken + count) first ++ later ≡ drop count (drop taken first ++ later)
+advanced_within taken count first later within less =
+    ap (λ (bytes : List ℕ). bytes ++ later) (sym (drop-drop count taken first))
+    ∙ sym (drop-append-le count (drop taken first) later (omega (arith, length-drop taken first)))
+
+-- all of the first buffer are taken, and some of the later one
+pub advanced_past : (taken count : ℕ) (first later : List ℕ) → taken ≤ length first → length first - taken ≤ count → drop (count - (length first - taken)) later ++ [] ≡ drop count (drop taken first ++ later)
+advanced_past taken count first later within more =
+    append-nil (drop (count - (length first - taken)) later)
+    ∙ sym (drop-append-add (drop taken first) later (count - (length first - taken)))
+    ∙ ap (λ (n : ℕ). drop n (drop taken first ++ later)) (let same : length (drop taken first) + (count - (length first - taken)) ≡ count = omega (arith, length-drop taken first) in same)

@@ -1,0 +1,5 @@
+pub mod Added
+pub mod HubLink
+pub mod Answering
+pub mod Hearing
+pub mod Sending

@@ -1,0 +1,64 @@
+ghost use Rattle.std.specs.Prelude.{◌≡◌, OnOk};
+ghost use Rattle.hub_meaning.specs.Verdicts.{patterns_state};
+ghost use Rattle.msg_replies.specs.Arriving.{told};
+ghost use Rattle.framing.specs.Frames.{HasFrame};
+ghost use Rattle.hub_link.specs.Answering.{AnswersFirst, AnswersFrames};
+
+use crate::unsent::Unsent;
+use ev_types::{Memory, Notices};
+use event_core::Core;
+use frame_link::{FirstFrame, FrameLink};
+use pred_eval::Patterns;
+use std::alloc::Global;
+use step_count::{Ledger, Steps};
+
+/// Answers the messages of all whole frames, in order, and removes these frames.
+pub(crate) fn answer_frames<P: Patterns, G: Ledger>(
+    alloc: Global,
+    input: &mut FrameLink,
+    unsent: &mut Unsent,
+    core: &mut Core,
+    patterns: &mut P,
+    notices: &mut Notices,
+    steps: &mut Steps<G>,
+) -> Result<(), Memory>
+    ensures frames { AnswersFrames input.old input.new unsent.old unsent.new core.old core.new
+        (patterns_state (P.refusals patterns.old) (P.refused patterns.old))
+        (patterns_state (P.refusals patterns.new) (P.refused patterns.new))
+        (told notices.old steps.old.forks) (told notices.new steps.new.forks) result }
+    ensures none_left { OnOk result (HasFrame input.new.bytes → ⊥) }
+{
+    'frames: loop {
+        let was_whole = answer_first(alloc, input, unsent, core, patterns, notices, steps)?;
+        if !was_whole {
+            return Ok(());
+        }
+    }
+}
+
+/// Answers the message of the first frame and removes that frame, if it is whole. Whether it is.
+fn answer_first<P: Patterns, G: Ledger>(
+    alloc: Global,
+    input: &mut FrameLink,
+    unsent: &mut Unsent,
+    core: &mut Core,
+    patterns: &mut P,
+    notices: &mut Notices,
+    steps: &mut Steps<G>,
+) -> Result<bool, Memory>
+    ensures { AnswersFirst input.old input.new unsent.old unsent.new core.old core.new
+        (patterns_state (P.refusals patterns.old) (P.refused patterns.old))
+        (patterns_state (P.refusals patterns.new) (P.refused patterns.new))
+        (told notices.old steps.old.forks) (told notices.new steps.new.forks) result }
+{
+    match input.front() {
+        FirstFrame::Whole(body) => {
+            unsent.answer(alloc, body, core, patterns, notices, steps)?;
+            let length = body.len();
+            input.advance(length);
+            Ok(true)
+        }
+        FirstFrame::NotYet => Ok(false),
+        FirstFrame::TooLong { .. } => Ok(false),
+    }
+}

@@ -1,0 +1,303 @@
+ghost use Rattle.std.specs.Prelude.{◌≡◌, ◌≢◌, ◌↔◌, ◌<◌, ◌||◌, ◌++◌, if◌then◌else◌, true, length, nat_lt, IsTrue, OnOk, List};
+ghost use Rattle.hub_meaning.specs.Replies.{reply_to_oversized};
+ghost use Rattle.hub_meaning.specs.Legal.{MayClose};
+ghost use Rattle.hub_meaning.specs.Links.{Link, broken, connected, connected_limit, ended, is_open, is_open_status, is_read_closed_status, new_link, sent, unblocked, want_of};
+ghost use Rattle.hub_meaning.specs.Runs.{cut_off};
+ghost use Rattle.hub_meaning.specs.Verdicts.{patterns_state};
+ghost use Rattle.msg_replies.specs.Arriving.{told};
+ghost use Rattle.ports.specs.Links.{IsWithin};
+ghost use Rattle.ports.specs.Playing.{Plays};
+ghost use Rattle.hub_link.specs.Added.{Added};
+ghost use Rattle.hub_link.specs.Hearing.{HearsPiece};
+ghost use Rattle.hub_link.specs.HubLink.{Follows, RepresentsLink, number_of};
+ghost use Rattle.hub_link.specs.Sending.{IsSent, Sends, can_send, is_over_as, sendable};
+
+use crate::frames::answer_frames;
+use crate::unsent::Unsent;
+use ev_types::{Memory, Notices};
+use event_core::Core;
+use frame_link::{FirstFrame, FrameLink};
+use framing::BODY_LIMIT;
+use hub_meaning::Status;
+use ports::{Links, SendAnswer, Want};
+use pred_eval::Patterns;
+use std::alloc::Global;
+use step_count::{Ledger, Steps};
+
+/// One link of a server: the bytes that came on it and are no whole frame, and the replies that were not sent.
+#[derive(Drop)]
+pub struct HubLink {
+    number: u64,
+    status: Status,
+    blocked: bool,
+    input: FrameLink,
+    unsent: Unsent,
+}
+
+impl HubLink {
+    /// A link on which nothing came. Where there is no room for it, it is to be closed at once. It takes no memory.
+    pub fn open(alloc: Global, number: u64, has_room: bool) -> HubLink
+        ensures number { number_of result ≡ number }
+        ensures represents { (links : List Link)
+            → has_room ≡ nat_lt (length (connected links)) connected_limit
+            → RepresentsLink result (new_link number links) }
+    {
+        HubLink {
+            number,
+            status: first_status(has_room),
+            blocked: false,
+            input: FrameLink::fresh(alloc),
+            unsent: Unsent::fresh(alloc),
+        }
+    }
+
+    pub fn number(&self) -> u64
+        ensures { result ≡ number_of self.now }
+    {
+        self.number
+    }
+
+    /// Reads a piece that came, if the link is open: the events of each whole frame are posted and its reply is appended,
+    /// in order. A length over the limit is answered too, and then no more is read. After `Memory` nothing is known of the
+    /// link.
+    pub fn hear<P: Patterns, G: Ledger>(
+        &mut self,
+        alloc: Global,
+        piece: &[u8],
+        core: &mut Core,
+        patterns: &mut P,
+        notices: &mut Notices,
+        steps: &mut Steps<G>,
+    ) -> Result<(), Memory>
+        ensures number { number_of self.new ≡ number_of self.old }
+        ensures hears { HearsPiece piece.now self.old self.new core.old core.new
+            (patterns_state (P.refusals patterns.old) (P.refused patterns.old))
+            (patterns_state (P.refusals patterns.new) (P.refused patterns.new))
+            (told notices.old steps.old.forks) (told notices.new steps.new.forks) result }
+    {
+        if !self.is_open() {
+            return Ok(());
+        }
+        self.input.push(alloc, piece)?;
+        answer_frames(
+            alloc,
+            &mut self.input,
+            &mut self.unsent,
+            core,
+            patterns,
+            notices,
+            steps,
+        )?;
+        self.cut_off(alloc)?;
+        Ok(())
+    }
+
+    /// Whether bytes are read of it.
+    fn is_open(&self) -> bool
+        ensures { result ≡ is_open_status self.now.status }
+    {
+        match self.status {
+            Status::Open => true,
+            Status::ReadClosed | Status::Closing | Status::Closed => false,
+        }
+    }
+
+    /// Whether it is open, or no more of it is read.
+    fn is_connected(&self) -> bool
+        ensures { result ≡ (is_open_status self.now.status
+            || is_read_closed_status self.now.status) }
+    {
+        match self.status {
+            Status::Open | Status::ReadClosed => true,
+            Status::Closing | Status::Closed => false,
+        }
+    }
+
+    /// Answers a length over the limit, if it comes next, and reads no more then.
+    fn cut_off(&mut self, alloc: Global) -> Result<(), Memory>
+        ensures number { number_of self.new ≡ number_of self.old }
+        ensures represents { OnOk result ((meant : Link) → is_open meant ≡ true
+            → RepresentsLink self.old meant → RepresentsLink self.new (cut_off meant)) }
+    {
+        match self.input.front() {
+            FirstFrame::TooLong { length } => self.refuse_length(alloc, length),
+            FirstFrame::NotYet => Ok(()),
+            FirstFrame::Whole(_) => Ok(()),
+        }
+    }
+
+    /// Appends the reply to a length over the limit, and reads no more.
+    fn refuse_length(&mut self, alloc: Global, length: u32) -> Result<(), Memory>
+        ensures number { number_of self.new ≡ number_of self.old }
+        ensures status { OnOk result (self.new.status ≡ Status.ReadClosed) }
+        ensures blocked { OnOk result (self.new.blocked ≡ self.old.blocked) }
+        ensures unsent { OnOk result (self.new.unsent
+            ≡ self.old.unsent ++ reply_to_oversized length) }
+    {
+        self.unsent.refuse_length(alloc, length)?;
+        self.close_input(alloc);
+        Ok(())
+    }
+
+    /// Reads no more. The bytes that came and are no whole frame are dropped.
+    fn close_input(&mut self, alloc: Global)
+        ensures number { number_of self.new ≡ number_of self.old }
+        ensures status { self.new.status ≡ Status.ReadClosed }
+        ensures blocked { self.new.blocked ≡ self.old.blocked }
+        ensures unsent { self.new.unsent ≡ self.old.unsent }
+    {
+        self.status = Status::ReadClosed;
+        self.input = FrameLink::fresh(alloc);
+    }
+
+    /// The client sends no more.
+    pub fn end(&mut self, alloc: Global)
+        ensures number { number_of self.new ≡ number_of self.old }
+        ensures represents { Follows ended self.old self.new }
+    {
+        if !self.is_open() {
+            return;
+        }
+        self.close_input(alloc);
+    }
+
+    /// The link does not work any more, and is to be closed.
+    pub fn fail(&mut self)
+        ensures number { number_of self.new ≡ number_of self.old }
+        ensures represents { Follows broken self.old self.new }
+    {
+        if !self.is_connected() {
+            return;
+        }
+        self.status = Status::Closing;
+    }
+
+    /// The link may be sent to again.
+    pub fn unblock(&mut self)
+        ensures number { number_of self.new ≡ number_of self.old }
+        ensures represents { Follows unblocked self.old self.new }
+    {
+        if !self.is_connected() {
+            return;
+        }
+        self.blocked = false;
+    }
+
+    /// What is waited for on the link.
+    pub fn want(&self) -> Want
+        ensures number { result.link ≡ number_of self.now }
+        ensures represents { (meant : Link) → RepresentsLink self.now meant →
+            result ≡ want_of meant }
+    {
+        let unsent = self.unsent.len();
+        Want {
+            link: self.number,
+            read: self.is_open() && unsent < BODY_LIMIT as usize,
+            room: unsent > 0,
+        }
+    }
+
+    /// Whether the link is to be closed: it does not work, it is one too many, or no more is read of it and all was sent.
+    pub fn is_over(&self) -> bool
+        ensures { (meant : Link) → RepresentsLink self.now meant → IsTrue result ↔ MayClose meant }
+    {
+        is_over_as(self.status, self.unsent.len())
+    }
+
+    /// Sends what is unsent, until all was taken, or the link takes nothing now, or the send failed.
+    pub fn send_all<L: Links>(&mut self, alloc: Global, links: &mut L) -> Result<(), Memory>
+        ensures number { number_of self.new ≡ number_of self.old }
+        ensures sends { Added (L.log links.old) (L.log links.new) (Sends self.old self.new) }
+        ensures sent { OnOk result (IsSent self.new) }
+        ensures faults { L.faults links.new ≡ L.faults links.old }
+        ensures script { L.script links.new ≡ L.script links.old }
+        ensures plays { Plays (L.script links.old) (L.log links.old)
+            → Plays (L.script links.new) (L.log links.new) }
+    {
+        'sends: while self.can_send() {
+            self.send(alloc, links)?;
+        }
+        Ok(())
+    }
+
+    /// Whether the link is connected and not blocked, and has bytes to send.
+    fn can_send(&self) -> bool
+        ensures { result ≡ can_send self.now }
+    {
+        self.is_connected() && !self.blocked && self.unsent.len() > 0
+    }
+
+    /// Sends what comes next, once.
+    fn send<L: Links>(&mut self, alloc: Global, links: &mut L) -> Result<(), Memory>
+        requires { can_send self.old ≡ true }
+        ensures number { number_of self.new ≡ number_of self.old }
+        ensures sends { Added (L.log links.old) (L.log links.new) (Sends self.old self.new) }
+        ensures less { OnOk result (sendable self.new < sendable self.old) }
+        ensures faults { L.faults links.new ≡ L.faults links.old }
+        ensures script { L.script links.new ≡ L.script links.old }
+        ensures plays { Plays (L.script links.old) (L.log links.old)
+            → Plays (L.script links.new) (L.log links.new) }
+    {
+        let answer = links.send(alloc, self.number, self.unsent.front());
+        self.note(alloc, answer);
+        memory_left(answer)
+    }
+
+    /// Notes how a send was answered.
+    fn note(&mut self, alloc: Global, answer: SendAnswer)
+        requires { IsWithin (length self.old.unsent) answer }
+        ensures number { number_of self.new ≡ number_of self.old }
+        ensures represents { Follows (sent self.old.unsent answer) self.old self.new }
+        ensures less { can_send self.old ≡ true → answer ≢ SendAnswer.Memory
+            → sendable self.new < sendable self.old }
+    {
+        match answer {
+            SendAnswer::Took { count } => {
+                self.unsent.advance(alloc, count);
+                self.blocked = count == 0;
+                return;
+            }
+            SendAnswer::Later => {
+                self.blocked = true;
+                return;
+            }
+            SendAnswer::Failed => {
+                self.status = Status::Closing;
+                return;
+            }
+            SendAnswer::Memory => return,
+        }
+    }
+}
+
+/// Fails where the answer is out of memory.
+fn memory_left(answer: SendAnswer) -> Result<(), Memory>
+    ensures { OnOk result (answer ≢ SendAnswer.Memory) }
+{
+    match answer {
+        SendAnswer::Memory => Err(Memory),
+        SendAnswer::Took { .. } | SendAnswer::Later | SendAnswer::Failed => Ok(()),
+    }
+}
+
+/// The status of a link on which nothing came.
+fn first_status(has_room: bool) -> Status
+    ensures { result ≡ (if has_room then Status.Open else Status.Closing) }
+{
+    if has_room {
+        Status::Open
+    } else {
+        Status::Closing
+    }
+}
+
+/// Whether a link of this status is to be closed while so many bytes are unsent.
+fn is_over_as(status: Status, unsent: usize) -> bool
+    ensures { result ≡ is_over_as status unsent }
+{
+    match status {
+        Status::ReadClosed => unsent == 0,
+        Status::Closing => true,
+        Status::Open | Status::Closed => false,
+    }
+}
