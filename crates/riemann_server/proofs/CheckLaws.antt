@@ -1,52 +1,163 @@
--- When a pattern of a configuration is refused, and when `check` goes to its end.
+-- What `check` promises, from what its parts say.
 use Rattle.std.proofs.Common.{◌≡◌, ℕ, ◌<◌, ◌≤◌, List, [], ◌∷◌, ◌++◌, length, refl, arith}
 use Rattle.std.specs.Prelude.{Option, slice_index_or}
 use Rattle.std.specs.Option.{option_map}
 use Rattle.std.proofs.lemmas.Option.{slice_get-get_or}
 use Rattle.ports.specs.Counts.{IsStill, Rose}
 use Rattle.ports.specs.Reading.{Content, IsHeld}
-use Rattle.sexp_config.specs.declared.config.Config.{Config as Configuration}
+use Rattle.ports.specs.Writing.{Got, GotFront}
+use Rattle.sexp_config.specs.declared.config.Config.{Config}
+use Rattle.sexp_config.specs.Canonical.{canonical_text}
 use Rattle.sexp_config.specs.Config.{IsConfigOf}
+use Rattle.stream_plan.specs.Ready.{plan_patterns}
+use Rattle.riemann_server.specs.declared.ending.ConfigRefusal.{ConfigRefusal}
+use Rattle.riemann_server.specs.declared.ending.ConfigRefusal.TheVariants as refusals
+use Rattle.riemann_server.specs.declared.ending.Ending.{Ending}
+use Rattle.riemann_server.specs.declared.ending.Ending.TheVariants.{Finished, ConfigRefused, Unread, OverLimit, BytesLeft, WriteFailed, OutOfMemory}
+use Rattle.riemann_server.specs.declared.ending.Source.TheVariants.{ConfigFile, OtherFile}
+use Rattle.riemann_server.specs.declared.fetch.FetchFault.{FetchFault}
+use Rattle.riemann_server.specs.declared.fetch.FetchFault.TheVariants.{Refused, File, Memory}
+use Rattle.riemann_server.specs.declared.read.FileFault.TheVariants as file
 use Rattle.riemann_server.specs.declared.server.TheConstants.{CONFIG_LIMIT}
-use Rattle.riemann_server.specs.declared.outcome.ConfigRefusal.{ConfigRefusal}
-use Rattle.riemann_server.specs.declared.outcome.ConfigRefusal.TheVariants.{Refused, Pattern, NotBuilt}
-use Rattle.riemann_server.specs.declared.outcome.Outcome.{Outcome}
-use Rattle.riemann_server.specs.declared.outcome.Outcome.TheVariants as outcomes
 use Rattle.riemann_server.specs.declared.status.Status.TheVariants.{ReadFault, SinkFault}
-use Rattle.riemann_server.specs.Checks.{HasChecked, IsRefusedPattern, ShowsCheck}
-use Rattle.riemann_server.specs.Configs.{CheckRefuses}
-use Rattle.riemann_server.specs.Outcome.{status_of}
+use Rattle.riemann_server.specs.Building.{EndsCheck, IsRefusedPattern}
+use Rattle.riemann_server.specs.Checks.{AreBuilt, CheckCause, CheckWrites, HasChecked}
+use Rattle.riemann_server.specs.Configs.{CheckRefuses, ReadsAs, RefusesPattern}
+use Rattle.riemann_server.specs.Endings.{IsComplete, IsRefusal, TookMore, status_of}
+use Rattle.riemann_server.specs.Fetches.{IsFetchFault, ending_of_fetch}
+use Rattle.riemann_server.specs.Files.{ForHeld}
+use Rattle.riemann_server.specs.Reports.{SinkReport}
 use Rattle.riemann_server.specs.Verdicts.{PatternsState}
 use Rattle.riemann_server.proofs.EndingLaws.{not_over, told_of}
+use Rattle.riemann_server.proofs.FeedLaws.{for_config}
 
 pub refused_pattern : (texts : List (List ℕ)) (number : ℕ) (old new : PatternsState) → number < length texts → Rose old.refusals new.refusals
     → new.refused ≡ option_map (λ refused. refused ++ slice_index_or texts number [] ∷ []) old.refused → IsRefusedPattern texts number old new
-refused_pattern texts number old new within rose told = record {
+refused_pattern texts number old new within rose reported = record {
   pattern = slice_index_or texts number [];
   numbered = slice_get-get_or texts number [] within;
-  told = told;
+  reported = reported;
   rose = rose;
 }
 
-config_not_refused : (content : Content) (text : List ℕ) (read : Configuration) (refusal : ConfigRefusal) (patterns patterns' : PatternsState) → IsHeld content text
-    → IsConfigOf text read → IsStill patterns.refusals patterns'.refusals → CheckRefuses content patterns patterns' refusal → ⊥
-config_not_refused content text read (Refused place why) patterns patterns' holds reads still refuses = (told_of content text _ holds refuses.0).1.unread read reads
-config_not_refused content text read NotBuilt patterns patterns' holds reads still refuses = refuses
-config_not_refused content text read (Pattern number) patterns patterns' holds reads still refuses = omega (arith, refuses.rose, still.0, still.1)
+-- ---- where there is no configuration
 
--- with a configuration within its limit, no pattern refused and no fault `check` goes to its end
-pub check_complete : (content : Content) (text : List ℕ) (read : Configuration) (taken taken' : ℕ) (patterns patterns' : PatternsState) (out out' : Option (List ℕ)) (reads reads' puts puts' : ℕ) (outcome : Outcome)
-    → IsHeld content text → IsConfigOf text read → length text ≤ CONFIG_LIMIT → ShowsCheck content taken taken' patterns patterns' out out' outcome
-    → (status_of outcome ≡ ReadFault → Rose reads reads') → (status_of outcome ≡ SinkFault → Rose puts puts')
-    → IsStill reads reads' → IsStill puts puts' → IsStill patterns.refusals patterns'.refusals → HasChecked (status_of outcome)
-check_complete content text read taken taken' patterns patterns' out out' reads reads' puts puts' outcomes.Done holds is fits shows read_rose put_rose reads_still puts_still still = tt
-check_complete content text read taken taken' patterns patterns' out out' reads reads' puts puts' outcomes.Memory holds is fits shows read_rose put_rose reads_still puts_still still = tt
-check_complete content text read taken taken' patterns patterns' out out' reads reads' puts puts' outcomes.SinkFault holds is fits shows read_rose put_rose reads_still puts_still still =
+pub check_cause_fault : (config : Content) (faults faults' taken taken' : ℕ) (fault : FetchFault) → IsFetchFault config faults faults' taken taken' fault
+    → CheckCause config (ending_of_fetch fault)
+check_cause_fault config faults faults' taken taken' (Refused place why) cause = tt
+check_cause_fault config faults faults' taken taken' (File file.Unread) cause = tt
+check_cause_fault config faults faults' taken taken' (File file.TooLong) cause = cause.0
+check_cause_fault config faults faults' taken taken' (File file.Memory) cause = tt
+check_cause_fault config faults faults' taken taken' Memory cause = tt
+
+pub check_writes_fault : (config : Content) (faults faults' taken taken' : ℕ) (patterns : PatternsState) (out : SinkReport) (fault : FetchFault)
+    → IsFetchFault config faults faults' taken taken' fault → CheckWrites config patterns patterns out out (ending_of_fetch fault)
+check_writes_fault config faults faults' taken taken' patterns out (Refused place why) cause = ((cause, refl), refl)
+check_writes_fault config faults faults' taken taken' patterns out (File file.Unread) cause = (refl, refl)
+check_writes_fault config faults faults' taken taken' patterns out (File file.TooLong) cause = (refl, refl)
+check_writes_fault config faults faults' taken taken' patterns out (File file.Memory) cause = (refl, refl)
+check_writes_fault config faults faults' taken taken' patterns out Memory cause = (refl, refl)
+
+-- ---- once it has its configuration
+
+abbrev HoldsConfig : Content → Config → Type 0
+HoldsConfig content config = ForHeld content (λ text. (length text ≤ CONFIG_LIMIT) × ReadsAs text config)
+
+pub check_cause : (content : Content) (config : Config) (patterns patterns' : PatternsState) (out out' : SinkReport) (ending : Ending)
+    → EndsCheck config patterns patterns' out out' ending → CheckCause content ending
+check_cause content config patterns patterns' out out' Finished ends = tt
+check_cause content config patterns patterns' out out' (ConfigRefused refusal) ends = tt
+check_cause content config patterns patterns' out out' (Unread source) ends = absurd ends
+check_cause content config patterns patterns' out out' (OverLimit source) ends = absurd ends
+check_cause content config patterns patterns' out out' (BytesLeft count) ends = absurd ends
+check_cause content config patterns patterns' out out' WriteFailed ends = tt
+check_cause content config patterns patterns' out out' OutOfMemory ends = tt
+
+pub check_took : (config : Config) (patterns patterns' : PatternsState) (out out' : SinkReport) (ending : Ending) (taken taken' : ℕ)
+    → EndsCheck config patterns patterns' out out' ending → TookMore ending taken taken'
+check_took config patterns patterns' out out' Finished taken taken' ends = tt
+check_took config patterns patterns' out out' (ConfigRefused refusal) taken taken' ends = tt
+check_took config patterns patterns' out out' (Unread source) taken taken' ends = tt
+check_took config patterns patterns' out out' (OverLimit source) taken taken' ends = absurd ends
+check_took config patterns patterns' out out' (BytesLeft count) taken taken' ends = tt
+check_took config patterns patterns' out out' WriteFailed taken taken' ends = tt
+check_took config patterns patterns' out out' OutOfMemory taken taken' ends = tt
+
+config_refuses : (content : Content) (config : Config) (refusal : ConfigRefusal) (patterns patterns' : PatternsState) (out out' : SinkReport) → HoldsConfig content config
+    → EndsCheck config patterns patterns' out out' (ConfigRefused refusal) → CheckRefuses content patterns patterns' refusal × (out' ≡ out)
+config_refuses content config (refusals.Refused place why) patterns patterns' out out' holds ends = absurd ends
+config_refuses content config refusals.NotBuilt patterns patterns' out out' holds ends = absurd ends
+config_refuses content config (refusals.Pattern number) patterns patterns' out out' holds ends = (
+  record {
+    pattern = ends.0.pattern;
+    reported = ends.0.reported;
+    rose = ends.0.rose;
+    numbered = for_config content config _ holds ends.0.numbered;
+  },
+  ends.1,
+)
+
+pub check_writes : (content : Content) (config : Config) (patterns patterns' : PatternsState) (out out' : SinkReport) (ending : Ending) → HoldsConfig content config
+    → EndsCheck config patterns patterns' out out' ending → CheckWrites content patterns patterns' out out' ending
+check_writes content config patterns patterns' out out' Finished holds ends = (for_config content config _ holds (ends.0, ends.1), ends.3)
+check_writes content config patterns patterns' out out' WriteFailed holds ends = (for_config content config _ holds (ends.0, ends.1), ends.3)
+check_writes content config patterns patterns' out out' (ConfigRefused refusal) holds ends = config_refuses content config refusal patterns patterns' out out' holds ends
+check_writes content config patterns patterns' out out' OutOfMemory holds ends = ends
+check_writes content config patterns patterns' out out' (Unread source) holds ends = absurd ends
+check_writes content config patterns patterns' out out' (OverLimit source) holds ends = absurd ends
+check_writes content config patterns patterns' out out' (BytesLeft count) holds ends = absurd ends
+
+pub check_quiet : (config : Config) (patterns patterns' : PatternsState) (out out' : SinkReport) (ending : Ending)
+    → EndsCheck config patterns patterns' out out' ending → IsComplete ending → out'.faults ≡ out.faults
+check_quiet config patterns patterns' out out' Finished ends complete = ends.2
+check_quiet config patterns patterns' out out' (ConfigRefused refusal) ends complete = absurd complete
+check_quiet config patterns patterns' out out' (Unread source) ends complete = absurd complete
+check_quiet config patterns patterns' out out' (OverLimit source) ends complete = absurd complete
+check_quiet config patterns patterns' out out' (BytesLeft count) ends complete = absurd ends
+check_quiet config patterns patterns' out out' WriteFailed ends complete = absurd complete
+check_quiet config patterns patterns' out out' OutOfMemory ends complete = absurd complete
+
+pub check_not_read : (config : Config) (patterns patterns' : PatternsState) (out out' : SinkReport) (ending : Ending)
+    → EndsCheck config patterns patterns' out out' ending → status_of ending ≡ ReadFault → ⊥
+check_not_read config patterns patterns' out out' Finished ends e = cc
+check_not_read config patterns patterns' out out' (ConfigRefused refusal) ends e = cc
+check_not_read config patterns patterns' out out' (Unread source) ends e = ends
+check_not_read config patterns patterns' out out' (OverLimit source) ends e = cc
+check_not_read config patterns patterns' out out' (BytesLeft count) ends e = cc
+check_not_read config patterns patterns' out out' WriteFailed ends e = cc
+check_not_read config patterns patterns' out out' OutOfMemory ends e = cc
+
+pub check_rose : (config : Config) (patterns patterns' : PatternsState) (out out' : SinkReport) (ending : Ending)
+    → EndsCheck config patterns patterns' out out' ending → status_of ending ≡ SinkFault → Rose out.faults out'.faults
+check_rose config patterns patterns' out out' Finished ends e = cc
+check_rose config patterns patterns' out out' (ConfigRefused refusal) ends e = cc
+check_rose config patterns patterns' out out' (Unread source) ends e = absurd ends
+check_rose config patterns patterns' out out' (OverLimit source) ends e = cc
+check_rose config patterns patterns' out out' (BytesLeft count) ends e = cc
+check_rose config patterns patterns' out out' WriteFailed ends e = ends.2
+check_rose config patterns patterns' out out' OutOfMemory ends e = cc
+
+-- ---- completeness
+
+config_not_refused : (content : Content) (text : List ℕ) (read : Config) (refusal : ConfigRefusal) (patterns patterns' : PatternsState) → IsHeld content text
+    → IsConfigOf text read → IsStill patterns.refusals patterns'.refusals → CheckRefuses content patterns patterns' refusal → ⊥
+config_not_refused content text read (refusals.Refused place why) patterns patterns' holds reads still refuses = (told_of content text _ holds refuses.0).1.unread read reads
+config_not_refused content text read refusals.NotBuilt patterns patterns' holds reads still refuses = refuses
+config_not_refused content text read (refusals.Pattern number) patterns patterns' holds reads still refuses = omega (arith, refuses.rose, still.0, still.1)
+
+pub check_complete : (content : Content) (text : List ℕ) (read : Config) (patterns patterns' : PatternsState) (out out' : SinkReport) (reads reads' : ℕ) (ending : Ending)
+    → IsHeld content text → IsConfigOf text read → length text ≤ CONFIG_LIMIT → CheckCause content ending → CheckWrites content patterns patterns' out out' ending
+    → (status_of ending ≡ ReadFault → Rose reads reads') → (status_of ending ≡ SinkFault → Rose out.faults out'.faults)
+    → IsStill reads reads' → IsStill out.faults out'.faults → IsStill patterns.refusals patterns'.refusals → HasChecked (status_of ending)
+check_complete content text read patterns patterns' out out' reads reads' Finished holds is fits cause writes read_rose put_rose reads_still puts_still still = tt
+check_complete content text read patterns patterns' out out' reads reads' OutOfMemory holds is fits cause writes read_rose put_rose reads_still puts_still still = tt
+check_complete content text read patterns patterns' out out' reads reads' WriteFailed holds is fits cause writes read_rose put_rose reads_still puts_still still =
     omega (arith, put_rose refl, puts_still.0, puts_still.1)
-check_complete content text read taken taken' patterns patterns' out out' reads reads' puts puts' (outcomes.ReadFault source) holds is fits shows read_rose put_rose reads_still puts_still still =
+check_complete content text read patterns patterns' out out' reads reads' (Unread source) holds is fits cause writes read_rose put_rose reads_still puts_still still =
     omega (arith, read_rose refl, reads_still.0, reads_still.1)
-check_complete content text read taken taken' patterns patterns' out out' reads reads' puts puts' (outcomes.Config refusal) holds is fits shows read_rose put_rose reads_still puts_still still =
-    config_not_refused content text read refusal patterns patterns' holds is still shows
-check_complete content text read taken taken' patterns patterns' out out' reads reads' puts puts' (outcomes.TooLong source) holds is fits shows read_rose put_rose reads_still puts_still still =
-    not_over content text CONFIG_LIMIT holds fits shows.1
-check_complete content text read taken taken' patterns patterns' out out' reads reads' puts puts' (outcomes.Truncated left) holds is fits shows read_rose put_rose reads_still puts_still still = shows
+check_complete content text read patterns patterns' out out' reads reads' (ConfigRefused refusal) holds is fits cause writes read_rose put_rose reads_still puts_still still =
+    config_not_refused content text read refusal patterns patterns' holds is still writes.0
+check_complete content text read patterns patterns' out out' reads reads' (OverLimit ConfigFile) holds is fits cause writes read_rose put_rose reads_still puts_still still =
+    not_over content text CONFIG_LIMIT holds fits cause
+check_complete content text read patterns patterns' out out' reads reads' (OverLimit OtherFile) holds is fits cause writes read_rose put_rose reads_still puts_still still = cause
+check_complete content text read patterns patterns' out out' reads reads' (BytesLeft count) holds is fits cause writes read_rose put_rose reads_still puts_still still = cause

@@ -1,9 +1,9 @@
 pub mod CheckLaws
 pub mod EndingLaws
-pub mod FetchLaws
+pub mod FeedLaws
+pub mod FileLaws
 pub mod PlanLaws
 pub mod ProgressLaws
-pub mod ReadLaws
 pub mod ReplyLaws
 pub mod Sinks
 pub mod VerdictLaws

@@ -66,7 +66,7 @@ settled_waiting old new start patterns came waits index_is replies_are stands = 
   rest = rw waits.unchanged waits.rest;
 }
 
--- the frames of what came and of what may come behind it
+-- the frames of what came and of what may come after it
 frames_on : (answers : Answers) (start patterns : PatternsState) (came more : List ℕ) → (stands : RepresentsStream answers start patterns came)
     → map body_of stands.messages ++ (frames_of answers.link.bytes ++ frames_of (partial came ++ more)) ≡ frames_of (came ++ more)
 frames_on answers start patterns came more stands =
@@ -74,7 +74,7 @@ frames_on answers start patterns came more stands =
     ∙ ap (λ frames. frames ++ frames_of (partial came ++ more)) (sym stands.represents.frames)
     ∙ sym (frames_append came more)
 
--- memory was wanted before anything was said of the next message
+-- memory ran out before anything was known of the next message
 pub fails_before : (answers : Answers) (start patterns : PatternsState) (came : List ℕ) → RepresentsStream answers start patterns came → Fails start patterns came
 fails_before answers start patterns came stands = λ more. record {
   messages = stands.messages;
@@ -83,7 +83,7 @@ fails_before answers start patterns came stands = λ more. record {
   verdicts = stands.after.verdicts;
 }
 
--- memory was wanted when the next message was answered
+-- memory ran out when the next message was answered
 pub fails_within : (old : Answers) (index' : Index) (replies' : List ℕ) (link' : Held) (start patterns patterns' : PatternsState) (body read came : List ℕ) (memory : Memory) → read ≡ body
     → HandsOut old.link body link' → AnswersMessage read old.index index' patterns patterns' old.replies replies' (Err memory)
     → RepresentsStream old start patterns came → Fails start patterns' came
@@ -97,11 +97,11 @@ fails_within old index' replies' link' start patterns patterns' body read came m
       verdicts = more_verdicts start patterns patterns' stands.messages read answered.refusal stands.after.verdicts answered.verdict;
     }
 
--- what comes behind a piece comes behind what was there before it
+-- what comes after a piece comes after what was there before it
 pub fails_with_piece : (start patterns : PatternsState) (came piece : List ℕ) → Fails start patterns came → Fails start patterns (came ++ piece)
 fails_with_piece start patterns came piece fails = λ more. rw (append_assoc came piece more) (fails (piece ++ more))
 
--- behind a length over the limit nothing counts
+-- after a length over the limit nothing counts
 pub answers_stopped : (old new : Answers) (start patterns : PatternsState) (size : ℕ) (came more : List ℕ) → Stops old.link size new.link → new.replies ≡ old.replies
     → RepresentsStream old start patterns came → AnswersAll (came ++ more) start patterns new.replies (length new.link.bytes + length more)
 answers_stopped old new start patterns size came more stops replies_are stands =
@@ -132,7 +132,7 @@ take-range start end bytes rising within =
     let fits : start + (end - start) ≡ end = omega arith in
     rw (← take-take start end bytes rising, ← drop-take start (end - start) bytes, fits) (take-append-drop start (take end bytes))
 
--- where nothing counts behind what came, the rest of the bytes is left
+-- where nothing counts after what came, the rest of the bytes is left
 pub answers_cut : (bytes came replies replies' : List ℕ) (start patterns : PatternsState) (held held' end : ℕ) → came ≡ take end bytes
     → ((more : List ℕ) → AnswersAll (came ++ more) start patterns replies (held + length more)) → replies' ≡ replies → held' ≡ held
     → AnswersAll bytes start patterns replies' (held' + (length bytes - end))

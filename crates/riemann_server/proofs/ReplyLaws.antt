@@ -154,7 +154,7 @@ answers_accepted body msg index index' patterns patterns' replies replies' resul
       answered = rw is_read (on_ok result (λ answered log holds. (enters log holds, answered (log ++ map Write msg.events) (enters log holds))) query.answered);
     }
 
--- memory was wanted when the query of a message was answered
+-- memory ran out when the query of a message was answered
 pub answers_failed : (body : List ℕ) (msg : Msg) (index index' asked : Index) (patterns patterns' : PatternsState) (replies replies' : List ℕ) (result : Result (Unit {0}) Memory) (memory : Memory)
     → (first_fault body ≡ None) × (msg ≡ message_of 0 body)
     → AnswersQuery (option_and_then rule_of_query msg.query) asked patterns patterns' replies replies' (λ log refusal. answer_to_query log refusal msg.query) result
@@ -197,7 +197,7 @@ answers_refused body index patterns replies replies' place why result read step 
       answered = rw is_read (on_ok result (λ wrote log holds. (rw (append-nil log) holds, wrote)) step);
     }
 
--- memory was wanted before anything was said of the message
+-- memory ran out before anything was known of the message
 pub answers_nothing : (body : List ℕ) (index index' : Index) (patterns : PatternsState) (replies replies' : List ℕ) (memory : Memory)
     → AnswersMessage body index index' patterns patterns replies replies' (Err memory)
 answers_nothing body index index' patterns replies replies' memory = record {

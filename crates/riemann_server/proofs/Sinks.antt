@@ -8,13 +8,13 @@ use Rattle.std.proofs.lemmas.List.{take-append-le, take_all}
 use Rattle.riemann_server.specs.Lines.{joined}
 use Rattle.ports.specs.Writing.{Got, GotFront}
 
--- a put that may have failed gave a front
+-- a put that may have failed gave a prefix
 pub front_of_put : {E U : Type 0} (r : Result U E) (old new : Option (List ℕ)) (bytes : List ℕ)
     → OnOk r (Got old bytes new) → OnErr r (GotFront old bytes new) → GotFront old bytes new
 front_of_put (Ok u) old new bytes ok err = (length bytes, rw take-length ok)
 front_of_put (Err e) old new bytes ok err = err
 
--- a sink that was not put to got nothing, and an empty front
+-- a sink that was not put to got nothing, and an empty prefix
 pub got_nothing : (old : Option (List ℕ)) → Got old [] old
 got_nothing None = refl
 got_nothing (Some text) = ap Some (sym (append-nil text))
@@ -31,7 +31,7 @@ pub on_error : {T E P : Type 0} (r : Result T E) → P → OnErr r P
 on_error (Ok x) fact = tt
 on_error (Err e) fact = fact
 
--- a front of a piece in the middle of a line is a front of the line
+-- a prefix of a piece in the middle of a line is a prefix of the line
 take-within : (n : ℕ) (piece after : List ℕ) → (m : ℕ) × (take m (piece ++ after) ≡ take n piece)
 take-within n piece after =
     let way : (n ≤ length piece) ⊎ (length piece ≤ n) = grind arith in
@@ -46,7 +46,7 @@ front_within old mid new before piece after whole whole_is got front =
     let m = take-within front.0 piece after in
     (length before + m.0, rw (whole_is, take-append-add before (piece ++ after) m.0, m.1, front.1, got) (appended_twice old before (take front.0 piece)))
 
--- pieces up to one of them, that one, and those behind it
+-- pieces up to one of them, that one, and those after it
 joined_at : (pieces : List (Bor (List ℕ))) (i : ℕ) (d : Bor (List ℕ)) → i < length pieces
     → joined pieces ≡ joined (take i pieces) ++ ((get_or pieces i d).now ++ joined (drop (suc i) pieces))
 joined_at [] i d within = absurd (omega arith)

@@ -1,106 +1,78 @@
--- What `check` says of the configuration that it reads.
-use Rattle.std.specs.Prelude.{◌≡◌, ◌≢◌, ℕ, ◌+◌, List, [], ◌∷◌, ◌++◌, length, take, map, slice_get, Option, Some}
-use Rattle.std.specs.Option.{option_map}
-use Rattle.ports.specs.Counts.{Rose, RoseBy}
-use Rattle.ports.specs.Reading.{Content, IsOverLimit}
-use Rattle.ports.specs.Writing.{Got, GotFront, GotLine, SinkState}
-use Rattle.ports.specs.declared.store.StoreRead.{StoreRead}
+-- What `check CONFIG` promises.
+use Rattle.std.specs.Prelude.{◌≡◌, ℕ, ◌≤◌, List, [], ◌∷◌, length, Option}
+use Rattle.ports.specs.Counts.{IsStill}
+use Rattle.ports.specs.Reading.{Content, IsHeld, IsOverLimit}
+use Rattle.ports.specs.Writing.{Got, GotFront}
+use Rattle.pred_eval.specs.Search.{AreReadFrom}
+use Rattle.regex.specs.declared.string.regex.Regex.{Regex}
 use Rattle.sexp_config.specs.declared.config.Config.{Config as Configuration}
 use Rattle.sexp_config.specs.Canonical.{canonical_text}
+use Rattle.sexp_config.specs.Config.{IsConfigOf}
 use Rattle.stream_plan.specs.Ready.{plan_patterns}
+use Rattle.riemann_server.specs.declared.ending.Ending.{Ending}
+use Rattle.riemann_server.specs.declared.ending.Ending.TheVariants.{Finished, ConfigRefused, Unread, OverLimit, BytesLeft, WriteFailed, OutOfMemory}
+use Rattle.riemann_server.specs.declared.ending.Source.TheVariants.{ConfigFile, OtherFile}
 use Rattle.riemann_server.specs.declared.server.TheConstants.{CONFIG_LIMIT}
-use Rattle.riemann_server.specs.declared.outcome.ConfigRefusal.{ConfigRefusal}
-use Rattle.riemann_server.specs.declared.outcome.ConfigRefusal.TheVariants.{Refused, Pattern, NotBuilt}
-use Rattle.riemann_server.specs.declared.outcome.Outcome.{Outcome}
-use Rattle.riemann_server.specs.declared.outcome.Outcome.TheVariants as outcomes
-use Rattle.riemann_server.specs.declared.outcome.Source.TheVariants as sources
 use Rattle.riemann_server.specs.declared.status.Status.{Status}
-use Rattle.riemann_server.specs.declared.status.Status.TheVariants.{Done, Usage, Config, ReadFault, SinkFault, Memory, Truncated, TooLong}
+use Rattle.riemann_server.specs.declared.status.Status.TheVariants.{Done, Memory}
 use Rattle.riemann_server.specs.Configs.{CheckRefuses, ForConfig}
-use Rattle.riemann_server.specs.Endings.{IsTooLong, LastFailed, NoneFailed, read_name}
-use Rattle.riemann_server.specs.Lines.{memory_line, refusal_line, unread_line}
-use Rattle.riemann_server.specs.Outcome.{status_of}
+use Rattle.riemann_server.specs.Endings.{IsComplete, Reads, Says, TookMore, status_of}
+use Rattle.riemann_server.specs.Reports.{Reports, SinkReport}
 use Rattle.riemann_server.specs.Verdicts.{PatternsState}
 
--- What a status says of the configuration, of what was written and of what was said of patterns. The lines that name the
--- file are said beside the read.
-abbrev pub Checks : Content → PatternsState → PatternsState → Option (List ℕ) → Option (List ℕ) → SinkState → SinkState → Status → Type 0
-Checks config patterns patterns' out out' err err' Done = ForConfig config (λ read. Got out (canonical_text read) out') × (patterns' ≡ patterns)
-Checks config patterns patterns' out out' err err' SinkFault = ForConfig config (λ read. GotFront out (canonical_text read) out') × (patterns' ≡ patterns)
-Checks config patterns patterns' out out' err err' Config =
-    (refusal : ConfigRefusal) × CheckRefuses config patterns patterns' refusal × GotLine err (refusal_line refusal) err'
-Checks config patterns patterns' out out' err err' Memory = (patterns' ≡ patterns) × GotLine err memory_line err'
-Checks config patterns patterns' out out' err err' ReadFault = patterns' ≡ patterns
-Checks config patterns patterns' out out' err err' TooLong = patterns' ≡ patterns
-Checks config patterns patterns' out out' err err' Usage = ⊥
-Checks config patterns patterns' out out' err err' Truncated = ⊥
+-- what an ending says of the contents of the file
+abbrev pub CheckCause : Content → Ending → Type 0
+CheckCause config (OverLimit ConfigFile) = IsOverLimit config CONFIG_LIMIT
+CheckCause config (OverLimit OtherFile) = ⊥
+CheckCause config (Unread OtherFile) = ⊥
+CheckCause config (BytesLeft count) = ⊥
+CheckCause config _ = Unit {0}
 
--- What a call read, and what that says of its status: it read the configuration, once, or wanted for memory.
-pub record ChecksRead (old new : Option (List StoreRead)) (taken taken' : ℕ) (config : List ℕ) (held : Content) (status : Status) (err err' : SinkState) : Type 0 where
-  pub made : List StoreRead
-  pub grew : new ≡ option_map (λ reads. reads ++ made) old
-  pub named : map read_name made ≡ take (length made) (config ∷ [])
-  pub once : status ≢ Memory → length made ≡ 1
-  pub fault : status ≡ ReadFault → LastFailed made × GotLine err (unread_line config) err'
-  pub no_fault : status ≢ ReadFault → NoneFailed made
-  pub too_long : status ≡ TooLong → IsTooLong config CONFIG_LIMIT held taken taken' err err'
+-- it is read, unless there was no memory for it
+abbrev pub CheckCounts : Ending → ℕ → Type 0
+CheckCounts OutOfMemory count = Unit {0}
+CheckCounts _ count = count ≡ 1
+
+-- there are the regular expressions that the configuration's patterns stand for
+abbrev pub AreBuilt : Configuration → Type 0
+AreBuilt config = (regexes : List Regex) × AreReadFrom (plan_patterns config.plan) regexes
+
+-- the file is a configuration whose patterns were built, and of its canonical text so much was written
+abbrev pub WritesText : Content → (List ℕ → Type 0) → Type 0
+WritesText content Wrote = ForConfig content (λ config. AreBuilt config × Wrote (canonical_text config))
+
+-- What was written, and which pattern was refused: the canonical text where all was done, and a prefix of it where a
+-- write failed.
+abbrev pub CheckWrites : Content → PatternsState → PatternsState → SinkReport → SinkReport → Ending → Type 0
+CheckWrites config patterns patterns' out out' Finished = WritesText config (λ text. Got out.text text out'.text) × (patterns' ≡ patterns)
+CheckWrites config patterns patterns' out out' WriteFailed = WritesText config (λ text. GotFront out.text text out'.text) × (patterns' ≡ patterns)
+CheckWrites config patterns patterns' out out' (ConfigRefused refusal) = CheckRefuses config patterns patterns' refusal × (out' ≡ out)
+CheckWrites config patterns patterns' out out' _ = (patterns' ≡ patterns) × (out' ≡ out)
 
 -- the status of a call that met no fault and no refusal
 abbrev pub HasChecked : Status → Type 0
 HasChecked Done = Unit {0}
 HasChecked Memory = Unit {0}
-HasChecked Usage = ⊥
-HasChecked Config = ⊥
-HasChecked ReadFault = ⊥
-HasChecked SinkFault = ⊥
-HasChecked Truncated = ⊥
-HasChecked TooLong = ⊥
+HasChecked _ = ⊥
 
--- a pattern of these was refused in this call: it is told, and counted
-pub record IsRefusedPattern (texts : List (List ℕ)) (number : ℕ) (old new : PatternsState) : Type 0 where
-  pub pattern : List ℕ
-  pub numbered : slice_get texts number ≡ Some pattern
-  pub told : new.refused ≡ option_map (λ refused. refused ++ pattern ∷ []) old.refused
-  pub rose : Rose old.refusals new.refusals
+-- with a configuration within its limit, no fault and no pattern refused, its text is written, or memory runs out
+abbrev pub CheckCompletes : List ℕ → Reports → Reports → Status → Type 0
+CheckCompletes config old new status = (text : List ℕ) (read : Configuration)
+    → IsHeld (old.store.held config) text → IsConfigOf text read → length text ≤ CONFIG_LIMIT
+    → IsStill old.store.faults new.store.faults → IsStill old.out.faults new.out.faults
+    → IsStill old.patterns.refusals new.patterns.refusals → HasChecked status
 
--- how the patterns of a configuration were built, and its text was written
-abbrev pub Builds : Configuration → PatternsState → PatternsState → Option (List ℕ) → Option (List ℕ) → Outcome → Type 0
-Builds config patterns patterns' out out' outcomes.Done = Got out (canonical_text config) out' × (patterns' ≡ patterns)
-Builds config patterns patterns' out out' outcomes.SinkFault = GotFront out (canonical_text config) out' × (patterns' ≡ patterns)
-Builds config patterns patterns' out out' (outcomes.Config (Pattern number)) = IsRefusedPattern (plan_patterns config.plan) number patterns patterns'
-Builds config patterns patterns' out out' (outcomes.Config (Refused place why)) = ⊥
-Builds config patterns patterns' out out' (outcomes.Config NotBuilt) = ⊥
-Builds config patterns patterns' out out' outcomes.Memory = patterns' ≡ patterns
-Builds config patterns patterns' out out' (outcomes.ReadFault source) = ⊥
-Builds config patterns patterns' out out' (outcomes.TooLong source) = ⊥
-Builds config patterns patterns' out out' (outcomes.Truncated left) = ⊥
-
--- how the text of a configuration was written
-abbrev pub PutsText : List ℕ → Option (List ℕ) → Option (List ℕ) → Outcome → Type 0
-PutsText text out out' outcomes.Done = Got out text out'
-PutsText text out out' outcomes.SinkFault = GotFront out text out'
-PutsText text out out' (outcomes.Config refusal) = ⊥
-PutsText text out out' (outcomes.ReadFault source) = ⊥
-PutsText text out out' (outcomes.TooLong source) = ⊥
-PutsText text out out' (outcomes.Truncated left) = ⊥
-PutsText text out out' outcomes.Memory = ⊥
-
--- what an outcome of `check` says
-abbrev pub ShowsCheck : Content → ℕ → ℕ → PatternsState → PatternsState → Option (List ℕ) → Option (List ℕ) → Outcome → Type 0
-ShowsCheck config taken taken' patterns patterns' out out' outcomes.Done = ForConfig config (λ read. Got out (canonical_text read) out') × (patterns' ≡ patterns)
-ShowsCheck config taken taken' patterns patterns' out out' outcomes.SinkFault = ForConfig config (λ read. GotFront out (canonical_text read) out') × (patterns' ≡ patterns)
-ShowsCheck config taken taken' patterns patterns' out out' (outcomes.Config refusal) = CheckRefuses config patterns patterns' refusal
-ShowsCheck config taken taken' patterns patterns' out out' outcomes.Memory = patterns' ≡ patterns
-ShowsCheck config taken taken' patterns patterns' out out' (outcomes.ReadFault source) = patterns' ≡ patterns
-ShowsCheck config taken taken' patterns patterns' out out' (outcomes.TooLong source) =
-    (source ≡ sources.Config) × IsOverLimit config CONFIG_LIMIT × RoseBy (CONFIG_LIMIT + 1) taken taken' × (patterns' ≡ patterns)
-ShowsCheck config taken taken' patterns patterns' out out' (outcomes.Truncated left) = ⊥
-
--- what was read of the configuration, by the outcome
-pub record CheckReads (old new : Option (List StoreRead)) (config : List ℕ) (outcome : Outcome) : Type 0 where
-  pub made : List StoreRead
-  pub grew : new ≡ option_map (λ reads. reads ++ made) old
-  pub named : map read_name made ≡ take (length made) (config ∷ [])
-  pub once : status_of outcome ≢ Memory → length made ≡ 1
-  pub fault : status_of outcome ≡ ReadFault → LastFailed made
-  pub no_fault : status_of outcome ≢ ReadFault → NoneFailed made
+pub record Checks (config : List ℕ) (old new : Reports) (status : Status) : Type 0 where
+  -- how it ended, as the status and the line on the error stream say
+  pub ending : Ending
+  pub ended : status ≡ status_of ending
+  pub says : Says config config ending old.err new.err
+  -- why it ended so
+  pub cause : CheckCause (old.store.held config) ending
+  -- what it read, and what it wrote
+  pub reads : Reads (config ∷ []) (CheckCounts ending) old.store.reads new.store.reads ending
+  pub taken : TookMore ending old.store.taken new.store.taken
+  pub writes : CheckWrites (old.store.held config) old.patterns new.patterns old.out new.out ending
+  -- where it did all that it had to, no read and no write of the text failed
+  pub quiet : IsComplete ending → (new.store.faults ≡ old.store.faults) × (new.out.faults ≡ old.out.faults)
+  pub complete : CheckCompletes config old new status

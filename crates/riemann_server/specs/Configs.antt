@@ -1,6 +1,6 @@
 -- The configurations that commands accept, and why they refuse the others.
 use Rattle.std.specs.Prelude.{◌≡◌, ℕ, ◌≤◌, List, [], ◌∷◌, ◌++◌, length, slice_get, Some, None}
-use Rattle.std.specs.Option.{ForSome, option_map}
+use Rattle.std.specs.Option.{option_map}
 use Rattle.ports.specs.Counts.{Rose}
 use Rattle.ports.specs.Reading.{Content}
 use Rattle.sexp_config.specs.declared.config.Config.{Config}
@@ -9,13 +9,10 @@ use Rattle.sexp_config.specs.Config.{IsConfigFault, IsConfigOf}
 use Rattle.stream_plan.specs.Ready.{plan_patterns}
 use Rattle.stream_plan.specs.Tree.{Index, stream, none, also}
 use Rattle.riemann_server.specs.declared.server.TheConstants.{CONFIG_LIMIT}
-use Rattle.riemann_server.specs.declared.outcome.ConfigRefusal.{ConfigRefusal}
-use Rattle.riemann_server.specs.declared.outcome.ConfigRefusal.TheVariants.{Refused, Pattern, NotBuilt}
+use Rattle.riemann_server.specs.declared.ending.ConfigRefusal.{ConfigRefusal}
+use Rattle.riemann_server.specs.declared.ending.ConfigRefusal.TheVariants.{Refused, Pattern, NotBuilt}
+use Rattle.riemann_server.specs.Files.{ForHeld}
 use Rattle.riemann_server.specs.Verdicts.{PatternsState}
-
--- where a store tells its contents, bytes stand under a name, and they are so
-abbrev pub ForHeld : Content → (List ℕ → Type 0) → Type 0
-ForHeld content P = ForSome content (λ held. (bytes : List ℕ) × (held ≡ Some bytes) × P bytes)
 
 -- the text is this configuration, no other, and no fault
 pub record ReadsAs (text : List ℕ) (config : Config) : Type 0 where
@@ -23,7 +20,7 @@ pub record ReadsAs (text : List ℕ) (config : Config) : Type 0 where
   pub alone : (other : Config) → IsConfigOf text other → other ≡ config
   pub accepted : (place : ℕ) (why : ConfigWhy) → IsConfigFault text place why → ⊥
 
--- the text is no configuration, for this cause at the place, and for no other cause and at no other place
+-- the text is not a configuration, for this cause at the place, and for no other cause and at no other place
 pub record IsRefused (text : List ℕ) (place : ℕ) (why : ConfigWhy) : Type 0 where
   pub fault : IsConfigFault text place why
   pub only : (other : ℕ) (cause : ConfigWhy) → IsConfigFault text other cause → (place ≡ other) × (why ≡ cause)
@@ -52,14 +49,14 @@ FeedRefuses content (Refused place why) = ForRefused content place why
 FeedRefuses content NotBuilt = ForConfig content (λ config. IsPlainIndex config → ⊥)
 FeedRefuses content (Pattern number) = ⊥
 
--- a pattern of the configuration was refused so
+-- the pattern of this number of the configuration was refused: it is reported, and counted
 pub record RefusesPattern (content : Content) (number : ℕ) (old new : PatternsState) : Type 0 where
   pub pattern : List ℕ
-  pub told : new.refused ≡ option_map (λ refused. refused ++ pattern ∷ []) old.refused
+  pub reported : new.refused ≡ option_map (λ refused. refused ++ pattern ∷ []) old.refused
   pub rose : Rose old.refusals new.refusals
   pub numbered : ForConfig content (λ config. slice_get (plan_patterns config.plan) number ≡ Some pattern)
 
--- why `check` refuses a configuration; without such a pattern what is told of patterns stays the same
+-- why `check` refuses a configuration; without such a pattern what is known of patterns stays the same
 abbrev pub CheckRefuses : Content → PatternsState → PatternsState → ConfigRefusal → Type 0
 CheckRefuses content old new (Refused place why) = ForRefused content place why × (new ≡ old)
 CheckRefuses content old new (Pattern number) = RefusesPattern content number old new

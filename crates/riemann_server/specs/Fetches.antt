@@ -1,55 +1,47 @@
--- What is said of a configuration that was fetched from a store, or could not be.
-use Rattle.std.specs.Prelude.{◌≡◌, ℕ, ◌+◌, ◌⊎◌, true, false, List, [], ◌∷◌, ◌++◌, Option, Result, Ok, Err}
-use Rattle.std.specs.Option.{option_map}
-use Rattle.ports.specs.Counts.{Rose, RoseBy}
-use Rattle.ports.specs.Reading.{Content, IsOverLimit}
+-- What is known of a configuration that was fetched from a store, or could not be.
+use Rattle.std.specs.Prelude.{◌≡◌, ℕ, List, [], ◌∷◌, Result, Ok, Err}
+use Rattle.ports.specs.Reading.{Content}
 use Rattle.ports.specs.declared.store.StoreRead.{StoreRead}
 use Rattle.sexp_config.specs.declared.config.Config.{Config}
-use Rattle.riemann_server.specs.declared.server.TheConstants.{CONFIG_LIMIT}
+use Rattle.riemann_server.specs.declared.ending.ConfigRefusal.TheVariants as refusals
+use Rattle.riemann_server.specs.declared.ending.Ending.{Ending}
+use Rattle.riemann_server.specs.declared.ending.Ending.TheVariants.{ConfigRefused, Unread, OverLimit, OutOfMemory}
+use Rattle.riemann_server.specs.declared.ending.Source.{Source}
+use Rattle.riemann_server.specs.declared.ending.Source.TheVariants.{ConfigFile}
 use Rattle.riemann_server.specs.declared.fetch.FetchFault.{FetchFault}
-use Rattle.riemann_server.specs.declared.fetch.FetchFault.TheVariants.{Refused, Unread, TooLong, Memory}
-use Rattle.riemann_server.specs.declared.outcome.ConfigRefusal.TheVariants as refusals
-use Rattle.riemann_server.specs.declared.outcome.Outcome.{Outcome}
-use Rattle.riemann_server.specs.declared.outcome.Outcome.TheVariants as outcomes
-use Rattle.riemann_server.specs.declared.outcome.Source.TheVariants as sources
+use Rattle.riemann_server.specs.declared.fetch.FetchFault.TheVariants.{Refused, File, Memory}
+use Rattle.riemann_server.specs.declared.read.FileFault.{FileFault}
+use Rattle.riemann_server.specs.declared.read.FileFault.TheVariants as file
+use Rattle.riemann_server.specs.declared.server.TheConstants.{CONFIG_LIMIT}
 use Rattle.riemann_server.specs.Configs.{ForRefused, IsRefused}
+use Rattle.riemann_server.specs.Files.{IsFileFault, good_read, reads_of_fault}
 
--- how a command ends that could not have its configuration
-abbrev pub outcome_of : FetchFault → Outcome
-outcome_of (Refused place why) = outcomes.Config (refusals.Refused place why)
-outcome_of Unread = outcomes.ReadFault sources.Config
-outcome_of TooLong = outcomes.TooLong sources.Config
-outcome_of Memory = outcomes.Memory
+-- how a command ends whose file was not read, or whose configuration was not
+abbrev pub ending_of_file : Source → FileFault → Ending
+ending_of_file source file.Unread = Unread source
+ending_of_file source file.TooLong = OverLimit source
+ending_of_file source file.Memory = OutOfMemory
 
--- why a text is no configuration
+abbrev pub ending_of_fetch : FetchFault → Ending
+ending_of_fetch (Refused place why) = ConfigRefused (refusals.Refused place why)
+ending_of_fetch (File fault) = ending_of_file ConfigFile fault
+ending_of_fetch Memory = OutOfMemory
+
+-- why a text is not a configuration
 abbrev pub IsTextFault : List ℕ → FetchFault → Type 0
 IsTextFault text (Refused place why) = IsRefused text place why
+IsTextFault text (File fault) = ⊥
 IsTextFault text Memory = Unit {0}
-IsTextFault text Unread = ⊥
-IsTextFault text TooLong = ⊥
 
--- Why a configuration could not be had. `faults` and `taken` are the counts of the store, before and after.
+-- Why there is no configuration. `faults` and `taken` are the counts of the store, before and after.
 abbrev pub IsFetchFault : Content → ℕ → ℕ → ℕ → ℕ → FetchFault → Type 0
 IsFetchFault content faults faults' taken taken' (Refused place why) = ForRefused content place why
-IsFetchFault content faults faults' taken taken' Unread = Rose faults faults'
-IsFetchFault content faults faults' taken taken' TooLong = IsOverLimit content CONFIG_LIMIT × RoseBy (CONFIG_LIMIT + 1) taken taken'
+IsFetchFault content faults faults' taken taken' (File fault) = IsFileFault content CONFIG_LIMIT faults faults' taken taken' fault
 IsFetchFault content faults faults' taken taken' Memory = Unit {0}
 
-abbrev pub good_read : List ℕ → StoreRead
-good_read name = record { name = name; failed = false }
-
-abbrev pub bad_read : List ℕ → StoreRead
-bad_read name = record { name = name; failed = true }
-
--- the reads that were made: one, or none where memory was wanted for it
-abbrev pub AreMade : List ℕ → List StoreRead → Result Config FetchFault → Type 0
-AreMade name made (Ok config) = made ≡ good_read name ∷ []
-AreMade name made (Err (Refused place why)) = made ≡ good_read name ∷ []
-AreMade name made (Err Unread) = made ≡ bad_read name ∷ []
-AreMade name made (Err TooLong) = made ≡ good_read name ∷ []
-AreMade name made (Err Memory) = (made ≡ []) ⊎ (made ≡ good_read name ∷ [])
-
-pub record FetchReads (old new : Option (List StoreRead)) (name : List ℕ) (result : Result Config FetchFault) : Type 0 where
-  pub made : List StoreRead
-  pub grew : new ≡ option_map (λ reads. reads ++ made) old
-  pub are_made : AreMade name made result
+-- the reads that are made for a configuration
+abbrev pub fetch_reads : List ℕ → Result Config FetchFault → List StoreRead
+fetch_reads name (Ok config) = good_read name ∷ []
+fetch_reads name (Err (Refused place why)) = good_read name ∷ []
+fetch_reads name (Err (File fault)) = reads_of_fault name fault
+fetch_reads name (Err Memory) = good_read name ∷ []

@@ -5,8 +5,8 @@ use Rattle.std.specs.List.{flat_map}
 use Rattle.std.specs.Fmt.{decimal}
 use Rattle.sexp_config.specs.declared.fault.ConfigWhy.{ConfigWhy}
 use Rattle.sexp_config.specs.Names.{why_name}
-use Rattle.riemann_server.specs.declared.outcome.ConfigRefusal.{ConfigRefusal}
-use Rattle.riemann_server.specs.declared.outcome.ConfigRefusal.TheVariants.{Refused, Pattern, NotBuilt}
+use Rattle.riemann_server.specs.declared.ending.ConfigRefusal.{ConfigRefusal}
+use Rattle.riemann_server.specs.declared.ending.ConfigRefusal.TheVariants.{Refused, Pattern, NotBuilt}
 
 abbrev pub usage_line : List ℕ
 usage_line = codes "riemann: usage: feed CONFIG FILE, check CONFIG, replay CONFIG SCRIPT, serve CONFIG [--turns N], load CONFIG N START" ++ 10 ∷ []

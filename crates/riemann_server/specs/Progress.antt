@@ -41,7 +41,7 @@ pub record AnswersMessage (body : List ℕ) (index index' : Index) (patterns pat
   pub answered : OnOk result ((log : IndexLog) → HoldsLog index log → HoldsLog index' (log ++ writes_of body)
       × (replies' ≡ replies ++ reply_to (log ++ writes_of body) (record { body = body; refusal = refusal })))
 
--- the index, the replies and what is told of patterns after these messages
+-- the index, the replies and what is known of patterns after these messages
 pub record After (index : Index) (start patterns : PatternsState) (replies : List ℕ) (messages : List Judged) : Type 0 where
   pub index_is : HoldsLog index (log_of (map body_of messages))
   pub verdicts : AfterVerdicts start patterns messages
@@ -68,7 +68,7 @@ pub record AnswersAll (bytes : List ℕ) (start patterns : PatternsState) (repli
   pub all : replies ≡ replies_to messages
   pub count : left ≡ length (partial bytes)
 
--- memory was wanted when some messages in the bytes were answered
+-- memory ran out when some messages in the bytes were answered
 pub record AnswersSome (bytes : List ℕ) (start patterns : PatternsState) : Type 0 where
   pub messages : List Judged
   pub unanswered : List (List ℕ)
@@ -80,6 +80,6 @@ abbrev pub Reaches : Answers → PatternsState → PatternsState → List ℕ �
 Reaches answers start patterns came Waits = IsSettled answers start patterns came
 Reaches answers start patterns came Stops = (more : List ℕ) → AnswersAll (came ++ more) start patterns answers.replies (length answers.link.bytes + length more)
 
--- what is known where it wanted for memory, whatever comes
+-- what is known where memory ran out, whatever comes next
 abbrev pub Fails : PatternsState → PatternsState → List ℕ → Type 0
 Fails start patterns came = (more : List ℕ) → AnswersSome (came ++ more) start patterns

@@ -1,5 +1,5 @@
--- What is said of the patterns of queries. Which patterns can be built is not ours to say, so that the verdicts on them
--- stand beside a run: one for each message.
+-- What is known of the patterns of queries. Which patterns can be built is not known here, so a run has a list of
+-- verdicts on them: one for each message.
 use Rattle.std.specs.Prelude.{◌≡◌, ℕ, ◌≤◌, Bool, IsTrue, IfSome, is_some, List, ◌++◌, Option, Some, slice_get, option_map, option_to_list}
 use Rattle.std.specs.List.{AllByRecursion, flat_map, list_any}
 use Rattle.ports.specs.Counts.{Rose}
@@ -37,7 +37,7 @@ refused_text refusal = refusal.text
 abbrev pub texts_refused : List Judged → List (List ℕ)
 texts_refused = flat_map (λ judged. option_to_list (option_map refused_text judged.refusal))
 
--- what the object that builds patterns tells of itself: how many it refused, and which
+-- what the object that builds patterns reports: how many it refused, and which
 pub record PatternsState : Type 0 where
   pub refusals : ℕ
   pub refused : Option (List (List ℕ))

@@ -15,10 +15,10 @@ OnFeed words P = (config file : List ℕ) → words ≡ feed_words config file �
 abbrev pub OnCheck : List (List ℕ) → (List ℕ → Type 0) → Type 0
 OnCheck words P = (config : List ℕ) → words ≡ check_words config → P config
 
--- the words are those of no command
+-- no command matches the words
 abbrev pub IsUsage : List (List ℕ) → Type 0
 IsUsage words = OnFeed words (λ config file. ⊥) × OnCheck words (λ config. ⊥)
 
--- the words are those of a command
+-- a command matches the words
 abbrev pub IsCommand : List (List ℕ) → Type 0
 IsCommand words = ((config : List ℕ) × (file : List ℕ) × (words ≡ feed_words config file)) ⊎ ((config : List ℕ) × (words ≡ check_words config))

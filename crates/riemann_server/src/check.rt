@@ -1,15 +1,18 @@
-ghost use Rattle.std.specs.Prelude.{◌≡◌, ◌≤◌, length};
-ghost use Rattle.stream_plan.specs.Ready.{plan_patterns};
+ghost use Rattle.std.specs.Prelude.{◌≡◌, ◌≤◌, [], ◌∷◌, length};
 ghost use Rattle.ports.specs.Counts.{Rose};
-ghost use Rattle.riemann_server.specs.Checks.{Builds, CheckReads, PutsText, ShowsCheck};
-ghost use Rattle.riemann_server.specs.Endings.{HasEnded, HasNoReply};
-ghost use Rattle.riemann_server.specs.Outcome.{status_of};
+ghost use Rattle.stream_plan.specs.Ready.{plan_patterns};
+ghost use Rattle.riemann_server.specs.Building.{BuildsText, EndsCheck};
+ghost use Rattle.riemann_server.specs.Checks.{CheckCause, CheckCounts, CheckWrites, Checks};
+ghost use Rattle.riemann_server.specs.Endings.{IsComplete, IsRefusal, Reads, TookMore, status_of};
+ghost use Rattle.riemann_server.specs.Reports.{reports, sink_report, store_report};
 ghost use Rattle.riemann_server.specs.Verdicts.{patterns_state};
 
 use crate::Status;
+use crate::ending::{ConfigRefusal, Ending};
 use crate::fetch::fetch_config;
-use crate::outcome::{ConfigRefusal, Outcome};
+use crate::lines::report;
 use crate::server::CONFIG_LIMIT;
+use crate::write::put_all;
 use ev_types::{Blob, Text};
 use ports::{Sink, Store};
 use pred_eval::{BuildFault, Patterns};
@@ -17,30 +20,61 @@ use sexp_config::{Config, write_config};
 use std::alloc::Global;
 use stream_plan::build_plan;
 
+/// Carries out `check CONFIG`.
+pub(crate) fn check<S: Store, O: Sink, E: Sink, P: Patterns>(
+    alloc: Global,
+    config: &Text,
+    store: &mut S,
+    out: &mut O,
+    err: &mut E,
+    patterns: &mut P,
+) -> Status
+    ensures promise { Checks config.now
+        (reports (store_report (S.held store.old) (S.reads store.old) (S.taken store.old)
+        (S.faults store.old)) (sink_report (O.text out.old) (O.puts out.old) (O.faults out.old))
+        (sink_report (E.text err.old) (E.puts err.old) (E.faults err.old))
+        (patterns_state (P.refusals patterns.old) (P.refused patterns.old)))
+        (reports (store_report (S.held store.new) (S.reads store.new) (S.taken store.new)
+        (S.faults store.new)) (sink_report (O.text out.new) (O.puts out.new) (O.faults out.new))
+        (sink_report (E.text err.new) (E.puts err.new) (E.faults err.new))
+        (patterns_state (P.refusals patterns.new) (P.refused patterns.new))) result }
+    ensures read_fault { result ≡ Status.ReadFault →
+        Rose (S.faults store.old) (S.faults store.new) }
+    ensures sink_fault { result ≡ Status.SinkFault → Rose (O.faults out.old) (O.faults out.new) }
+    ensures untouched { IsRefusal result → out.new ≡ out.old }
+{
+    let ending = check_file(alloc, config, store, out, patterns);
+    report(ending, config, config, err)
+}
+
 /// Reads the configuration, builds its patterns, and writes its canonical text.
-pub(crate) fn check<S: Store, O: Sink, P: Patterns>(
+fn check_file<S: Store, O: Sink, P: Patterns>(
     alloc: Global,
     config: &Text,
     store: &mut S,
     out: &mut O,
     patterns: &mut P,
-) -> Outcome
-    ensures shows { ShowsCheck (S.held store.old config.now) (S.taken store.old) (S.taken store.new)
+) -> Ending
+    ensures cause { CheckCause (S.held store.old config.now) result }
+    ensures reads { Reads (config.now ∷ []) (CheckCounts result) (S.reads store.old)
+        (S.reads store.new) result }
+    ensures taken { TookMore result (S.taken store.old) (S.taken store.new) }
+    ensures writes { CheckWrites (S.held store.old config.now)
         (patterns_state (P.refusals patterns.old) (P.refused patterns.old))
         (patterns_state (P.refusals patterns.new) (P.refused patterns.new))
-        (O.text out.old) (O.text out.new) result }
-    ensures reads { CheckReads (S.reads store.old) (S.reads store.new) config.now result }
-    ensures no_reply { HasNoReply (status_of result) → out.new ≡ out.old }
-    ensures quiet { HasEnded (status_of result) → (S.faults store.new ≡ S.faults store.old) ×
+        (sink_report (O.text out.old) (O.puts out.old) (O.faults out.old))
+        (sink_report (O.text out.new) (O.puts out.new) (O.faults out.new)) result }
+    ensures quiet { IsComplete result → (S.faults store.new ≡ S.faults store.old) ×
         (O.faults out.new ≡ O.faults out.old) }
     ensures read_fault { status_of result ≡ Status.ReadFault →
         Rose (S.faults store.old) (S.faults store.new) }
     ensures sink_fault { status_of result ≡ Status.SinkFault →
         Rose (O.faults out.old) (O.faults out.new) }
+    ensures untouched { IsRefusal (status_of result) → out.new ≡ out.old }
 {
     match fetch_config(alloc, config, store) {
         Ok(config) => check_config(alloc, config, out, patterns),
-        Err(fault) => fault.outcome(),
+        Err(fault) => fault.ending(),
     }
 }
 
@@ -50,38 +84,47 @@ fn check_config<O: Sink, P: Patterns>(
     config: Config,
     out: &mut O,
     patterns: &mut P,
-) -> Outcome
+) -> Ending
     requires few { length (plan_patterns config.plan) ≤ CONFIG_LIMIT }
-    ensures builds { Builds config
+    ensures ends { EndsCheck config
         (patterns_state (P.refusals patterns.old) (P.refused patterns.old))
         (patterns_state (P.refusals patterns.new) (P.refused patterns.new))
-        (O.text out.old) (O.text out.new) result }
-    ensures no_reply { HasNoReply (status_of result) → out.new ≡ out.old }
-    ensures quiet { HasEnded (status_of result) → O.faults out.new ≡ O.faults out.old }
-    ensures sink_fault { status_of result ≡ Status.SinkFault →
-        Rose (O.faults out.old) (O.faults out.new) }
+        (sink_report (O.text out.old) (O.puts out.old) (O.faults out.old))
+        (sink_report (O.text out.new) (O.puts out.new) (O.faults out.new)) result }
+    ensures untouched { IsRefusal (status_of result) → out.new ≡ out.old }
 {
-    let mut text = Blob::fresh(alloc);
-    let Ok(()) = write_config(alloc, &config, &mut text) else {
-        return Outcome::Memory;
-    };
-    match build_plan(alloc, config.plan, patterns) {
-        Ok(_) => put_config(text.as_slice(), out),
-        Err(BuildFault::Pattern { number }) => Outcome::Config(ConfigRefusal::Pattern { number }),
-        Err(BuildFault::Memory) => Outcome::Memory,
+    match build_text(alloc, config, patterns) {
+        Ok(text) => match put_all(out, text.as_slice()) {
+            Ok(()) => Ending::Finished,
+            Err(_) => Ending::WriteFailed,
+        },
+        Err(BuildFault::Pattern { number }) => {
+            Ending::ConfigRefused(ConfigRefusal::Pattern { number })
+        }
+        Err(BuildFault::Memory) => Ending::OutOfMemory,
     }
 }
 
-/// Writes the canonical text.
-fn put_config<O: Sink>(text: &[u8], out: &mut O) -> Outcome
-    ensures puts { PutsText text.now (O.text out.old) (O.text out.new) result }
-    ensures quiet { HasEnded (status_of result) → O.faults out.new ≡ O.faults out.old }
-    ensures sink_fault { status_of result ≡ Status.SinkFault →
-        Rose (O.faults out.old) (O.faults out.new) }
+/// Builds the patterns of the configuration, and gives its canonical text.
+#[tactic(auto, using(crate::proofs::CheckLaws::refused_pattern))]
+fn build_text<P: Patterns>(
+    alloc: Global,
+    config: Config,
+    patterns: &mut P,
+) -> Result<Blob, BuildFault>
+    requires few { length (plan_patterns config.plan) ≤ CONFIG_LIMIT }
+    ensures { BuildsText config
+        (patterns_state (P.refusals patterns.old) (P.refused patterns.old))
+        (patterns_state (P.refusals patterns.new) (P.refused patterns.new)) result }
 {
-    if !text.is_empty() && out.put(text).is_err() {
-        Outcome::SinkFault
-    } else {
-        Outcome::Done
+    let mut text = Blob::fresh(alloc);
+    write_config(alloc, &config, &mut text)?;
+    match build_plan(alloc, config.plan, patterns) {
+        Ok(ready) => {
+            let _built = ready.patterns();
+            Ok(text)
+        }
+        Err(BuildFault::Pattern { number }) => Err(BuildFault::Pattern { number }),
+        Err(BuildFault::Memory) => Err(BuildFault::Memory),
     }
 }

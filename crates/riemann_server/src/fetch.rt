@@ -1,39 +1,39 @@
 ghost use Rattle.std.specs.Prelude.{◌≡◌, ◌≤◌, IfErr, IfOk, OnOk, length};
 ghost use Rattle.stream_plan.specs.Ready.{plan_patterns};
-ghost use Rattle.riemann_server.specs.Configs.{ForHeld, ReadsAs};
-ghost use Rattle.riemann_server.specs.Fetches.{FetchReads, IsFetchFault, IsTextFault, outcome_of};
+ghost use Rattle.riemann_server.specs.Configs.{ReadsAs};
+ghost use Rattle.riemann_server.specs.Fetches.{IsFetchFault, IsTextFault, ending_of_fetch, fetch_reads};
+ghost use Rattle.riemann_server.specs.Files.{ForHeld, ReadMore};
 
 use crate::CONFIG_LIMIT;
-use crate::outcome::{ConfigRefusal, Outcome, Source};
+use crate::ending::{ConfigRefusal, Ending, Source};
+use crate::read::{FileFault, read_file};
 use ev_types::Text;
-use ports::{ReadAnswer, Store};
+use ports::Store;
 use sexp_config::{Config, ConfigFault, ConfigWhy, read_config};
 use std::alloc::Global;
 
-/// Why a configuration was not read.
+/// Why there is no configuration.
 #[derive(Clone, Copy)]
 pub(crate) enum FetchFault {
     /// The text is not a configuration, for this cause at the place.
     Refused { place: usize, why: ConfigWhy },
-    /// The file could not be read.
-    Unread,
-    /// The text is longer than a configuration may be.
-    TooLong,
+    /// The file was not read.
+    File(FileFault),
+    /// Out of memory once the file was read.
     Memory,
 }
 
 impl FetchFault {
     /// How the command ends.
-    pub(crate) fn outcome(self) -> Outcome
-        ensures { result ≡ outcome_of self }
+    pub(crate) fn ending(self) -> Ending
+        ensures { result ≡ ending_of_fetch self }
     {
         match self {
             FetchFault::Refused { place, why } => {
-                Outcome::Config(ConfigRefusal::Refused { place, why })
+                Ending::ConfigRefused(ConfigRefusal::Refused { place, why })
             }
-            FetchFault::Unread => Outcome::ReadFault(Source::Config),
-            FetchFault::TooLong => Outcome::TooLong(Source::Config),
-            FetchFault::Memory => Outcome::Memory,
+            FetchFault::File(fault) => fault.ending(Source::ConfigFile),
+            FetchFault::Memory => Ending::OutOfMemory,
         }
     }
 }
@@ -49,16 +49,15 @@ pub(crate) fn fetch_config<S: Store>(
     ensures few { IfOk result (λ config. length (plan_patterns config.plan) ≤ CONFIG_LIMIT) }
     ensures fault { IfErr result (λ fault. IsFetchFault (S.held store.old name.now)
         (S.faults store.old) (S.faults store.new) (S.taken store.old) (S.taken store.new) fault) }
-    ensures reads { FetchReads (S.reads store.old) (S.reads store.new) name.now result }
+    ensures reads { ReadMore (fetch_reads name.now result) (S.reads store.old)
+        (S.reads store.new) }
     ensures quiet { OnOk result (S.faults store.new ≡ S.faults store.old) }
     ensures held { S.held store.new ≡ S.held store.old }
     ensures taken { S.taken store.old ≤ S.taken store.new }
 {
-    match store.read(alloc, name, CONFIG_LIMIT) {
-        ReadAnswer::Bytes(text) => read_text(alloc, text.as_slice()),
-        ReadAnswer::Failed => Err(FetchFault::Unread),
-        ReadAnswer::TooLong => Err(FetchFault::TooLong),
-        ReadAnswer::Memory => Err(FetchFault::Memory),
+    match read_file(alloc, name, CONFIG_LIMIT, store) {
+        Ok(text) => read_text(alloc, text.as_slice()),
+        Err(fault) => Err(FetchFault::File(fault)),
     }
 }
 

@@ -1,12 +1,13 @@
 ghost use Rattle.std.specs.Prelude.{◌≡◌, ℕ, ◌≤◌, List, OnOk, OnErr};
 ghost use Rattle.ports.specs.Counts.{Rose};
 ghost use Rattle.ports.specs.Writing.{Got, GotFront, GotLine, sink_state};
-ghost use Rattle.riemann_server.specs.Endings.{HasNoLine};
+ghost use Rattle.riemann_server.specs.Endings.{Says, limit_of, of_source, status_of};
 ghost use Rattle.riemann_server.specs.Lines.{joined, left_line, pattern_line, refusal_line, refused_line, too_long_line, unread_line};
-ghost use Rattle.riemann_server.specs.Outcome.{line_of, of_source, status_of};
+ghost use Rattle.riemann_server.specs.Reports.{sink_report};
 
-use crate::outcome::{ConfigRefusal, Outcome, Source};
-use crate::{CONFIG_LIMIT, FILE_LIMIT};
+use crate::ending::{ConfigRefusal, Ending, Source};
+use crate::write::put_all;
+use crate::{CONFIG_LIMIT, FILE_LIMIT, Status};
 use ev_types::Text;
 use itoa::Buffer;
 use ports::{Failed, Sink};
@@ -16,24 +17,31 @@ pub(crate) const MEMORY_LINE: &str = "riemann: out of memory\n";
 
 const NOT_BUILT_LINE: &str = "riemann: config not built yet\n";
 
-/// Writes the line of an outcome, with the names of the two files. It takes no memory.
-pub(crate) fn report<E: Sink>(outcome: Outcome, config: &Text, file: &Text, err: &mut E)
-    ensures line { GotLine (sink_state (E.text err.old) (E.faults err.old))
-        (line_of config.now file.now outcome)
-        (sink_state (E.text err.new) (E.faults err.new)) }
-    ensures no_line { HasNoLine (status_of outcome) → err.new ≡ err.old }
+/// Writes the line of an ending, with the names of the command's two files, and gives the status. It takes no memory.
+pub(crate) fn report<E: Sink>(ending: Ending, config: &Text, other: &Text, err: &mut E) -> Status
+    ensures status { result ≡ status_of ending }
+    ensures says { Says config.now other.now ending
+        (sink_report (E.text err.old) (E.puts err.old) (E.faults err.old))
+        (sink_report (E.text err.new) (E.puts err.new) (E.faults err.new)) }
 {
-    match outcome {
-        Outcome::Done | Outcome::SinkFault => {}
-        Outcome::Config(refusal) => report_refusal(refusal, err),
-        Outcome::Memory => put_line(err, &[MEMORY_LINE]),
-        Outcome::ReadFault(source) => report_unread(name_of(source, config, file), err),
-        Outcome::TooLong(source) => report_too_long(
-            name_of(source, config, file),
-            limit_of(source),
-            err,
-        ),
-        Outcome::Truncated { left } => report_left(left, err),
+    report_line(ending, config, other, err);
+    ending.status()
+}
+
+fn report_line<E: Sink>(ending: Ending, config: &Text, other: &Text, err: &mut E)
+    ensures { Says config.now other.now ending
+        (sink_report (E.text err.old) (E.puts err.old) (E.faults err.old))
+        (sink_report (E.text err.new) (E.puts err.new) (E.faults err.new)) }
+{
+    match ending {
+        Ending::Finished | Ending::WriteFailed => {}
+        Ending::ConfigRefused(refusal) => report_refusal(refusal, err),
+        Ending::OutOfMemory => put_line(err, &[MEMORY_LINE]),
+        Ending::Unread(source) => report_unread(name_of(source, config, other), err),
+        Ending::OverLimit(source) => {
+            report_too_long(name_of(source, config, other), limit_of(source), err)
+        }
+        Ending::BytesLeft { count } => report_left(count, err),
     }
 }
 
@@ -104,21 +112,21 @@ fn report_left<E: Sink>(left: usize, err: &mut E)
     put_line(err, &["riemann: ", left, " bytes left of no whole frame\n"]);
 }
 
-fn name_of<'a>(source: Source, config: &'a Text, file: &'a Text) -> &'a Text
-    ensures { result.now ≡ of_source config.now file.now source }
+fn name_of<'a>(source: Source, config: &'a Text, other: &'a Text) -> &'a Text
+    ensures { result.now ≡ of_source config.now other.now source }
 {
     match source {
-        Source::Config => config,
-        Source::Fed => file,
+        Source::ConfigFile => config,
+        Source::OtherFile => other,
     }
 }
 
 fn limit_of(source: Source) -> u64
-    ensures { result ≡ of_source CONFIG_LIMIT FILE_LIMIT source }
+    ensures { result ≡ limit_of source }
 {
     match source {
-        Source::Config => CONFIG_LIMIT,
-        Source::Fed => FILE_LIMIT,
+        Source::ConfigFile => CONFIG_LIMIT,
+        Source::OtherFile => FILE_LIMIT,
     }
 }
 
@@ -133,13 +141,11 @@ pub(crate) fn put_line<E: Sink>(err: &mut E, pieces: &[&str])
 /// Writes the pieces one after another, up to the first write that fails.
 fn put_pieces<E: Sink>(err: &mut E, pieces: &[&str]) -> Result<(), Failed>
     ensures all { OnOk result (Got (E.text err.old) (joined pieces.now) (E.text err.new)) }
-    ensures front { OnErr result (GotFront (E.text err.old) (joined pieces.now) (E.text err.new)) }
+    ensures prefix { OnErr result (GotFront (E.text err.old) (joined pieces.now) (E.text err.new)) }
     ensures fault { OnErr result (Rose (E.faults err.old) (E.faults err.new)) }
 {
     for piece in pieces {
-        if !piece.is_empty() {
-            err.put(piece.as_bytes())?;
-        }
+        put_all(err, piece.as_bytes())?;
     }
     Ok(())
 }

@@ -1,21 +1,28 @@
 //! A Riemann event stream server for metrics that are whole numbers.
 #![tactic(auto)]
 
+ghost use Rattle.std.specs.Prelude.{◌≡◌};
+ghost use Rattle.std.specs.Process.{exit_status};
+ghost use Rattle.riemann_server.specs.Endings.{code_of};
+
 mod answers;
 mod check;
 mod command;
+mod ending;
 mod feed;
 mod fetch;
 mod lines;
-mod outcome;
+mod plain;
 mod program;
 mod queries;
+mod read;
 mod replies;
 mod run;
 mod server;
 mod status;
 #[cfg(test)]
 mod tests;
+mod write;
 
 use ports::{FileStore, StreamSink};
 use pred_eval::RegexPatterns;
@@ -37,5 +44,12 @@ fn main(rt: HostRuntime) -> ExitCode {
         &mut err,
         &mut patterns,
     );
+    exit_code(status)
+}
+
+/// The exit status of the program is the number of the status with which its call ended.
+fn exit_code(status: Status) -> ExitCode
+    ensures { exit_status result ≡ code_of status }
+{
     ExitCode::from(status.code())
 }

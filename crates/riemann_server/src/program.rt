@@ -1,10 +1,11 @@
-ghost use Rattle.std.specs.Prelude.{◌≡◌, ◌≢◌, ◌<◌, length};
+ghost use Rattle.std.specs.Prelude.{◌≡◌, ◌≢◌};
 ghost use Rattle.ports.specs.Counts.{Rose};
 ghost use Rattle.ports.specs.Writing.{Got};
 
 use crate::Status;
 use crate::lines::{MEMORY_LINE, put_line};
 use crate::server::{USAGE, riemann};
+use crate::write::put_all;
 use ev_types::Text;
 use ports::{Sink, Store};
 use pred_eval::Patterns;
@@ -80,12 +81,11 @@ pub(crate) fn run<S: Store, O: Sink, E: Sink, P: Patterns>(
 
 /// Writes the text of `--help` or `--version`.
 fn put_text<O: Sink>(out: &mut O, text: &str) -> Status
-    requires { 0 < length text.now }
     ensures done { result ≡ Status.Done → Got (O.text out.old) text.now (O.text out.new) }
     ensures fault { result ≢ Status.Done → (result ≡ Status.SinkFault) ×
         Rose (O.faults out.old) (O.faults out.new) }
 {
-    match out.put(text.as_bytes()) {
+    match put_all(out, text.as_bytes()) {
         Ok(()) => Status::Done,
         Err(_) => Status::SinkFault,
     }

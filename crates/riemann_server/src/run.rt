@@ -1,13 +1,13 @@
-ghost use Rattle.std.specs.Prelude.{◌≡◌, length, IfOk, OnErr, IsTrue, ◌↔◌};
+ghost use Rattle.std.specs.Prelude.{◌≡◌, length, IfOk, OnErr, OnOk};
 ghost use Rattle.ports.specs.Counts.{Rose};
 ghost use Rattle.riemann_server.specs.Progress.{AnswersAll, AnswersSome};
-ghost use Rattle.riemann_server.specs.Endings.{HasEnded, HasNoReply};
-ghost use Rattle.riemann_server.specs.Outcome.{Puts, Runs, status_of};
+ghost use Rattle.riemann_server.specs.Reports.{sink_report};
+ghost use Rattle.riemann_server.specs.Runs.{Runs, ending_of_run};
 ghost use Rattle.riemann_server.specs.Verdicts.{patterns_state};
 
-use crate::Status;
 use crate::answers::{Answers, StreamEnd};
-use crate::outcome::Outcome;
+use crate::ending::Ending;
+use crate::write::put_all;
 use ev_types::{Blob, Memory};
 use ports::Sink;
 use pred_eval::Patterns;
@@ -16,43 +16,47 @@ use std::alloc::Global;
 /// The greatest number of bytes that are taken in at a time.
 const PIECE: usize = 65_536;
 
-/// Answers the messages in the bytes, and writes the replies.
+/// Why not all replies were written.
+#[derive(Clone, Copy)]
+pub(crate) enum RunFault {
+    /// A write failed.
+    Write,
+    /// Out of memory. Nothing was written.
+    Memory,
+}
+
+/// How a command ends after such a run.
+pub(crate) fn ending_of_run(run: Result<usize, RunFault>) -> Ending
+    ensures { result ≡ ending_of_run run }
+{
+    match run {
+        Ok(0) => Ending::Finished,
+        Ok(count) => Ending::BytesLeft { count },
+        Err(RunFault::Write) => Ending::WriteFailed,
+        Err(RunFault::Memory) => Ending::OutOfMemory,
+    }
+}
+
+/// Answers the messages in the bytes, writes the replies, and gives the number of bytes after the last whole frame.
 pub(crate) fn run<O: Sink, P: Patterns>(
     alloc: Global,
     bytes: &[u8],
     out: &mut O,
     patterns: &mut P,
-) -> Outcome
+) -> Result<usize, RunFault>
     ensures runs { Runs bytes.now
         (patterns_state (P.refusals patterns.old) (P.refused patterns.old))
         (patterns_state (P.refusals patterns.new) (P.refused patterns.new))
-        (O.text out.old) (O.text out.new) result }
-    ensures no_reply { HasNoReply (status_of result) → out.new ≡ out.old }
-    ensures sink_fault { status_of result ≡ Status.SinkFault →
-        Rose (O.faults out.old) (O.faults out.new) }
-    ensures quiet { HasEnded (status_of result) → O.faults out.new ≡ O.faults out.old }
+        (sink_report (O.text out.old) (O.puts out.old) (O.faults out.old))
+        (sink_report (O.text out.new) (O.puts out.new) (O.faults out.new)) result }
 {
-    match answer_all(alloc, bytes, patterns) {
-        Ok((replies, left)) => put_replies(replies.as_slice(), left, out),
-        Err(Memory) => Outcome::Memory,
-    }
-}
-
-/// Writes the replies, and says how the run ended with `left` bytes after the last whole frame.
-fn put_replies<O: Sink>(replies: &[u8], left: usize, out: &mut O) -> Outcome
-    ensures puts { Puts replies.now left (O.text out.old) (O.text out.new) result }
-    ensures sink_fault { status_of result ≡ Status.SinkFault →
-        Rose (O.faults out.old) (O.faults out.new) }
-    ensures quiet { HasEnded (status_of result) → O.faults out.new ≡ O.faults out.old }
-{
-    if !replies.is_empty() && out.put(replies).is_err() {
-        return Outcome::SinkFault;
-    }
-    if left == 0 {
-        Outcome::Done
-    } else {
-        Outcome::Truncated { left }
-    }
+    let Ok((replies, left)) = answer_all(alloc, bytes, patterns) else {
+        return Err(RunFault::Memory);
+    };
+    let Ok(()) = put_all(out, replies.as_slice()) else {
+        return Err(RunFault::Write);
+    };
+    Ok(left)
 }
 
 /// The replies to all messages in the bytes, and the number of bytes after the last whole frame.

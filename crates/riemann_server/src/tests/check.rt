@@ -26,7 +26,7 @@ const WRITTEN: &[(&str, &str)] = &[
     ),
 ];
 
-/// Texts that are no configurations, and the lines that say so.
+/// Texts that are not configurations, and the lines that say so.
 const REFUSED: &[(&str, &str)] = &[
     (
         "(streams (batch 2 5 index))",
@@ -142,7 +142,7 @@ fn a_configuration_is_refused_at_its_place(rt: HostRuntime) -> Result<(), Fail> 
 }
 
 #[test]
-fn a_pattern_that_is_refused_is_numbered_and_told(rt: HostRuntime) -> Result<(), Fail> {
+fn a_pattern_that_is_refused_is_numbered_and_reported(rt: HostRuntime) -> Result<(), Fail> {
     for (config, line, pattern) in PATTERNS {
         let wanted: Wanted<'_> = (Status::Config, "", *line, &[*pattern]);
         check(&rt, ("c", config.as_bytes()), NOTHING_FAILS, wanted)?;

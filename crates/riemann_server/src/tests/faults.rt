@@ -14,7 +14,7 @@ const NO_FILE: &str = "riemann: cannot read f\n";
 
 const NOT_BUILT: &str = "riemann: config not built yet\n";
 
-/// Words of no command.
+/// Words that no command matches.
 const WRONG_WORDS: &[&[&str]] = &[
     &[],
     &["feed"],
@@ -91,7 +91,7 @@ fn check_feed<R: AllocGlobal + Abort>(
 }
 
 #[test]
-fn words_of_no_command_are_refused(rt: HostRuntime) -> Result<(), Fail> {
+fn words_that_no_command_matches_are_refused(rt: HostRuntime) -> Result<(), Fail> {
     for words in WRONG_WORDS {
         check(
             &rt,

@@ -122,7 +122,7 @@ fn all_asked<R: AllocGlobal + Abort>(rt: &R, queries: &[&str]) -> Result<Vec<u8>
 }
 
 #[test]
-fn only_patterns_that_are_refused_are_told(rt: HostRuntime) -> Result<(), Fail> {
+fn only_patterns_that_are_refused_are_reported(rt: HostRuntime) -> Result<(), Fail> {
     let file = all_asked(&rt, PATTERNS)?;
     let run = feed_plain(&rt, file.as_slice())?;
     assert_eq!(rt; run.status, Status::Done);

@@ -1,7 +1,7 @@
 use Rattle.std.proofs.Common.{arith}
 use Rattle.std.proofs.lemmas.Grind.{common_steps}
 use Rattle.riemann_server.proofs.PlanLaws.{lone_index, only_lone}
-use Rattle.riemann_server.proofs.feed.is_index.Goals as goal
+use Rattle.riemann_server.proofs.plain.is_index.Goals as goal
 
 pub returns-then-is_empty : goal.returns-then-is_empty
 returns-then-is_empty c = (
