@@ -1,6 +1,9 @@
 -- Where a stream's regular expressions stand, and what streams that keep nothing do.
 use Rattle.std.proofs.Common.{◌≡◌, ℕ, ◌+◌, ◌≤◌, Bool, true, false, cond, List, [], ◌++◌, length, take, drop, refl, sym, ap, ◌∙◌, subst, arith, length-append}
 use Rattle.std.specs.Prelude.{None}
+use Rattle.std.proofs.lemmas.List.{append-nil}
+use Rattle.ev_types.specs.declared.item.Output.{Output}
+use Rattle.list_laws.specs.Prefix.{IsPrefix}
 use Rattle.pred_eval.specs.Search.{AreReadFrom}
 use Rattle.pred_eval.specs.Truth.{searches}
 use Rattle.pred_eval.specs.Tree.{Tree}
@@ -122,3 +125,11 @@ numbers_never_due texts (Smap fold) state h numbers = refl
 -- a stream that keeps nothing of what came is never due
 pub never_due : (texts : List (List ℕ)) (kind : KindTree) (state : State) (h : History) → is_kept state ≡ false → StateRepresents texts kind state h → None ≡ next_deadline kind h
 never_due texts kind state h bare represents = numbers_never_due texts kind state h (numbers_of texts kind state h bare represents.keeps)
+
+-- ---- what was put where the call ran out of memory
+
+pub none_put : (old new own : List Output) → new ≡ old → IsPrefix new (old ++ own)
+none_put old new own same = (own, ap (λ (l : List Output). l ++ own) (sym same))
+
+pub all_put : (old new own : List Output) → new ≡ old ++ own → IsPrefix new (old ++ own)
+all_put old new own said = ([], sym said ∙ sym (append-nil new))

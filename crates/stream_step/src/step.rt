@@ -1,4 +1,4 @@
-ghost use Rattle.std.specs.Prelude.{◌≡◌, ℕ, ◌+◌, ◌≤◌, ◌^◌, true, false, List, [], ◌++◌, length, take, drop, if◌then◌else◌, IfOk, IsOk, OnOk};
+ghost use Rattle.std.specs.Prelude.{◌≡◌, ℕ, ◌+◌, ◌≤◌, ◌^◌, true, false, List, [], ◌++◌, length, take, drop, if◌then◌else◌, IfOk, IsOk, OnErr, OnOk};
 ghost use Rattle.ev_types.specs.declared.item.Item.TheVariants.{One, Many};
 ghost use Rattle.ev_types.specs.declared.event.Event.{Event as CameEvent};
 ghost use Rattle.list_laws.specs.Prefix.{IsPrefix};
@@ -60,6 +60,9 @@ pub fn act(
         emissions (kind_tree kind.now) (h ▸ Tick) ≡ [] → IsOk result }
     ensures tick { entry.now ≡ Tick → out.new ≡ out.old }
     ensures same { is_kept state.old ≡ false → state.new ≡ state.old }
+    ensures part { OnErr result ((h : History) →
+        moment_of (h ▸ entry.now) ≡ context.now.moment →
+        IsPrefix out.new (out.old ++ own_outputs (kind_tree kind.now) (h ▸ entry.now))) }
     ensures prefix { IsPrefix out.old out.new }
 {
     put_own_outputs(alloc, kind, entry, context.moment, out)?;
@@ -180,6 +183,7 @@ fn put_own_outputs(
         out.new ≡ out.old ++ own_outputs (kind_tree kind.now) (h ▸ entry.now)) }
     ensures quiet { entry.now ≡ Tick → IsOk result }
     ensures tick { entry.now ≡ Tick → out.new ≡ out.old }
+    ensures err { OnErr result (out.new ≡ out.old) }
     ensures prefix { IsPrefix out.old out.new }
 {
     match entry {
@@ -198,6 +202,7 @@ fn put_item_outputs(
 ) -> Result<(), Memory>
     ensures said { OnOk result ((h : History) → moment_of h ≡ moment →
         out.new ≡ out.old ++ own_outputs (kind_tree kind.now) (h ▸ In item.now)) }
+    ensures err { OnErr result (out.new ≡ out.old) }
     ensures prefix { IsPrefix out.old out.new }
 {
     match (kind, item) {

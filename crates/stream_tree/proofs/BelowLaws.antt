@@ -1,33 +1,48 @@
 -- What comes to the branches below a stream, part by part.
-use Rattle.std.proofs.Common.{◌≡◌, ℕ, ◌+◌, Bool, true, false, cond, List, [], ◌∷◌, ◌++◌, map, refl, sym, ap, ◌∙◌, subst}
+use Rattle.std.proofs.Common.{◌≡◌, ℕ, ◌+◌, ◌<◌, ◌≤◌, Bool, true, false, cond, List, [], ◌∷◌, ◌++◌, length, map, get_or, Option, Some, None, is_some, refl, sym, ap, ◌∙◌, subst, arith}
+use Rattle.std.specs.Prelude.{IsOk, Result}
+use Rattle.std.specs.List.{flat_map}
 use Rattle.std.proofs.lemmas.List.{append-nil, append_assoc, map-append}
+use Rattle.ev_types.specs.declared.field.Field.{Field}
 use Rattle.ev_types.specs.declared.item.Emission.{Emission as CodeEmission}
+use Rattle.ev_types.specs.declared.item.Item.{Item}
 use Rattle.ev_types.specs.declared.item.Output.{Output}
+use Rattle.ev_types.specs.declared.value.Value.{Value}
+use Rattle.fork_by.specs.declared.table.ForkTable.{ForkTable}
+use Rattle.fork_by.specs.Table.{fork_list}
 use Rattle.step_count.specs.Count.{StepCount}
 use Rattle.pred_eval.specs.Search.{AreReadFrom}
 use Rattle.regex.specs.declared.string.regex.Regex.{Regex}
 use Rattle.stream_plan.specs.declared.plan.Stream.{Stream, out-Stream}
 use Rattle.stream_plan.specs.Search.{opened}
-use Rattle.stream_plan.specs.Tree.{KindTree, Index, Notice, Sdo, Where, With, Default, Tag, StreamTree, StreamTrees, stream, kind_tree, list_trees}
-use Rattle.stream_meaning.specs.Branches.{same_branch, after_emissions, ticked, child_history, branches}
+use Rattle.stream_plan.specs.Tree.{KindTree, StreamTree, StreamTrees, stream, kind_tree, list_trees}
+use Rattle.stream_meaning.specs.Branches.{same_branch, after_emissions, ticked, child_history, branches, with_key}
 use Rattle.stream_meaning.specs.declared.entry.Entry.{Entry}
 use Rattle.stream_meaning.specs.declared.entry.Entry.TheVariants.{Tick, Item as In}
-use Rattle.stream_meaning.specs.Emission.{Branch, Children, Otherwise, Fork, Emission, emissions}
-use Rattle.stream_meaning.specs.History.{History, ◌▸◌, moment_of}
-use Rattle.stream_meaning.specs.Outputs.{Effect, BranchEffects, own_effects, at_tick, at_emissions, received_more, stream_effects, plan_effects}
-use Rattle.stream_meaning.proofs.MomentLaws.{after_emissions-moments, branch_moments}
+use Rattle.stream_meaning.specs.Deadlines.{plan_deadline}
+use Rattle.stream_meaning.specs.Emission.{Branch, Children, Otherwise, Fork, Emission}
+use Rattle.stream_meaning.specs.History.{History, ◌▸◌, begun, moment_of}
+use Rattle.stream_meaning.specs.Outputs.{Effect, Given, BranchEffects, branch_effects, due_if_any, at_tick, at_emissions, received_more, plan_effects}
+use Rattle.stream_meaning.proofs.MomentLaws.{after_emissions-moments}
 use Rattle.stream_step.specs.declared.passed.Branch.{Branch as CodeBranch}
 use Rattle.stream_step.specs.declared.passed.Branch.TheVariants as code
-use Rattle.stream_step.specs.declared.passed.Passed.{Passed}
-use Rattle.stream_step.specs.declared.state.State.{State}
-use Rattle.stream_step.specs.Step.{is_built_kind, branch_meant, branch_numbered, emission_meant, emissions_meant, StateRepresents, Acts}
+use Rattle.stream_step.specs.Step.{branch_meant, branch_numbered, emission_meant}
+use Rattle.stream_tree.specs.declared.forest.Forest.{Forest}
 use Rattle.stream_tree.specs.declared.forest.Node.{Node}
-use Rattle.stream_tree.specs.Forest.{PartsRepresent, ForestRepresents}
-use Rattle.stream_tree.specs.Running.{ForestRuns, StreamRuns, children_of, otherwise_of, Received, effects_below, BelowRepresents, extended, BranchRuns, TickRuns, EmissionsRun}
-use Rattle.stream_tree.specs.Tree.{Performs}
-use Rattle.stream_tree.proofs.PerformLaws.{grew_none, grew_then, own_grew}
+use Rattle.stream_tree.specs.Forest.{Meaning, nodes_of, Below, below_of, forked_by, CanFork, ForksRepresent, BelowRepresents, ForestRepresents}
+use Rattle.stream_tree.specs.Forks.{FoundAt, IsFound}
+use Rattle.stream_tree.specs.Running.{ComesAt, Stops, ForestRuns, ForestStops, kind_of, children_of, otherwise_of, Received, BelowIs, effects_below, branches_by, FitsBranch, FitAll, with_branch, with_branches, UnseenHaveTicks, extended, entering, ForkStands, ForkRuns, ForkStops, AllCome, DueRuns, DueStops, TickRuns, TickStops, BranchRuns, BranchStops, AllStand, EmissionsRun, EmissionsStop}
+use Rattle.stream_tree.specs.Tree.{Performs, PerformsPart}
+use Rattle.stream_tree.proofs.DueLaws.{even_keys}
+use Rattle.stream_tree.proofs.ForkLaws.{fork_goes_on, unseen_goes_on, unseen_fits}
+use Rattle.stream_tree.proofs.PerformLaws.{grew_none, grew_then, part_none, part_more, part_then, stops_more, stops_then}
+use Rattle.stream_tree.proofs.StillLaws.{below_same, forks_tick}
 
 -- ---- one level of a stream
+
+pub kind_of-opened : (s : Stream) → kind_of (opened s) ≡ kind_tree (out-Stream s).kind
+unfolding opened
+kind_of-opened s = refl
 
 pub children_of-opened : (s : Stream) → children_of (opened s) ≡ list_trees (out-Stream s).children.items
 unfolding opened
@@ -37,7 +52,53 @@ pub otherwise_of-opened : (s : Stream) → otherwise_of (opened s) ≡ list_tree
 unfolding opened
 otherwise_of-opened s = refl
 
--- ---- emissions, one more at the end
+-- ---- the nodes of one branch
+
+module _ (texts : List (List ℕ)) (plan : StreamTrees) (first : ℕ) (Means Beside : Meaning) where
+  children_stand : (shape : Option (List Field)) (keys : List (List Value)) (received : Received) (below : Below) → FitsBranch shape Children →
+      BelowRepresents texts plan first Means Beside shape keys received below → Means below.children (received Children)
+  children_stand None keys received below fits stands = stands.0
+  children_stand (Some fields) keys received below fits stands = absurd fits
+
+  otherwise_stand : (shape : Option (List Field)) (keys : List (List Value)) (received : Received) (below : Below) → FitsBranch shape Otherwise →
+      BelowRepresents texts plan first Means Beside shape keys received below → Beside below.otherwise (received Otherwise)
+  otherwise_stand None keys received below fits stands = stands.1
+  otherwise_stand (Some fields) keys received below fits stands = absurd fits
+
+  children_put : (shape : Option (List Field)) (keys : List (List Value)) (received : Received) (x : Entry) (children otherwise : List Node) (forks : ForkTable Forest) (children' : List Node) → FitsBranch shape Children →
+      BelowRepresents texts plan first Means Beside shape keys received (record { children = children; otherwise = otherwise; forks = forks }) → Means children' (received Children ▸ x) →
+      BelowRepresents texts plan first Means Beside shape keys (extended Children x received) (record { children = children'; otherwise = otherwise; forks = forks })
+  children_put None keys received x children otherwise forks children' fits stands now = (now, stands.1)
+  children_put (Some fields) keys received x children otherwise forks children' fits stands now = absurd fits
+
+  otherwise_put : (shape : Option (List Field)) (keys : List (List Value)) (received : Received) (x : Entry) (children otherwise : List Node) (forks : ForkTable Forest) (otherwise' : List Node) → FitsBranch shape Otherwise →
+      BelowRepresents texts plan first Means Beside shape keys received (record { children = children; otherwise = otherwise; forks = forks }) → Beside otherwise' (received Otherwise ▸ x) →
+      BelowRepresents texts plan first Means Beside shape keys (extended Otherwise x received) (record { children = children; otherwise = otherwise'; forks = forks })
+  otherwise_put None keys received x children otherwise forks otherwise' fits stands now = (stands.0, now)
+  otherwise_put (Some fields) keys received x children otherwise forks otherwise' fits stands now = absurd fits
+
+  forks_stand : (shape : Option (List Field)) (keys : List (List Value)) (received : Received) (key : List Value) (below : Below) → FitsBranch shape (Fork key) →
+      BelowRepresents texts plan first Means Beside shape keys received below → CanFork texts plan first × ForksRepresent Means (plan_deadline plan) keys (λ k. received (Fork k)) below.forks
+  forks_stand None keys received key below fits stands = absurd fits
+  forks_stand (Some fields) keys received key below fits stands = (stands.0, stands.1)
+
+  forks_put : (shape : Option (List Field)) (keys keys' : List (List Value)) (received received' : Received) (key : List Value) (children otherwise : List Node) (forks forks' : ForkTable Forest) → FitsBranch shape (Fork key) →
+      BelowRepresents texts plan first Means Beside shape keys received (record { children = children; otherwise = otherwise; forks = forks }) → ForksRepresent Means (plan_deadline plan) keys' (λ k. received' (Fork k)) forks' →
+      BelowRepresents texts plan first Means Beside shape keys' received' (record { children = children; otherwise = otherwise; forks = forks' })
+  forks_put None keys keys' received received' key children otherwise forks forks' fits stands now = absurd fits
+  forks_put (Some fields) keys keys' received received' key children otherwise forks forks' fits stands now = (stands.0, now)
+
+fit_front : (shape : Option (List Field)) (es more : List Emission) → FitAll shape (es ++ more) → FitAll shape es
+fit_front shape [] more fit = tt
+fit_front shape (emission ∷ es) more fit = (fit.0, fit_front shape es more fit.1)
+
+fit_back : (shape : Option (List Field)) (es more : List Emission) → FitAll shape (es ++ more) → FitAll shape more
+fit_back shape [] more fit = fit
+fit_back shape (emission ∷ es) more fit = fit_back shape es more fit.1
+
+keys-snoc : (es : List Emission) (emission : Emission) (keys : List (List Value)) → with_branches (es ++ emission ∷ []) keys ≡ with_branch emission.branch (with_branches es keys)
+keys-snoc [] emission keys = refl
+keys-snoc (first ∷ es) emission keys = keys-snoc es emission (with_branch first.branch keys)
 
 after_emissions-snoc : (branch : Branch) (es : List Emission) (emission : Emission) (h : History) →
     after_emissions branch (es ++ emission ∷ []) h ≡ cond (same_branch emission.branch branch) (after_emissions branch es h ▸ In emission.item) (after_emissions branch es h)
@@ -53,145 +114,354 @@ at_emissions-snoc effects_in received (first ∷ es) emission =
     ap (λ (l : List Effect). said ++ l) (at_emissions-snoc effects_in next es emission)
     ∙ sym (append_assoc said (at_emissions effects_in next es) (effects_in emission.branch (after_emissions emission.branch es (next emission.branch) ▸ In emission.item)))
 
-same_moment : (a b : History) (x : Entry) → moment_of a ≡ moment_of b → moment_of (a ▸ x) ≡ moment_of (b ▸ x)
-same_moment a b Tick same = ap (λ (m : ℕ). m + 1) same
-same_moment a b (In item) same = same
+at_emissions-append : (effects_in : BranchEffects) (received : Received) (es more : List Emission) → (rest : List Effect) × (at_emissions effects_in received (es ++ more) ≡ at_emissions effects_in received es ++ rest)
+at_emissions-append effects_in received [] more = (at_emissions effects_in received more, refl)
+at_emissions-append effects_in received (first ∷ es) more =
+    let said = effects_in first.branch (received first.branch ▸ In first.item) in
+    let rest = at_emissions-append effects_in (received_more first received) es more in
+    (rest.0, ap (λ (l : List Effect). said ++ l) rest.1 ∙ sym (append_assoc said (at_emissions effects_in (received_more first received) es) rest.0))
 
-ticked_moment : (h : History) (x : Entry) → moment_of (ticked x h) ≡ moment_of (h ▸ x)
-ticked_moment h Tick = refl
-ticked_moment h (In item) = refl
+-- what is not there still has ticks alone
+unseen_after : (shape : Option (List Field)) (es : List Emission) (keys : List (List Value)) (received : Received) → UnseenHaveTicks shape keys received →
+    UnseenHaveTicks shape (with_branches es keys) (λ branch. after_emissions branch es (received branch))
+unseen_after shape [] keys received unseen = unseen
+unseen_after shape (emission ∷ es) keys received unseen =
+    unseen_after shape es (with_branch emission.branch keys) (extended emission.branch (In emission.item) received) (unseen_goes_on shape emission.branch (In emission.item) keys received unseen)
 
-module _ {G : Type 0} (patterns : List Regex) (moment : ℕ) where
-  -- the entry comes to one branch
-  children_run : (s : Stream) (streams : List Stream) (x : Entry) (a b : List Output) (t u : StepCount G) (below beside below' : List Node) →
-      streams ≡ (out-Stream s).children.items → ForestRuns patterns moment x a t b u (list_trees streams) below below' →
-      BranchRuns patterns moment a t b u (opened s) below beside below' beside Children x
-  children_run s streams x a b t u below beside below' is runs texts received from stands now =
+module _ (start moment : ℕ) where
+  comes_here : (received : Received) (branch : Branch) (item : Item) → AllStand start moment received → ComesAt start moment (received branch) (In item)
+  comes_here received branch item stand = record { begins = stand.begins branch; comes = stand.stands branch; small = stand.small }
+
+  stand_after : (es : List Emission) (received : Received) → AllStand start moment received → AllStand start moment (λ branch. after_emissions branch es (received branch))
+  stand_after es received stand = record {
+    begins = λ branch. (after_emissions-moments branch es (received branch)).begins ∙ stand.begins branch;
+    stands = λ branch. (after_emissions-moments branch es (received branch)).ends ∙ stand.stands branch;
+    small = stand.small;
+  }
+
+  module _ (s : Stream) (streams : List Stream) (is : streams ≡ (out-Stream s).children.items) (first : ℕ) (key : List Value) (x : Entry) (children otherwise : Forest) (forks found : ForkTable Forest) (number : ℕ)
+      (finds : IsFound (list_trees streams) first start key forks found number) where
+    -- the fork of the key is found
+    fork_found : (texts : List (List ℕ)) (keys : List (List Value)) (received : Received) → FitsBranch (forked_by (kind_of (opened s))) (Fork key) →
+        BelowIs texts (opened s) first keys received (below_of children otherwise forks) → UnseenHaveTicks (forked_by (kind_of (opened s))) keys received → ComesAt start moment (received (Fork key)) x →
+        FoundAt texts (children_of (opened s)) key keys (λ k. received (Fork k)) found number
+    fork_found texts keys received fits stands unseen comes =
+        let plan = children_of (opened s) in
+        let trees : list_trees streams ≡ children_of (opened s) = ap list_trees is ∙ sym (children_of-opened s) in
+        let here = forks_stand texts plan first (ForestRepresents texts plan) (ForestRepresents texts (otherwise_of (opened s))) (forked_by (kind_of (opened s))) keys received key (below_of children otherwise forks) fits stands in
+        subst (λ (trees : StreamTrees). IsFound trees first start key forks found number) trees finds texts keys (λ k. received (Fork k)) here.0 here.1 (unseen_fits (forked_by (kind_of (opened s))) keys received key fits unseen) comes.begins
+
+    stands_there : (texts : List (List ℕ)) (keys : List (List Value)) (received : Received) → FoundAt texts (children_of (opened s)) key keys (λ k. received (Fork k)) found number →
+        ComesAt start moment (received (Fork key)) x → ForkStands start moment texts (children_of (opened s)) number found (received (Fork key)) x
+    stands_there texts keys received at comes = record {
+      is_table = at.forks_stand.is_table;
+      within = let even = even_keys found (with_key key keys) at.forks_stand.is_table at.forks_stand.keys_are in omega (arith, even, at.within);
+      fork = λ other.
+          subst (λ (k : List Value). ForestRepresents texts (children_of (opened s)) (nodes_of (get_or (fork_list found) number other)) (received (Fork k))) at.at_key
+          (at.forks_stand.each number other at.within);
+      comes = comes;
+    }
+
+module _ {G : Type 0} (patterns : List Regex) (start moment : ℕ) where
+  -- ---- the entry comes to one branch
+
+  pub branch_children : (s : Stream) (streams : List Stream) (branch : CodeBranch) (x : Entry) (a b : List Output) (t u : StepCount G) (children otherwise children' : Forest) →
+      branch ≡ code.Children → streams ≡ (out-Stream s).children.items → ForestRuns patterns start moment a t b u x (list_trees streams) (nodes_of children) (nodes_of children') →
+      (first : ℕ) (forks : ForkTable Forest) → BranchRuns patterns start moment a t b u x (opened s) first (branch_meant branch) (below_of children otherwise forks) (below_of children' otherwise forks)
+  branch_children s streams branch x a b t u children otherwise children' at is runs first forks =
+      subst (λ (other : CodeBranch). BranchRuns patterns start moment a t b u x (opened s) first (branch_meant other) (below_of children otherwise forks) (below_of children' otherwise forks)) (sym at)
+      (λ texts keys received from fits stands unseen comes.
+      let plan = children_of (opened s) in
+      let Means = ForestRepresents texts plan in
+      let Beside = ForestRepresents texts (otherwise_of (opened s)) in
+      let shape = forked_by (kind_of (opened s)) in
       let trees : list_trees streams ≡ children_of (opened s) = ap list_trees is ∙ sym (children_of-opened s) in
-      let ran = subst (λ (trees : StreamTrees). ForestRuns patterns moment x a t b u trees below below') trees runs texts (received Children) from stands.children now in
-      (record { children = ran.0; otherwise = stands.otherwise }, ran.1)
+      let ran = subst (λ (trees : StreamTrees). ForestRuns patterns start moment a t b u x trees (nodes_of children) (nodes_of children')) trees runs texts (received Children) from
+      (children_stand texts plan first Means Beside shape keys received (below_of children otherwise forks) fits stands) comes in
+      (children_put texts plan first Means Beside shape keys received x (nodes_of children) (nodes_of otherwise) forks (nodes_of children') fits stands ran.0, ran.1))
 
-  otherwise_run : (s : Stream) (streams : List Stream) (x : Entry) (a b : List Output) (t u : StepCount G) (below beside beside' : List Node) →
-      streams ≡ (out-Stream s).otherwise.items → ForestRuns patterns moment x a t b u (list_trees streams) beside beside' →
-      BranchRuns patterns moment a t b u (opened s) below beside below beside' Otherwise x
-  otherwise_run s streams x a b t u below beside beside' is runs texts received from stands now =
+  pub branch_otherwise : (s : Stream) (streams : List Stream) (branch : CodeBranch) (x : Entry) (a b : List Output) (t u : StepCount G) (children otherwise otherwise' : Forest) →
+      branch ≡ code.Otherwise → streams ≡ (out-Stream s).otherwise.items → ForestRuns patterns start moment a t b u x (list_trees streams) (nodes_of otherwise) (nodes_of otherwise') →
+      (first : ℕ) (forks : ForkTable Forest) → BranchRuns patterns start moment a t b u x (opened s) first (branch_meant branch) (below_of children otherwise forks) (below_of children otherwise' forks)
+  branch_otherwise s streams branch x a b t u children otherwise otherwise' at is runs first forks =
+      subst (λ (other : CodeBranch). BranchRuns patterns start moment a t b u x (opened s) first (branch_meant other) (below_of children otherwise forks) (below_of children otherwise' forks)) (sym at)
+      (λ texts keys received from fits stands unseen comes.
+      let plan = children_of (opened s) in
+      let Means = ForestRepresents texts plan in
+      let Beside = ForestRepresents texts (otherwise_of (opened s)) in
+      let shape = forked_by (kind_of (opened s)) in
       let trees : list_trees streams ≡ otherwise_of (opened s) = ap list_trees is ∙ sym (otherwise_of-opened s) in
-      let ran = subst (λ (trees : StreamTrees). ForestRuns patterns moment x a t b u trees beside beside') trees runs texts (received Otherwise) from stands.otherwise now in
-      (record { children = stands.children; otherwise = ran.0 }, ran.1)
+      let ran = subst (λ (trees : StreamTrees). ForestRuns patterns start moment a t b u x trees (nodes_of otherwise) (nodes_of otherwise')) trees runs texts (received Otherwise) from
+      (otherwise_stand texts plan first Means Beside shape keys received (below_of children otherwise forks) fits stands) comes in
+      (otherwise_put texts plan first Means Beside shape keys received x (nodes_of children) (nodes_of otherwise) forks (nodes_of otherwise') fits stands ran.0, ran.1))
 
-  pub branch_children : (s : Stream) (streams : List Stream) (branch : CodeBranch) (x : Entry) (a b : List Output) (t u : StepCount G) (below beside below' : List Node) →
-      branch ≡ code.Children → streams ≡ (out-Stream s).children.items → ForestRuns patterns moment x a t b u (list_trees streams) below below' →
-      BranchRuns patterns moment a t b u (opened s) below beside below' beside (branch_meant branch) x
-  branch_children s streams branch x a b t u below beside below' at is runs =
-      subst (λ (other : CodeBranch). BranchRuns patterns moment a t b u (opened s) below beside below' beside (branch_meant other) x) (sym at)
-      (children_run s streams x a b t u below beside below' is runs)
+  pub children_stop : (s : Stream) (streams : List Stream) (branch : CodeBranch) (x : Entry) (a b : List Output) (t u : StepCount G) (children otherwise : Forest) →
+      branch ≡ code.Children → streams ≡ (out-Stream s).children.items → ForestStops patterns start moment a t b u x (list_trees streams) (nodes_of children) →
+      (first : ℕ) (forks : ForkTable Forest) → BranchStops patterns start moment a t b u x (opened s) first (branch_meant branch) (below_of children otherwise forks)
+  children_stop s streams branch x a b t u children otherwise at is stops first forks =
+      subst (λ (other : CodeBranch). BranchStops patterns start moment a t b u x (opened s) first (branch_meant other) (below_of children otherwise forks)) (sym at)
+      (λ texts keys received from fits stands unseen comes.
+      let plan = children_of (opened s) in
+      let trees : list_trees streams ≡ children_of (opened s) = ap list_trees is ∙ sym (children_of-opened s) in
+      (subst (λ (trees : StreamTrees). ForestStops patterns start moment a t b u x trees (nodes_of children)) trees stops texts (received Children) from
+      (children_stand texts plan first (ForestRepresents texts plan) (ForestRepresents texts (otherwise_of (opened s))) (forked_by (kind_of (opened s))) keys received (below_of children otherwise forks) fits stands) comes).part)
 
-  pub branch_otherwise : (s : Stream) (streams : List Stream) (branch : CodeBranch) (x : Entry) (a b : List Output) (t u : StepCount G) (below beside beside' : List Node) →
-      branch ≡ code.Otherwise → streams ≡ (out-Stream s).otherwise.items → ForestRuns patterns moment x a t b u (list_trees streams) beside beside' →
-      BranchRuns patterns moment a t b u (opened s) below beside below beside' (branch_meant branch) x
-  branch_otherwise s streams branch x a b t u below beside beside' at is runs =
-      subst (λ (other : CodeBranch). BranchRuns patterns moment a t b u (opened s) below beside below beside' (branch_meant other) x) (sym at)
-      (otherwise_run s streams x a b t u below beside beside' is runs)
+  pub otherwise_stop : (s : Stream) (streams : List Stream) (branch : CodeBranch) (x : Entry) (a b : List Output) (t u : StepCount G) (children otherwise : Forest) →
+      branch ≡ code.Otherwise → streams ≡ (out-Stream s).otherwise.items → ForestStops patterns start moment a t b u x (list_trees streams) (nodes_of otherwise) →
+      (first : ℕ) (forks : ForkTable Forest) → BranchStops patterns start moment a t b u x (opened s) first (branch_meant branch) (below_of children otherwise forks)
+  otherwise_stop s streams branch x a b t u children otherwise at is stops first forks =
+      subst (λ (other : CodeBranch). BranchStops patterns start moment a t b u x (opened s) first (branch_meant other) (below_of children otherwise forks)) (sym at)
+      (λ texts keys received from fits stands unseen comes.
+      let plan = children_of (opened s) in
+      let trees : list_trees streams ≡ otherwise_of (opened s) = ap list_trees is ∙ sym (otherwise_of-opened s) in
+      (subst (λ (trees : StreamTrees). ForestStops patterns start moment a t b u x trees (nodes_of otherwise)) trees stops texts (received Otherwise) from
+      (otherwise_stand texts plan first (ForestRepresents texts plan) (ForestRepresents texts (otherwise_of (opened s))) (forked_by (kind_of (opened s))) keys received (below_of children otherwise forks) fits stands) comes).part)
 
-  -- a tick comes to both
-  tick_runs : (s : StreamTree) (a b c : List Output) (t u v : StepCount G) (below beside below' beside' : List Node) →
-      BranchRuns patterns moment a t b u s below beside below' beside Children Tick →
-      BranchRuns patterns moment b u c v s below' beside below' beside' Otherwise Tick →
-      TickRuns patterns moment a t c v s below beside below' beside' Tick
-  tick_runs s a b c t u v below beside below' beside' first second texts received from stands now =
-      let one = first texts received from stands (now Children) in
-      let two = second texts (extended Children Tick received) from one.0 (now Otherwise) in
-      let told = effects_below s Otherwise (received Otherwise ▸ Tick) in (
-        record { children = two.0.children; otherwise = two.0.otherwise },
-        subst (λ (hs : List Effect). Performs a t c v (effects_below s Children (received Children ▸ Tick) ++ hs)) (sym (append-nil told))
-            (grew_then a b c t u v (effects_below s Children (received Children ▸ Tick)) told one.1 two.1),
+  -- ---- a tick comes to both branches
+
+  both_case : (texts : List (List ℕ)) (plan beside : StreamTrees) (first : ℕ) (shape : Option (List Field)) (keys : List (List Value)) (received : Received) (a b c : List Output) (t u v : StepCount G)
+      (children otherwise children' otherwise' : List Node) (forks : ForkTable Forest) → is_some shape ≡ false →
+      BelowRepresents texts plan first (ForestRepresents texts plan) (ForestRepresents texts beside) shape keys received (record { children = children; otherwise = otherwise; forks = forks }) →
+      (ForestRepresents texts plan children (received Children) → ForestRepresents texts plan children' (received Children ▸ Tick) × Performs a t b u (plan_effects plan (received Children ▸ Tick))) →
+      (ForestRepresents texts beside otherwise (received Otherwise) → ForestRepresents texts beside otherwise' (received Otherwise ▸ Tick) × Performs b u c v (plan_effects beside (received Otherwise ▸ Tick))) →
+      BelowRepresents texts plan first (ForestRepresents texts plan) (ForestRepresents texts beside) shape keys (λ branch. received branch ▸ Tick) (record { children = children'; otherwise = otherwise'; forks = forks })
+      × Performs a t c v (at_tick Tick (branch_effects (plan_effects plan) (plan_effects beside)) received (branches_by shape keys))
+  both_case texts plan beside first None keys received a b c t u v children otherwise children' otherwise' forks plain stands one two =
+      let ran = one stands.0 in
+      let ran' = two stands.1 in
+      let told = plan_effects plan (received Children ▸ Tick) in
+      let told' = plan_effects beside (received Otherwise ▸ Tick) in (
+        (ran.0, ran'.0),
+        subst (λ (hs : List Effect). Performs a t c v (told ++ hs)) (sym (append-nil told')) (grew_then a b c t u v told told' ran.1 ran'.1),
+      )
+  both_case texts plan beside first (Some fields) keys received a b c t u v children otherwise children' otherwise' forks plain stands one two = absurd (cc)
+
+  pub both_run : (s : Stream) (children_streams otherwise_streams : List Stream) (x : Entry) (a b c : List Output) (t u v : StepCount G) (children otherwise children' otherwise' : Forest) (forks : ForkTable Forest) →
+      is_some (forked_by (kind_tree (out-Stream s).kind)) ≡ false → x ≡ Tick → children_streams ≡ (out-Stream s).children.items → otherwise_streams ≡ (out-Stream s).otherwise.items →
+      ForestRuns patterns start moment a t b u x (list_trees children_streams) (nodes_of children) (nodes_of children') →
+      ForestRuns patterns start moment b u c v x (list_trees otherwise_streams) (nodes_of otherwise) (nodes_of otherwise') →
+      (first : ℕ) → TickRuns patterns start moment a t c v x (opened s) first (below_of children otherwise forks) (below_of children' otherwise' forks)
+  both_run s children_streams otherwise_streams x a b c t u v children otherwise children' otherwise' forks plain is children_is otherwise_is one two first =
+      subst (λ (y : Entry). TickRuns patterns start moment a t c v y (opened s) first (below_of children otherwise forks) (below_of children' otherwise' forks)) (sym is)
+      (λ texts keys received from stands comes.
+      let trees : list_trees children_streams ≡ children_of (opened s) = ap list_trees children_is ∙ sym (children_of-opened s) in
+      let trees' : list_trees otherwise_streams ≡ otherwise_of (opened s) = ap list_trees otherwise_is ∙ sym (otherwise_of-opened s) in
+      let one' = subst (λ (trees : StreamTrees). ForestRuns patterns start moment a t b u Tick trees (nodes_of children) (nodes_of children')) trees
+      (subst (λ (y : Entry). ForestRuns patterns start moment a t b u y (list_trees children_streams) (nodes_of children) (nodes_of children')) is one) in
+      let two' = subst (λ (trees : StreamTrees). ForestRuns patterns start moment b u c v Tick trees (nodes_of otherwise) (nodes_of otherwise')) trees'
+      (subst (λ (y : Entry). ForestRuns patterns start moment b u c v y (list_trees otherwise_streams) (nodes_of otherwise) (nodes_of otherwise')) is two) in
+      both_case texts (children_of (opened s)) (otherwise_of (opened s)) first (forked_by (kind_of (opened s))) keys received a b c t u v
+      (nodes_of children) (nodes_of otherwise) (nodes_of children') (nodes_of otherwise') forks
+      (ap (λ (kind : KindTree). is_some (forked_by kind)) (kind_of-opened s) ∙ plain) stands
+      (λ here. one' texts (received Children) from here (comes.each Children)) (λ here. two' texts (received Otherwise) from here (comes.each Otherwise)))
+
+  one_stops_case : (texts : List (List ℕ)) (plan beside : StreamTrees) (first : ℕ) (shape : Option (List Field)) (keys : List (List Value)) (received : Received) (a b : List Output) (t u : StepCount G)
+      (below : Below) → is_some shape ≡ false →
+      BelowRepresents texts plan first (ForestRepresents texts plan) (ForestRepresents texts beside) shape keys received below →
+      (ForestRepresents texts plan below.children (received Children) → Stops a t b u Tick (plan_effects plan (received Children ▸ Tick))) →
+      Stops a t b u Tick (at_tick Tick (branch_effects (plan_effects plan) (plan_effects beside)) received (branches_by shape keys))
+  one_stops_case texts plan beside first None keys received a b t u below plain stands one =
+      stops_more a b t u Tick (plan_effects plan (received Children ▸ Tick)) (plan_effects beside (received Otherwise ▸ Tick) ++ []) (one stands.0)
+  one_stops_case texts plan beside first (Some fields) keys received a b t u below plain stands one = absurd (cc)
+
+  pub one_stops : (s : Stream) (streams : List Stream) (x : Entry) (a b : List Output) (t u : StepCount G) (children otherwise : Forest) (forks : ForkTable Forest) →
+      is_some (forked_by (kind_tree (out-Stream s).kind)) ≡ false → x ≡ Tick → streams ≡ (out-Stream s).children.items →
+      ForestStops patterns start moment a t b u x (list_trees streams) (nodes_of children) →
+      (first : ℕ) → TickStops patterns start moment a t b u x (opened s) first (below_of children otherwise forks)
+  one_stops s streams x a b t u children otherwise forks plain is children_is one first =
+      subst (λ (y : Entry). TickStops patterns start moment a t b u y (opened s) first (below_of children otherwise forks)) (sym is)
+      (λ texts keys received from stands comes.
+      let trees : list_trees streams ≡ children_of (opened s) = ap list_trees children_is ∙ sym (children_of-opened s) in
+      let one' = subst (λ (trees : StreamTrees). ForestStops patterns start moment a t b u Tick trees (nodes_of children)) trees
+      (subst (λ (y : Entry). ForestStops patterns start moment a t b u y (list_trees streams) (nodes_of children)) is one) in
+      one_stops_case texts (children_of (opened s)) (otherwise_of (opened s)) first (forked_by (kind_of (opened s))) keys received a b t u (below_of children otherwise forks)
+      (ap (λ (kind : KindTree). is_some (forked_by kind)) (kind_of-opened s) ∙ plain) stands (λ here. one' texts (received Children) from here (comes.each Children)))
+
+  two_stops_case : (texts : List (List ℕ)) (plan beside : StreamTrees) (first : ℕ) (shape : Option (List Field)) (keys : List (List Value)) (received : Received) (a b c : List Output) (t u v : StepCount G)
+      (below : Below) (children' : List Node) → is_some shape ≡ false →
+      BelowRepresents texts plan first (ForestRepresents texts plan) (ForestRepresents texts beside) shape keys received below →
+      (ForestRepresents texts plan below.children (received Children) → ForestRepresents texts plan children' (received Children ▸ Tick) × Performs a t b u (plan_effects plan (received Children ▸ Tick))) →
+      (ForestRepresents texts beside below.otherwise (received Otherwise) → Stops b u c v Tick (plan_effects beside (received Otherwise ▸ Tick))) →
+      Stops a t c v Tick (at_tick Tick (branch_effects (plan_effects plan) (plan_effects beside)) received (branches_by shape keys))
+  two_stops_case texts plan beside first None keys received a b c t u v below children' plain stands one two =
+      let told = plan_effects plan (received Children ▸ Tick) in
+      let told' = plan_effects beside (received Otherwise ▸ Tick) in
+      subst (λ (hs : List Effect). Stops a t c v Tick (told ++ hs)) (sym (append-nil told')) (stops_then a b c t u v Tick told told' (one stands.0).1 (two stands.1))
+  two_stops_case texts plan beside first (Some fields) keys received a b c t u v below children' plain stands one two = absurd (cc)
+
+  pub two_stops : (s : Stream) (children_streams otherwise_streams : List Stream) (x : Entry) (a b c : List Output) (t u v : StepCount G) (children otherwise children' : Forest) (forks : ForkTable Forest) →
+      is_some (forked_by (kind_tree (out-Stream s).kind)) ≡ false → x ≡ Tick → children_streams ≡ (out-Stream s).children.items → otherwise_streams ≡ (out-Stream s).otherwise.items →
+      ForestRuns patterns start moment a t b u x (list_trees children_streams) (nodes_of children) (nodes_of children') →
+      ForestStops patterns start moment b u c v x (list_trees otherwise_streams) (nodes_of otherwise) →
+      (first : ℕ) → TickStops patterns start moment a t c v x (opened s) first (below_of children otherwise forks)
+  two_stops s children_streams otherwise_streams x a b c t u v children otherwise children' forks plain is children_is otherwise_is one two first =
+      subst (λ (y : Entry). TickStops patterns start moment a t c v y (opened s) first (below_of children otherwise forks)) (sym is)
+      (λ texts keys received from stands comes.
+      let trees : list_trees children_streams ≡ children_of (opened s) = ap list_trees children_is ∙ sym (children_of-opened s) in
+      let trees' : list_trees otherwise_streams ≡ otherwise_of (opened s) = ap list_trees otherwise_is ∙ sym (otherwise_of-opened s) in
+      let one' = subst (λ (trees : StreamTrees). ForestRuns patterns start moment a t b u Tick trees (nodes_of children) (nodes_of children')) trees
+      (subst (λ (y : Entry). ForestRuns patterns start moment a t b u y (list_trees children_streams) (nodes_of children) (nodes_of children')) is one) in
+      let two' = subst (λ (trees : StreamTrees). ForestStops patterns start moment b u c v Tick trees (nodes_of otherwise)) trees'
+      (subst (λ (y : Entry). ForestStops patterns start moment b u c v y (list_trees otherwise_streams) (nodes_of otherwise)) is two) in
+      two_stops_case texts (children_of (opened s)) (otherwise_of (opened s)) first (forked_by (kind_of (opened s))) keys received a b c t u v (below_of children otherwise forks) (nodes_of children')
+      (ap (λ (kind : KindTree). is_some (forked_by kind)) (kind_of-opened s) ∙ plain) stands
+      (λ here. one' texts (received Children) from here (comes.each Children)) (λ here. two' texts (received Otherwise) from here (comes.each Otherwise)))
+
+  -- ---- a tick comes to the forks
+
+  due_case : (texts : List (List ℕ)) (plan beside : StreamTrees) (first : ℕ) (shape : Option (List Field)) (keys : List (List Value)) (received : Received) (a b : List Output) (t u : StepCount G)
+      (children otherwise : List Node) (forks forks' : ForkTable Forest) → is_some shape ≡ true → AreReadFrom texts patterns →
+      BelowRepresents texts plan first (ForestRepresents texts plan) (ForestRepresents texts beside) shape keys received (record { children = children; otherwise = otherwise; forks = forks }) →
+      ((branch : Branch) → ComesAt start moment (received branch) Tick) → DueRuns patterns start moment a t b u plan forks forks' →
+      BelowRepresents texts plan first (ForestRepresents texts plan) (ForestRepresents texts beside) shape keys (λ branch. received branch ▸ Tick) (record { children = children; otherwise = otherwise; forks = forks' })
+      × Performs a t b u (at_tick Tick (branch_effects (plan_effects plan) (plan_effects beside)) received (branches_by shape keys))
+  due_case texts plan beside first None keys received a b t u children otherwise forks forks' forked from stands comes runs = absurd (cc)
+  due_case texts plan beside first (Some fields) keys received a b t u children otherwise forks forks' forked from stands comes runs =
+      let ran = runs texts keys (λ key. received (Fork key)) from stands.0.in_range stands.1 (λ key. comes (Fork key)) in (
+        (stands.0, ran.0),
+        subst (λ (hs : List Effect). Performs a t b u hs) (sym (forks_tick (plan_effects plan) (plan_effects beside) received keys)) ran.1,
       )
 
-  pub both_run : (s : Stream) (children otherwise : List Stream) (x : Entry) (a b c : List Output) (t u v : StepCount G) (below beside below' beside' : List Node) →
-      x ≡ Tick → children ≡ (out-Stream s).children.items → otherwise ≡ (out-Stream s).otherwise.items →
-      ForestRuns patterns moment x a t b u (list_trees children) below below' →
-      ForestRuns patterns moment x b u c v (list_trees otherwise) beside beside' →
-      TickRuns patterns moment a t c v (opened s) below beside below' beside' x
-  both_run s children otherwise x a b c t u v below beside below' beside' is children_is otherwise_is first second =
-      subst (λ (y : Entry). TickRuns patterns moment a t c v (opened s) below beside below' beside' y) (sym is)
-      (tick_runs (opened s) a b c t u v below beside below' beside'
-      (children_run s children Tick a b t u below beside below' children_is
-      (subst (λ (y : Entry). ForestRuns patterns moment y a t b u (list_trees children) below below') is first))
-      (otherwise_run s otherwise Tick b c u v below' beside beside' otherwise_is
-      (subst (λ (y : Entry). ForestRuns patterns moment y b u c v (list_trees otherwise) beside beside') is second)))
+  pub due_run : (s : Stream) (x : Entry) (a b : List Output) (t u : StepCount G) (children otherwise : Forest) (forks forks' : ForkTable Forest) →
+      is_some (forked_by (kind_tree (out-Stream s).kind)) ≡ true → x ≡ Tick → DueRuns patterns start moment a t b u (children_of (opened s)) forks forks' →
+      (first : ℕ) → TickRuns patterns start moment a t b u x (opened s) first (below_of children otherwise forks) (below_of children otherwise forks')
+  due_run s x a b t u children otherwise forks forks' forked is runs first =
+      subst (λ (y : Entry). TickRuns patterns start moment a t b u y (opened s) first (below_of children otherwise forks) (below_of children otherwise forks')) (sym is)
+      (λ texts keys received from stands comes.
+      due_case texts (children_of (opened s)) (otherwise_of (opened s)) first (forked_by (kind_of (opened s))) keys received a b t u (nodes_of children) (nodes_of otherwise) forks forks'
+      (ap (λ (kind : KindTree). is_some (forked_by kind)) (kind_of-opened s) ∙ forked) from stands comes.each runs)
+
+  due_stops_case : (texts : List (List ℕ)) (plan beside : StreamTrees) (first : ℕ) (shape : Option (List Field)) (keys : List (List Value)) (received : Received) (a b : List Output) (t u : StepCount G)
+      (below : Below) → is_some shape ≡ true → AreReadFrom texts patterns →
+      BelowRepresents texts plan first (ForestRepresents texts plan) (ForestRepresents texts beside) shape keys received below →
+      ((branch : Branch) → ComesAt start moment (received branch) Tick) → DueStops patterns start moment a t b u plan below.forks →
+      Stops a t b u Tick (at_tick Tick (branch_effects (plan_effects plan) (plan_effects beside)) received (branches_by shape keys))
+  due_stops_case texts plan beside first None keys received a b t u below forked from stands comes stops = absurd (cc)
+  due_stops_case texts plan beside first (Some fields) keys received a b t u below forked from stands comes stops =
+      subst (λ (hs : List Effect). Stops a t b u Tick hs) (sym (forks_tick (plan_effects plan) (plan_effects beside) received keys))
+      (stops texts keys (λ key. received (Fork key)) from stands.0.in_range stands.1 (λ key. comes (Fork key)))
+
+  pub due_stops : (s : Stream) (x : Entry) (a b : List Output) (t u : StepCount G) (children otherwise : Forest) (forks : ForkTable Forest) →
+      is_some (forked_by (kind_tree (out-Stream s).kind)) ≡ true → x ≡ Tick → DueStops patterns start moment a t b u (children_of (opened s)) forks →
+      (first : ℕ) → TickStops patterns start moment a t b u x (opened s) first (below_of children otherwise forks)
+  due_stops s x a b t u children otherwise forks forked is stops first =
+      subst (λ (y : Entry). TickStops patterns start moment a t b u y (opened s) first (below_of children otherwise forks)) (sym is)
+      (λ texts keys received from stands comes.
+      due_stops_case texts (children_of (opened s)) (otherwise_of (opened s)) first (forked_by (kind_of (opened s))) keys received a b t u (below_of children otherwise forks)
+      (ap (λ (kind : KindTree). is_some (forked_by kind)) (kind_of-opened s) ∙ forked) from stands comes.each stops)
+
+  -- an item is no tick
+  pub item_waits : (s : StreamTree) (x : Entry) (item : Item) (a : List Output) (t : StepCount G) (below : Below) → x ≡ In item → (first : ℕ) → TickRuns patterns start moment a t a t x s first below below
+  item_waits s x item a t below is first =
+      subst (λ (y : Entry). TickRuns patterns start moment a t a t y s first below below) (sym is) (λ texts keys received from stands comes. (stands, grew_none a t))
+
+  -- ---- an item comes to a fork
+
+  module _ (s : Stream) (streams : List Stream) (is : streams ≡ (out-Stream s).children.items) (first : ℕ) (key : List Value) (x : Entry) (children otherwise : Forest) (forks found : ForkTable Forest) (number : ℕ)
+      (finds : IsFound (list_trees streams) first start key forks found number) where
+    pub key_run : (a b : List Output) (t u : StepCount G) (forks' : ForkTable Forest) → ForkRuns patterns start moment a t b u x (children_of (opened s)) number found forks' →
+        BranchRuns patterns start moment a t b u x (opened s) first (Fork key) (below_of children otherwise forks) (below_of children otherwise forks')
+    key_run a b t u forks' runs texts keys received from fits stands unseen comes =
+        let plan = children_of (opened s) in
+        let at = fork_found start moment s streams is first key x children otherwise forks found number finds texts keys received fits stands unseen comes in
+        let ran = runs texts (received (Fork key)) from (stands_there start moment s streams is first key x children otherwise forks found number finds texts keys received at comes) in (
+          forks_put texts plan first (ForestRepresents texts plan) (ForestRepresents texts (otherwise_of (opened s))) (forked_by (kind_of (opened s))) keys (with_key key keys) received (extended (Fork key) x received) key
+              (nodes_of children) (nodes_of otherwise) forks forks' fits stands (fork_goes_on texts plan x key keys received found forks' number at ran.0),
+          ran.1,
+        )
+
+    pub key_stops : (a b : List Output) (t u : StepCount G) → ForkStops patterns start moment a t b u x (children_of (opened s)) number found →
+        BranchStops patterns start moment a t b u x (opened s) first (Fork key) (below_of children otherwise forks)
+    key_stops a b t u stops texts keys received from fits stands unseen comes =
+        let at = fork_found start moment s streams is first key x children otherwise forks found number finds texts keys received fits stands unseen comes in
+        stops texts (received (Fork key)) from (stands_there start moment s streams is first key x children otherwise forks found number finds texts keys received at comes)
+
+  -- the fork was not found
+  pub key_missed : (s : StreamTree) (x : Entry) (first : ℕ) (branch : Branch) (a : List Output) (t : StepCount G) (below : Below) → BranchStops patterns start moment a t a t x s first branch below
+  key_missed s x first branch a t below texts keys received from fits stands unseen comes = part_none a t (entering (effects_below s) branch (received branch ▸ x))
+
+  -- ---- emissions
 
   -- no emission
-  pub none_run : (s : StreamTree) (a : List Output) (t : StepCount G) (below beside : List Node) → EmissionsRun patterns moment a t a t s below beside below beside []
-  none_run s a t below beside texts received from stands now = (record { children = stands.children; otherwise = stands.otherwise }, grew_none a t)
+  pub none_run : (s : StreamTree) (first : ℕ) (a : List Output) (t : StepCount G) (below : Below) → EmissionsRun patterns start moment a t a t [] s first below below
+  none_run s first a t below texts keys received from fit stands unseen stand = (stands, grew_none a t)
+
+  -- one emission alone
+  pub one_run : (s : StreamTree) (first : ℕ) (branch : Branch) (item : Item) (a b : List Output) (t u : StepCount G) (below below' : Below) →
+      BranchRuns patterns start moment a t b u (In item) s first branch below below' → EmissionsRun patterns start moment a t b u (record { branch = branch; item = item } ∷ []) s first below below'
+  one_run s first branch item a b t u below below' runs texts keys received from fit stands unseen stand =
+      let ran = runs texts keys received from fit.0 stands unseen (comes_here start moment received branch item stand) in
+      (ran.0, subst (λ (hs : List Effect). Performs a t b u hs) (sym (append-nil (entering (effects_below s) branch (received branch ▸ In item)))) ran.1)
+
+  pub one_stop : (s : StreamTree) (first : ℕ) (branch : Branch) (item : Item) (a b : List Output) (t u : StepCount G) (below : Below) →
+      BranchStops patterns start moment a t b u (In item) s first branch below → EmissionsStop patterns start moment a t b u (record { branch = branch; item = item } ∷ []) s first below
+  one_stop s first branch item a b t u below stops texts keys received from fit stands unseen stand = (
+    part_more a b t u (entering (effects_below s) branch (received branch ▸ In item)) [] (stops texts keys received from fit.0 stands unseen (comes_here start moment received branch item stand)),
+    λ none. cc,
+  )
 
   -- one more emission
-  emissions_more : (s : StreamTree) (a b c : List Output) (t u v : StepCount G) (below beside below' beside' below'' beside'' : List Node) (es : List Emission) (emission : Emission) →
-      EmissionsRun patterns moment a t b u s below beside below' beside' es →
-      BranchRuns patterns moment b u c v s below' beside' below'' beside'' emission.branch (In emission.item) →
-      EmissionsRun patterns moment a t c v s below beside below'' beside'' (es ++ emission ∷ [])
-  emissions_more s a b c t u v below beside below' beside' below'' beside'' es emission so_far more texts received from stands now =
-      let one = so_far texts received from stands now in
+  emissions_more : (s : StreamTree) (first : ℕ) (a b c : List Output) (t u v : StepCount G) (below below' below'' : Below) (es : List Emission) (emission : Emission) →
+      EmissionsRun patterns start moment a t b u es s first below below' → BranchRuns patterns start moment b u c v (In emission.item) s first emission.branch below' below'' →
+      EmissionsRun patterns start moment a t c v (es ++ emission ∷ []) s first below below''
+  emissions_more s first a b c t u v below below' below'' es emission so_far more texts keys received from fit stands unseen stand =
+      let plan = children_of s in
+      let Means = ForestRepresents texts plan in
+      let Beside = ForestRepresents texts (otherwise_of s) in
+      let shape = forked_by (kind_of s) in
+      let one = so_far texts keys received from (fit_front shape es (emission ∷ []) fit) stands unseen stand in
       let so = λ (branch : Branch). after_emissions branch es (received branch) in
-      let two = more texts so from one.0 ((after_emissions-moments emission.branch es (received emission.branch)).ends ∙ now emission.branch) in
-      let told = effects_below s emission.branch (so emission.branch ▸ In emission.item) in (
-        record {
-          children = subst (λ (h : History). ForestRepresents texts (children_of s) below'' h) (sym (after_emissions-snoc Children es emission (received Children))) two.0.children;
-          otherwise = subst (λ (h : History). ForestRepresents texts (otherwise_of s) beside'' h) (sym (after_emissions-snoc Otherwise es emission (received Otherwise))) two.0.otherwise;
-        },
-        subst (λ (hs : List Effect). Performs a t c v hs) (sym (at_emissions-snoc (effects_below s) received es emission))
-            (grew_then a b c t u v (at_emissions (effects_below s) received es) told one.1 two.1),
+      let fits = (fit_back shape es (emission ∷ []) fit).0 in
+      let two = more texts (with_branches es keys) so from fits one.0 (unseen_after shape es keys received unseen) (comes_here start moment so emission.branch emission.item (stand_after start moment es received stand)) in
+      let told = entering (effects_below s) emission.branch (so emission.branch ▸ In emission.item) in (
+        subst (λ (ks : List (List Value)). BelowRepresents texts plan first Means Beside shape ks (λ branch. after_emissions branch (es ++ emission ∷ []) (received branch)) below'') (sym (keys-snoc es emission keys))
+            (below_same texts plan first Means Beside shape (with_branch emission.branch (with_branches es keys)) (extended emission.branch (In emission.item) so) (λ branch. after_emissions branch (es ++ emission ∷ []) (received branch)) below''
+            (λ branch. sym (after_emissions-snoc branch es emission (received branch))) two.0),
+        subst (λ (hs : List Effect). Performs a t c v hs) (sym (at_emissions-snoc (entering (effects_below s)) received es emission))
+            (grew_then a b c t u v (at_emissions (entering (effects_below s)) received es) told one.1 two.1),
       )
 
   -- one more of those that the code makes
-  pub one_more_emission : (s : StreamTree) (a b c : List Output) (t u v : StepCount G) (below beside below' beside' below'' beside'' : List Node) (made : List CodeEmission) (emission : CodeEmission) →
-      EmissionsRun patterns moment a t b u s below beside below' beside' (map emission_meant made) →
-      BranchRuns patterns moment b u c v s below' beside' below'' beside'' (branch_numbered emission.branch) (In emission.item) →
-      EmissionsRun patterns moment a t c v s below beside below'' beside'' (map emission_meant (made ++ emission ∷ []))
-  one_more_emission s a b c t u v below beside below' beside' below'' beside'' made emission so_far more =
-      subst (λ (es : List Emission). EmissionsRun patterns moment a t c v s below beside below'' beside'' es) (sym (map-append emission_meant made (emission ∷ [])))
-      (emissions_more s a b c t u v below beside below' beside' below'' beside'' (map emission_meant made) (emission_meant emission) so_far more)
+  pub one_more_emission : (s : StreamTree) (first : ℕ) (a b c : List Output) (t u v : StepCount G) (below below' below'' : Below) (made : List CodeEmission) (emission : CodeEmission) (branch : Branch) →
+      branch ≡ branch_numbered emission.branch → EmissionsRun patterns start moment a t b u (map emission_meant made) s first below below' →
+      BranchRuns patterns start moment b u c v (In emission.item) s first branch below' below'' →
+      EmissionsRun patterns start moment a t c v (map emission_meant (made ++ emission ∷ [])) s first below below''
+  one_more_emission s first a b c t u v below below' below'' made emission branch is so_far more =
+      subst (λ (es : List Emission). EmissionsRun patterns start moment a t c v es s first below below'') (sym (map-append emission_meant made (emission ∷ [])))
+      (emissions_more s first a b c t u v below below' below'' (map emission_meant made) (emission_meant emission) so_far
+      (subst (λ (other : Branch). BranchRuns patterns start moment b u c v (In emission.item) s first other below' below'') is more))
 
-built_branches : (kind : KindTree) (h : History) → is_built_kind kind ≡ true → branches kind h ≡ Children ∷ (Otherwise ∷ [])
-built_branches Index h built = refl
-built_branches (Notice name) h built = refl
-built_branches Sdo h built = refl
-built_branches (Where rule) h built = refl
-built_branches (With sets) h built = refl
-built_branches (Default sets) h built = refl
-built_branches (Tag tags) h built = refl
-built_branches kind h built = cc
-
-module _ {G : Type 0} (patterns : List Regex) (moment : ℕ) (kind : KindTree) (children otherwise : StreamTrees) (x : Entry) where
-  -- the stream acts, then a tick goes on, and then each emission
-  parts_run : (state state' : State) (passed : Passed) (a b c d : List Output) (t u v : StepCount G) (below beside below' beside' below'' beside'' : List Node) →
-      ((texts : List (List ℕ)) (h : History) → AreReadFrom texts patterns → StateRepresents texts kind state h → moment_of (h ▸ x) ≡ moment → Acts texts kind state state' h x a b passed) →
-      TickRuns patterns moment b t c u (stream kind children otherwise) below beside below' beside' x →
-      EmissionsRun patterns moment c u d v (stream kind children otherwise) below' beside' below'' beside'' (emissions_meant passed x) →
-      StreamRuns patterns moment x a t d v (stream kind children otherwise) state below beside state' below'' beside''
-  parts_run state state' passed a b c d t u v below beside below' beside' below'' beside'' acts ticks runs texts h from stands now =
-      let received = λ (branch : Branch). child_history kind branch h in
-      let after = λ (branch : Branch). ticked x (child_history kind branch h) in
-      let acted = acts texts h from stands.0 now in
-      let built = stands.0.built in
-      let now' : (branch : Branch) → moment_of (received branch ▸ x) ≡ moment = λ branch. same_moment (received branch) h x (branch_moments kind branch h).ends ∙ now in
-      let tick = ticks texts received from (record { children = stands.1; otherwise = stands.2 }) now' in
-      let passes : EmissionsRun patterns moment c u d v (stream kind children otherwise) below' beside' below'' beside'' (emissions kind (h ▸ x)) =
-      subst (λ (es : List Emission). EmissionsRun patterns moment c u d v (stream kind children otherwise) below' beside' below'' beside'' es) acted.passes runs in
-      let last = passes texts after from tick.0 (λ branch. ticked_moment (received branch) x ∙ now' branch) in
-      let own = own_grew kind h x a b t built acted.said in
-      let tick_grew : Performs b t c u (at_tick x (effects_below (stream kind children otherwise)) received (branches kind h)) =
-      subst (λ (bs : List Branch). Performs b t c u (at_tick x (effects_below (stream kind children otherwise)) received bs)) (sym (built_branches kind h built)) tick.1 in (
-        (acted.stands, last.0.children, last.0.otherwise),
-        grew_then a c d t u v (own_effects kind (h ▸ x) ++ at_tick x (effects_below (stream kind children otherwise)) received (branches kind h)) (at_emissions (effects_below (stream kind children otherwise)) after (emissions kind (h ▸ x)))
-            (grew_then a b c t t u (own_effects kind (h ▸ x)) (at_tick x (effects_below (stream kind children otherwise)) received (branches kind h)) own tick_grew) last.1,
+  -- the next emission stops
+  emissions_stop : (s : StreamTree) (first : ℕ) (a b c : List Output) (t u v : StepCount G) (below below' : Below) (es : List Emission) (emission : Emission) (rest : List Emission) →
+      EmissionsRun patterns start moment a t b u es s first below below' → BranchStops patterns start moment b u c v (In emission.item) s first emission.branch below' →
+      EmissionsStop patterns start moment a t c v ((es ++ emission ∷ []) ++ rest) s first below
+  emissions_stop s first a b c t u v below below' es emission rest so_far stops texts keys received from fit stands unseen stand =
+      let shape = forked_by (kind_of s) in
+      let fit' = fit_front shape (es ++ emission ∷ []) rest fit in
+      let one = so_far texts keys received from (fit_front shape es (emission ∷ []) fit') stands unseen stand in
+      let so = λ (branch : Branch). after_emissions branch es (received branch) in
+      let fits = (fit_back shape es (emission ∷ []) fit').0 in
+      let two = stops texts (with_branches es keys) so from fits one.0 (unseen_after shape es keys received unseen) (comes_here start moment so emission.branch emission.item (stand_after start moment es received stand)) in
+      let told = entering (effects_below s) emission.branch (so emission.branch ▸ In emission.item) in
+      let more = at_emissions-append (entering (effects_below s)) received (es ++ emission ∷ []) rest in (
+        subst (λ (hs : List Effect). PerformsPart a t c v hs) (sym more.1)
+            (part_more a c t v (at_emissions (entering (effects_below s)) received (es ++ emission ∷ [])) more.0
+            (subst (λ (hs : List Effect). PerformsPart a t c v hs) (sym (at_emissions-snoc (entering (effects_below s)) received es emission))
+            (part_then a b c t u v (at_emissions (entering (effects_below s)) received es) told one.1 two))),
+        nonempty es emission rest,
       )
+    where
+      nonempty : (es : List Emission) (emission : Emission) (rest : List Emission) → (es ++ emission ∷ []) ++ rest ≡ [] → ⊥
+      nonempty [] emission rest e = cc
+      nonempty (first ∷ es) emission rest e = cc
 
-module _ {G : Type 0} (patterns : List Regex) (moment : ℕ) (s : Stream) (x : Entry) where
-  pub stream_runs : (state state' : State) (passed : Passed) (a b c d : List Output) (t u v : StepCount G) (below beside below' beside' below'' beside'' : List Node) →
-      ((texts : List (List ℕ)) (h : History) → AreReadFrom texts patterns → StateRepresents texts (kind_tree (out-Stream s).kind) state h → moment_of (h ▸ x) ≡ moment →
-      Acts texts (kind_tree (out-Stream s).kind) state state' h x a b passed) →
-      TickRuns patterns moment b t c u (opened s) below beside below' beside' x →
-      EmissionsRun patterns moment c u d v (opened s) below' beside' below'' beside'' (emissions_meant passed x) →
-      StreamRuns patterns moment x a t d v (opened s) state below beside state' below'' beside''
-  unfolding opened
-  stream_runs = parts_run patterns moment (kind_tree (out-Stream s).kind) (list_trees (out-Stream s).children.items) (list_trees (out-Stream s).otherwise.items) x
+  pub one_more_stops : (s : StreamTree) (first : ℕ) (a b c : List Output) (t u v : StepCount G) (below below' : Below) (made : List CodeEmission) (emission : CodeEmission) (rest all : List CodeEmission) (branch : Branch) →
+      branch ≡ branch_numbered emission.branch → all ≡ (made ++ emission ∷ []) ++ rest → EmissionsRun patterns start moment a t b u (map emission_meant made) s first below below' →
+      BranchStops patterns start moment b u c v (In emission.item) s first branch below' →
+      EmissionsStop patterns start moment a t c v (map emission_meant all) s first below
+  one_more_stops s first a b c t u v below below' made emission rest all branch is whole so_far stops =
+      let meant : map emission_meant all ≡ (map emission_meant made ++ emission_meant emission ∷ []) ++ map emission_meant rest =
+      ap (map emission_meant) whole ∙ map-append emission_meant (made ++ emission ∷ []) rest ∙ ap (λ (l : List Emission). l ++ map emission_meant rest) (map-append emission_meant made (emission ∷ [])) in
+      subst (λ (es : List Emission). EmissionsStop patterns start moment a t c v es s first below) (sym meant)
+      (emissions_stop s first a b c t u v below below' (map emission_meant made) (emission_meant emission) (map emission_meant rest) so_far
+      (subst (λ (other : Branch). BranchStops patterns start moment b u c v (In emission.item) s first other below') is stops))

@@ -1,7 +1,7 @@
--- An entry on its way along a list of streams: the first so many have got it.
-use Rattle.std.proofs.Common.{◌≡◌, ℕ, zero, suc, ◌+◌, ◌<◌, ◌≤◌, min, List, [], ◌∷◌, ◌++◌, length, take, get_or, refl, sym, ap, ◌∙◌, subst, arith}
+-- An entry on its way along a list of streams, of which the first ones have got it.
+use Rattle.std.proofs.Common.{◌≡◌, ℕ, zero, suc, ◌+◌, ◌<◌, ◌≤◌, min, List, [], ◌∷◌, ◌++◌, length, take, drop, get_or, refl, sym, ap, ◌∙◌, subst, arith}
 use Rattle.std.proofs.Math.ListN.{set}
-use Rattle.std.proofs.lemmas.List.{append-nil, append_assoc, take_more, take_all}
+use Rattle.std.proofs.lemmas.List.{append-nil, append_assoc, take_more, take_all, take-append-drop}
 use Rattle.ev_types.specs.declared.item.Output.{Output}
 use Rattle.step_count.specs.Count.{StepCount}
 use Rattle.pred_eval.specs.Search.{AreReadFrom}
@@ -14,12 +14,12 @@ use Rattle.stream_meaning.specs.declared.entry.Entry.{Entry}
 use Rattle.stream_meaning.specs.History.{History, ◌▸◌, moment_of}
 use Rattle.stream_meaning.specs.Outputs.{Effect, stream_effects, plan_effects}
 use Rattle.stream_tree.specs.declared.forest.Node.{Node, out-Node}
-use Rattle.stream_tree.specs.Forest.{NodeRepresents, ForestRepresents}
-use Rattle.stream_tree.specs.Running.{ForestRuns, StreamRuns}
+use Rattle.stream_tree.specs.Forest.{node_below, NodeRepresents, ForestRepresents}
+use Rattle.stream_tree.specs.Running.{ComesAt, Stops, ForestRuns, ForestStops, StreamRuns, StreamStops}
 use Rattle.stream_tree.specs.Tree.{Performs}
-use Rattle.stream_tree.proofs.PerformLaws.{grew_none, grew_then}
+use Rattle.stream_tree.proofs.PerformLaws.{grew_none, grew_then, stops_more, stops_then}
 
--- the first so many nodes stand for one entry more
+-- the first i nodes represent one entry more
 abbrev pub Halfway : List (List ℕ) → ℕ → StreamTrees → List Node → History → Entry → Type 0
 Halfway texts zero streams nodes h x = ForestRepresents texts streams nodes h
 Halfway texts (suc i) none nodes h x = ForestRepresents texts none nodes h
@@ -75,28 +75,39 @@ plan_effects-take streams i s h within =
     ∙ plan_effects-append (take i streams) (here ∷ []) h
     ∙ ap (λ (l : List Effect). plan_effects (list_trees (take i streams)) h ++ l) (append-nil (stream_effects (stream_tree here) h) ∙ ap (λ (t : StreamTree). stream_effects t h) (stream_tree-opened here))
 
+-- the effects of the streams from number i on
+plan_effects-split : (streams : List Stream) (i : ℕ) (s : Stream) (h : History) → i < length streams →
+    plan_effects (list_trees streams) h ≡ (plan_effects (list_trees (take i streams)) h ++ stream_effects (opened (get_or streams i s)) h) ++ plan_effects (list_trees (drop (i + 1) streams)) h
+plan_effects-split streams i s h within =
+    ap (λ (l : List Stream). plan_effects (list_trees l) h) (sym (take-append-drop (i + 1) streams))
+    ∙ plan_effects-append (take (i + 1) streams) (drop (i + 1) streams) h
+    ∙ ap (λ (l : List Effect). l ++ plan_effects (list_trees (drop (i + 1) streams)) h) (plan_effects-take streams i s h within)
+
 -- ---- the loop
 
-module _ {G : Type 0} (patterns : List Regex) (moment : ℕ) (x : Entry) (a : List Output) (t : StepCount G) (streams : List Stream) (first : List Node) where
-  -- the first so many streams have got the entry
+module _ {G : Type 0} (patterns : List Regex) (start moment : ℕ) (x : Entry) (a : List Output) (t : StepCount G) (streams : List Stream) (first : List Node) where
+  -- the first i streams have got the entry
   abbrev pub ForestRan : ℕ → List Node → List Output → StepCount G → Type 0
-  ForestRan i nodes b u = (texts : List (List ℕ)) (h : History) → AreReadFrom texts patterns → ForestRepresents texts (list_trees streams) first h → moment_of (h ▸ x) ≡ moment →
+  ForestRan i nodes b u = (texts : List (List ℕ)) (h : History) → AreReadFrom texts patterns → ForestRepresents texts (list_trees streams) first h → ComesAt start moment h x →
       Halfway texts i (list_trees streams) nodes h x × Performs a t b u (plan_effects (list_trees (take i streams)) (h ▸ x))
 
   pub forest_begins : ForestRan 0 first a t
-  forest_begins texts h from stands now = (stands, grew_none a t)
+  forest_begins texts h from stands comes = (stands, grew_none a t)
+
+  -- the node of the next stream
+  node_here : (texts : List (List ℕ)) (h : History) (i : ℕ) (nodes : List Node) (s : Stream) (node other : Node) → i < length streams → i < length nodes → s ≡ get_or streams i s → node ≡ get_or nodes i other →
+      Halfway texts i (list_trees streams) nodes h x → NodeRepresents texts (opened s) node h
+  node_here texts h i nodes s node other within within' is is' half =
+      let at_place : NodeRepresents texts (opened (get_or streams i s)) (get_or nodes i other) h = half_here texts h x streams nodes i s other within within' half in
+      subst (λ (n : Node). NodeRepresents texts (opened s) n h) (sym is') (subst (λ (r : Stream). NodeRepresents texts (opened r) (get_or nodes i other) h) (sym is) at_place)
 
   pub forest_more : (i : ℕ) (nodes : List Node) (b c : List Output) (u v : StepCount G) (s : Stream) (node node' other : Node) →
       i < length streams → i < length nodes → s ≡ get_or streams i s → node ≡ get_or nodes i other → ForestRan i nodes b u →
-      StreamRuns patterns moment x b u c v (opened s) (out-Node node).state (out-Node node).children.items (out-Node node).otherwise.items
-      (out-Node node').state (out-Node node').children.items (out-Node node').otherwise.items →
+      StreamRuns patterns start moment b u c v x (opened s) (out-Node node).state (node_below node) (out-Node node').state (node_below node') →
       ForestRan (i + 1) (set nodes i node') c v
-  forest_more i nodes b c u v s node node' other within within' is is' so_far runs texts h from stands now =
-      let before = so_far texts h from stands now in
-      let at_place : NodeRepresents texts (opened (get_or streams i s)) (get_or nodes i other) h = half_here texts h x streams nodes i s other within within' before.0 in
-      let here : NodeRepresents texts (opened s) node h =
-      subst (λ (n : Node). NodeRepresents texts (opened s) n h) (sym is') (subst (λ (r : Stream). NodeRepresents texts (opened r) (get_or nodes i other) h) (sym is) at_place) in
-      let ran = runs texts h from here now in
+  forest_more i nodes b c u v s node node' other within within' is is' so_far runs texts h from stands comes =
+      let before = so_far texts h from stands comes in
+      let ran = runs texts h from (node_here texts h i nodes s node other within within' is is' before.0) comes in
       let done : NodeRepresents texts (opened (get_or streams i s)) node' (h ▸ x) = subst (λ (r : Stream). NodeRepresents texts (opened r) node' (h ▸ x)) is ran.0 in
       let half : Halfway texts (suc i) (list_trees streams) (set nodes i node') h x = half_more texts h x streams nodes i s node' within within' before.0 done in
       let number : suc i ≡ i + 1 = omega arith in
@@ -107,10 +118,24 @@ module _ {G : Type 0} (patterns : List Regex) (moment : ℕ) (x : Entry) (a : Li
             (grew_then a b c t u v (plan_effects (list_trees (take i streams)) (h ▸ x)) (stream_effects (opened s) (h ▸ x)) before.1 ran.1),
       )
 
+  pub forest_stops : (i : ℕ) (nodes : List Node) (b c : List Output) (u v : StepCount G) (s : Stream) (node other : Node) →
+      i < length streams → i < length nodes → s ≡ get_or streams i s → node ≡ get_or nodes i other → ForestRan i nodes b u →
+      StreamStops patterns start moment b u c v x (opened s) (out-Node node).state (node_below node) →
+      ForestStops patterns start moment a t c v x (list_trees streams) first
+  forest_stops i nodes b c u v s node other within within' is is' so_far stops texts h from stands comes =
+      let before = so_far texts h from stands comes in
+      let stop = stops texts h from (node_here texts h i nodes s node other within within' is is' before.0) comes in
+      let front = plan_effects (list_trees (take i streams)) (h ▸ x) in
+      let rest = plan_effects (list_trees (drop (i + 1) streams)) (h ▸ x) in
+      let effects : (front ++ stream_effects (opened s) (h ▸ x)) ++ rest ≡ plan_effects (list_trees streams) (h ▸ x) =
+      ap (λ (r : Stream). (front ++ stream_effects (opened r) (h ▸ x)) ++ rest) is ∙ sym (plan_effects-split streams i s (h ▸ x) within) in
+      subst (λ (hs : List Effect). Stops a t c v x hs) effects
+      (stops_more a c t v x (front ++ stream_effects (opened s) (h ▸ x)) rest (stops_then a b c t u v x front (stream_effects (opened s) (h ▸ x)) before.1 stop))
+
   pub forest_ends : (i : ℕ) (nodes : List Node) (b : List Output) (u : StepCount G) → min (length streams) (length nodes) ≤ i → length nodes ≡ length first →
-      ForestRan i nodes b u → ForestRuns patterns moment x a t b u (list_trees streams) first nodes
-  forest_ends i nodes b u past same so_far texts h from stands now =
-      let ran = so_far texts h from stands now in
+      ForestRan i nodes b u → ForestRuns patterns start moment a t b u x (list_trees streams) first nodes
+  forest_ends i nodes b u past same so_far texts h from stands comes =
+      let ran = so_far texts h from stands comes in
       let long = forest_long texts streams first h stands in
       let all : take i streams ≡ streams = take_all i streams (omega (arith, past, same, long)) in
       (half_all texts h x streams nodes i past ran.0, subst (λ (l : List Stream). Performs a t b u (plan_effects (list_trees l) (h ▸ x))) all ran.1)

@@ -1,5 +1,12 @@
-pub mod BuiltLaws
 pub mod PerformLaws
+pub mod KindLaws
+pub mod StillLaws
+pub mod DueLaws
+pub mod DueLoop
+pub mod ForkLaws
 pub mod BelowLaws
+pub mod EnterLaws
+pub mod StreamLaws
 pub mod ForestLaws
 pub mod FreshLaws
+pub mod NextLaws

@@ -1,29 +1,108 @@
--- The nodes of a plan's streams: what each stream keeps between entries, and the nodes of the streams below it.
-use Rattle.std.specs.Prelude.{ℕ, List, [], ◌∷◌}
-use Rattle.stream_plan.specs.Tree.{StreamTree, StreamTrees, stream, none, also}
-use Rattle.stream_meaning.specs.Branches.{child_history}
-use Rattle.stream_meaning.specs.Emission.{Children, Otherwise}
+-- The nodes of a plan's streams: what each stream keeps between entries, the nodes of the streams below it, and its forks.
+use Rattle.std.specs.Prelude.{◌≡◌, ℕ, ◌<◌, ◌≤◌, true, List, [], ◌∷◌, ◌++◌, length, slice_index_or, Option, Some, None}
+use Rattle.list_laws.specs.Counts.{greatest}
+use Rattle.ev_types.specs.declared.field.Field.{Field}
+use Rattle.ev_types.specs.declared.value.Value.{Value}
+use Rattle.fork_by.specs.declared.table.ForkTable.{ForkTable}
+use Rattle.fork_by.specs.Table.{fork_keys as table_keys, fork_list, fork_due, IsTable}
+use Rattle.stream_plan.specs.Kinds.{is_in_range}
+use Rattle.stream_plan.specs.Ready.{plan_patterns}
+use Rattle.stream_plan.specs.Tree.{KindTree, By, StreamTree, StreamTrees, stream, none, also}
+use Rattle.stream_meaning.specs.Branches.{child_history, fork_keys}
+use Rattle.stream_meaning.specs.Deadlines.{plan_deadline}
+use Rattle.stream_meaning.specs.Emission.{Branch, Children, Otherwise, Fork}
 use Rattle.stream_meaning.specs.History.{History}
 use Rattle.stream_step.specs.declared.state.State.{State}
+use Rattle.stream_step.specs.declared.state.State.TheVariants.{Forks}
 use Rattle.stream_step.specs.Step.{StateRepresents}
+use Rattle.stream_tree.specs.declared.forest.Forest.{Forest, out-Forest}
 use Rattle.stream_tree.specs.declared.forest.Node.{Node, out-Node}
+
+-- the numbers and the sets of all streams are in their ranges
+abbrev mutual
+  pub IsStreamInRange : StreamTree → Type 0
+  IsStreamInRange (stream kind children otherwise) = (is_in_range kind ≡ true) × AreInRange children × AreInRange otherwise
+
+  pub AreInRange : StreamTrees → Type 0
+  AreInRange none = Unit {0}
+  AreInRange (also first more) = IsStreamInRange first × AreInRange more
+
+-- ---- the parts of a node
+
+abbrev pub nodes_of : Forest → List Node
+nodes_of forest = (out-Forest forest).nodes.items
+
+-- what a node has below its stream: the nodes of the children and of those of `else`, and the forks
+pub record Below : Type 0 where
+  pub children : List Node
+  pub otherwise : List Node
+  pub forks : ForkTable Forest
+
+abbrev pub below_of : Forest → Forest → ForkTable Forest → Below
+below_of children otherwise forks = record { children = nodes_of children; otherwise = nodes_of otherwise; forks = forks }
+
+abbrev pub node_below : Node → Below
+node_below node = below_of (out-Node node).children (out-Node node).otherwise (out-Node node).forks
+
+-- of a `by`: the number of the first regular expression of its children
+abbrev pub first_of : State → ℕ
+first_of (Forks first) = first
+first_of state = 0
+
+-- ---- what nodes represent
+
+-- the fields of a `by`, each of whose forks is a copy of its children; the other kinds have two branches
+abbrev pub forked_by : KindTree → Option (List Field)
+forked_by (By fields) = Some fields
+forked_by kind = None
+
+abbrev pub keys_by : Option (List Field) → History → List (List Value)
+keys_by None h = []
+keys_by (Some fields) h = fork_keys fields h
+
+-- the nodes of streams have come to where they would be if all of this history had come to the streams
+abbrev pub Meaning : Type 1
+Meaning = List Node → History → Type 0
+
+-- The table has exactly these keys, in this order. The fork of each key represents what the fork has received, and the
+-- moment that is kept for it is the least deadline of its streams.
+pub record ForksRepresent (Means : Meaning) (deadline : History → Option ℕ) (keys : List (List Value)) (received : List Value → History) (forks : ForkTable Forest) : Type 0 where
+  pub is_table : IsTable forks
+  pub keys_are : table_keys forks ≡ keys
+  pub each : (number : ℕ) (other : Forest) → number < length keys → Means (nodes_of (slice_index_or (fork_list forks) number other)) (received (slice_index_or keys number []))
+  pub dues : (number : ℕ) → number < length keys → fork_due number forks ≡ deadline (received (slice_index_or keys number []))
+
+-- Copies of the streams can be made: their numbers are in their ranges, and their regular expressions are those of all
+-- from number `first` on.
+pub record CanFork (texts : List (List ℕ)) (streams : StreamTrees) (first : ℕ) : Type 0 where
+  pub in_range : AreInRange streams
+  pub before : List (List ℕ)
+  pub after : List (List ℕ)
+  pub begins : length before ≡ first
+  pub among : texts ≡ before ++ (plan_patterns streams ++ after)
+  pub few : length texts ≤ greatest
+
+-- what is below a stream represents what its branches have received
+abbrev pub BelowRepresents : List (List ℕ) → StreamTrees → ℕ → Meaning → Meaning → Option (List Field) → List (List Value) → (Branch → History) → Below → Type 0
+BelowRepresents texts children first Means Beside None keys received below = Means below.children (received Children) × Beside below.otherwise (received Otherwise)
+BelowRepresents texts children first Means Beside (Some fields) keys received below =
+    CanFork texts children first × ForksRepresent Means (plan_deadline children) keys (λ key. received (Fork key)) below.forks
 
 -- The nodes have come to where they would be if all of this history had come to their streams, one node for each. The
 -- texts are those of the regular expressions of the whole plan.
 abbrev mutual
-  pub PartsRepresent : List (List ℕ) → StreamTree → State → List Node → List Node → History → Type 0
-  PartsRepresent texts (stream kind children otherwise) state below beside h =
+  pub PartsRepresent : List (List ℕ) → StreamTree → State → Below → History → Type 0
+  PartsRepresent texts (stream kind children otherwise) state below h =
       StateRepresents texts kind state h
-      × ForestRepresents texts children below (child_history kind Children h)
-      × ForestRepresents texts otherwise beside (child_history kind Otherwise h)
+      × BelowRepresents texts children (first_of state) (ForestRepresents texts children) (ForestRepresents texts otherwise) (forked_by kind) (keys_by (forked_by kind) h) (λ branch. child_history kind branch h) below
 
   pub ForestRepresents : List (List ℕ) → StreamTrees → List Node → History → Type 0
   ForestRepresents texts none [] h = Unit {0}
   ForestRepresents texts none (node ∷ nodes) h = ⊥
   ForestRepresents texts (also first more) [] h = ⊥
   ForestRepresents texts (also first more) (node ∷ nodes) h =
-      PartsRepresent texts first (out-Node node).state (out-Node node).children.items (out-Node node).otherwise.items h
+      PartsRepresent texts first (out-Node node).state (node_below node) h
       × ForestRepresents texts more nodes h
 
 abbrev pub NodeRepresents : List (List ℕ) → StreamTree → Node → History → Type 0
-NodeRepresents texts s node h = PartsRepresent texts s (out-Node node).state (out-Node node).children.items (out-Node node).otherwise.items h
+NodeRepresents texts s node h = PartsRepresent texts s (out-Node node).state (node_below node) h

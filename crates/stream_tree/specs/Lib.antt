@@ -1,4 +1,5 @@
 pub mod Forest
 pub mod Fresh
+pub mod Forks
 pub mod Running
 pub mod Tree

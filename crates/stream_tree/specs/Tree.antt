@@ -1,23 +1,14 @@
 -- A tree of streams that runs, and the histories that it represents.
-use Rattle.std.specs.Prelude.{◌≡◌, ◌+◌, Bool, true, false, ◌&&◌, List, ◌++◌}
+use Rattle.std.specs.Prelude.{◌≡◌, ℕ, ◌+◌, ◌≤◌, Bool, false, List, ◌++◌}
 use Rattle.ev_types.specs.declared.item.Output.{Output}
+use Rattle.list_laws.specs.Prefix.{IsPrefix}
 use Rattle.step_count.specs.Count.{StepCount}
 use Rattle.stream_plan.specs.Ready.{plan_patterns}
-use Rattle.stream_plan.specs.Tree.{StreamTree, StreamTrees, stream, none, also}
-use Rattle.stream_meaning.specs.History.{History}
+use Rattle.stream_plan.specs.Tree.{StreamTrees}
+use Rattle.stream_meaning.specs.History.{History, begun}
 use Rattle.stream_meaning.specs.Outputs.{Effect, outputs_among, due_among, given_among}
-use Rattle.stream_step.specs.Step.{is_built_kind}
 use Rattle.stream_tree.specs.declared.tree.Tree.{Tree}
-use Rattle.stream_tree.specs.Forest.{ForestRepresents}
-
--- each stream of the plan is of a kind that runs so far
-abbrev mutual
-  pub is_built_stream : StreamTree → Bool
-  is_built_stream (stream kind children otherwise) = is_built_kind kind && (is_built_plan children && is_built_plan otherwise)
-
-  pub is_built_plan : StreamTrees → Bool
-  is_built_plan none = true
-  is_built_plan (also first more) = is_built_stream first && is_built_plan more
+use Rattle.stream_tree.specs.Forest.{nodes_of, ForestRepresents}
 
 -- the plan that it runs
 abbrev pub plan_of : Tree → StreamTrees
@@ -27,10 +18,11 @@ plan_of tree = tree.plan
 abbrev pub is_poisoned : Tree → Bool
 is_poisoned tree = tree.poisoned
 
--- the tree has come to where it would be if all of this history had come to it
+-- the tree has come to where it would be if all of this history had come to it since the moment at which it began
 pub record Represents (tree : Tree) (h : History) : Type 0 where
   pub alive : is_poisoned tree ≡ false
-  pub stands : ForestRepresents (plan_patterns (plan_of tree)) (plan_of tree) tree.forest.items h
+  pub begins : begun h ≡ tree.start
+  pub stands : ForestRepresents (plan_patterns (plan_of tree)) (plan_of tree) (nodes_of tree.forest) h
 
 -- The effects are performed in order, and counted: a fork is entered where it is due and where an item comes to it, and
 -- an entry is visited for each fork that is due.
@@ -38,3 +30,10 @@ pub record Performs {G : Type 0} (old : List Output) (before : StepCount G) (new
   pub outputs : new ≡ old ++ outputs_among effects
   pub forks : after.forks ≡ before.forks + (due_among effects + given_among effects)
   pub entries : after.entries ≡ before.entries + due_among effects
+
+-- a part of the effects is performed: a prefix of the outputs is put, and no more is counted than for all of them
+pub record PerformsPart {G : Type 0} (old : List Output) (before : StepCount G) (new : List Output) (after : StepCount G) (effects : List Effect) : Type 0 where
+  pub begins : IsPrefix old new
+  pub within : IsPrefix new (old ++ outputs_among effects)
+  pub forks : after.forks ≤ before.forks + (due_among effects + given_among effects)
+  pub entries : after.entries ≤ before.entries + due_among effects

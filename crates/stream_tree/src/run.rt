@@ -1,15 +1,22 @@
 //! One entry on its way down the streams.
-ghost use Rattle.std.specs.Prelude.{◌≡◌, OnOk, map};
+ghost use Rattle.std.specs.Prelude.{◌≡◌, ℕ, OnOk, OnErr, map};
+ghost use Rattle.fork_by.specs.declared.table.ForkTable.{ForkTable as Table};
 ghost use Rattle.list_laws.specs.Prefix.{IsPrefix};
-ghost use Rattle.stream_meaning.specs.declared.entry.Entry.TheVariants.{Item as Given};
+ghost use Rattle.stream_meaning.specs.Emission.{Fork};
 ghost use Rattle.stream_plan.specs.Search.{opened};
 ghost use Rattle.stream_plan.specs.Tree.{list_trees};
 ghost use Rattle.stream_step.specs.Step.{branch_meant, branch_numbered, emission_meant, emissions_meant};
+ghost use Rattle.stream_tree.specs.declared.forest.Forest.{Forest as Nodes};
 ghost use Rattle.stream_tree.specs.declared.forest.Node.{out-Node};
-ghost use Rattle.stream_tree.specs.Running.{ForestRuns, StreamRuns, BranchRuns, TickRuns, EmissionsRun};
+ghost use Rattle.stream_tree.specs.Forest.{nodes_of, below_of, node_below, first_of};
+ghost use Rattle.stream_tree.specs.Running.{children_of, ForestRuns, ForestStops, StreamRuns, StreamStops, ForkRuns, ForkStops, DueRuns, DueStops, TickRuns, TickStops, BranchRuns, BranchStops, EmissionsRun, EmissionsStop};
 
-use crate::forest::{Forest, Node};
-use ev_types::{Emission, Emissions, Memory, Outputs};
+use crate::forest::{Forest, Node, is_by};
+use crate::fork::find_fork;
+use crate::next::forest_due;
+use ev_types::{Emission, Emissions, Key, Memory, Outputs};
+use fork_by::ForkTable;
+use list_laws::Ids;
 use std::alloc::Global;
 use step_count::{Ledger, Steps};
 use stream_meaning::Entry;
@@ -27,17 +34,20 @@ pub(crate) fn run_forest<G: Ledger>(
     out: &mut Outputs,
     steps: &mut Steps<G>,
 ) -> Result<(), Memory>
-    ensures runs { OnOk result (ForestRuns context.now.patterns.now context.now.moment entry.now
-        out.old steps.old out.new steps.new
-        (list_trees streams.now) forest.old.items forest.new.items) }
+    ensures runs { OnOk result (ForestRuns context.now.patterns.now context.now.start
+        context.now.moment out.old steps.old out.new steps.new entry.now
+        (list_trees streams.now) (nodes_of forest.old) (nodes_of forest.new)) }
+    ensures stops { OnErr result (ForestStops context.now.patterns.now context.now.start
+        context.now.moment out.old steps.old out.new steps.new entry.now
+        (list_trees streams.now) (nodes_of forest.old)) }
     ensures prefix { IsPrefix out.old out.new }
 {
-    let count = streams.len().min(forest.len());
+    let count = streams.len().min(forest.nodes.len());
     for i in 0..count {
         run_node(
             alloc,
             &streams[i],
-            &mut forest[i],
+            &mut forest.nodes[i],
             entry,
             context,
             out,
@@ -58,12 +68,13 @@ fn run_node<G: Ledger>(
     out: &mut Outputs,
     steps: &mut Steps<G>,
 ) -> Result<(), Memory>
-    ensures runs { OnOk result (StreamRuns context.now.patterns.now context.now.moment entry.now
-        out.old steps.old out.new steps.new
-        (opened stream.now) (out-Node node.old).state (out-Node node.old).children.items
-        (out-Node node.old).otherwise.items
-        (out-Node node.new).state (out-Node node.new).children.items
-        (out-Node node.new).otherwise.items) }
+    ensures runs { OnOk result (StreamRuns context.now.patterns.now context.now.start
+        context.now.moment out.old steps.old out.new steps.new entry.now
+        (opened stream.now) (out-Node node.old).state (node_below node.old)
+        (out-Node node.new).state (node_below node.new)) }
+    ensures stops { OnErr result (StreamStops context.now.patterns.now context.now.start
+        context.now.moment out.old steps.old out.new steps.new entry.now
+        (opened stream.now) (out-Node node.old).state (node_below node.old)) }
     ensures prefix { IsPrefix out.old out.new }
 {
     run_stream(
@@ -72,6 +83,7 @@ fn run_node<G: Ledger>(
         &mut node.state,
         &mut node.children,
         &mut node.otherwise,
+        &mut node.forks,
         entry,
         context,
         out,
@@ -89,65 +101,173 @@ fn run_stream<G: Ledger>(
     state: &mut State,
     children: &mut Forest,
     otherwise: &mut Forest,
+    forks: &mut ForkTable<Forest>,
     entry: &Entry,
     context: &Context,
     out: &mut Outputs,
     steps: &mut Steps<G>,
 ) -> Result<(), Memory>
-    ensures runs { OnOk result (StreamRuns context.now.patterns.now context.now.moment entry.now
-        out.old steps.old out.new steps.new
-        (opened stream.now) state.old children.old.items otherwise.old.items state.new
-        children.new.items otherwise.new.items) }
+    ensures runs { OnOk result (StreamRuns context.now.patterns.now context.now.start
+        context.now.moment out.old steps.old out.new steps.new entry.now
+        (opened stream.now) state.old (below_of children.old otherwise.old forks.old)
+        state.new (below_of children.new otherwise.new forks.new)) }
+    ensures stops { OnErr result (StreamStops context.now.patterns.now context.now.start
+        context.now.moment out.old steps.old out.new steps.new entry.now
+        (opened stream.now) state.old (below_of children.old otherwise.old forks.old)) }
     ensures prefix { IsPrefix out.old out.new }
 {
     let passed = act(alloc, &stream.kind, state, entry, context, out)?;
     run_tick(
-        alloc, stream, children, otherwise, entry, context, out, steps,
+        alloc, stream, children, otherwise, forks, entry, context, out, steps,
     )?;
+    let first = first_pattern(state);
     run_passed(
-        alloc, stream, children, otherwise, entry, passed, context, out, steps,
+        alloc, stream, children, otherwise, forks, first, entry, passed, context, out, steps,
     )?;
     Ok(())
 }
 
-/// A tick comes to both branches.
+/// A tick comes to both branches, and of a `by` to the forks that are due.
 #[cycle(run)]
 fn run_tick<G: Ledger>(
     alloc: Global,
     stream: &Stream,
     children: &mut Forest,
     otherwise: &mut Forest,
+    forks: &mut ForkTable<Forest>,
     entry: &Entry,
     context: &Context,
     out: &mut Outputs,
     steps: &mut Steps<G>,
 ) -> Result<(), Memory>
-    ensures runs { OnOk result (TickRuns context.now.patterns.now context.now.moment out.old
-        steps.old out.new steps.new
-        (opened stream.now) children.old.items otherwise.old.items children.new.items
-        otherwise.new.items entry.now) }
+    ensures runs { OnOk result ((first : ℕ) → TickRuns context.now.patterns.now
+        context.now.start context.now.moment out.old steps.old out.new steps.new entry.now
+        (opened stream.now) first (below_of children.old otherwise.old forks.old)
+        (below_of children.new otherwise.new forks.new)) }
+    ensures stops { OnErr result ((first : ℕ) → TickStops context.now.patterns.now
+        context.now.start context.now.moment out.old steps.old out.new steps.new entry.now
+        (opened stream.now) first (below_of children.old otherwise.old forks.old)) }
     ensures prefix { IsPrefix out.old out.new }
 {
-    if let Entry::Tick = entry {
-        run_forest(
+    if let Entry::Item(_) = entry {
+        return Ok(());
+    }
+    if is_by(&stream.kind) {
+        run_due(alloc, stream, forks, context, out, steps)?;
+        return Ok(());
+    }
+    run_forest(
+        alloc,
+        &stream.children,
+        children,
+        entry,
+        context,
+        out,
+        steps,
+    )?;
+    run_forest(
+        alloc,
+        &stream.otherwise,
+        otherwise,
+        entry,
+        context,
+        out,
+        steps,
+    )?;
+    Ok(())
+}
+
+/// A tick comes to the forks. Those in which nothing is due are not entered: they are as they would be after the tick.
+#[cycle(run)]
+fn run_due<G: Ledger>(
+    alloc: Global,
+    stream: &Stream,
+    forks: &mut ForkTable<Forest>,
+    context: &Context,
+    out: &mut Outputs,
+    steps: &mut Steps<G>,
+) -> Result<(), Memory>
+    ensures runs { OnOk result (DueRuns context.now.patterns.now context.now.start
+        context.now.moment out.old steps.old out.new steps.new
+        (children_of (opened stream.now)) forks.old forks.new) }
+    ensures stops { OnErr result (DueStops context.now.patterns.now context.now.start
+        context.now.moment out.old steps.old out.new steps.new
+        (children_of (opened stream.now)) forks.old) }
+    ensures prefix { IsPrefix out.old out.new }
+{
+    let mut numbers = Ids::fresh(alloc);
+    forks.due_forks(alloc, context.moment, &mut numbers, steps)?;
+    for number in numbers.as_slice() {
+        run_fork(
             alloc,
-            &stream.children,
-            children,
-            entry,
-            context,
-            out,
-            steps,
-        )?;
-        run_forest(
-            alloc,
-            &stream.otherwise,
-            otherwise,
-            entry,
+            stream,
+            forks,
+            *number,
+            &Entry::Tick,
             context,
             out,
             steps,
         )?;
     }
+    Ok(())
+}
+
+/// The entry comes to the fork of the number, whose due moment is set anew.
+#[cycle(run)]
+fn run_fork<G: Ledger>(
+    alloc: Global,
+    stream: &Stream,
+    forks: &mut ForkTable<Forest>,
+    number: usize,
+    entry: &Entry,
+    context: &Context,
+    out: &mut Outputs,
+    steps: &mut Steps<G>,
+) -> Result<(), Memory>
+    ensures runs { OnOk result (ForkRuns context.now.patterns.now context.now.start
+        context.now.moment out.old steps.old out.new steps.new entry.now
+        (children_of (opened stream.now)) number forks.old forks.new) }
+    ensures stops { OnErr result (ForkStops context.now.patterns.now context.now.start
+        context.now.moment out.old steps.old out.new steps.new entry.now
+        (children_of (opened stream.now)) number forks.old) }
+    ensures prefix { IsPrefix out.old out.new }
+{
+    if number >= forks.len() {
+        return Err(Memory);
+    }
+    let fork = forks.enter(number, steps);
+    run_forest(alloc, &stream.children, fork, entry, context, out, steps)?;
+    let due = forest_due(&stream.children, fork);
+    forks.set_due(alloc, number, due)?;
+    Ok(())
+}
+
+/// The entry comes to the fork of the key, which is made where there is none.
+#[cycle(run)]
+fn run_key<G: Ledger>(
+    alloc: Global,
+    stream: &Stream,
+    forks: &mut ForkTable<Forest>,
+    first: usize,
+    key: Key,
+    entry: &Entry,
+    context: &Context,
+    out: &mut Outputs,
+    steps: &mut Steps<G>,
+) -> Result<(), Memory>
+    ensures runs { OnOk result ((children otherwise : Nodes) →
+        BranchRuns context.now.patterns.now context.now.start
+        context.now.moment out.old steps.old out.new steps.new entry.now
+        (opened stream.now) first (Fork key)
+        (below_of children otherwise forks.old) (below_of children otherwise forks.new)) }
+    ensures stops { OnErr result ((children otherwise : Nodes) →
+        BranchStops context.now.patterns.now context.now.start
+        context.now.moment out.old steps.old out.new steps.new entry.now
+        (opened stream.now) first (Fork key) (below_of children otherwise forks.old)) }
+    ensures prefix { IsPrefix out.old out.new }
+{
+    let number = find_fork(alloc, &stream.children, forks, key, first, context.start)?;
+    run_fork(alloc, stream, forks, number, entry, context, out, steps)?;
     Ok(())
 }
 
@@ -158,17 +278,23 @@ fn run_passed<G: Ledger>(
     stream: &Stream,
     children: &mut Forest,
     otherwise: &mut Forest,
+    forks: &mut ForkTable<Forest>,
+    first: usize,
     entry: &Entry,
     passed: Passed,
     context: &Context,
     out: &mut Outputs,
     steps: &mut Steps<G>,
 ) -> Result<(), Memory>
-    ensures runs { OnOk result (EmissionsRun context.now.patterns.now context.now.moment out.old
-        steps.old out.new steps.new
-        (opened stream.now) children.old.items otherwise.old.items children.new.items
-        otherwise.new.items
-        (emissions_meant passed entry.now)) }
+    ensures runs { OnOk result (EmissionsRun context.now.patterns.now context.now.start
+        context.now.moment out.old steps.old out.new steps.new
+        (emissions_meant passed entry.now)
+        (opened stream.now) first (below_of children.old otherwise.old forks.old)
+        (below_of children.new otherwise.new forks.new)) }
+    ensures stops { OnErr result (EmissionsStop context.now.patterns.now context.now.start
+        context.now.moment out.old steps.old out.new steps.new
+        (emissions_meant passed entry.now)
+        (opened stream.now) first (below_of children.old otherwise.old forks.old)) }
     ensures prefix { IsPrefix out.old out.new }
 {
     match (passed, entry) {
@@ -184,7 +310,11 @@ fn run_passed<G: Ledger>(
             )?;
             Ok(())
         }
-        (Passed::Same(_), Entry::Tick) | (Passed::Nothing, _) => Ok(()),
+        (Passed::Keyed(key), Entry::Item(_)) => {
+            run_key(alloc, stream, forks, first, key, entry, context, out, steps)?;
+            Ok(())
+        }
+        (Passed::Same(_) | Passed::Keyed(_), Entry::Tick) | (Passed::Nothing, _) => Ok(()),
     }
 }
 
@@ -200,46 +330,33 @@ fn run_emissions<G: Ledger>(
     out: &mut Outputs,
     steps: &mut Steps<G>,
 ) -> Result<(), Memory>
-    ensures runs { OnOk result (EmissionsRun context.now.patterns.now context.now.moment out.old
-        steps.old out.new steps.new
-        (opened stream.now) children.old.items otherwise.old.items children.new.items
-        otherwise.new.items
-        (map emission_meant emissions)) }
+    ensures runs { OnOk result ((first : ℕ) (forks : Table Nodes) →
+        EmissionsRun context.now.patterns.now context.now.start
+        context.now.moment out.old steps.old out.new steps.new
+        (map emission_meant emissions)
+        (opened stream.now) first (below_of children.old otherwise.old forks)
+        (below_of children.new otherwise.new forks)) }
+    ensures stops { OnErr result ((first : ℕ) (forks : Table Nodes) →
+        EmissionsStop context.now.patterns.now context.now.start
+        context.now.moment out.old steps.old out.new steps.new
+        (map emission_meant emissions)
+        (opened stream.now) first (below_of children.old otherwise.old forks)) }
     ensures prefix { IsPrefix out.old out.new }
 {
     for emission in emissions.into_vec() {
-        run_emission(
-            alloc, stream, children, otherwise, emission, context, out, steps,
+        let Emission { branch, item } = emission;
+        run_branch(
+            alloc,
+            stream,
+            children,
+            otherwise,
+            branch_of(branch),
+            &Entry::Item(item),
+            context,
+            out,
+            steps,
         )?;
     }
-    Ok(())
-}
-
-/// The emission goes to its branch.
-#[cycle(run)]
-fn run_emission<G: Ledger>(
-    alloc: Global,
-    stream: &Stream,
-    children: &mut Forest,
-    otherwise: &mut Forest,
-    emission: Emission,
-    context: &Context,
-    out: &mut Outputs,
-    steps: &mut Steps<G>,
-) -> Result<(), Memory>
-    ensures runs { OnOk result (BranchRuns context.now.patterns.now context.now.moment out.old
-        steps.old out.new steps.new
-        (opened stream.now) children.old.items otherwise.old.items children.new.items
-        otherwise.new.items
-        (branch_numbered emission.branch) (Given emission.item)) }
-    ensures prefix { IsPrefix out.old out.new }
-{
-    let Emission { branch, item } = emission;
-    let entry = Entry::Item(item);
-    let branch = branch_of(branch);
-    run_branch(
-        alloc, stream, children, otherwise, branch, &entry, context, out, steps,
-    )?;
     Ok(())
 }
 
@@ -256,11 +373,16 @@ fn run_branch<G: Ledger>(
     out: &mut Outputs,
     steps: &mut Steps<G>,
 ) -> Result<(), Memory>
-    ensures runs { OnOk result (BranchRuns context.now.patterns.now context.now.moment out.old
-        steps.old out.new steps.new
-        (opened stream.now) children.old.items otherwise.old.items children.new.items
-        otherwise.new.items
-        (branch_meant branch) entry.now) }
+    ensures runs { OnOk result ((first : ℕ) (forks : Table Nodes) →
+        BranchRuns context.now.patterns.now context.now.start
+        context.now.moment out.old steps.old out.new steps.new entry.now
+        (opened stream.now) first (branch_meant branch)
+        (below_of children.old otherwise.old forks) (below_of children.new otherwise.new forks)) }
+    ensures stops { OnErr result ((first : ℕ) (forks : Table Nodes) →
+        BranchStops context.now.patterns.now context.now.start
+        context.now.moment out.old steps.old out.new steps.new entry.now
+        (opened stream.now) first (branch_meant branch)
+        (below_of children.old otherwise.old forks)) }
     ensures prefix { IsPrefix out.old out.new }
 {
     match branch {
@@ -298,5 +420,15 @@ fn branch_of(number: u32) -> Branch
         Branch::Children
     } else {
         Branch::Otherwise
+    }
+}
+
+/// Of a `by`, the number of the first regular expression of its children.
+fn first_pattern(state: &State) -> usize
+    ensures { result ≡ first_of state.now }
+{
+    match state {
+        State::Forks { first } => *first,
+        _ => 0,
     }
 }

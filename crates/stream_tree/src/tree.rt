@@ -1,13 +1,15 @@
-ghost use Rattle.std.specs.Prelude.{◌≡◌, ◌≤◌, ◌+◌, ◌^◌, true, false, List, ◌++◌, IfOk, OnOk, OnErr, IsErr, IsTrue};
+ghost use Rattle.std.specs.Prelude.{◌≡◌, ◌≤◌, ◌+◌, ◌^◌, false, [], IfOk, OnOk, OnErr, IsErr, IsOk, IsTrue};
 ghost use Rattle.ev_types.specs.declared.item.Item.TheVariants.{One};
-ghost use Rattle.ev_types.specs.declared.item.Output.{Output as SaidOutput};
 ghost use Rattle.stream_meaning.specs.declared.entry.Entry.TheVariants.{Tick, Item as In};
 ghost use Rattle.stream_meaning.specs.History.{History, ◌▸◌, begun, moment_of, TicksAlone};
+ghost use Rattle.stream_meaning.specs.Deadlines.{plan_deadline};
 ghost use Rattle.stream_meaning.specs.Outputs.{plan_effects};
+ghost use Rattle.stream_tree.specs.Running.{Stops};
 ghost use Rattle.list_laws.specs.Prefix.{IsPrefix};
-ghost use Rattle.stream_tree.specs.Tree.{is_built_plan, plan_of, is_poisoned, Represents, Performs};
+ghost use Rattle.stream_tree.specs.Tree.{plan_of, is_poisoned, Represents, Performs, PerformsPart};
 
 use crate::forest::{Forest, fresh_forest};
+use crate::next::forest_due;
 use crate::run::run_forest;
 use ev_types::{Event, Item, Memory, Outputs};
 use std::alloc::Global;
@@ -22,28 +24,30 @@ use stream_step::Context;
 pub struct Tree {
     plan: ReadyPlan,
     forest: Forest,
+    /// The moment at which it began, in seconds since 1970.
+    start: u64,
     poisoned: bool,
 }
 
 impl Tree {
     /// A tree to which nothing has come, at the moment `start`, in seconds since 1970.
     pub fn fresh(alloc: Global, plan: ReadyPlan, start: u64) -> Result<Tree, Memory>
-        requires start { start ≤ 2 ^ 40 }
-        requires built { is_built_plan plan ≡ true }
+        requires { start ≤ 2 ^ 40 }
         ensures plan { IfOk result (λ tree. plan_of tree ≡ plan) }
         ensures represents { IfOk result (λ tree. (h : History) → TicksAlone h →
             begun h ≡ start → Represents tree h) }
     {
-        let forest = fresh_forest(alloc, &plan.plan().streams, &mut 0)?;
+        let forest = fresh_forest(alloc, &plan.plan().streams, &mut 0, start)?;
         Ok(Tree {
             plan,
             forest,
+            start,
             poisoned: false,
         })
     }
 
-    /// The event comes to the streams at the moment `now`. Their outputs are appended to `out`. After `Memory`
-    /// the tree is poisoned, and `out` begins with what it had.
+    /// The event comes to the streams at the moment `now`. Their outputs are appended to `out`. After `Memory` the tree
+    /// is poisoned, and a prefix of the outputs was appended.
     pub fn item<G: Ledger>(
         &mut self,
         alloc: Global,
@@ -58,6 +62,10 @@ impl Tree {
             moment_of h ≡ now →
             Performs out.old steps.old out.new steps.new
             (plan_effects (plan_of self.old) (h ▸ In (One event)))) }
+        ensures part { OnErr result ((h : History) → Represents self.old h →
+            moment_of h ≡ now →
+            PerformsPart out.old steps.old out.new steps.new
+            (plan_effects (plan_of self.old) (h ▸ In (One event)))) }
         ensures represents { OnOk result ((h : History) → Represents self.old h →
             moment_of h ≡ now →
             Represents self.new (h ▸ In (One event))) }
@@ -71,8 +79,9 @@ impl Tree {
         Ok(())
     }
 
-    /// One more second has passed, and it is the moment `now`. The outputs of the streams are appended to `out`. After
-    /// `Memory` the tree is poisoned, and `out` begins with what it had.
+    /// One more second has passed, and it is the moment `now`. The outputs of the streams are appended to `out`. Only
+    /// forks that are due are entered, and where nothing is due it takes no memory. After `Memory` the tree is poisoned,
+    /// and a prefix of the outputs was appended.
     pub fn tick<G: Ledger>(
         &mut self,
         alloc: Global,
@@ -86,6 +95,12 @@ impl Tree {
             moment_of h + 1 ≡ now →
             Performs out.old steps.old out.new steps.new
             (plan_effects (plan_of self.old) (h ▸ Tick))) }
+        ensures part { OnErr result ((h : History) → Represents self.old h →
+            moment_of h + 1 ≡ now →
+            PerformsPart out.old steps.old out.new steps.new
+            (plan_effects (plan_of self.old) (h ▸ Tick))) }
+        ensures quiet { (h : History) → Represents self.old h → moment_of h + 1 ≡ now →
+            plan_effects (plan_of self.old) (h ▸ Tick) ≡ [] → IsOk result }
         ensures represents { OnOk result ((h : History) → Represents self.old h →
             moment_of h + 1 ≡ now →
             Represents self.new (h ▸ Tick)) }
@@ -98,6 +113,15 @@ impl Tree {
         Ok(())
     }
 
+    /// The least moment at which a stream of the tree passes something on next if only seconds follow. It is exact up to
+    /// the moment 2^40.
+    pub fn next_due(&self) -> Option<u64>
+        ensures { (h : History) → Represents self.now h → moment_of h ≤ 2 ^ 40 →
+            result ≡ plan_deadline (plan_of self.now) h }
+    {
+        forest_due(&self.plan.plan().streams, &self.forest)
+    }
+
     /// The entry comes to the streams.
     fn enter<G: Ledger>(
         &mut self,
@@ -107,10 +131,15 @@ impl Tree {
         out: &mut Outputs,
         steps: &mut Steps<G>,
     ) -> Result<(), Memory>
+        requires { now ≤ 2 ^ 40 }
         ensures plan { plan_of self.new ≡ plan_of self.old }
         ensures grew { OnOk result ((h : History) → Represents self.old h →
             moment_of (h ▸ entry.now) ≡ now →
             Performs out.old steps.old out.new steps.new
+            (plan_effects (plan_of self.old) (h ▸ entry.now))) }
+        ensures stops { OnErr result ((h : History) → Represents self.old h →
+            moment_of (h ▸ entry.now) ≡ now →
+            Stops out.old steps.old out.new steps.new entry.now
             (plan_effects (plan_of self.old) (h ▸ entry.now))) }
         ensures represents { OnOk result ((h : History) → Represents self.old h →
             moment_of (h ▸ entry.now) ≡ now →
@@ -127,6 +156,7 @@ impl Tree {
         let context = Context {
             patterns: self.plan.patterns(),
             moment: now,
+            start: self.start,
         };
         let streams = &self.plan.plan().streams;
         run_forest(
