@@ -1,11 +1,10 @@
-ghost use Rattle.std.specs.Prelude.{◌≡◌, ◌+◌, ◌-◌, ◌^◌, ◌≤◌, true, false, List, [], ◌∷◌, ◌++◌, length, replicate, IfOk, IsErr, IsTrue, OnErr, OnOk};
+ghost use Rattle.std.specs.Prelude.{◌≡◌, ◌+◌, ◌-◌, ◌^◌, ◌≤◌, false, List, [], ◌∷◌, ◌++◌, length, replicate, IfOk, IsErr, IsTrue, OnErr, OnOk};
 ghost use Rattle.list_laws.specs.Prefix.{IsPrefix};
 ghost use Rattle.std.specs.Option.{ForSome};
 ghost use Rattle.ev_types.specs.declared.event.Event.{Event as StoredEvent};
 ghost use Rattle.ev_types.specs.declared.item.Notice.{Notice as StoredNotice};
 ghost use Rattle.index_log.specs.Live.{live_events};
 ghost use Rattle.stream_meaning.specs.Arrivals.{Arrival, Elapsed, Post, matching_events};
-ghost use Rattle.stream_tree.specs.Tree.{is_built_plan};
 ghost use Rattle.event_core.specs.Core.{config_of, now_of, is_poisoned, state_by, Represents, Heard};
 
 use crate::clock::Clock;
@@ -38,7 +37,6 @@ impl Core {
         requires moment { start ≤ 2 ^ 40 }
         requires interval { ForSome expiry (λ set. (1 ≤ set.interval) ×
             (set.interval ≤ 604800)) }
-        requires built { is_built_plan plan ≡ true }
         ensures config { IfOk result (λ core.
             config_of core ≡ record { plan = plan; expiry = expiry; start = start }) }
         ensures represents { IfOk result (λ core. Represents core []) }

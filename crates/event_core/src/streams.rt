@@ -1,4 +1,4 @@
-ghost use Rattle.std.specs.Prelude.{◌≡◌, ◌==◌, ◌+◌, ◌-◌, ◌%◌, ◌^◌, ◌<◌, ◌≤◌, true, List, [], ◌++◌, map, replicate, length, IfOk, OnErr, OnOk};
+ghost use Rattle.std.specs.Prelude.{◌≡◌, ◌==◌, ◌+◌, ◌-◌, ◌%◌, ◌^◌, ◌<◌, ◌≤◌, List, [], ◌++◌, map, replicate, length, IfOk, OnErr, OnOk};
 ghost use Rattle.list_laws.specs.Prefix.{IsPrefix};
 ghost use Rattle.ev_types.specs.declared.event.Event.{Event as StoredEvent};
 ghost use Rattle.ev_types.specs.declared.item.Item.TheVariants.{One};
@@ -8,7 +8,6 @@ ghost use Rattle.stream_meaning.specs.History.{since, begun, moment_of};
 ghost use Rattle.stream_meaning.specs.declared.entry.Entry.TheVariants.{Tick, Item as In};
 ghost use Rattle.stream_meaning.specs.Arrivals.{CoreState, Elapsed, entered, streamed, fed_back, swept, arrived, state_from, matching_events};
 ghost use Rattle.index_log.specs.Live.{live_events};
-ghost use Rattle.stream_tree.specs.Tree.{is_built_plan};
 ghost use Rattle.event_core.specs.Streams.{plan_of, Holds, Moved};
 
 use crate::clock::Clock;
@@ -35,8 +34,7 @@ impl IndexedStreams {
         plan: ReadyPlan,
         start: u64,
     ) -> Result<IndexedStreams, Memory>
-        requires moment { start ≤ 2 ^ 40 }
-        requires built { is_built_plan plan ≡ true }
+        requires { start ≤ 2 ^ 40 }
         ensures plan { IfOk result (λ streams. plan_of streams ≡ plan) }
         ensures holds { IfOk result (λ streams.
             Holds streams (record { history = since start; log = [] })) }

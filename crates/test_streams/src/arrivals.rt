@@ -1,8 +1,7 @@
 //! The core: the streams with their index, and what expires in it.
 
-ghost use Rattle.std.specs.Prelude.{◌≡◌, ◌≤◌, true, IfOk};
+ghost use Rattle.std.specs.Prelude.{◌≡◌, ◌≤◌, IfOk};
 ghost use Rattle.std.specs.Option.{ForSome};
-ghost use Rattle.stream_tree.specs.Tree.{is_built_plan};
 
 use crate::show::{put_notice, put_short};
 use ev_types::{Event, Events, Memory, Notices, Text};
@@ -14,7 +13,6 @@ use std::alloc::Global;
 use std::test::Fail;
 use step_count::{NoLedger, Steps};
 use stream_plan::build_plan;
-use stream_tree::is_built;
 
 /// What comes to a core, or is asked of it.
 #[derive(Clone, Copy)]
@@ -32,7 +30,7 @@ fn core(alloc: Global, config: &str, start: u64) -> Result<Core, Memory> {
     let Ok(config) = read_config(alloc, config.as_bytes()) else {
         return Err(Memory);
     };
-    if !is_built(&config.plan) || start > 1_000_000 {
+    if start > 1_000_000 {
         return Err(Memory);
     }
     if let Some(expiry) = &config.expiry

@@ -1,8 +1,5 @@
 //! Trees of streams: the outputs of a plan, in their order.
 
-ghost use Rattle.std.specs.Prelude.{◌≡◌, true, IfOk};
-ghost use Rattle.stream_tree.specs.Tree.{is_built_plan};
-
 use crate::show::put_output;
 use ev_types::{Event, Memory, Outputs, Text};
 use pred_eval::RegexPatterns;
@@ -11,7 +8,7 @@ use std::alloc::Global;
 use std::test::Fail;
 use step_count::{CountLedger, Steps};
 use stream_plan::{ReadyPlan, build_plan};
-use stream_tree::{Tree, is_built};
+use stream_tree::Tree;
 
 fn event(alloc: Global, host: &str) -> Result<Event, Memory> {
     let mut event = Event::at(alloc, 5);
@@ -19,16 +16,11 @@ fn event(alloc: Global, host: &str) -> Result<Event, Memory> {
     Ok(event)
 }
 
-/// The plan of the configuration, where a tree can run it.
-fn ready(alloc: Global, config: &str) -> Result<ReadyPlan, Memory>
-    ensures { IfOk result (λ plan. is_built_plan plan ≡ true) }
-{
+/// The plan of the configuration.
+fn ready(alloc: Global, config: &str) -> Result<ReadyPlan, Memory> {
     let Ok(config) = read_config(alloc, config.as_bytes()) else {
         return Err(Memory);
     };
-    if !is_built(&config.plan) {
-        return Err(Memory);
-    }
     match build_plan(alloc, config.plan, &mut RegexPatterns { refusals: 0 }) {
         Ok(plan) => Ok(plan),
         Err(_) => Err(Memory),
@@ -86,6 +78,16 @@ fn outputs_come_in_order(rt: HostRuntime) -> Result<(), Fail> {
             "(streams (notice \"n\") (notice \"n\"))",
             "n@100 a - - 5 0; n@100 a - - 5 0; n@100 b - - 5 0; n@100 b - - 5 0; n@101 cb - - 5 0; n@101 cb - - 5 0; 0 0",
         ),
+        // Each host has a throttle of its own, and each event enters a fork.
+        (
+            "(streams (by :host (throttle 1 10 (notice \"t\"))))",
+            "t@100 a - - 5 0; t@100 b - - 5 0; t@101 cb - - 5 0; 3 0",
+        ),
+        // At the second both forks are due.
+        (
+            "(streams (by :host (stable 1 :state (notice \"s\"))))",
+            "s@101 a - - 5 0; s@101 b - - 5 0; 5 2",
+        ),
         // Three rules with a pattern each, one below the other and one beside them.
         (
             "(streams (where (host #\"^a\") (notice \"begin\") (else (where (host #\"b$\") (notice \"end\") (else (notice \"rest\"))))) (where (host #\"^b$\") (notice \"b\") (else (notice \"no\"))))",
@@ -94,29 +96,6 @@ fn outputs_come_in_order(rt: HostRuntime) -> Result<(), Fail> {
     ] {
         let found = outputs(alloc, config)?;
         assert!(rt; found.as_str() == wanted, "{config}");
-    }
-    Ok(())
-}
-
-#[test]
-fn seven_kinds_are_built(rt: HostRuntime) -> Result<(), Fail> {
-    let alloc = rt.alloc();
-    for (config, wanted) in [
-        (
-            "(streams index (notice \"n\") (sdo) (where true) (with {}) (default {}) (tag []))",
-            true,
-        ),
-        ("(streams (by :host))", false),
-        ("(streams (sdo (changed :state)))", false),
-        ("(streams (throttle 1 1))", false),
-        ("(streams (where true (else (coalesce))))", false),
-        ("(streams (moving-event-window 1))", false),
-    ] {
-        let built = match read_config(alloc, config.as_bytes()) {
-            Ok(config) => is_built(&config.plan),
-            Err(_) => !wanted,
-        };
-        assert!(rt; built == wanted, "{config}");
     }
     Ok(())
 }
