@@ -1,0 +1,170 @@
+ghost use Rattle.std.specs.Prelude.{◌≡◌, length, IfSome};
+ghost use Rattle.ports.specs.Links.{IsPieceWithin, IsWithin};
+ghost use Rattle.mio_links.specs.Turns.{IsGiven, IsOn};
+
+use mio::event::Event;
+use mio::net::TcpStream;
+use ports::{PIECE_LIMIT, SendAnswer, Want, What};
+use std::io::{ErrorKind, Read, Write};
+
+/// One client's connection, and what the system has reported of it. Readiness is reported once, when it changes, so it
+/// is kept until a call finds that it has ended.
+#[derive(Drop)]
+pub(crate) struct Client {
+    stream: TcpStream,
+    // A read may find bytes or the end.
+    readable: bool,
+    // The end of the bytes, or an error, was reported: the reads go on until they find it.
+    ending: bool,
+    // An error was reported.
+    failed: bool,
+    // The last send found no room.
+    blocked: bool,
+    // There may be room since then.
+    roomy: bool,
+    /// Where it waits for its next turn.
+    pub place: Place,
+}
+
+/// Where a client waits for its next turn.
+#[derive(Clone, Copy, Debug, PartialEq, Eq)]
+pub(crate) enum Place {
+    /// Nothing is to be told of it until the system reports something.
+    Nowhere,
+    /// In the queue.
+    Queued,
+    /// Among those of which the server wants to hear nothing for now.
+    HeldBack,
+}
+
+impl Client {
+    /// A client of which nothing was reported yet.
+    pub(crate) fn fresh(stream: TcpStream) -> Client {
+        Client {
+            stream,
+            readable: false,
+            ending: false,
+            failed: false,
+            blocked: false,
+            roomy: false,
+            place: Place::Nowhere,
+        }
+    }
+
+    /// Keeps what the system reports.
+    pub(crate) fn note(&mut self, event: &Event) {
+        if event.is_error() {
+            self.failed = true;
+        }
+        if event.is_read_closed() || event.is_error() {
+            self.ending = true;
+        }
+        if event.is_readable() || self.ending {
+            self.readable = true;
+        }
+        if event.is_writable() || event.is_write_closed() {
+            self.roomy = true;
+        }
+    }
+
+    /// Where it has to wait, by what the server waits for.
+    pub(crate) fn next_place(&self, want: &Want) -> Place {
+        if self.has_room() && want.room || self.readable && want.read || self.failed {
+            Place::Queued
+        } else if self.has_room() || self.readable {
+            Place::HeldBack
+        } else {
+            Place::Nowhere
+        }
+    }
+
+    /// Whether a send found no room, and there may be some since then.
+    pub(crate) fn has_room(&self) -> bool {
+        self.blocked && self.roomy
+    }
+
+    /// What happened on the link, which has this number, if anything did that the server waits for. Bytes are read straight into `buf`.
+    pub(crate) fn turn(&mut self, link: u64, want: &Want, buf: &mut [u8]) -> Option<What>
+        requires { length buf.old ≡ PIECE_LIMIT }
+        ensures within { IfSome result (IsPieceWithin PIECE_LIMIT) }
+        ensures given { IfSome result IsGiven }
+        ensures link { IfSome result (IsOn link) }
+    {
+        if self.has_room() && want.room {
+            self.blocked = false;
+            return Some(What::Room { link });
+        }
+        if self.readable && want.read {
+            return self.read(link, buf);
+        }
+        if self.failed {
+            return Some(self.break_off(link));
+        }
+        None
+    }
+
+    /// Reads once.
+    fn read(&mut self, link: u64, buf: &mut [u8]) -> Option<What>
+        requires { length buf.old ≡ PIECE_LIMIT }
+        ensures within { IfSome result (IsPieceWithin PIECE_LIMIT) }
+        ensures given { IfSome result IsGiven }
+        ensures link { IfSome result (IsOn link) }
+    {
+        match self.stream.read(buf) {
+            Ok(0) => {
+                self.readable = false;
+                Some(What::Ended { link })
+            }
+            Ok(count) => {
+                // A short read has emptied the socket. What comes later is reported anew.
+                self.readable = count == PIECE_LIMIT || self.ending;
+                Some(What::Read { link, count })
+            }
+            Err(error) => match error.kind() {
+                ErrorKind::WouldBlock => {
+                    self.readable = false;
+                    None
+                }
+                ErrorKind::Interrupted => None,
+                _ => Some(self.break_off(link)),
+            },
+        }
+    }
+
+    /// The link broke, and nothing more is told of it.
+    fn break_off(&mut self, link: u64) -> What
+        ensures { result ≡ What.Broken link }
+    {
+        self.readable = false;
+        self.failed = false;
+        self.blocked = false;
+        What::Broken { link }
+    }
+
+    /// Offers the bytes to the system.
+    pub(crate) fn send(&mut self, bytes: &[u8]) -> SendAnswer
+        ensures { IsWithin (length bytes.now) result }
+    {
+        match self.stream.write(bytes) {
+            Ok(0) => self.wait(true),
+            Ok(count) => {
+                self.blocked = false;
+                SendAnswer::Took { count }
+            }
+            Err(error) => match error.kind() {
+                ErrorKind::WouldBlock => self.wait(false),
+                ErrorKind::Interrupted => self.wait(true),
+                _ => SendAnswer::Failed,
+            },
+        }
+    }
+
+    /// Nothing was taken. Where there may be room all the same, the system does not report it again.
+    fn wait(&mut self, roomy: bool) -> SendAnswer
+        ensures { result ≡ SendAnswer.Later }
+    {
+        self.blocked = true;
+        self.roomy = roomy;
+        SendAnswer::Later
+    }
+}

@@ -1,0 +1,29 @@
+use std::alloc::{AllocError, AllocFailed};
+use std::io;
+
+/// Why no turn can be given.
+#[derive(Clone, Copy, Debug, PartialEq, Eq)]
+pub(crate) enum LinksFault {
+    /// The system refused a call that concerns more than one link.
+    Failed,
+    /// Out of memory.
+    Memory,
+}
+
+impl From<AllocError> for LinksFault {
+    fn from(_error: AllocError) -> LinksFault {
+        LinksFault::Memory
+    }
+}
+
+impl<T: Drop> From<AllocFailed<T>> for LinksFault {
+    fn from(_error: AllocFailed<T>) -> LinksFault {
+        LinksFault::Memory
+    }
+}
+
+impl From<io::Error> for LinksFault {
+    fn from(_error: io::Error) -> LinksFault {
+        LinksFault::Failed
+    }
+}

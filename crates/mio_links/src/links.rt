@@ -1,0 +1,154 @@
+ghost use Rattle.std.specs.Prelude.{◌≡◌, ◌+◌, ◌≤◌, None, length, IfOk, OnErr};
+ghost use Rattle.ports.specs.Links.{HasNextCause, IsPieceWithin};
+ghost use Rattle.mio_links.specs.Turns.{CountsOpened, IsGiven, OfLink, OpensAt};
+ghost use Rattle.mio_links.specs.Sockets.{IsOpenOn};
+
+use crate::fault::LinksFault;
+use crate::sockets::Sockets;
+use ev_types::{Memory, Text};
+use mio::Events;
+use ports::{Links, ListenAnswer, PIECE_LIMIT, SendAnswer, Turn, Wants, What};
+use std::alloc::Global;
+use std::net::Net;
+use std::time::{Clock, SystemTime, UNIX_EPOCH};
+
+// How many sources the system reports at once, at most.
+const EVENTS_AT_ONCE: usize = 256;
+
+/// The links to clients over TCP, and the system's clock. They do not report their calls. Links are numbered from 0 in
+/// the order in which they open, and no turn is [`What::Stopped`].
+#[derive(Drop)]
+pub struct MioLinks<'a, R: Net + Clock> {
+    rt: &'a R,
+    events: Events,
+    /// What was listened on last.
+    pub sockets: Option<Sockets>,
+    /// How many links opened so far.
+    pub opened: u64,
+    /// The number of calls of [`Links::listen`] and [`Links::next`] that failed.
+    pub faults: u64,
+}
+
+impl<'a, R: Net + Clock> MioLinks<'a, R> {
+    /// Links of which none is open, and that do not listen yet.
+    pub fn fresh(rt: &'a R, alloc: Global) -> Result<MioLinks<'a, R>, Memory>
+        ensures opened { IfOk result (λ links. links.opened ≡ 0) }
+        ensures faults { IfOk result (λ links. links.faults ≡ 0) }
+    {
+        Ok(MioLinks {
+            rt,
+            events: Events::with_capacity(alloc, EVENTS_AT_ONCE)?,
+            sockets: None,
+            opened: 0,
+            faults: 0,
+        })
+    }
+
+    /// The next turn but for its time, or why none can be given.
+    fn found(&mut self, wants: &Wants, buf: &mut [u8]) -> Result<What, LinksFault>
+        requires { length buf.old ≡ PIECE_LIMIT }
+        ensures within { IfOk result (IsPieceWithin PIECE_LIMIT) }
+        ensures given { IfOk result IsGiven }
+        ensures link { IfOk result (λ what. OfLink what (IsOpenOn self.new.sockets)) }
+        ensures opened { IfOk result (CountsOpened self.old.opened self.new.opened) }
+        ensures err { OnErr result (self.new.opened ≡ self.old.opened) }
+        ensures faults { self.new.faults ≡ self.old.faults }
+    {
+        let Some(sockets) = &mut self.sockets else {
+            return Err(LinksFault::Failed);
+        };
+        let Some(next_link) = self.opened.checked_add(1) else {
+            return Err(LinksFault::Failed);
+        };
+        let what = sockets.next(self.opened, wants, buf, &mut self.events)?;
+        self.opened = opened_after(self.opened, next_link, what);
+        Ok(what)
+    }
+
+    /// The next turn but for its time. A fault is counted.
+    #[tactic(auto, using(crate::proofs::TurnLemmas::given_counts))]
+    fn what(&mut self, wants: &Wants, buf: &mut [u8]) -> What
+        requires { length buf.old ≡ PIECE_LIMIT }
+        ensures within { IsPieceWithin PIECE_LIMIT result }
+        ensures cause { HasNextCause self.old.faults self.new.faults result }
+        ensures faults { self.old.faults ≤ self.new.faults }
+        ensures link { OfLink result (IsOpenOn self.new.sockets) }
+        ensures opened { CountsOpened self.old.opened self.new.opened result }
+    {
+        match self.found(wants, buf) {
+            Ok(what) => what,
+            Err(LinksFault::Failed) => {
+                self.faults = self.faults.saturating_add(1);
+                What::Failed
+            }
+            Err(LinksFault::Memory) => What::Memory,
+        }
+    }
+}
+
+impl<'a, R: Net + Clock> Links for MioLinks<'a, R> {
+    ghost log = { λ _. None };
+
+    ghost script = { λ _. None };
+
+    ghost faults = { λ links. links.faults };
+
+    fn listen(&mut self, alloc: Global, address: &Text) -> ListenAnswer {
+        match Sockets::open(self.rt, alloc, address) {
+            Ok(sockets) => {
+                self.sockets = Some(sockets);
+                ListenAnswer::Ready {
+                    secs: seconds(self.rt),
+                }
+            }
+            Err(LinksFault::Failed) => {
+                self.faults = self.faults.saturating_add(1);
+                ListenAnswer::Failed
+            }
+            Err(LinksFault::Memory) => ListenAnswer::Memory,
+        }
+    }
+
+    fn next(&mut self, _alloc: Global, wants: &Wants, buf: &mut [u8]) -> Turn {
+        let what = self.what(wants, buf);
+        Turn {
+            secs: seconds(self.rt),
+            what,
+        }
+    }
+
+    fn send(&mut self, _alloc: Global, link: u64, bytes: &[u8]) -> SendAnswer {
+        match &mut self.sockets {
+            Some(sockets) => sockets.send(link, bytes),
+            None => SendAnswer::Failed,
+        }
+    }
+
+    fn close(&mut self, link: u64) {
+        if let Some(sockets) = &mut self.sockets {
+            sockets.close(link);
+        }
+    }
+}
+
+/// How many links opened, with this turn, where `next` is one more than before it.
+fn opened_after(opened: u64, next: u64, what: What) -> u64
+    requires { next ≡ opened + 1 }
+    ensures { OpensAt opened what → CountsOpened opened result what }
+{
+    match what {
+        What::Opened { .. } => next,
+        _ => opened,
+    }
+}
+
+/// The reading of the system's clock, in seconds since 1970. A clock before 1970 reads 0.
+fn seconds<R: Clock>(rt: &R) -> u64 {
+    let Ok(now) = SystemTime::now(rt) else {
+        return 0;
+    };
+    match now.duration_since(UNIX_EPOCH) {
+        Ok(since_1970) => since_1970.as_secs(),
+        Err(_) => 0,
+    }
+}

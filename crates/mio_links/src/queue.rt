@@ -1,0 +1,81 @@
+use crate::client::{Client, Place};
+use crate::fault::LinksFault;
+use ports::Want;
+use std::alloc::Global;
+use std::collections::VecDeque;
+
+/// What may have a turn to give.
+#[derive(Clone, Copy, Debug, PartialEq, Eq)]
+pub(crate) enum Source {
+    Listener,
+    Link(u64),
+}
+
+/// The sources that may have a turn to give, in the order in which they are served. A source that may have more goes to
+/// the end, so that none waits for more than one turn of each other. A round is the sources that were in the queue when
+/// the system was asked last.
+#[derive(Drop)]
+pub(crate) struct Queue {
+    sources: VecDeque<Source>,
+    // How many sources of this round were not served yet.
+    left: usize,
+    // Links of which the server wants to hear nothing for now.
+    held_back: VecDeque<u64>,
+}
+
+impl Queue {
+    pub(crate) fn fresh(alloc: Global) -> Queue {
+        Queue {
+            sources: VecDeque::new(alloc),
+            left: 0,
+            held_back: VecDeque::new(alloc),
+        }
+    }
+
+    pub(crate) fn is_empty(&self) -> bool {
+        self.sources.is_empty()
+    }
+
+    /// How many sources of this round were not served yet.
+    pub(crate) fn left(&self) -> usize {
+        self.left
+    }
+
+    /// Begins a round with all that is in the queue.
+    pub(crate) fn begin_round(&mut self) {
+        self.left = self.sources.len();
+    }
+
+    /// Removes the first source of this round.
+    pub(crate) fn take(&mut self) -> Option<Source> {
+        self.left = self.left.saturating_sub(1);
+        self.sources.pop_front()
+    }
+
+    /// Adds a source at the end.
+    pub(crate) fn push(&mut self, source: Source) -> Result<(), LinksFault> {
+        self.sources.push_back(source)?;
+        Ok(())
+    }
+
+    /// Has the link wait where it has to.
+    pub(crate) fn place(&mut self, client: &mut Client, want: &Want) -> Result<(), LinksFault> {
+        client.place = client.next_place(want);
+        match client.place {
+            Place::Queued => self.sources.push_back(Source::Link(want.link))?,
+            Place::HeldBack => self.held_back.push_back(want.link)?,
+            Place::Nowhere => {}
+        }
+        Ok(())
+    }
+
+    /// How many links are held back.
+    pub(crate) fn held_back(&self) -> usize {
+        self.held_back.len()
+    }
+
+    /// Removes the link that was held back first.
+    pub(crate) fn take_held_back(&mut self) -> Option<u64> {
+        self.held_back.pop_front()
+    }
+}

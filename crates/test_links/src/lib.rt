@@ -1,0 +1,5 @@
+//! Tests of the links over sockets, by their public calls.
+#![tactic(auto)]
+
+#[cfg(test)]
+mod sockets;
