@@ -1,0 +1,9 @@
+//! A generated load: links in memory on which one client sends events whose fields follow from a starting number.
+#![tactic(auto)]
+
+mod events;
+mod links;
+mod replies;
+
+pub use events::{INCREMENT, MULTIPLIER};
+pub use links::LoadLinks;
