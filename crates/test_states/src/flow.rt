@@ -4,7 +4,6 @@ use ev_types::{Emissions, Event, Events, Field, Fold, Item, Memory, Text, Value}
 use flow_streams::{ChangedParams, ChangedState, RunsParams, RunsState, apply_fold};
 use std::alloc::Global;
 use std::test::Fail;
-use window_streams::{MovingEventParams, MovingEventState};
 
 /// An event of this time, with a state where there is one.
 fn event_of(alloc: Global, row: &(u32, Option<&str>)) -> Result<Event, Memory> {
@@ -179,41 +178,5 @@ fn a_fold_makes_one_event(rt: HostRuntime) -> Result<(), Fail> {
     for (kind, events, wanted) in rows {
         assert_eq!(rt; fold(alloc, kind, events)?.as_str(), wanted);
     }
-    Ok(())
-}
-
-/// The first event's time and the sum of the metrics, where the item is a vector with a metric.
-fn put_sum(alloc: Global, out: &mut String, item: &Item) -> Result<(), Memory> {
-    let Item::Many(events) = item else {
-        return Ok(());
-    };
-    if let Some(made) = apply_fold(alloc, Fold::Sum, events)? {
-        let (time, metric) = (made.time, made.metric);
-        let shown = format!(in alloc; "{time} {metric:?};")?;
-        out.push_str(shown.as_str())?;
-    }
-    Ok(())
-}
-
-/// The sums over the last two of the events with these times and metrics.
-fn sums_of_two(alloc: Global, rows: &[(i64, i64)]) -> Result<String, Memory> {
-    let mut state = MovingEventState::fresh(alloc, MovingEventParams { count: 2 }, 0)?;
-    let mut passed = Emissions::fresh(alloc);
-    for row in rows {
-        let mut event = Event::at(alloc, row.0);
-        event.metric = Some(row.1);
-        state.item(alloc, event, 0, &mut passed)?;
-    }
-    let mut out = String::new(alloc);
-    for emission in passed.as_slice() {
-        put_sum(alloc, &mut out, &emission.item)?;
-    }
-    Ok(out)
-}
-
-#[test]
-fn vectors_of_a_window_are_folded(rt: HostRuntime) -> Result<(), Fail> {
-    let said = sums_of_two(rt.alloc(), &[(1, 5), (2, 7), (3, -1)])?;
-    assert_eq!(rt; said.as_str(), "1 Some(5);1 Some(12);2 Some(6);");
     Ok(())
 }

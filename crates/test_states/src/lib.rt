@@ -4,10 +4,6 @@
 #[cfg(test)]
 mod flow;
 #[cfg(test)]
-mod kept;
-#[cfg(test)]
-mod ranges;
-#[cfg(test)]
 mod rates;
 #[cfg(test)]
 mod windows;

@@ -7,7 +7,7 @@ use std::alloc::{AllocError, Global};
 use std::test::Fail;
 
 // A state, by its calls.
-pub(crate) trait Stream {
+trait Stream {
     fn enter(
         &mut self,
         alloc: Global,
@@ -121,7 +121,7 @@ fn event(alloc: Global, moment: u64, state: &str) -> Result<Event, Memory> {
 
 // What passes at each moment: the times of the events, in brackets where they pass as a vector. A moment at which the
 // state was due has the mark `!`, and each other one `:`.
-pub(crate) fn play<S: Stream>(
+fn play<S: Stream>(
     alloc: Global,
     stream: &mut S,
     start: u64,
