@@ -1,0 +1,183 @@
+-- How a turn is put together from its seconds, its occurrence and its lines.
+use Rattle.std.proofs.Common.{◌≡◌, ◌≢◌, ℕ, ◌+◌, ◌-◌, arith, Bool, true, false, cond, List, [], ◌∷◌, ◌++◌, replicate, Result, Ok, Err, refl, ap, sym, ◌∙◌, subst, append_assoc}
+use Rattle.std.specs.Prelude.{IsErr, Option, Some, None, OnErr, OnOk}
+use Rattle.ev_types.specs.declared.item.Notice.{Notice}
+use Rattle.event_core.specs.declared.arrivals.Core.{Core}
+use Rattle.event_core.specs.Core.{CoreConfig, Heard, Represents, forks_by, notices_by, now_of}
+use Rattle.hub_meaning.specs.Clock.{next_moment}
+use Rattle.hub_meaning.specs.Legal.{AreSettled, IsLegal, IsLegalFrom, VerdictsIf, VerdictsIn, VerdictsOn}
+use Rattle.hub_meaning.specs.Links.{Link, find_link, is_open}
+use Rattle.hub_meaning.specs.Runs.{RunState, Step, after_step, first_state, is_turn, new_frames, notices_after, occurred, passed, plain, state_after, state_from, talk_of}
+use Rattle.hub_meaning.specs.Verdicts.{PatternsState, Refusal}
+use Rattle.hub_meaning.proofs.RunLaws.{legal_append, state_append}
+use Rattle.hub_link.proofs.HearLaws.{none_refused}
+use Rattle.list_laws.specs.declared.memory.Memory.{Memory}
+use Rattle.msg_replies.specs.Arriving.{Arrives, Told, told}
+use Rattle.msg_replies.proofs.AnswerLaws.{heard_then}
+use Rattle.msg_replies.proofs.VerdictLaws.{no_verdicts}
+use Rattle.notice_sink.specs.Lines.{lines_of}
+use Rattle.ports.specs.declared.entry.Entry.{Entry}
+use Rattle.ports.specs.declared.links.Turn.{Turn}
+use Rattle.ports.specs.declared.links.What.{What}
+use Rattle.ports.specs.declared.links.What.TheVariants.{Idle, Opened, Read, Ended, Broken, Room, Stopped, Failed, Memory as NoMemory}
+use Rattle.ports.specs.Writing.{Got, GotFront}
+use Rattle.stream_meaning.specs.Arrivals.{Arrival, Elapsed}
+use Rattle.conn_core.specs.Hub.{Follows, IsAt, wants_in}
+use Rattle.conn_core.specs.Occurring.{OccursFrom}
+use Rattle.conn_core.specs.Turning.{Turns, longer, turn_step}
+use Rattle.conn_core.specs.declared.hub.Hub.{Hub}
+use Rattle.conn_core.specs.declared.stop.Stop.{Stop}
+use Rattle.conn_core.proofs.LineLaws.{front_nothing}
+use Rattle.conn_core.proofs.NoticeLaws.{more_notices}
+
+pub turn_is : (what : What) → what ≢ Failed → what ≢ NoMemory → is_turn what ≡ true
+turn_is Idle fails none = refl
+turn_is (Opened number) fails none = refl
+turn_is (Read number count) fails none = refl
+turn_is (Ended number) fails none = refl
+turn_is (Broken number) fails none = refl
+turn_is (Room number) fails none = refl
+turn_is Stopped fails none = refl
+turn_is Failed fails none = absurd (fails refl)
+turn_is NoMemory fails none = absurd (none refl)
+
+on_ok_from : {T E P : Type 0} (r : Result T E) → P → OnOk r P
+on_ok_from (Ok x) fact = fact
+on_ok_from (Err e) fact = tt
+
+pub none_ok : {T E : Type 0} (P : Type 0) (r : Result T E) → IsErr r → OnOk r P
+none_ok P (Ok x) failed = absurd (cc failed)
+none_ok P (Err e) failed = tt
+
+err_front : {T E P : Type 0} (r : Result T E) → P → OnErr r P
+err_front (Ok x) fact = tt
+err_front (Err e) fact = fact
+
+-- ---- no verdict is always possible
+
+none_if : (config : CoreConfig) (piece : List ℕ) (state : RunState) (link : Link) (t : Bool) → VerdictsIf t config piece [] state link
+none_if config piece state link true = record { each = omega arith; possible = none_refused config state.now (new_frames link.came piece) (talk_of piece state link) }
+none_if config piece state link false = refl
+
+none_on : (config : CoreConfig) (piece : List ℕ) (state : RunState) (found : Option Link) → VerdictsOn config piece [] state found
+none_on config piece state None = refl
+none_on config piece state (Some link) = none_if config piece state link (is_open link)
+
+none_in : (config : CoreConfig) (what : What) (piece : List ℕ) (state : RunState) → VerdictsIn config what piece [] state
+none_in config Idle piece state = refl
+none_in config (Opened number) piece state = refl
+none_in config (Read number count) piece state = none_on config piece state (find_link number state.links)
+none_in config (Ended number) piece state = refl
+none_in config (Broken number) piece state = refl
+none_in config (Room number) piece state = refl
+none_in config Stopped piece state = refl
+none_in config Failed piece state = refl
+none_in config NoMemory piece state = refl
+
+module _ (turn : Turn) (piece : List ℕ) (hub : Hub) (config : CoreConfig) (steps : List Step) (is : is_turn turn.what ≡ true) (follows : Follows hub config steps) where
+  turned_is : (verdicts : List (Option Refusal)) → after_step config (turn_step (wants_in hub) turn piece verdicts) (state_after config steps)
+      ≡ occurred config turn.what piece verdicts (passed (next_moment (state_after config steps).now turn.secs) (state_after config steps))
+  turned_is verdicts =
+      ap (λ (t : Bool). cond t (occurred config turn.what piece verdicts (passed (next_moment (state_after config steps).now turn.secs) (state_after config steps))) (state_after config steps)) is
+
+  pub longer_is : (verdicts : List (Option Refusal)) (run : List Entry) → state_after config (longer steps (turn_step (wants_in hub) turn piece verdicts) run)
+      ≡ state_from config (plain run) (occurred config turn.what piece verdicts (passed (next_moment (state_after config steps).now turn.secs) (state_after config steps)))
+  longer_is verdicts run =
+      state_append config steps (turn_step (wants_in hub) turn piece verdicts ∷ plain run) (first_state config)
+      ∙ ap (state_from config (plain run)) (turned_is verdicts)
+
+  pub longer_legal : (verdicts : List (Option Refusal)) (run : List Entry)
+      → VerdictsIn config turn.what piece verdicts (passed (next_moment (state_after config steps).now turn.secs) (state_after config steps))
+      → IsLegalFrom config (plain run) (occurred config turn.what piece verdicts (passed (next_moment (state_after config steps).now turn.secs) (state_after config steps)))
+      → IsLegal config (longer steps (turn_step (wants_in hub) turn piece verdicts) run)
+  longer_legal verdicts run possible legal =
+      legal_append config steps (turn_step (wants_in hub) turn piece verdicts ∷ plain run) (first_state config) follows.legal
+      (record { wanted = follows.state.links.wants; settled = follows.settled; verdicts = possible }, subst (IsLegalFrom config (plain run)) (sym (turned_is verdicts)) legal)
+
+  -- out of memory while the seconds passed
+  pub turns_unpassed : (hub' : Hub) (patterns : PatternsState) (forks forks' : ℕ) (text : Option (List ℕ)) (result : Result (Unit {0}) Stop) → IsErr result
+      → Turns turn piece hub hub' patterns patterns forks forks' text text result config steps []
+  turns_unpassed hub' patterns forks forks' text result failed =
+      let tells = more_notices config steps (turn_step (wants_in hub) turn piece [] ∷ []) in
+      record {
+        verdicts = [];
+        reported = no_verdicts patterns;
+        legal = longer_legal [] [] (none_in config turn.what piece (passed (next_moment (state_after config steps).now turn.secs) (state_after config steps))) tt;
+        made = tells.made;
+        notices = tells.is;
+        lines = none_ok _ result failed;
+        front = err_front result (front_nothing text (lines_of tells.made));
+        follows = none_ok _ result failed;
+        counted = none_ok _ result failed;
+      }
+
+  -- the hub once the seconds have passed
+  pub passed_at : (core' : Core) (old new : Told) → now_of core' ≡ next_moment (now_of hub.core) turn.secs
+      → ((arrivals : List Arrival) → Represents hub.core arrivals → Arrives hub.core core' arrivals (replicate (next_moment (now_of hub.core) turn.secs - now_of hub.core) Elapsed) old new)
+      → IsAt (record hub { core = core' }) config (passed (next_moment (state_after config steps).now turn.secs) (state_after config steps))
+  passed_at core' old new now arrives =
+      let at = follows.state in
+      let comes = arrives (state_after config steps).arrivals at.arrivals in
+      record {
+        arrivals = subst (λ (n : ℕ). Represents core' ((state_after config steps).arrivals ++ replicate (next_moment n turn.secs - n) Elapsed)) at.now comes.represents;
+        config_is = comes.config ∙ at.config_is;
+        now = now ∙ ap (λ (n : ℕ). next_moment n turn.secs) at.now;
+        links = at.links;
+      }
+
+  -- out of memory at its occurrence
+  pub turns_unfinished : (one hub' : Hub) (patterns patterns' : PatternsState) (old new : Told) (forks forks' : ℕ) (text : Option (List ℕ)) (result : Result (Unit {0}) Stop) (failure : Result (Unit {0}) Memory) (run : List Entry) → IsErr result
+      → IsAt one config (passed (next_moment (state_after config steps).now turn.secs) (state_after config steps))
+      → OccursFrom turn.what piece one hub' patterns patterns' old new failure run
+      → Turns turn piece hub hub' patterns patterns' forks forks' text text result config steps run
+  turns_unfinished one hub' patterns patterns' old new forks forks' text result failure run failed at occurs =
+      let occurred_so = occurs config (passed (next_moment (state_after config steps).now turn.secs) (state_after config steps)) at follows.settled in
+      let tells = more_notices config steps (turn_step (wants_in hub) turn piece occurred_so.verdicts ∷ plain run) in
+      record {
+        verdicts = occurred_so.verdicts;
+        reported = occurred_so.reported;
+        legal = longer_legal occurred_so.verdicts run occurred_so.possible occurred_so.legal;
+        made = tells.made;
+        notices = tells.is;
+        lines = none_ok _ result failed;
+        front = err_front result (front_nothing text (lines_of tells.made));
+        follows = none_ok _ result failed;
+        counted = none_ok _ result failed;
+      }
+
+  -- all was done but the lines
+  pub turns_told : (one hub' : Hub) (patterns patterns' : PatternsState) (middle : Told) (notices : List Notice) (forks forks' : ℕ) (text text' : Option (List ℕ)) (result : Result (Unit {0}) Stop) (run : List Entry)
+      → ((arrivals : List Arrival) → Represents hub.core arrivals → Arrives hub.core one.core arrivals (replicate (next_moment (now_of hub.core) turn.secs - now_of hub.core) Elapsed) (told [] forks) middle)
+      → IsAt one config (passed (next_moment (state_after config steps).now turn.secs) (state_after config steps))
+      → OccursFrom turn.what piece one hub' patterns patterns' middle (told notices forks') (Ok tt) run
+      → OnOk result (Got text (lines_of notices) text') → OnErr result (GotFront text (lines_of notices) text')
+      → Turns turn piece hub hub' patterns patterns' forks forks' text text' result config steps run
+  turns_told one hub' patterns patterns' middle notices forks forks' text text' result run arrives at occurs lines front =
+      let occurred_so = occurs config (passed (next_moment (state_after config steps).now turn.secs) (state_after config steps)) at follows.settled in
+      let verdicts : List (Option Refusal) = occurred_so.verdicts in
+      let done = occurred_so.done in
+      let state : RunState = state_after config steps in
+      let seconds : List Arrival = replicate (next_moment state.now turn.secs - state.now) Elapsed in
+      let first : Heard config state.arrivals seconds [] forks middle.notices middle.forks =
+      subst (λ (n : ℕ). Heard config state.arrivals (replicate (next_moment n turn.secs - n) Elapsed) [] forks middle.notices middle.forks) follows.state.now
+      (subst (λ (c : CoreConfig). Heard c state.arrivals (replicate (next_moment (now_of hub.core) turn.secs - now_of hub.core) Elapsed) [] forks middle.notices middle.forks) follows.state.config_is
+      (arrives state.arrivals follows.state.arrivals).heard) in
+      let both : Heard config state.arrivals (seconds ++ done.more) [] forks notices forks' = heard_then config state.arrivals seconds done.more (told [] forks) middle (told notices forks') first done.heard in
+      let is = longer_is verdicts run in
+      let arrivals : (state_after config (longer steps (turn_step (wants_in hub) turn piece verdicts) run)).arrivals ≡ state.arrivals ++ (seconds ++ done.more) =
+      ap (λ (s : RunState). s.arrivals) is ∙ done.arrivals ∙ append_assoc state.arrivals seconds done.more in
+      record {
+        verdicts = verdicts;
+        reported = occurred_so.reported;
+        legal = longer_legal verdicts run occurred_so.possible occurred_so.legal;
+        made = notices;
+        notices = ap (notices_by config) arrivals ∙ both.notices ∙ ap (λ (ns : List Notice). notices_after config steps ++ ns) (sym both.told);
+        lines = lines;
+        front = front;
+        follows = on_ok_from result (record {
+          legal = longer_legal verdicts run occurred_so.possible occurred_so.legal;
+          state = subst (IsAt hub' config) (sym is) done.at;
+          settled = subst (λ (s : RunState). AreSettled s.links) (sym is) done.settled;
+        });
+        counted = on_ok_from result (ap (λ (xs : List Arrival). forks + forks_by config xs) arrivals ∙ both.forks);
+      }

@@ -1,0 +1,25 @@
+use Rattle.hub_link.proofs.AddedLaws.{added_weaken}
+use Rattle.hub_meaning.specs.Verdicts.{patterns_state}
+use Rattle.msg_replies.specs.Arriving.{told}
+use Rattle.conn_core.specs.Occurring.{OccursFrom}
+use Rattle.conn_core.specs.Reaching.{Changes, links_after}
+use Rattle.conn_core.specs.declared.hub.Hub.{Hub}
+use Rattle.conn_core.proofs.OccurLaws.{occurs_changed, readless}
+use Rattle.conn_core.proofs.hub.Hub.occur.Goals as goal
+
+pub returns-in_default : goal.returns-in_default
+returns-in_default g c =
+    let hub = c.args.self.now in
+    let hub' : Hub = record hub { table = c.change.new.table } in
+    let patterns = patterns_state (g.P.Patterns.refusals c.args.patterns.now) (g.P.Patterns.refused c.args.patterns.now) in
+    let before = told c.args.notices.now c.args.steps.now.forks in
+    record {
+      known = c.change.ensures.known;
+      occurs = added_weaken (g.L.Links.log c.args.links.now) (g.L.Links.log c.change.new.links) (Changes (links_after c.args.what) hub.table c.change.new.table c.change.result)
+          (OccursFrom c.args.what c.args.piece.now hub hub' patterns patterns before before c.change.result)
+          (λ run changes. occurs_changed c.args.what c.args.piece.now hub c.change.new.table patterns before c.change.result run (readless c.args.what c.in_default.not-Read) changes)
+          c.change.ensures.changes;
+      faults = c.change.ensures.faults;
+      script = c.change.ensures.script;
+      plays = c.change.ensures.plays;
+    }

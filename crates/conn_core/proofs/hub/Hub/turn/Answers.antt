@@ -1,0 +1,106 @@
+use Rattle.std.proofs.Common.{◌-◌, List, [], replicate, Ok, Err, refl, subst}
+use Rattle.std.proofs.lemmas.Result.{err_from_is_err_and}
+use Rattle.ev_types.specs.declared.item.Notice.{Notice}
+use Rattle.event_core.specs.Core.{Represents, now_of}
+use Rattle.hub_link.proofs.AddedLaws.{added_nothing, added_weaken}
+use Rattle.hub_meaning.specs.Clock.{next_moment}
+use Rattle.hub_meaning.specs.Verdicts.{patterns_state}
+use Rattle.msg_replies.specs.Arriving.{Arrives, told}
+use Rattle.notice_sink.specs.Lines.{lines_of}
+use Rattle.ports.specs.Writing.{Got, GotFront}
+use Rattle.stream_meaning.specs.Arrivals.{Arrival, Elapsed}
+use Rattle.conn_core.specs.Occurring.{OccursFrom}
+use Rattle.conn_core.specs.Turning.{TurnsFrom}
+use Rattle.conn_core.specs.declared.hub.Hub.{Hub}
+use Rattle.conn_core.proofs.KnownLaws.{opened_by}
+use Rattle.conn_core.proofs.TurnLaws.{passed_at, turn_is, turns_told, turns_unfinished, turns_unpassed}
+use Rattle.conn_core.proofs.hub.Hub.turn.Goals as goal
+
+pub occur-requires-clause-opened : goal.occur-requires-clause-opened
+occur-requires-clause-opened g c = opened_by (g.L.Links.log c.args.links.now) c.args.turn c.requires.answered
+
+pub returns-in_err-pass-clause-turns : goal.returns-in_err-pass-clause-turns
+returns-in_err-pass-clause-turns g c =
+    let p = err_from_is_err_and c.from_residual.result c.from_residual.ensures.1 in
+    let hub = c.args.self.now in
+    let hub' : Hub = record hub { core = c.pass.new.core } in
+    let patterns = patterns_state (g.P.Patterns.refusals c.args.patterns.now) (g.P.Patterns.refused c.args.patterns.now) in
+    let text = g.O.Sink.text c.args.sink.now in
+    rw p.1 (added_nothing (g.L.Links.log c.args.links.now)
+    (TurnsFrom c.args.turn c.args.piece.now hub hub' patterns patterns c.args.steps.now.forks c.pass.new.steps.forks text text (Err p.0))
+    (λ config steps follows. turns_unpassed c.args.turn c.args.piece.now hub config steps (turn_is c.args.turn.what c.requires.failed c.requires.memory) follows
+    hub' patterns c.args.steps.now.forks c.pass.new.steps.forks text (Err p.0) refl))
+
+pub returns-in_err-occur-clause-turns : goal.returns-in_err-occur-clause-turns
+returns-in_err-occur-clause-turns g c =
+    let p = err_from_is_err_and c.from_residual-in_err-occur.result c.from_residual-in_err-occur.ensures.1 in
+    let hub = c.args.self.now in
+    let one : Hub = record hub { core = c.pass.new.core } in
+    let hub' = c.occur.new.self in
+    let patterns = patterns_state (g.P.Patterns.refusals c.args.patterns.now) (g.P.Patterns.refused c.args.patterns.now) in
+    let patterns' = patterns_state (g.P.Patterns.refusals c.occur.new.patterns) (g.P.Patterns.refused c.occur.new.patterns) in
+    let text = g.O.Sink.text c.args.sink.now in
+    let forks = c.args.steps.now.forks in
+    let forks' = c.occur.new.steps.forks in
+    let middle = told c.pass.new.notices c.pass.new.steps.forks in
+    let after = told c.occur.new.notices forks' in
+    let failure = c.occur.result in
+    rw p.1 (added_weaken (g.L.Links.log c.args.links.now) (g.L.Links.log c.occur.new.links)
+    (OccursFrom c.args.turn.what c.args.piece.now one hub' patterns patterns' middle after (Err c.in_err-occur.field-0.0))
+    (TurnsFrom c.args.turn c.args.piece.now hub hub' patterns patterns' forks forks' text text (Err p.0))
+    (λ run occurs config steps follows.
+    let is = turn_is c.args.turn.what c.requires.failed c.requires.memory in
+    turns_unfinished c.args.turn c.args.piece.now hub config steps is follows one hub' patterns patterns' middle after forks forks' text (Err p.0) (Err c.in_err-occur.field-0.0) run refl
+    (passed_at c.args.turn c.args.piece.now hub config steps is follows c.pass.new.core (told c.fresh-notices.result forks) middle c.in_ok-pass.ensures.now c.in_ok-pass.ensures.arrives) occurs)
+    c.in_err-occur.ensures.occurs)
+
+pub returns-in_err-write_lines-clause-turns : goal.returns-in_err-write_lines-clause-turns
+returns-in_err-write_lines-clause-turns g c =
+    let p = err_from_is_err_and c.from_residual-in_err-write_lines.result c.from_residual-in_err-write_lines.ensures.1 in
+    let hub = c.args.self.now in
+    let one : Hub = record hub { core = c.pass.new.core } in
+    let hub' = c.occur.new.self in
+    let patterns = patterns_state (g.P.Patterns.refusals c.args.patterns.now) (g.P.Patterns.refused c.args.patterns.now) in
+    let patterns' = patterns_state (g.P.Patterns.refusals c.occur.new.patterns) (g.P.Patterns.refused c.occur.new.patterns) in
+    let text = g.O.Sink.text c.args.sink.now in
+    let text' = g.O.Sink.text c.write_lines.new.sink in
+    let forks = c.args.steps.now.forks in
+    let forks' = c.occur.new.steps.forks in
+    let middle = told c.pass.new.notices c.pass.new.steps.forks in
+    let notices = c.occur.new.notices in
+    let front = subst (λ (ns : List Notice). GotFront text (lines_of ns) text') c.as_slice.ensures c.in_err-write_lines.ensures.front in
+    let arrives = subst (λ (ns : List Notice). (arrivals : List Arrival) → Represents hub.core arrivals
+    → Arrives hub.core c.pass.new.core arrivals (replicate (next_moment (now_of hub.core) c.args.turn.secs - now_of hub.core) Elapsed) (told ns forks) middle) c.fresh-notices.ensures c.in_ok-pass.ensures.arrives in
+    rw p.1 (added_weaken (g.L.Links.log c.args.links.now) (g.L.Links.log c.occur.new.links)
+    (OccursFrom c.args.turn.what c.args.piece.now one hub' patterns patterns' middle (told notices forks') (Ok tt))
+    (TurnsFrom c.args.turn c.args.piece.now hub hub' patterns patterns' forks forks' text text' (Err p.0))
+    (λ run occurs config steps follows.
+    let is = turn_is c.args.turn.what c.requires.failed c.requires.memory in
+    turns_told c.args.turn c.args.piece.now hub config steps is follows one hub' patterns patterns' middle notices forks forks' text text' (Err p.0) run arrives
+    (passed_at c.args.turn c.args.piece.now hub config steps is follows c.pass.new.core (told [] forks) middle c.in_ok-pass.ensures.now arrives) occurs tt front)
+    c.in_ok-occur.ensures.occurs)
+
+pub returns-clause-turns : goal.returns-clause-turns
+returns-clause-turns g c =
+    let hub = c.args.self.now in
+    let one : Hub = record hub { core = c.pass.new.core } in
+    let hub' = c.occur.new.self in
+    let patterns = patterns_state (g.P.Patterns.refusals c.args.patterns.now) (g.P.Patterns.refused c.args.patterns.now) in
+    let patterns' = patterns_state (g.P.Patterns.refusals c.occur.new.patterns) (g.P.Patterns.refused c.occur.new.patterns) in
+    let text = g.O.Sink.text c.args.sink.now in
+    let text' = g.O.Sink.text c.write_lines.new.sink in
+    let forks = c.args.steps.now.forks in
+    let forks' = c.occur.new.steps.forks in
+    let middle = told c.pass.new.notices c.pass.new.steps.forks in
+    let notices = c.occur.new.notices in
+    let lines = subst (λ (ns : List Notice). Got text (lines_of ns) text') c.as_slice.ensures c.in_ok-write_lines.ensures.all in
+    let arrives = subst (λ (ns : List Notice). (arrivals : List Arrival) → Represents hub.core arrivals
+    → Arrives hub.core c.pass.new.core arrivals (replicate (next_moment (now_of hub.core) c.args.turn.secs - now_of hub.core) Elapsed) (told ns forks) middle) c.fresh-notices.ensures c.in_ok-pass.ensures.arrives in
+    added_weaken (g.L.Links.log c.args.links.now) (g.L.Links.log c.occur.new.links)
+    (OccursFrom c.args.turn.what c.args.piece.now one hub' patterns patterns' middle (told notices forks') (Ok tt))
+    (TurnsFrom c.args.turn c.args.piece.now hub hub' patterns patterns' forks forks' text text' (Ok tt))
+    (λ run occurs config steps follows.
+    let is = turn_is c.args.turn.what c.requires.failed c.requires.memory in
+    turns_told c.args.turn c.args.piece.now hub config steps is follows one hub' patterns patterns' middle notices forks forks' text text' (Ok tt) run arrives
+    (passed_at c.args.turn c.args.piece.now hub config steps is follows c.pass.new.core (told [] forks) middle c.in_ok-pass.ensures.now arrives) occurs lines tt)
+    c.in_ok-occur.ensures.occurs

@@ -1,0 +1,35 @@
+use Rattle.std.proofs.Common.{List, [], ◌∷◌, Ok, ap, sym, ◌∙◌, subst, arith}
+use Rattle.std.specs.Prelude.{Option}
+use Rattle.hub_link.specs.declared.link.HubLink.{HubLink}
+use Rattle.hub_link.proofs.AddedLaws.{added_nothing}
+use Rattle.hub_meaning.specs.Links.{opened}
+use Rattle.link_table.specs.Kept.{Kept}
+use Rattle.ports.specs.Links.{grown}
+use Rattle.ports.specs.declared.entry.Entry.{Entry}
+use Rattle.ports.specs.declared.entry.Entry.TheVariants.{Close}
+use Rattle.conn_core.specs.Known.{AreUnclosed}
+use Rattle.conn_core.specs.Reaching.{Changes}
+use Rattle.conn_core.proofs.KnownLaws.{known_apart}
+use Rattle.conn_core.proofs.ReachLaws.{changes_added, changes_full}
+use Rattle.conn_core.proofs.links.open.Goals as goal
+
+pub returns-then-len-ge-CONNECTED_LIMIT-clause-known : goal.returns-then-len-ge-CONNECTED_LIMIT-clause-known
+returns-then-len-ge-CONNECTED_LIMIT-clause-known g c =
+    let wants = c.args.table.now.wants in
+    let same = ap (λ (t : Kept HubLink). t.wants) c.note.ensures in
+    subst (λ (log : Option (List Entry)). AreUnclosed log c.note.new.self.wants) (sym c.close.ensures.log)
+    (subst (AreUnclosed (grown (g.L.Links.log c.args.links.now) (Close c.args.number ∷ []))) (sym same)
+    (known_apart (g.L.Links.log c.args.links.now) wants c.args.number (c.is_newer.ensures.absent c.if-not-is_newer.false) c.requires.known))
+
+pub returns-then-len-ge-CONNECTED_LIMIT-clause-changes : goal.returns-then-len-ge-CONNECTED_LIMIT-clause-changes
+returns-then-len-ge-CONNECTED_LIMIT-clause-changes g c = record {
+  run = Close c.args.number ∷ [];
+  grew = c.close.ensures.log;
+  holds = changes_full c.args.table.now c.note.new.self c.args.number (sym c.is_newer.ensures.value ∙ c.if-not-is_newer.false) (omega arith)
+      (ap (λ (t : Kept HubLink). t.wants) c.note.ensures) (ap (λ (t : Kept HubLink). t.values) c.note.ensures) (ap (λ (t : Kept HubLink). t.newest) c.note.ensures);
+}
+
+pub returns-clause-changes : goal.returns-clause-changes
+returns-clause-changes g c =
+    added_nothing (g.L.Links.log c.args.links.now) (Changes (opened c.args.number) c.args.table.now c.add.new.table (Ok tt))
+    (changes_added c.args.table.now c.add.new.table c.args.number (sym c.is_newer.ensures.value ∙ c.if-not-is_newer.false) (omega arith) c.in_ok-add.ensures)

@@ -1,0 +1,46 @@
+-- What a turn does.
+use Rattle.std.specs.Prelude.{◌≡◌, ℕ, ◌+◌, List, ◌∷◌, ◌++◌, Option, Result, OnOk, OnErr}
+use Rattle.ev_types.specs.declared.item.Notice.{Notice}
+use Rattle.event_core.specs.Core.{CoreConfig, forks_by}
+use Rattle.hub_meaning.specs.Legal.{IsLegal}
+use Rattle.hub_meaning.specs.Runs.{Step, notices_after, plain, state_after}
+use Rattle.hub_meaning.specs.Verdicts.{AfterVerdicts, PatternsState, Refusal}
+use Rattle.notice_sink.specs.Lines.{lines_of}
+use Rattle.ports.specs.declared.entry.Entry.{Entry}
+use Rattle.ports.specs.declared.entry.Entry.TheVariants.{Next}
+use Rattle.ports.specs.declared.links.Turn.{Turn}
+use Rattle.ports.specs.declared.links.Want.{Want}
+use Rattle.ports.specs.Writing.{Got, GotFront}
+use Rattle.conn_core.specs.Hub.{Follows, wants_in}
+use Rattle.conn_core.specs.declared.hub.Hub.{Hub}
+use Rattle.conn_core.specs.declared.stop.Stop.{Stop}
+
+-- the step of a turn
+abbrev pub turn_step : List Want → Turn → List ℕ → List (Option Refusal) → Step
+turn_step wants turn piece verdicts = record { entry = Next wants turn piece; verdicts = verdicts }
+
+-- the steps of a run, then a turn, and then the calls that were made of links in it
+abbrev pub longer : List Step → Step → List Entry → List Step
+longer steps turn run = steps ++ (turn ∷ plain run)
+
+-- The turn was done, or the hub stopped in the middle of it. The verdicts on its messages are those that were reported
+-- of the patterns.
+pub record Turns (turn : Turn) (piece : List ℕ) (hub hub' : Hub) (patterns patterns' : PatternsState) (forks forks' : ℕ)
+    (text text' : Option (List ℕ)) (result : Result (Unit {0}) Stop) (config : CoreConfig) (steps : List Step) (run : List Entry) : Type 0 where
+  pub verdicts : List (Option Refusal)
+  pub reported : AfterVerdicts patterns patterns' verdicts
+  pub legal : IsLegal config (longer steps (turn_step (wants_in hub) turn piece verdicts) run)
+  pub made : List Notice
+  pub notices : notices_after config (longer steps (turn_step (wants_in hub) turn piece verdicts) run) ≡ notices_after config steps ++ made
+  -- the lines of these notices were written, or a prefix of them
+  pub lines : OnOk result (Got text (lines_of made) text')
+  pub front : OnErr result (GotFront text (lines_of made) text')
+  pub follows : OnOk result (Follows hub' config (longer steps (turn_step (wants_in hub) turn piece verdicts) run))
+  pub counted : OnOk result (forks + forks_by config (state_after config (longer steps (turn_step (wants_in hub) turn piece verdicts) run)).arrivals
+      ≡ forks' + forks_by config (state_after config steps).arrivals)
+
+-- it does so after any steps that the hub follows
+abbrev pub TurnsFrom : Turn → List ℕ → Hub → Hub → PatternsState → PatternsState → ℕ → ℕ → Option (List ℕ) → Option (List ℕ) → Result (Unit {0}) Stop → List Entry → Type 0
+TurnsFrom turn piece hub hub' patterns patterns' forks forks' text text' result run =
+    (config : CoreConfig) (steps : List Step) → Follows hub config steps
+    → Turns turn piece hub hub' patterns patterns' forks forks' text text' result config steps run

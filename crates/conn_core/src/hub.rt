@@ -1,0 +1,207 @@
+ghost use Rattle.std.specs.Prelude.{◌≡◌, ◌≢◌, ◌+◌, ◌-◌, ◌^◌, ◌≤◌, ℕ, [], List, replicate, OnOk};
+ghost use Rattle.conn_core.specs.Hub.{core_of, wants_in, Follows};
+ghost use Rattle.conn_core.specs.Known.{Answered, AreUnclosed, IsOpenedBy};
+ghost use Rattle.conn_core.specs.Occurring.{OccursFrom};
+ghost use Rattle.conn_core.specs.Turning.{TurnsFrom};
+ghost use Rattle.event_core.specs.Core.{Represents, config_of, now_of};
+ghost use Rattle.hub_link.specs.Added.{Added};
+ghost use Rattle.hub_meaning.specs.Clock.{next_moment};
+ghost use Rattle.hub_meaning.specs.Verdicts.{patterns_state};
+ghost use Rattle.msg_replies.specs.Arriving.{Arrives, told};
+ghost use Rattle.ports.specs.Counts.{Rose};
+ghost use Rattle.ports.specs.Playing.{Plays};
+ghost use Rattle.stream_meaning.specs.Arrivals.{Arrival, Elapsed};
+
+use crate::lines::write_lines;
+use crate::links::{change, settle};
+use crate::stop::Stop;
+use ev_types::{Memory, Notices};
+use event_core::Core;
+use hub_link::HubLink;
+use link_table::LinkTable;
+use ports::{Links, Sink, Turn, Wants, What};
+use pred_eval::Patterns;
+use std::alloc::Global;
+use step_count::{Ledger, Steps};
+
+/// The last moment of the clock, in seconds since 1970.
+const LATEST_MOMENT: u64 = 1 << 40;
+
+/// How many seconds pass in one turn at most.
+const SECONDS_PER_TURN: u64 = 3600;
+
+/// A server's core, and its links. After a [`Stop`] nothing is known of a hub.
+#[derive(Drop)]
+pub struct Hub {
+    core: Core,
+    table: LinkTable<HubLink>,
+}
+
+impl Hub {
+    /// A hub without links, over a core to which nothing has arrived. It takes no memory.
+    pub fn fresh(alloc: Global, core: Core) -> Hub
+        ensures follows { Represents core [] → Follows result (config_of core) [] }
+        ensures core { core_of result ≡ core }
+        ensures wants { wants_in result ≡ [] }
+    {
+        Hub {
+            core,
+            table: LinkTable::fresh(alloc),
+        }
+    }
+
+    /// What is waited for on each connected link, by rising number.
+    pub fn wants(&self) -> &Wants
+        ensures { result.now ≡ wants_in self.now }
+    {
+        self.table.wants()
+    }
+
+    pub fn core(&self) -> &Core
+        ensures { result.now ≡ core_of self.now }
+    {
+        &self.core
+    }
+
+    /// One turn: the seconds up to its moment pass, and then comes what occurred on a link, with the bytes of a read in
+    /// `piece`. That link is sent what is unsent, and it is closed if it is over. At the end the notices of the turn are
+    /// written as lines, in order, each in one put.
+    pub fn turn<L: Links, O: Sink, P: Patterns, G: Ledger>(
+        &mut self,
+        alloc: Global,
+        turn: Turn,
+        piece: &[u8],
+        links: &mut L,
+        sink: &mut O,
+        patterns: &mut P,
+        steps: &mut Steps<G>,
+    ) -> Result<(), Stop>
+        requires failed { turn.what ≢ What.Failed }
+        requires memory { turn.what ≢ What.Memory }
+        requires known { AreUnclosed (L.log links.old) (wants_in self.old) }
+        requires answered { Answered (L.log links.old) turn }
+        ensures known { OnOk result (AreUnclosed (L.log links.new) (wants_in self.new)) }
+        ensures turns { Added (L.log links.old) (L.log links.new)
+            (TurnsFrom turn piece.now self.old self.new
+            (patterns_state (P.refusals patterns.old) (P.refused patterns.old))
+            (patterns_state (P.refusals patterns.new) (P.refused patterns.new))
+            steps.old.forks steps.new.forks (O.text sink.old) (O.text sink.new) result) }
+        ensures fault { result ≡ Err Stop.SinkFault →
+            Rose (O.faults sink.old) (O.faults sink.new) }
+        ensures memory { result ≡ Err Stop.Memory → O.faults sink.new ≡ O.faults sink.old }
+        ensures no_fault { OnOk result (O.faults sink.new ≡ O.faults sink.old) }
+        ensures faults { L.faults links.new ≡ L.faults links.old }
+        ensures script { L.script links.new ≡ L.script links.old }
+        ensures plays { Plays (L.script links.old) (L.log links.old)
+            → Plays (L.script links.new) (L.log links.new) }
+    {
+        let mut notices = Notices::fresh(alloc);
+        pass(alloc, &mut self.core, turn.secs, &mut notices, steps)?;
+        self.occur(
+            alloc,
+            turn.what,
+            piece,
+            links,
+            patterns,
+            &mut notices,
+            steps,
+        )?;
+        write_lines(alloc, notices.as_slice(), sink)?;
+        Ok(())
+    }
+
+    /// What occurred in a turn, at its moment.
+    fn occur<L: Links, P: Patterns, G: Ledger>(
+        &mut self,
+        alloc: Global,
+        what: What,
+        piece: &[u8],
+        links: &mut L,
+        patterns: &mut P,
+        notices: &mut Notices,
+        steps: &mut Steps<G>,
+    ) -> Result<(), Memory>
+        requires known { AreUnclosed (L.log links.old) (wants_in self.old) }
+        requires opened { IsOpenedBy (L.log links.old) what }
+        ensures known { OnOk result (AreUnclosed (L.log links.new) (wants_in self.new)) }
+        ensures occurs { Added (L.log links.old) (L.log links.new)
+            (OccursFrom what piece.now self.old self.new
+            (patterns_state (P.refusals patterns.old) (P.refused patterns.old))
+            (patterns_state (P.refusals patterns.new) (P.refused patterns.new))
+            (told notices.old steps.old.forks) (told notices.new steps.new.forks) result) }
+        ensures faults { L.faults links.new ≡ L.faults links.old }
+        ensures script { L.script links.new ≡ L.script links.old }
+        ensures plays { Plays (L.script links.old) (L.log links.old)
+            → Plays (L.script links.new) (L.log links.new) }
+    {
+        match what {
+            What::Read { link, .. } => {
+                self.read(alloc, link, piece, links, patterns, notices, steps)
+            }
+            _ => change(alloc, &mut self.table, what, links),
+        }
+    }
+
+    /// A piece was read from the link of this number. One of no open link is ignored.
+    fn read<L: Links, P: Patterns, G: Ledger>(
+        &mut self,
+        alloc: Global,
+        number: u64,
+        piece: &[u8],
+        links: &mut L,
+        patterns: &mut P,
+        notices: &mut Notices,
+        steps: &mut Steps<G>,
+    ) -> Result<(), Memory>
+        requires { AreUnclosed (L.log links.old) (wants_in self.old) }
+        ensures known { OnOk result (AreUnclosed (L.log links.new) (wants_in self.new)) }
+        ensures occurs { (count : ℕ) → Added (L.log links.old) (L.log links.new)
+            (OccursFrom (What.Read number count) piece.now self.old self.new
+            (patterns_state (P.refusals patterns.old) (P.refused patterns.old))
+            (patterns_state (P.refusals patterns.new) (P.refused patterns.new))
+            (told notices.old steps.old.forks) (told notices.new steps.new.forks) result) }
+        ensures faults { L.faults links.new ≡ L.faults links.old }
+        ensures script { L.script links.new ≡ L.script links.old }
+        ensures plays { Plays (L.script links.old) (L.log links.old)
+            → Plays (L.script links.new) (L.log links.new) }
+    {
+        let Some(place) = self.table.find(number) else {
+            return Ok(());
+        };
+        self.table
+            .value_mut(place)
+            .hear(alloc, piece, &mut self.core, patterns, notices, steps)?;
+        settle(alloc, &mut self.table, number, place, links)?;
+        Ok(())
+    }
+}
+
+/// The seconds pass up to the moment of a turn that reads the clock at `secs`.
+fn pass<G: Ledger>(
+    alloc: Global,
+    core: &mut Core,
+    secs: u64,
+    notices: &mut Notices,
+    steps: &mut Steps<G>,
+) -> Result<(), Memory>
+    ensures now { OnOk result (now_of core.new ≡ next_moment (now_of core.old) secs) }
+    ensures arrives { OnOk result ((arrivals : List Arrival) → Represents core.old arrivals
+        → Arrives core.old core.new arrivals
+        (replicate (next_moment (now_of core.old) secs - now_of core.old) Elapsed)
+        (told notices.old steps.old.forks) (told notices.new steps.new.forks)) }
+{
+    let to = next_moment(core.now(), secs);
+    core.advance(alloc, to, notices, steps)?;
+    Ok(())
+}
+
+/// The moment of a turn that reads the clock at `secs`. The clock never goes back, and goes on by an hour a turn at most.
+fn next_moment(now: u64, secs: u64) -> u64
+    requires { now ≤ 2 ^ 40 }
+    ensures moment { result ≡ next_moment now secs }
+    ensures from { now ≤ result }
+    ensures hour { result ≤ now + 3600 }
+    ensures bound { result ≤ 2 ^ 40 }
+{
+    now.max(secs.min((now + SECONDS_PER_TURN).min(LATEST_MOMENT)))
+}

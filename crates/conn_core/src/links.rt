@@ -1,0 +1,205 @@
+ghost use Rattle.std.specs.Prelude.{◌≡◌, true, Ok, OnOk};
+ghost use Rattle.conn_core.specs.Known.{AreUnclosed, IsOpenedBy, IsUnclosed};
+ghost use Rattle.conn_core.specs.Reaching.{links_after, AddsLink, Changes, Finishes, Settles};
+ghost use Rattle.hub_link.specs.Added.{Added};
+ghost use Rattle.hub_meaning.specs.Links.{broken, changed, ended, opened, unblocked};
+ghost use Rattle.link_table.specs.Kept.{is_newer, IsAt};
+ghost use Rattle.ports.specs.Playing.{Plays};
+
+use ev_types::Memory;
+use hub_link::HubLink;
+use link_table::LinkTable;
+use ports::{Links, What};
+use std::alloc::Global;
+
+/// How many links are connected at most.
+const CONNECTED_LIMIT: usize = 256;
+
+/// What happened on a link, where nothing was read: then the link is sent what is unsent, and closed if it is over.
+pub(crate) fn change<L: Links>(
+    alloc: Global,
+    table: &mut LinkTable<HubLink>,
+    what: What,
+    links: &mut L,
+) -> Result<(), Memory>
+    requires known { AreUnclosed (L.log links.old) table.old.wants }
+    requires opened { IsOpenedBy (L.log links.old) what }
+    ensures known { OnOk result (AreUnclosed (L.log links.new) table.new.wants) }
+    ensures changes { Added (L.log links.old) (L.log links.new)
+        (Changes (links_after what) table.old table.new result) }
+    ensures faults { L.faults links.new ≡ L.faults links.old }
+    ensures script { L.script links.new ≡ L.script links.old }
+    ensures plays { Plays (L.script links.old) (L.log links.old)
+        → Plays (L.script links.new) (L.log links.new) }
+{
+    match what {
+        What::Opened { link } => open(alloc, table, link, links),
+        What::Ended { link } => end(alloc, table, link, links),
+        What::Broken { link } => fail(alloc, table, link, links),
+        What::Room { link } => unblock(alloc, table, link, links),
+        What::Idle | What::Read { .. } | What::Stopped | What::Failed | What::Memory => Ok(()),
+    }
+}
+
+/// A link was opened. One too many is closed at once. One whose number is not above all that came before is ignored.
+fn open<L: Links>(
+    alloc: Global,
+    table: &mut LinkTable<HubLink>,
+    number: u64,
+    links: &mut L,
+) -> Result<(), Memory>
+    requires known { AreUnclosed (L.log links.old) table.old.wants }
+    requires opened { IsUnclosed (L.log links.old) number }
+    ensures known { OnOk result (AreUnclosed (L.log links.new) table.new.wants) }
+    ensures changes { Added (L.log links.old) (L.log links.new)
+        (Changes (opened number) table.old table.new result) }
+    ensures faults { L.faults links.new ≡ L.faults links.old }
+    ensures script { L.script links.new ≡ L.script links.old }
+    ensures plays { Plays (L.script links.old) (L.log links.old)
+        → Plays (L.script links.new) (L.log links.new) }
+{
+    if !table.is_newer(number) {
+        return Ok(());
+    }
+    if table.len() >= CONNECTED_LIMIT {
+        table.note(number);
+        links.close(number);
+        return Ok(());
+    }
+    add(alloc, table, number)?;
+    Ok(())
+}
+
+/// Keeps a link that was opened.
+fn add(alloc: Global, table: &mut LinkTable<HubLink>, number: u64) -> Result<(), Memory>
+    requires { is_newer number table.old.newest ≡ true }
+    ensures { OnOk result (AddsLink number table.old table.new) }
+{
+    let link = HubLink::open(alloc, number, true);
+    table.add(alloc, link.want(), link)?;
+    Ok(())
+}
+
+/// The client of the link sends no more.
+fn end<L: Links>(
+    alloc: Global,
+    table: &mut LinkTable<HubLink>,
+    number: u64,
+    links: &mut L,
+) -> Result<(), Memory>
+    requires { AreUnclosed (L.log links.old) table.old.wants }
+    ensures known { OnOk result (AreUnclosed (L.log links.new) table.new.wants) }
+    ensures changes { Added (L.log links.old) (L.log links.new)
+        (Changes (changed number ended) table.old table.new result) }
+    ensures faults { L.faults links.new ≡ L.faults links.old }
+    ensures script { L.script links.new ≡ L.script links.old }
+    ensures plays { Plays (L.script links.old) (L.log links.old)
+        → Plays (L.script links.new) (L.log links.new) }
+{
+    let Some(place) = table.find(number) else {
+        return Ok(());
+    };
+    table.value_mut(place).end(alloc);
+    settle(alloc, table, number, place, links)?;
+    Ok(())
+}
+
+/// The link does not work any more.
+fn fail<L: Links>(
+    alloc: Global,
+    table: &mut LinkTable<HubLink>,
+    number: u64,
+    links: &mut L,
+) -> Result<(), Memory>
+    requires { AreUnclosed (L.log links.old) table.old.wants }
+    ensures known { OnOk result (AreUnclosed (L.log links.new) table.new.wants) }
+    ensures changes { Added (L.log links.old) (L.log links.new)
+        (Changes (changed number broken) table.old table.new result) }
+    ensures faults { L.faults links.new ≡ L.faults links.old }
+    ensures script { L.script links.new ≡ L.script links.old }
+    ensures plays { Plays (L.script links.old) (L.log links.old)
+        → Plays (L.script links.new) (L.log links.new) }
+{
+    let Some(place) = table.find(number) else {
+        return Ok(());
+    };
+    table.value_mut(place).fail();
+    settle(alloc, table, number, place, links)?;
+    Ok(())
+}
+
+/// The link may be sent to again.
+fn unblock<L: Links>(
+    alloc: Global,
+    table: &mut LinkTable<HubLink>,
+    number: u64,
+    links: &mut L,
+) -> Result<(), Memory>
+    requires { AreUnclosed (L.log links.old) table.old.wants }
+    ensures known { OnOk result (AreUnclosed (L.log links.new) table.new.wants) }
+    ensures changes { Added (L.log links.old) (L.log links.new)
+        (Changes (changed number unblocked) table.old table.new result) }
+    ensures faults { L.faults links.new ≡ L.faults links.old }
+    ensures script { L.script links.new ≡ L.script links.old }
+    ensures plays { Plays (L.script links.old) (L.log links.old)
+        → Plays (L.script links.new) (L.log links.new) }
+{
+    let Some(place) = table.find(number) else {
+        return Ok(());
+    };
+    table.value_mut(place).unblock();
+    settle(alloc, table, number, place, links)?;
+    Ok(())
+}
+
+/// Sends what is unsent on the link at this place. Then the link is closed if it is over, or what is wanted of it is
+/// noted.
+pub(crate) fn settle<L: Links>(
+    alloc: Global,
+    table: &mut LinkTable<HubLink>,
+    number: u64,
+    place: usize,
+    links: &mut L,
+) -> Result<(), Memory>
+    requires at { IsAt number table.old place }
+    requires known { AreUnclosed (L.log links.old) table.old.wants }
+    ensures known { OnOk result (AreUnclosed (L.log links.new) table.new.wants) }
+    ensures settles { Added (L.log links.old) (L.log links.new)
+        (Settles table.old table.new number place result) }
+    ensures faults { L.faults links.new ≡ L.faults links.old }
+    ensures script { L.script links.new ≡ L.script links.old }
+    ensures plays { Plays (L.script links.old) (L.log links.old)
+        → Plays (L.script links.new) (L.log links.new) }
+{
+    table.value_mut(place).send_all(alloc, links)?;
+    finish(alloc, table, number, place, links);
+    Ok(())
+}
+
+/// Closes the link at this place if it is over, or else notes what is wanted of it.
+fn finish<L: Links>(
+    alloc: Global,
+    table: &mut LinkTable<HubLink>,
+    number: u64,
+    place: usize,
+    links: &mut L,
+)
+    requires at { IsAt number table.old place }
+    requires known { AreUnclosed (L.log links.old) table.old.wants }
+    ensures known { AreUnclosed (L.log links.new) table.new.wants }
+    ensures finishes { Added (L.log links.old) (L.log links.new)
+        (Finishes table.old table.new number place (Ok tt)) }
+    ensures faults { L.faults links.new ≡ L.faults links.old }
+    ensures script { L.script links.new ≡ L.script links.old }
+    ensures plays { Plays (L.script links.old) (L.log links.old)
+        → Plays (L.script links.new) (L.log links.new) }
+{
+    let link = table.value(place);
+    if link.is_over() {
+        table.remove(alloc, place);
+        links.close(number);
+    } else {
+        let want = link.want();
+        table.set_want(alloc, place, want.read, want.room);
+    }
+}
