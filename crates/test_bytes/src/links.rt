@@ -43,6 +43,21 @@ fn read_all(link: &mut FrameLink, bodies: &mut Vec<u8>) -> Result<(), Memory> {
     Ok(())
 }
 
+/// Hands the pieces to the link, and takes all bodies after each. Returns the length that is too long at the last one.
+fn push_all(
+    alloc: Global,
+    link: &mut FrameLink,
+    bodies: &mut Vec<u8>,
+    pieces: &[&[u8]],
+) -> Result<Option<u32>, Memory> {
+    let mut last = None;
+    for piece in pieces {
+        link.push(alloc, piece)?;
+        last = take_all(alloc, link, bodies)?;
+    }
+    Ok(last)
+}
+
 /// Whether a link that gets these pieces hands out these bodies, and then stops at this length.
 fn gives(
     alloc: Global,
@@ -52,11 +67,7 @@ fn gives(
 ) -> Result<bool, Memory> {
     let mut link = FrameLink::fresh(alloc);
     let mut bodies = Vec::new(alloc);
-    let mut last = None;
-    for piece in pieces {
-        link.push(alloc, piece)?;
-        last = take_all(alloc, &mut link, &mut bodies)?;
-    }
+    let last = push_all(alloc, &mut link, &mut bodies, pieces)?;
     Ok(bodies.as_slice() == wanted && last == too_long)
 }
 
@@ -70,29 +81,42 @@ fn a_stream_cut_anywhere_gives_the_same_bodies(rt: HostRuntime) -> Result<(), Fa
     Ok(())
 }
 
-#[test]
-fn a_stream_in_single_bytes_gives_the_same_bodies(rt: HostRuntime) -> Result<(), Fail> {
-    let alloc = rt.alloc();
-    let mut link = FrameLink::fresh(alloc);
-    let mut bodies = Vec::new(alloc);
-    for byte in STREAM {
-        link.push(alloc, &[*byte])?;
-        let _ = take_all(alloc, &mut link, &mut bodies)?;
+/// Hands the bytes to the link one by one.
+fn push_singly(
+    alloc: Global,
+    link: &mut FrameLink,
+    bodies: &mut Vec<u8>,
+    bytes: &[u8],
+) -> Result<(), Memory> {
+    for byte in bytes {
+        let _ = push_all(alloc, link, bodies, &[&[*byte]])?;
     }
-    assert!(rt; bodies.as_slice() == BODIES);
-    link.push(alloc, b"rst")?;
-    let _ = take_all(alloc, &mut link, &mut bodies)?;
-    assert!(rt; bodies.as_slice() == b"|a|xyz|pqrst|".as_slice());
     Ok(())
 }
 
 #[test]
-fn bodies_are_read_where_they_are(rt: HostRuntime) -> Result<(), Fail> {
+fn a_stream_in_single_bytes_gives_the_same_bodies(rt: HostRuntime) -> Result<(), Fail> {
     let mut link = FrameLink::fresh(rt.alloc());
     let mut bodies = Vec::new(rt.alloc());
-    link.push(rt.alloc(), STREAM)?;
+    push_singly(rt.alloc(), &mut link, &mut bodies, STREAM)?;
+    assert!(rt; bodies.as_slice() == BODIES);
+    push_singly(rt.alloc(), &mut link, &mut bodies, b"rst")?;
+    assert!(rt; bodies.as_slice() == b"|a|xyz|pqrst|".as_slice());
+    Ok(())
+}
+
+/// Whether the bodies are read where they are in a link that gets the stream, and 6 bytes are left.
+fn is_read_in_place(alloc: Global) -> Result<bool, Memory> {
+    let mut link = FrameLink::fresh(alloc);
+    link.push(alloc, STREAM)?;
+    let mut bodies = Vec::new(alloc);
     read_all(&mut link, &mut bodies)?;
-    assert!(rt; bodies.as_slice() == BODIES && link.len() == 6);
+    Ok(bodies.as_slice() == BODIES && link.len() == 6)
+}
+
+#[test]
+fn bodies_are_read_where_they_are(rt: HostRuntime) -> Result<(), Fail> {
+    assert!(rt; is_read_in_place(rt.alloc())?);
     Ok(())
 }
 

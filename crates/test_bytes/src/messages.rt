@@ -1,4 +1,4 @@
-use crate::show::{event_line, shown};
+use crate::show::{put_event, shown};
 use ev_types::{Blob, Event, Events, Memory, Text};
 use riemann_msg::{
     Msg, MsgFault, QueryPart, bits_of_ttl, msg_len, read_msg, ttl_of_bits, write_msg,
@@ -26,19 +26,42 @@ fn embedded(alloc: Global, event: &[u8]) -> Result<Blob, Memory> {
     Ok(body)
 }
 
-/// The message in one line: ok, error and query, and then each event after a bar.
-fn message_line(alloc: Global, body: &[u8]) -> Result<String, Fail> {
-    let msg = read_msg(alloc, body, NOW)?;
-    let mut line = String::new(alloc);
-    write!(line, "{:?} {} ", msg.ok, shown(&msg.error))?;
+/// Appends the message in one line: ok, error and query, and then each event after a bar.
+fn put_message(alloc: Global, line: &mut String, msg: &Msg) -> Result<(), Fail> {
+    let (ok, error) = (msg.ok, shown(&msg.error));
+    write!(line, "{ok:?} {error} asks ")?;
     match &msg.query {
-        Some(query) => write!(line, "asks {}", shown(&query.string))?,
-        None => write!(line, "asks nothing")?,
+        Some(query) => line.push_str(shown(&query.string))?,
+        None => line.push_str("nothing")?,
     }
     for event in msg.events.as_slice() {
-        write!(line, " | {}", event_line(alloc, event)?.as_str())?;
+        line.push_str(" | ")?;
+        put_event(alloc, line, event)?;
     }
-    Ok(line)
+    Ok(())
+}
+
+/// Whether the message in one line is this, after a front that it may have.
+fn is_message(alloc: Global, msg: &Msg, front: &str, wanted: &str) -> Result<bool, Fail> {
+    let mut line = String::new(alloc);
+    put_message(alloc, &mut line, msg)?;
+    match line.as_str().strip_prefix(front) {
+        Some(rest) => Ok(rest == wanted),
+        None => Ok(false),
+    }
+}
+
+/// Whether the bytes are this message.
+fn is_read(alloc: Global, body: &[u8], wanted: &str) -> Result<bool, Fail> {
+    let msg = read_msg(alloc, body, NOW)?;
+    is_message(alloc, &msg, "", wanted)
+}
+
+/// Whether the bytes are this event, read as the one of a message.
+fn is_event(alloc: Global, event: &[u8], wanted: &str) -> Result<bool, Fail> {
+    let body = embedded(alloc, event)?;
+    let msg = read_msg(alloc, body.as_slice(), NOW)?;
+    is_message(alloc, &msg, "None - asks nothing | ", wanted)
 }
 
 #[test]
@@ -63,8 +86,7 @@ fn messages_are_read(rt: HostRuntime) -> Result<(), Fail> {
         ),
     ];
     for row in rows {
-        let found = message_line(rt.alloc(), row.0)?;
-        assert_eq!(rt; found.as_str(), row.1);
+        assert!(rt; is_read(rt.alloc(), row.0, row.1)?, "{}", row.1);
     }
     Ok(())
 }
@@ -129,21 +151,19 @@ fn events_are_read(rt: HostRuntime) -> Result<(), Fail> {
         ),
     ];
     for row in rows {
-        let body = embedded(rt.alloc(), row.0)?;
-        let found = message_line(rt.alloc(), body.as_slice())?;
-        let wanted = format!(in rt.alloc(); "None - asks nothing | {}", row.1)?;
-        assert_eq!(rt; found.as_str(), wanted.as_str());
+        assert!(rt; is_event(rt.alloc(), row.0, row.1)?, "{}", row.1);
     }
     Ok(())
 }
 
-/// The fault of a message, in words.
-fn fault_line(alloc: Global, body: &[u8]) -> Result<String, Fail> {
-    let line = match read_msg(alloc, body, NOW) {
-        Ok(_) => format!(in alloc; "read")?,
-        Err(fault) => format!(in alloc; "{fault}")?,
+/// Whether the message is refused at the place for the cause.
+fn is_refused(alloc: Global, body: &[u8], place: usize, why: &str) -> Result<bool, Fail> {
+    let Err(fault) = read_msg(alloc, body, NOW) else {
+        return Ok(false);
     };
-    Ok(line)
+    let found = format!(in alloc; "{fault}")?;
+    let wanted = format!(in alloc; "message refused at {place}: {why}")?;
+    Ok(found.as_str() == wanted.as_str())
 }
 
 #[test]
@@ -187,13 +207,7 @@ fn faults_are_placed(rt: HostRuntime) -> Result<(), Fail> {
         (b"\x32\x00\x32\x03\x22\x01\xff\x0b", 4, "utf8"),
     ];
     for row in rows {
-        let found = fault_line(rt.alloc(), row.0)?;
-        let wanted = format!(in rt.alloc();
-            "message refused at {place}: {why}",
-            place = row.1,
-            why = row.2
-        )?;
-        assert_eq!(rt; found.as_str(), wanted.as_str());
+        assert!(rt; is_refused(rt.alloc(), row.0, row.1, row.2)?, "{}", row.2);
     }
     Ok(())
 }
@@ -217,7 +231,7 @@ fn ttls_are_whole_numbers(rt: HostRuntime) {
         (0x7fc0_0000, None),
     ];
     for row in rows {
-        assert!(rt; ttl_of_bits(row.0) == row.1, "of {bits}", bits = row.0);
+        assert!(rt; ttl_of_bits(row.0) == row.1, "{}", row.0);
     }
 }
 
@@ -245,12 +259,17 @@ fn ttls_are_written(rt: HostRuntime) {
     }
 }
 
-/// Whether what is read is written so, and counted so.
+/// Whether the message is written so, and counted so.
+fn is_written(alloc: Global, msg: &Msg, wanted: &[u8]) -> Result<bool, Memory> {
+    let mut out = Blob::fresh(alloc);
+    write_msg(alloc, msg, &mut out)?;
+    Ok(out.as_slice() == wanted && msg_len(msg)? == wanted.len())
+}
+
+/// Whether what is read is written so.
 fn is_rewritten(alloc: Global, body: &[u8], wanted: &[u8]) -> Result<bool, MsgFault> {
     let msg = read_msg(alloc, body, NOW)?;
-    let mut out = Blob::fresh(alloc);
-    write_msg(alloc, &msg, &mut out)?;
-    Ok(out.as_slice() == wanted && msg_len(&msg)? == wanted.len())
+    Ok(is_written(alloc, &msg, wanted)?)
 }
 
 #[test]
@@ -275,34 +294,35 @@ fn messages_are_written_in_their_shortest_form(rt: HostRuntime) -> Result<(), Fa
         ),
     ];
     for row in rows {
-        assert!(rt;
-            is_rewritten(rt.alloc(), row.0, row.1)?,
-            "of {body:?}",
-            body = row.0
-        );
+        assert!(rt; is_rewritten(rt.alloc(), row.0, row.1)?);
     }
     let whole = embedded(rt.alloc(), WHOLE)?;
     assert!(rt; is_rewritten(rt.alloc(), whole.as_slice(), whole.as_slice())?);
     Ok(())
 }
 
-/// Whether the message is written so.
-fn is_written(alloc: Global, msg: &Msg, wanted: &[u8]) -> Result<bool, Memory> {
-    let mut out = Blob::fresh(alloc);
-    write_msg(alloc, msg, &mut out)?;
-    Ok(out.as_slice() == wanted)
+/// A reply of one event that holds nothing but its time.
+fn found_one(alloc: Global) -> Result<Msg, Memory> {
+    let mut events = Events::fresh(alloc);
+    events.push(alloc, Event::at(alloc, 1))?;
+    Ok(Msg::found(events))
+}
+
+/// A reply that refuses with an error "x", and has a query without a text where it asks.
+fn refused(alloc: Global, asks: bool) -> Result<Msg, Memory> {
+    let mut msg = Msg::refused(alloc, Text::from_str(alloc, "x")?);
+    if asks {
+        msg.query = Some(QueryPart { string: None });
+    }
+    Ok(msg)
 }
 
 #[test]
 fn replies_are_written(rt: HostRuntime) -> Result<(), Fail> {
     let alloc = rt.alloc();
     assert!(rt; is_written(alloc, &Msg::accepted(alloc), b"\x10\x01")?);
-    let mut refused = Msg::refused(alloc, Text::from_str(alloc, "x")?);
-    assert!(rt; is_written(alloc, &refused, b"\x10\x00\x1a\x01x")?);
-    refused.query = Some(QueryPart { string: None });
-    assert!(rt; is_written(alloc, &refused, b"\x10\x00\x1a\x01x\x2a\x00")?);
-    let mut events = Events::fresh(alloc);
-    events.push(alloc, Event::at(alloc, 1))?;
-    assert!(rt; is_written(alloc, &Msg::found(events), b"\x10\x01\x32\x02\x08\x01")?);
+    assert!(rt; is_written(alloc, &refused(alloc, false)?, b"\x10\x00\x1a\x01x")?);
+    assert!(rt; is_written(alloc, &refused(alloc, true)?, b"\x10\x00\x1a\x01x\x2a\x00")?);
+    assert!(rt; is_written(alloc, &found_one(alloc)?, b"\x10\x01\x32\x02\x08\x01")?);
     Ok(())
 }

@@ -1,9 +1,7 @@
 //! Events as one line of text each, so that a test compares one string.
 
-use ev_types::{Attr, Event, Text};
+use ev_types::{Attr, Event, Memory, Text};
 use std::alloc::Global;
-use std::fmt::Write;
-use std::test::Fail;
 
 pub fn shown(text: &Option<Text>) -> &str {
     match text {
@@ -12,43 +10,48 @@ pub fn shown(text: &Option<Text>) -> &str {
     }
 }
 
-/// Host, service, state, description; time in seconds and in microseconds; ttl; the metric in its three forms; then
-/// each tag, and each attribute.
-pub fn event_line(alloc: Global, event: &Event) -> Result<String, Fail> {
+/// Appends host, service, state, description; time in seconds and in microseconds; ttl; the metric in its three forms;
+/// then each tag, and each attribute.
+pub fn put_event(alloc: Global, line: &mut String, event: &Event) -> Result<(), Memory> {
+    for text in [
+        &event.host,
+        &event.service,
+        &event.state,
+        &event.description,
+    ] {
+        line.push_str(shown(text))?;
+        line.push_str(" ")?;
+    }
+    put_numbers(alloc, line, event)?;
+    for tag in event.tags.as_slice() {
+        line.push_str(" #")?;
+        line.push_str(tag.as_str())?;
+    }
+    for attribute in event.attributes.as_slice() {
+        put_attribute(line, attribute)?;
+    }
+    Ok(())
+}
+
+fn put_numbers(alloc: Global, line: &mut String, event: &Event) -> Result<(), Memory> {
+    let (time, micros, ttl) = (event.time, event.time_micros, event.ttl);
+    let (metric, raw_d, raw_f) = (event.metric, event.raw_d, event.raw_f);
+    let numbers = format!(in alloc; "{time} {micros:?} {ttl:?} {metric:?} {raw_d:?} {raw_f:?}")?;
+    line.push_str(numbers.as_str())?;
+    Ok(())
+}
+
+fn put_attribute(line: &mut String, attribute: &Attr) -> Result<(), Memory> {
+    line.push_str(" ")?;
+    line.push_str(attribute.key.as_str())?;
+    line.push_str("=")?;
+    line.push_str(shown(&attribute.value))?;
+    Ok(())
+}
+
+/// The event in one line.
+pub fn event_line(alloc: Global, event: &Event) -> Result<String, Memory> {
     let mut line = String::new(alloc);
-    write!(
-        line,
-        "{} {} {} {}",
-        shown(&event.host),
-        shown(&event.service),
-        shown(&event.state),
-        shown(&event.description)
-    )?;
-    write!(
-        line,
-        " {} {:?} {:?} {:?} {:?} {:?}",
-        event.time, event.time_micros, event.ttl, event.metric, event.raw_d, event.raw_f
-    )?;
-    add_tags(&mut line, event.tags.as_slice())?;
-    add_attributes(&mut line, event.attributes.as_slice())?;
+    put_event(alloc, &mut line, event)?;
     Ok(line)
-}
-
-fn add_tags(line: &mut String, tags: &[Text]) -> Result<(), Fail> {
-    for tag in tags {
-        write!(line, " #{}", tag.as_str())?;
-    }
-    Ok(())
-}
-
-fn add_attributes(line: &mut String, attributes: &[Attr]) -> Result<(), Fail> {
-    for attribute in attributes {
-        write!(
-            line,
-            " {}={}",
-            attribute.key.as_str(),
-            shown(&attribute.value)
-        )?;
-    }
-    Ok(())
 }

@@ -1,45 +1,47 @@
-use crate::show::{event_line, shown};
+use crate::show::{event_line, put_event};
 use ev_types::{
     Attr, Attrs, Blob, Event, Events, Field, Fields, Item, KeepKey, KeepKeys, Key, Memory, Tags,
     Text, TextFault, Texts, Value, field_is, field_number, field_text, key_of, same_field,
 };
 use std::alloc::Global;
-use std::collections::HashSet;
 use std::test::Fail;
 
 fn text(alloc: Global, chars: &str) -> Result<Text, Memory> {
     Text::from_str(alloc, chars)
 }
 
-fn some_text(alloc: Global, chars: &str) -> Result<Option<Text>, Memory> {
-    Ok(Some(text(alloc, chars)?))
+/// The text, or none where memory is out. A comparison then fails.
+fn some_text(alloc: Global, chars: &str) -> Option<Text> {
+    Text::from_str(alloc, chars).ok()
 }
 
-fn tags(alloc: Global, names: &[&str]) -> Result<Tags, Memory> {
+fn tags(alloc: Global, names: &[&str]) -> Tags {
     let mut tags = Tags::fresh(alloc);
     for name in names {
-        tags.push(alloc, text(alloc, name)?)?;
+        if let Some(name) = some_text(alloc, name) {
+            let _ = tags.push(alloc, name);
+        }
     }
-    Ok(tags)
+    tags
 }
 
-fn attribute(alloc: Global, key: &str, value: Option<&str>) -> Result<Attr, Memory> {
-    let key = text(alloc, key)?;
-    match value {
-        Some(value) => Ok(Attr {
-            key,
-            value: some_text(alloc, value)?,
-        }),
-        None => Ok(Attr { key, value: None }),
-    }
+fn attribute(alloc: Global, key: &str, value: Option<&str>) -> Option<Attr> {
+    let key = some_text(alloc, key)?;
+    let value = match value {
+        Some(value) => some_text(alloc, value),
+        None => None,
+    };
+    Some(Attr { key, value })
 }
 
-fn attributes(alloc: Global, rows: &[(&str, Option<&str>)]) -> Result<Attrs, Memory> {
+fn attributes(alloc: Global, rows: &[(&str, Option<&str>)]) -> Attrs {
     let mut attributes = Attrs::fresh(alloc);
     for row in rows {
-        attributes.push(alloc, attribute(alloc, row.0, row.1)?)?;
+        if let Some(attribute) = attribute(alloc, row.0, row.1) {
+            let _ = attributes.push(alloc, attribute);
+        }
     }
-    Ok(attributes)
+    attributes
 }
 
 /// Two attributes of one key, and two of another of which the last has no value.
@@ -52,26 +54,26 @@ const TWO_RACKS: [(&str, Option<&str>); 5] = [
 ];
 
 /// An event that holds something in each field.
-fn full_event(alloc: Global) -> Result<Event, Memory> {
-    Ok(Event {
-        host: some_text(alloc, "a")?,
-        service: some_text(alloc, "cpu")?,
-        state: some_text(alloc, "ok")?,
-        description: some_text(alloc, "fine")?,
-        tags: tags(alloc, &["web", ""])?,
+fn full_event(alloc: Global) -> Event {
+    Event {
+        host: some_text(alloc, "a"),
+        service: some_text(alloc, "cpu"),
+        state: some_text(alloc, "ok"),
+        description: some_text(alloc, "fine"),
+        tags: tags(alloc, &["web", ""]),
         time: -5,
         time_micros: Some(-4_999_999),
         ttl: Some(60),
         metric: Some(i64::MIN),
         raw_d: Some(u64::MAX),
         raw_f: Some(7),
-        attributes: attributes(alloc, &TWO_RACKS)?,
-    })
+        attributes: attributes(alloc, &TWO_RACKS),
+    }
 }
 
-/// What [`full_event`] holds, up to its attributes.
+/// What [`full_event`] holds.
 const FULL: &str =
-    "a cpu ok fine -5 Some(-4999999) Some(60) Some(-9223372036854775808) Some(18446744073709551615) Some(7) #web #";
+    "a cpu ok fine -5 Some(-4999999) Some(60) Some(-9223372036854775808) Some(18446744073709551615) Some(7) #web # rack=r7 bare=- rack=r8 room=r9 room=-";
 
 /// How many bytes the longest prefix has that is a text.
 fn text_prefix(alloc: Global, bytes: &[u8]) -> Result<usize, Memory> {
@@ -95,37 +97,60 @@ fn bytes_are_read_as_text(rt: HostRuntime) -> Result<(), Fail> {
         (b"\x61\x62\xed\xa0\x80", 2),
     ];
     for row in rows {
-        assert_eq!(rt; text_prefix(rt.alloc(), row.0)?, row.1);
+        assert!(rt; text_prefix(rt.alloc(), row.0)? == row.1);
     }
     assert!(rt; Text::read(rt.alloc(), b"\xe2\x82\xac")?.is("\u{20ac}".as_bytes()));
     Ok(())
 }
 
+/// Whether a copy of the event is written so.
+fn is_copied(alloc: Global, event: &Event, wanted: &str) -> Result<bool, Memory> {
+    is_event(alloc, &event.copy(alloc)?, wanted)
+}
+
+/// Whether the event is written so.
+fn is_event(alloc: Global, event: &Event, wanted: &str) -> Result<bool, Memory> {
+    let line = event_line(alloc, event)?;
+    Ok(line.as_str() == wanted)
+}
+
 #[test]
 fn a_copied_event_has_every_field(rt: HostRuntime) -> Result<(), Fail> {
-    let event = full_event(rt.alloc())?.copy(rt.alloc())?;
-    let found = event_line(rt.alloc(), &event)?;
-    let wanted = format!(in rt.alloc(); "{FULL} rack=r7 bare=- rack=r8 room=r9 room=-")?;
-    assert_eq!(rt; found.as_str(), wanted.as_str());
-    let bare = Event::at(rt.alloc(), 60);
-    let found = event_line(rt.alloc(), &bare)?;
-    assert_eq!(rt; found.as_str(), "- - - - 60 None None None None None");
+    let alloc = rt.alloc();
+    assert!(rt; is_copied(alloc, &full_event(alloc), FULL)?);
+    let bare = "- - - - 60 None None None None None";
+    assert!(rt; is_copied(alloc, &Event::at(alloc, 60), bare)?);
+    Ok(())
+}
+
+/// Adds the texts, each a copy, at the end.
+fn push_texts(alloc: Global, texts: &mut Texts, rows: &[&str]) -> Result<(), Memory> {
+    for row in rows {
+        let own = text(alloc, row)?;
+        texts.push(alloc, own.copy(alloc)?)?;
+    }
     Ok(())
 }
 
 #[test]
-fn lists_grow_at_their_end(rt: HostRuntime) -> Result<(), Fail> {
-    let alloc = rt.alloc();
-    let mut texts = Texts::fresh(alloc);
-    texts.push(alloc, text(alloc, "x")?)?;
-    texts.push(alloc, text(alloc, "y")?.copy(alloc)?)?;
+fn a_list_of_texts_grows_at_its_end(rt: HostRuntime) -> Result<(), Fail> {
+    let mut texts = Texts::fresh(rt.alloc());
+    push_texts(rt.alloc(), &mut texts, &["x", "y"])?;
     assert!(rt; texts.len() == 2 && texts.get(1).is(b"y"));
-    let vec = texts.into_vec();
-    assert_eq!(rt; Texts::from_vec(vec).as_slice().len(), 2);
+    assert!(rt; Texts::from_vec(texts.into_vec()).as_slice().len() == 2);
+    Ok(())
+}
 
-    let mut blob = Blob::from_slice(alloc, b"ab")?;
+/// Adds a byte and then two others.
+fn push_three(alloc: Global, blob: &mut Blob) -> Result<(), Memory> {
     blob.push(alloc, b'c')?;
-    blob.append(alloc, b"de")?;
+    blob.append(alloc, b"de")
+}
+
+#[test]
+fn a_blob_grows_at_its_end(rt: HostRuntime) -> Result<(), Fail> {
+    let mut blob = Blob::from_slice(rt.alloc(), b"ab")?;
+    push_three(rt.alloc(), &mut blob)?;
     assert!(rt; blob.as_slice() == b"abcde".as_slice());
     assert!(rt; blob.len() == 5 && *blob.get(2) == b'c');
     Ok(())
@@ -156,7 +181,21 @@ fn is_text(found: Option<&Text>, wanted: Option<&str>) -> bool {
     }
 }
 
-/// Whether the event holds this, and only this, in the field. The number is not 0.
+/// Whether the event holds this, and only this, in the field. The value is not the number 0.
+fn is_held(
+    event: &Event,
+    field: &Field,
+    value: &Value,
+    number: Option<i64>,
+    chars: Option<&str>,
+) -> bool {
+    field_number(event, field) == number
+        && is_text(field_text(event, field), chars)
+        && field_is(event, field, value)
+        && !field_is(event, field, &Value::Number(0))
+}
+
+/// Whether the field of the name holds this. The number is not 0.
 fn holds(
     alloc: Global,
     event: &Event,
@@ -164,20 +203,19 @@ fn holds(
     number: Option<i64>,
     chars: Option<&str>,
 ) -> Result<bool, Memory> {
-    let field = field(alloc, name)?.copy(alloc)?;
+    let field = copied_field(alloc, name)?;
     let value = value(alloc, number, chars)?;
-    Ok(
-        field.name() == name
-            && field_number(event, &field) == number
-            && is_text(field_text(event, &field), chars)
-            && field_is(event, &field, &value)
-            && !field_is(event, &field, &Value::Number(0)),
-    )
+    Ok(field.name() == name && is_held(event, &field, &value, number, chars))
+}
+
+fn copied_field(alloc: Global, name: &str) -> Result<Field, Memory> {
+    let field = field(alloc, name)?;
+    field.copy(alloc)
 }
 
 #[test]
 fn a_field_holds_its_value_or_nil(rt: HostRuntime) -> Result<(), Fail> {
-    let full = full_event(rt.alloc())?;
+    let full = full_event(rt.alloc());
     let rows: [(&str, Option<i64>, Option<&str>); 11] = [
         ("host", None, Some("a")),
         ("service", None, Some("cpu")),
@@ -192,12 +230,13 @@ fn a_field_holds_its_value_or_nil(rt: HostRuntime) -> Result<(), Fail> {
         ("RACK", None, None),
     ];
     for row in rows {
-        assert!(rt;
-            holds(rt.alloc(), &full, row.0, row.1, row.2)?,
-            "{name}",
-            name = row.0
-        );
+        assert!(rt; holds(rt.alloc(), &full, row.0, row.1, row.2)?, "{}", row.0);
     }
+    Ok(())
+}
+
+#[test]
+fn a_field_of_a_bare_event_is_nil(rt: HostRuntime) -> Result<(), Fail> {
     let bare = Event::at(rt.alloc(), 60);
     let rows: [(&str, Option<i64>); 8] = [
         ("host", None),
@@ -210,22 +249,18 @@ fn a_field_holds_its_value_or_nil(rt: HostRuntime) -> Result<(), Fail> {
         ("time", Some(60)),
     ];
     for row in rows {
-        assert!(rt;
-            holds(rt.alloc(), &bare, row.0, row.1, None)?,
-            "{name}",
-            name = row.0
-        );
+        assert!(rt; holds(rt.alloc(), &bare, row.0, row.1, None)?, "{}", row.0);
     }
     Ok(())
 }
 
-/// The name of the field that a name means, or a dash.
-fn meant(alloc: Global, name: &str) -> Result<Text, Memory> {
+/// Whether the name means the attribute, the metric, another field, or none where it is a dash.
+fn is_meant(alloc: Global, name: &str, wanted: &str) -> Result<bool, Memory> {
     match Field::named(text(alloc, name)?) {
-        Some(Field::Metric) => text(alloc, "the metric"),
-        Some(Field::Attribute(key)) => Ok(key),
-        Some(_) => text(alloc, "another field"),
-        None => text(alloc, "-"),
+        Some(Field::Metric) => Ok(wanted == "the metric"),
+        Some(Field::Attribute(key)) => Ok(key.is(wanted.as_bytes())),
+        Some(_) => Ok(wanted == "another field"),
+        None => Ok(wanted == "-"),
     }
 }
 
@@ -242,21 +277,32 @@ fn names_mean_fields(rt: HostRuntime) -> Result<(), Fail> {
         ("Host", "Host"),
         ("", ""),
     ] {
-        assert!(rt; meant(rt.alloc(), name)?.is(wanted.as_bytes()), "{name}");
+        assert!(rt; is_meant(rt.alloc(), name, wanted)?, "{name}");
     }
     Ok(())
+}
+
+/// An event that shares some fields with [`full_event`].
+fn other_event(alloc: Global) -> Event {
+    let mut event = Event::at(alloc, -5);
+    event.host = some_text(alloc, "a");
+    event.service = some_text(alloc, "CPU");
+    event.ttl = Some(60);
+    event.metric = Some(i64::MAX);
+    event.attributes = attributes(alloc, &[("rack", Some("r8"))]);
+    event
+}
+
+/// Whether the events have the same value of the field, and each the same as itself.
+fn is_shared(alloc: Global, a: &Event, b: &Event, name: &str) -> Result<bool, Memory> {
+    let field = field(alloc, name)?;
+    Ok(same_field(a, b, &field) && same_field(a, a, &field))
 }
 
 #[test]
 fn a_field_is_compared_in_two_events(rt: HostRuntime) -> Result<(), Fail> {
     let alloc = rt.alloc();
-    let full = full_event(alloc)?;
-    let mut other = Event::at(alloc, -5);
-    other.host = some_text(alloc, "a")?;
-    other.service = some_text(alloc, "CPU")?;
-    other.ttl = Some(60);
-    other.metric = Some(i64::MAX);
-    other.attributes = attributes(alloc, &[("rack", Some("r8"))])?;
+    let (full, other) = (full_event(alloc), other_event(alloc));
     for (name, same) in [
         ("host", true),
         ("service", false),
@@ -269,9 +315,7 @@ fn a_field_is_compared_in_two_events(rt: HostRuntime) -> Result<(), Fail> {
         ("room", true),
         ("nowhere", true),
     ] {
-        let field = field(alloc, name)?;
-        let found = same_field(&full, &other, &field);
-        assert!(rt; found == same && same_field(&full, &full, &field), "{name}");
+        assert!(rt; is_shared(alloc, &full, &other, name)? == same, "{name}");
     }
     Ok(())
 }
@@ -292,30 +336,52 @@ const RISING: [(Option<i64>, Option<&str>); 12] = [
     (None, Some("\u{e9}")),
 ];
 
+/// Whether the value compares with the one of the row as the first place with the second.
+fn is_ordered(
+    alloc: Global,
+    one: &Value,
+    row: (Option<i64>, Option<&str>),
+    places: (usize, usize),
+) -> Result<bool, Memory> {
+    let other = value(alloc, row.0, row.1)?;
+    let (i, k) = places;
+    Ok(one.cmp(&other) == i.cmp(&k) && (*one == other) == (i == k))
+}
+
 /// Whether the value compares with those of [`RISING`] as the one at this place.
 fn has_place(alloc: Global, value: &Value, place: usize) -> Result<bool, Memory> {
-    let mut same = true;
     for (k, row) in RISING.iter().enumerate() {
-        let other = crate::values::value(alloc, row.0, row.1)?;
-        same = same && value.cmp(&other) == place.cmp(&k) && (*value == other) == (place == k);
+        if !is_ordered(alloc, value, *row, (place, k))? {
+            return Ok(false);
+        }
     }
-    Ok(same)
+    Ok(true)
+}
+
+fn copied_value(alloc: Global, row: (Option<i64>, Option<&str>)) -> Result<Value, Memory> {
+    let value = value(alloc, row.0, row.1)?;
+    value.copy(alloc)
 }
 
 #[test]
 fn values_are_ordered(rt: HostRuntime) -> Result<(), Fail> {
     for (i, row) in RISING.iter().enumerate() {
-        let value = value(rt.alloc(), row.0, row.1)?.copy(rt.alloc())?;
+        let value = copied_value(rt.alloc(), *row)?;
         assert!(rt; has_place(rt.alloc(), &value, i)?, "{i}");
     }
     Ok(())
 }
 
-fn key(alloc: Global, event: &Event, names: &[&str]) -> Result<Key, Memory> {
+fn fields(alloc: Global, names: &[&str]) -> Result<Fields, Memory> {
     let mut fields = Fields::fresh(alloc);
     for name in names {
         fields.push(alloc, field(alloc, name)?)?;
     }
+    Ok(fields)
+}
+
+fn key(alloc: Global, event: &Event, names: &[&str]) -> Result<Key, Memory> {
+    let fields = fields(alloc, names)?;
     key_of(alloc, event, &fields)
 }
 
@@ -328,10 +394,21 @@ fn key_from(alloc: Global, rows: &[(Option<i64>, Option<&str>)]) -> Result<Key, 
     Ok(key)
 }
 
+/// Whether the key and a copy of it have these parts.
+fn has_parts(
+    alloc: Global,
+    key: &Key,
+    rows: &[(Option<i64>, Option<&str>)],
+) -> Result<bool, Memory> {
+    let wanted = key_from(alloc, rows)?;
+    let copied = Key::from_vec(key.copy(alloc)?.into_vec());
+    Ok(*key == wanted && copied.as_slice() == wanted.as_slice())
+}
+
 #[test]
 fn a_key_has_a_part_for_each_field(rt: HostRuntime) -> Result<(), Fail> {
     let alloc = rt.alloc();
-    let event = full_event(alloc)?;
+    let event = full_event(alloc);
     let names = ["service", "host", "rack", "nowhere", "time", "service"];
     let found = key(alloc, &event, &names)?;
     let rows = [
@@ -342,12 +419,9 @@ fn a_key_has_a_part_for_each_field(rt: HostRuntime) -> Result<(), Fail> {
         (Some(-5), None),
         (None, Some("cpu")),
     ];
-    let wanted = key_from(alloc, &rows)?;
     assert!(rt; found.len() == 6 && *found.get(4) == Value::Number(-5));
-    assert!(rt; found == wanted);
-    let copied = Key::from_vec(found.copy(alloc)?.into_vec());
-    assert!(rt; copied.as_slice() == wanted.as_slice());
-    assert_eq!(rt; key(alloc, &event, &[])?.len(), 0);
+    assert!(rt; has_parts(alloc, &found, &rows)?);
+    assert!(rt; key(alloc, &event, &[])?.len() == 0);
     Ok(())
 }
 
@@ -362,19 +436,32 @@ const RISING_KEYS: [&[&str]; 7] = [
     &["service", "host"],
 ];
 
+/// Whether the key compares with the one of the names as the first place with the second.
+fn is_key_ordered(
+    alloc: Global,
+    event: &Event,
+    one: &Key,
+    names: &[&str],
+    places: (usize, usize),
+) -> Result<bool, Memory> {
+    let other = key(alloc, event, names)?;
+    let (i, k) = places;
+    Ok(one.cmp(&other) == i.cmp(&k) && (*one == other) == (i == k))
+}
+
 /// Whether the key compares with those of [`RISING_KEYS`] as the one at this place.
 fn has_key_place(alloc: Global, event: &Event, key: &Key, place: usize) -> Result<bool, Memory> {
-    let mut same = true;
     for (k, names) in RISING_KEYS.iter().enumerate() {
-        let other = crate::values::key(alloc, event, names)?;
-        same = same && key.cmp(&other) == place.cmp(&k) && (*key == other) == (place == k);
+        if !is_key_ordered(alloc, event, key, names, (place, k))? {
+            return Ok(false);
+        }
     }
-    Ok(same)
+    Ok(true)
 }
 
 #[test]
 fn keys_are_ordered(rt: HostRuntime) -> Result<(), Fail> {
-    let event = full_event(rt.alloc())?;
+    let event = full_event(rt.alloc());
     for (i, names) in RISING_KEYS.iter().enumerate() {
         let key = key(rt.alloc(), &event, names)?;
         assert!(rt; has_key_place(rt.alloc(), &event, &key, i)?, "{i}");
@@ -382,68 +469,64 @@ fn keys_are_ordered(rt: HostRuntime) -> Result<(), Fail> {
     Ok(())
 }
 
-#[test]
-fn keys_are_kept_in_a_set(rt: HostRuntime) -> Result<(), Fail> {
-    let alloc = rt.alloc();
-    let event = full_event(alloc)?;
-    let mut keys: HashSet<Key> = HashSet::new(alloc);
-    keys.insert(key(alloc, &event, &["nowhere", "time", "host"])?)?;
-    let same = key(alloc, &event, &["bare", "time", "host"])?;
-    let other = key(alloc, &event, &["nowhere", "host", "time"])?;
-    assert!(rt; keys.contains(&same) && !keys.contains(&other));
+/// Appends each event of the item in one line, after its form.
+fn put_item(alloc: Global, line: &mut String, item: &Item) -> Result<(), Memory> {
+    match item {
+        Item::One(event) => {
+            line.push_str("one ")?;
+            put_event(alloc, line, event)?;
+        }
+        Item::Many(events) => {
+            line.push_str("many")?;
+            for event in events.as_slice() {
+                line.push_str(" | ")?;
+                put_event(alloc, line, event)?;
+            }
+        }
+    }
     Ok(())
 }
 
-/// The times of the item's events, each after a space, and the service of the last one.
-fn item_line(alloc: Global, item: &Item) -> Result<String, Fail> {
-    let line = match item {
-        Item::One(event) => format!(in alloc; "one {} {}", event.time, shown(&event.service))?,
-        Item::Many(events) => match events.as_slice() {
-            [first, second] => {
-                format!(in alloc;
-                    "many {} {} {}",
-                    first.time,
-                    second.time,
-                    shown(&second.service)
-                )?
-            }
-            _ => format!(in alloc; "many")?,
-        },
-    };
-    Ok(line)
+/// Whether a copy of the item is written so.
+fn is_item_copied(alloc: Global, item: &Item, wanted: &str) -> Result<bool, Memory> {
+    let copied = item.copy(alloc)?;
+    let mut line = String::new(alloc);
+    put_item(alloc, &mut line, &copied)?;
+    Ok(line.as_str() == wanted)
+}
+
+/// Two events, of which the first holds its time alone.
+fn two_events(alloc: Global) -> Events {
+    let mut events = Events::fresh(alloc);
+    let _ = events.push(alloc, Event::at(alloc, 4));
+    let _ = events.push(alloc, other_event(alloc));
+    events
 }
 
 #[test]
 fn a_copied_item_has_every_event(rt: HostRuntime) -> Result<(), Fail> {
     let alloc = rt.alloc();
-    let one = Item::One(Event::at(alloc, 3)).copy(alloc)?;
-    assert_eq!(rt; item_line(alloc, &one)?.as_str(), "one 3 -");
-    let mut events = Events::fresh(alloc);
-    events.push(alloc, Event::at(alloc, 4))?;
-    events.push(alloc, full_event(alloc)?)?;
-    let many = Item::Many(events).copy(alloc)?;
-    assert_eq!(rt; item_line(alloc, &many)?.as_str(), "many 4 -5 cpu");
+    let one = Item::One(Event::at(alloc, 3));
+    assert!(rt; is_item_copied(alloc, &one, "one - - - - 3 None None None None None")?);
+    let many = Item::Many(two_events(alloc));
+    let wanted =
+        "many | - - - - 4 None None None None None | a CPU - - -5 None Some(60) Some(9223372036854775807) None None rack=r8";
+    assert!(rt; is_item_copied(alloc, &many, wanted)?);
     Ok(())
 }
 
 /// Whether an event of this time, ttl and state has expired at the moment `t`, at most 2^40.
-fn expires(
-    alloc: Global,
-    time: i64,
-    ttl: Option<u32>,
-    state: Option<&str>,
-    t: u64,
-) -> Result<bool, Memory> {
+fn expires(alloc: Global, time: i64, ttl: Option<u32>, state: Option<&str>, t: u64) -> bool {
     let mut event = Event::at(alloc, time);
     event.ttl = ttl;
     if let Some(state) = state {
-        event.state = some_text(alloc, state)?;
+        event.state = some_text(alloc, state);
     }
-    Ok(t <= 1 << 40 && event.is_expired(t))
+    t <= 1 << 40 && event.is_expired(t)
 }
 
 #[test]
-fn an_event_expires_after_its_ttl(rt: HostRuntime) -> Result<(), Fail> {
+fn an_event_expires_after_its_ttl(rt: HostRuntime) {
     for (time, ttl, t, wanted) in [
         (1000, None, 1059, false),
         (1000, None, 1060, false),
@@ -461,31 +544,52 @@ fn an_event_expires_after_its_ttl(rt: HostRuntime) -> Result<(), Fail> {
         (i64::MIN, None, 1_099_511_627_776, true),
         (i64::MAX, Some(0), 1_099_511_627_776, false),
     ] {
-        let found = expires(rt.alloc(), time, ttl, None, t)?;
-        assert!(rt; found == wanted, "{time} at {t}");
+        assert!(rt;
+            expires(rt.alloc(), time, ttl, None, t) == wanted,
+            "{time} at {t}"
+        );
     }
+}
+
+#[test]
+fn an_event_expires_by_its_state(rt: HostRuntime) {
     for (state, wanted) in [
         ("expired", true),
         ("Expired", false),
         ("expired ", false),
         ("", false),
     ] {
-        let found = expires(rt.alloc(), 1000, None, Some(state), 0)?;
-        assert!(rt; found == wanted, "{state}");
+        assert!(rt;
+            expires(rt.alloc(), 1000, None, Some(state), 0) == wanted,
+            "{state}"
+        );
     }
-    Ok(())
 }
 
-/// The full event after one field is set.
-fn set_line(
+/// Sets the field of the event.
+fn set(
+    alloc: Global,
+    event: &mut Event,
+    name: &str,
+    number: Option<i64>,
+    chars: Option<&str>,
+) -> Result<(), Memory> {
+    let field = field(alloc, name)?;
+    let value = value(alloc, number, chars)?;
+    event.set(alloc, &field, &value)
+}
+
+/// Whether the full event is written so once the field is set.
+fn is_set(
     alloc: Global,
     name: &str,
     number: Option<i64>,
     chars: Option<&str>,
-) -> Result<String, Fail> {
-    let mut event = full_event(alloc)?;
-    event.set(alloc, &field(alloc, name)?, &value(alloc, number, chars)?)?;
-    event_line(alloc, &event)
+    wanted: &str,
+) -> Result<bool, Memory> {
+    let mut event = full_event(alloc);
+    set(alloc, &mut event, name, number, chars)?;
+    is_event(alloc, &event, wanted)
 }
 
 #[test]
@@ -548,46 +652,65 @@ fn a_set_field_holds_the_value(rt: HostRuntime) -> Result<(), Fail> {
         ),
     ];
     for row in rows {
-        let found = set_line(rt.alloc(), row.0, row.1, row.2)?;
-        assert_eq!(rt; found.as_str(), row.3);
+        assert!(rt;
+            is_set(rt.alloc(), row.0, row.1, row.2, row.3)?,
+            "{}",
+            row.0
+        );
+    }
+    Ok(())
+}
+
+/// Adds the tags to the event.
+fn add_tags(alloc: Global, event: &mut Event, names: &[&str]) -> Result<(), Memory> {
+    for name in names {
+        let tag = text(alloc, name)?;
+        event.add_tag(alloc, &tag)?;
     }
     Ok(())
 }
 
 #[test]
 fn a_tag_is_added_once(rt: HostRuntime) -> Result<(), Fail> {
-    let alloc = rt.alloc();
-    let mut event = Event::at(alloc, 1);
-    event.tags = tags(alloc, &["y"])?;
-    for tag in ["x", "y", "x"] {
-        event.add_tag(alloc, &text(alloc, tag)?)?;
-    }
-    let found = event_line(alloc, &event)?;
-    assert_eq!(rt; found.as_str(), "- - - - 1 None None None None None #y #x");
+    let mut event = Event::at(rt.alloc(), 1);
+    add_tags(rt.alloc(), &mut event, &["y", "x", "y", "x"])?;
+    let wanted = "- - - - 1 None None None None None #y #x";
+    assert!(rt; is_event(rt.alloc(), &event, wanted)?);
     Ok(())
 }
 
-/// The full event as it comes again at a moment, at most 2^40, with what these names keep.
-fn reborn_line(alloc: Global, names: &[&str], now: u64) -> Result<String, Fail> {
+fn keep_key(alloc: Global, name: &str) -> Result<KeepKey, Memory> {
+    if name == "tags" {
+        return Ok(KeepKey::Tags);
+    }
+    Ok(KeepKey::Field(field(alloc, name)?))
+}
+
+fn keep_keys(alloc: Global, names: &[&str]) -> Result<KeepKeys, Memory> {
     let mut keep = KeepKeys::fresh(alloc);
     for name in names {
-        let key = match name.as_bytes() {
-            b"tags" => KeepKey::Tags,
-            _ => KeepKey::Field(field(alloc, name)?),
-        };
-        keep.push(alloc, key)?;
+        keep.push(alloc, keep_key(alloc, name)?)?;
     }
-    let event = full_event(alloc)?.reborn(alloc, &keep, now.min(1 << 40))?;
-    event_line(alloc, &event)
+    Ok(keep)
+}
+
+/// The full event as it comes again at a moment, at most 2^40, with what is kept.
+fn reborn(alloc: Global, keep: &KeepKeys, now: u64) -> Result<Event, Memory> {
+    let event = full_event(alloc);
+    event.reborn(alloc, keep, now.min(1 << 40))
+}
+
+/// Whether the full event comes again so at the moment, with what these names keep.
+fn is_reborn(alloc: Global, names: &[&str], now: u64, wanted: &str) -> Result<bool, Memory> {
+    let keep = keep_keys(alloc, names)?;
+    let event = reborn(alloc, &keep, now)?;
+    is_event(alloc, &event, wanted)
 }
 
 #[test]
 fn an_expired_event_keeps_what_is_named(rt: HostRuntime) -> Result<(), Fail> {
-    let found = reborn_line(rt.alloc(), &["host", "service"], 110)?;
-    assert_eq!(rt;
-        found.as_str(),
-        "a cpu expired - 110 None None None None None"
-    );
+    let wanted = "a cpu expired - 110 None None None None None";
+    assert!(rt; is_reborn(rt.alloc(), &["host", "service"], 110, wanted)?);
     let names = [
         "room",
         "rack",
@@ -600,9 +723,8 @@ fn an_expired_event_keeps_what_is_named(rt: HostRuntime) -> Result<(), Fail> {
         "time",
         "state",
     ];
-    let found = reborn_line(rt.alloc(), &names, 7)?;
     let wanted =
         "- - expired fine 7 None Some(60) Some(-9223372036854775808) None None #web # rack=r8";
-    assert_eq!(rt; found.as_str(), wanted);
+    assert!(rt; is_reborn(rt.alloc(), &names, 7, wanted)?);
     Ok(())
 }

@@ -24,34 +24,67 @@ fn line(alloc: Global, turn: Turn, buf: &[u8]) -> Result<String, AllocError> {
     }
 }
 
-/// The first `turns` turns of a load, as lines.
-fn lines(alloc: Global, links: &mut LoadLinks, turns: u64) -> Result<String, AllocError> {
+/// Appends the first `turns` turns of a load, as lines.
+fn put_turns(
+    alloc: Global,
+    links: &mut LoadLinks,
+    turns: u64,
+    lines: &mut String,
+) -> Result<(), AllocError> {
     let mut buf = read_buffer(alloc)?;
-    let wants = Wants::fresh(alloc);
-    let mut lines = String::new(alloc);
     for _ in 0..turns {
-        if buf.len() != PIECE_LIMIT {
-            return Ok(lines);
-        }
-        let turn = links.next(alloc, &wants, &mut buf);
-        lines.push_str(line(alloc, turn, &buf)?.as_str())?;
+        put_turn(alloc, links, buf.as_mut_slice(), lines)?;
     }
-    Ok(lines)
+    Ok(())
+}
+
+/// Appends the next turn, where the buffer is one for a read.
+fn put_turn(
+    alloc: Global,
+    links: &mut LoadLinks,
+    buf: &mut [u8],
+    lines: &mut String,
+) -> Result<(), AllocError> {
+    if buf.len() != PIECE_LIMIT {
+        return Ok(());
+    }
+    let turn = links.next(alloc, &Wants::fresh(alloc), buf);
+    let line = line(alloc, turn, buf)?;
+    lines.push_str(line.as_str())
+}
+
+/// Whether the first `turns` turns of the load are these lines.
+fn gives(
+    alloc: Global,
+    links: &mut LoadLinks,
+    turns: u64,
+    wanted: &str,
+) -> Result<bool, AllocError> {
+    let mut lines = String::new(alloc);
+    put_turns(alloc, links, turns, &mut lines)?;
+    Ok(lines.as_str() == wanted)
+}
+
+/// What the links answer when they are to listen.
+fn listen(alloc: Global, links: &mut LoadLinks) -> Result<ListenAnswer, Memory> {
+    let address = Text::from_str(alloc, "h:1")?;
+    Ok(links.listen(alloc, &address))
+}
+
+/// Whether the bytes are taken whole, and so many replies were then counted.
+fn is_counted(alloc: Global, links: &mut LoadLinks, bytes: &[u8], replies: u64) -> bool {
+    let count = bytes.len();
+    !bytes.is_empty()
+        && links.send(alloc, 0, bytes) == SendAnswer::Took { count }
+        && links.replies() == replies
 }
 
 #[test]
 fn a_load_gives_its_turns(rt: HostRuntime) -> Result<(), Fail> {
     let alloc = rt.alloc();
     let mut links = LoadLinks::fresh(alloc, 11, 7)?;
-    let address = Text::from_str(alloc, "h:1")?;
-    assert_eq!(rt;
-        links.listen(alloc, &address),
-        ListenAnswer::Ready { secs: 0 }
-    );
-    let turns = lines(alloc, &mut links, 16)?;
-    assert_eq!(rt;
-        turns.as_str(),
-        "0 open 0
+    assert!(rt; listen(alloc, &mut links)? == ListenAnswer::Ready { secs: 0 });
+    let wanted = "0 open 0
 0 read 0 000000133211080012026f6b1a0273322202683868f40c
 0 read 0 00000019321708001208637269746963616c1a0273332202683168f804
 0 read 0 000000133211080012026f6b1a0273302202683368b604
@@ -67,8 +100,8 @@ fn a_load_gives_its_turns(rt: HostRuntime) -> Result<(), Fail> {
 1 end 0
 1 stop
 1 stop
-"
-    );
+";
+    assert!(rt; gives(alloc, &mut links, 16, wanted)?);
     Ok(())
 }
 
@@ -76,23 +109,15 @@ fn a_load_gives_its_turns(rt: HostRuntime) -> Result<(), Fail> {
 fn a_load_counts_its_replies(rt: HostRuntime) -> Result<(), Fail> {
     let alloc = rt.alloc();
     let mut links = LoadLinks::fresh(alloc, 1, u64::MAX)?;
-    let turns = lines(alloc, &mut links, 5)?;
-    assert_eq!(rt;
-        turns.as_str(),
-        "0 open 0
+    let wanted = "0 open 0
 0 read 0 000000133211080012026f6b1a0273332202683868f40b
 0 read 0 000000082a060a0474727565
 0 end 0
 0 stop
-"
-    );
+";
+    assert!(rt; gives(alloc, &mut links, 5, wanted)?);
     let replies = b"\0\0\0\x02\x10\x01\0\0\0\x02\x10\x01\0\0\0\x02\x10";
-    assert_eq!(rt;
-        links.send(alloc, 0, replies),
-        SendAnswer::Took { count: 17 }
-    );
-    assert_eq!(rt; links.replies(), 2);
-    links.send(alloc, 0, b"\x01");
-    assert_eq!(rt; links.replies(), 3);
+    assert!(rt; is_counted(alloc, &mut links, replies, 2));
+    assert!(rt; is_counted(alloc, &mut links, b"\x01", 3));
     Ok(())
 }

@@ -60,6 +60,34 @@ fn next_turn<L: Links>(alloc: Global, links: &mut L, wants: &Wants, buf: &mut [u
     What::Idle
 }
 
+/// Whether the next turn that is not idle is this one.
+fn is_next<L: Links>(
+    alloc: Global,
+    links: &mut L,
+    wants: &Wants,
+    buf: &mut [u8],
+    what: What,
+) -> bool {
+    next_turn(alloc, links, wants, buf) == what
+}
+
+/// Whether a send of these bytes is answered so.
+fn is_sent<L: Links>(
+    alloc: Global,
+    links: &mut L,
+    link: u64,
+    bytes: &[u8],
+    answer: SendAnswer,
+) -> bool {
+    !bytes.is_empty() && links.send(alloc, link, bytes) == answer
+}
+
+/// Whether the links fail to listen on the address.
+fn is_refused<L: Links>(alloc: Global, links: &mut L, address: &str) -> Result<bool, Memory> {
+    let address = Text::from_str(alloc, address)?;
+    Ok(links.listen(alloc, &address) == ListenAnswer::Failed)
+}
+
 /// Sends blocks of zeros on link 0 until it takes no more, and gives how many bytes it took.
 fn fill<L: Links>(alloc: Global, links: &mut L, block: &[u8]) -> usize {
     let mut filled = 0usize;
@@ -96,36 +124,42 @@ fn links_over_sockets_are_served(rt: HostRuntime) -> Result<(), Fail> {
     let both = all_of(alloc, &[0, 1])?;
     let mut first = TcpStream::connect(&rt, address.as_str())?;
     let mut second = TcpStream::connect(&rt, address.as_str())?;
-    assert_eq!(rt;
-        next_turn(alloc, &mut links, &both, &mut buf),
-        What::Opened { link: 0 }
-    );
-    assert_eq!(rt;
-        next_turn(alloc, &mut links, &both, &mut buf),
-        What::Opened { link: 1 }
-    );
+    assert!(rt; is_next(alloc, &mut links, &both, &mut buf, What::Opened { link: 0 }));
+    assert!(rt; is_next(alloc, &mut links, &both, &mut buf, What::Opened { link: 1 }));
     second.write_all(b"hello")?;
-    assert_eq!(rt;
-        next_turn(alloc, &mut links, &both, &mut buf),
-        What::Read { link: 1, count: 5 }
+    assert!(rt;
+        is_next(
+            alloc,
+            &mut links,
+            &both,
+            &mut buf,
+            What::Read { link: 1, count: 5 }
+        )
     );
-    assert_eq!(rt;
-        links.send(alloc, 1, b"world"),
-        SendAnswer::Took { count: 5 }
+    assert!(rt;
+        is_sent(
+            alloc,
+            &mut links,
+            1,
+            b"world",
+            SendAnswer::Took { count: 5 }
+        )
     );
     let mut reply = [0u8; 5];
     second.read_exact(&mut reply)?;
-    assert_eq!(rt; reply.as_slice(), b"world".as_slice());
+    assert!(rt; reply.as_slice() == b"world".as_slice());
     second.shutdown(Shutdown::Write)?;
-    assert_eq!(rt;
-        next_turn(alloc, &mut links, &both, &mut buf),
-        What::Ended { link: 1 }
-    );
+    assert!(rt; is_next(alloc, &mut links, &both, &mut buf, What::Ended { link: 1 }));
     links.close(1);
     first.write_all(b"a")?;
-    assert_eq!(rt;
-        next_turn(alloc, &mut links, &both, &mut buf),
-        What::Read { link: 0, count: 1 }
+    assert!(rt;
+        is_next(
+            alloc,
+            &mut links,
+            &both,
+            &mut buf,
+            What::Read { link: 0, count: 1 }
+        )
     );
     Ok(())
 }
@@ -143,17 +177,19 @@ fn no_link_keeps_another_waiting(rt: HostRuntime) -> Result<(), Fail> {
     next_turn(alloc, &mut links, &both, &mut buf);
     // One that reads nothing.
     let filled = fill(alloc, &mut links, &buf);
-    assert_eq!(rt; links.send(alloc, 0, b"more"), SendAnswer::Later);
+    assert!(rt; is_sent(alloc, &mut links, 0, b"more", SendAnswer::Later));
     other.write_all(b"x")?;
-    assert_eq!(rt;
-        next_turn(alloc, &mut links, &both, &mut buf),
-        What::Read { link: 1, count: 1 }
+    assert!(rt;
+        is_next(
+            alloc,
+            &mut links,
+            &both,
+            &mut buf,
+            What::Read { link: 1, count: 1 }
+        )
     );
-    assert_eq!(rt; drain(&mut busy, &mut buf, filled)?, filled);
-    assert_eq!(rt;
-        next_turn(alloc, &mut links, &both, &mut buf),
-        What::Room { link: 0 }
-    );
+    assert!(rt; drain(&mut busy, &mut buf, filled)? == filled);
+    assert!(rt; is_next(alloc, &mut links, &both, &mut buf, What::Room { link: 0 }));
     // One that sends more than a read takes.
     busy.write_all(&buf)?;
     busy.write_all(b"yz")?;
@@ -163,9 +199,14 @@ fn no_link_keeps_another_waiting(rt: HostRuntime) -> Result<(), Fail> {
     let one = What::Read { link: 1, count: 1 };
     assert!(rt; first == one || second == one);
     // One that is reset.
-    assert_eq!(rt;
-        links.send(alloc, 1, b"unread"),
-        SendAnswer::Took { count: 6 }
+    assert!(rt;
+        is_sent(
+            alloc,
+            &mut links,
+            1,
+            b"unread",
+            SendAnswer::Took { count: 6 }
+        )
     );
     drop(other);
     let broken = What::Broken { link: 1 };
@@ -179,13 +220,9 @@ fn a_port_in_use_is_a_fault(rt: HostRuntime) -> Result<(), Fail> {
     let alloc = rt.alloc();
     let mut links = MioLinks::fresh(&rt, alloc)?;
     let address = listen(alloc, &mut links)?.ok_or("no port")?;
-    let address = Text::from_str(alloc, address.as_str())?;
     let mut others = MioLinks::fresh(&rt, alloc)?;
-    assert_eq!(rt; others.listen(alloc, &address), ListenAnswer::Failed);
-    assert_eq!(rt;
-        others.listen(alloc, &Text::from_str(alloc, "127.0.0.1")?),
-        ListenAnswer::Failed
-    );
-    assert_eq!(rt; others.faults, 2);
+    assert!(rt; is_refused(alloc, &mut others, address.as_str())?);
+    assert!(rt; is_refused(alloc, &mut others, "127.0.0.1")?);
+    assert!(rt; others.faults == 2);
     Ok(())
 }

@@ -1,5 +1,5 @@
-use ev_types::{Attr, Blob, Event, Events, Item, Memory, Notice, Text};
-use notice_sink::{LineFault, NoticeWriter, put_item, put_quoted, write_notice};
+use ev_types::{Attr, Attrs, Blob, Event, Events, Item, Memory, Notice, Tags, Text};
+use notice_sink::{NoticeWriter, put_item, put_quoted, write_notice};
 use ports::{CountSink, MemSink};
 use std::alloc::Global;
 use std::test::Fail;
@@ -26,100 +26,137 @@ fn texts_are_quoted(rt: HostRuntime) -> Result<(), Fail> {
     Ok(())
 }
 
-fn text(alloc: Global, chars: &str) -> Result<Option<Text>, Memory> {
-    Ok(Some(Text::from_str(alloc, chars)?))
+/// The text, or none where memory is out. A comparison then fails.
+fn text(alloc: Global, chars: &str) -> Option<Text> {
+    Text::from_str(alloc, chars).ok()
 }
 
-fn host_event(alloc: Global, time: i64) -> Result<Event, Memory> {
+fn tags(alloc: Global, names: &[&str]) -> Tags {
+    let mut tags = Tags::fresh(alloc);
+    for name in names {
+        if let Some(name) = text(alloc, name) {
+            let _ = tags.push(alloc, name);
+        }
+    }
+    tags
+}
+
+/// Attributes of these keys, with these values where they are not empty.
+fn attributes(alloc: Global, rows: &[(&str, &str)]) -> Attrs {
+    let mut attributes = Attrs::fresh(alloc);
+    for row in rows {
+        if let Some(attribute) = attribute(alloc, row.0, row.1) {
+            let _ = attributes.push(alloc, attribute);
+        }
+    }
+    attributes
+}
+
+fn attribute(alloc: Global, key: &str, value: &str) -> Option<Attr> {
+    let key = text(alloc, key)?;
+    if value.is_empty() {
+        return Some(Attr { key, value: None });
+    }
+    let value = text(alloc, value);
+    Some(Attr { key, value })
+}
+
+fn host_event(alloc: Global, time: i64) -> Event {
     let mut event = Event::at(alloc, time);
-    event.host = text(alloc, "a")?;
-    Ok(event)
+    event.host = text(alloc, "a");
+    event
 }
 
-fn full_event(alloc: Global) -> Result<Event, Memory> {
-    let mut event = host_event(alloc, -5)?;
-    event.service = text(alloc, "s")?;
-    event.state = text(alloc, "ok")?;
-    event.description = text(alloc, "d d")?;
-    event.ttl = Some(60);
-    event.metric = Some(-7);
-    event.raw_d = Some(1);
-    event.time_micros = Some(2);
-    add_lists(alloc, &mut event)?;
-    Ok(event)
+fn full_event(alloc: Global) -> Event {
+    Event {
+        host: text(alloc, "a"),
+        service: text(alloc, "s"),
+        state: text(alloc, "ok"),
+        description: text(alloc, "d d"),
+        tags: tags(alloc, &["x", "y"]),
+        time: -5,
+        time_micros: Some(2),
+        ttl: Some(60),
+        metric: Some(-7),
+        raw_d: Some(1),
+        raw_f: None,
+        attributes: attributes(alloc, &[("k", "v"), ("n", "")]),
+    }
 }
 
-fn add_lists(alloc: Global, event: &mut Event) -> Result<(), Memory> {
-    event.tags.push(alloc, Text::from_str(alloc, "x")?)?;
-    event.tags.push(alloc, Text::from_str(alloc, "y")?)?;
-    let key = Text::from_str(alloc, "k")?;
-    let value = text(alloc, "v")?;
-    event.attributes.push(alloc, Attr { key, value })?;
-    let key = Text::from_str(alloc, "n")?;
-    event.attributes.push(alloc, Attr { key, value: None })?;
-    Ok(())
-}
-
-fn vector(alloc: Global, count: i64) -> Result<Item, Memory> {
+/// The events of these seconds from 0 on.
+fn vector(alloc: Global, count: i64) -> Item {
     let mut events = Events::fresh(alloc);
     for time in 0..count {
-        events.push(alloc, host_event(alloc, time)?)?;
+        let _ = events.push(alloc, host_event(alloc, time));
     }
-    Ok(Item::Many(events))
+    Item::Many(events)
 }
 
 /// Whether the item is written so.
-fn is_written(alloc: Global, item: &Item, wanted: &str) -> Result<bool, Memory> {
+fn is_written(alloc: Global, item: Item, wanted: &str) -> Result<bool, Memory> {
     let mut out = Blob::fresh(alloc);
-    put_item(alloc, item, &mut out)?;
+    put_item(alloc, &item, &mut out)?;
     Ok(out.as_slice() == wanted.as_bytes())
 }
 
 #[test]
-fn items_are_written(rt: HostRuntime) -> Result<(), Fail> {
+fn an_event_is_written_with_what_it_holds(rt: HostRuntime) -> Result<(), Fail> {
     let alloc = rt.alloc();
-    let one = Item::One(host_event(alloc, 1)?);
-    assert!(rt; is_written(alloc, &one, "{host=\"a\" time=1}")?);
-    let full = Item::One(full_event(alloc)?);
-    assert!(rt;
-        is_written(
-            alloc,
-            &full,
-            "{host=\"a\" service=\"s\" state=\"ok\" description=\"d d\" time=-5 ttl=60 metric=-7 tags=[\"x\" \"y\"] @\"k\"=\"v\" @\"n\"}"
-        )?
-    );
-    assert!(rt; is_written(alloc, &vector(alloc, 0)?, "[]")?);
-    assert!(rt;
-        is_written(
-            alloc,
-            &vector(alloc, 2)?,
-            "[{host=\"a\" time=0} {host=\"a\" time=1}]"
-        )?
-    );
+    let item = Item::One(host_event(alloc, 1));
+    assert!(rt; is_written(alloc, item, "{host=\"a\" time=1}")?);
+    let wanted =
+        "{host=\"a\" service=\"s\" state=\"ok\" description=\"d d\" time=-5 ttl=60 metric=-7 tags=[\"x\" \"y\"] @\"k\"=\"v\" @\"n\"}";
+    assert!(rt; is_written(alloc, Item::One(full_event(alloc)), wanted)?);
     Ok(())
+}
+
+#[test]
+fn a_vector_is_written_in_brackets(rt: HostRuntime) -> Result<(), Fail> {
+    for (count, wanted) in [(0, "[]"), (2, "[{host=\"a\" time=0} {host=\"a\" time=1}]")] {
+        assert!(rt; is_written(rt.alloc(), vector(rt.alloc(), count), wanted)?);
+    }
+    Ok(())
+}
+
+/// A notice of one event.
+fn notice(alloc: Global) -> Result<Notice, Memory> {
+    let name = Text::from_str(alloc, "r")?;
+    Ok(Notice {
+        name,
+        moment: 120,
+        item: vector(alloc, 1),
+    })
+}
+
+/// Whether a write of the notice succeeds.
+fn is_put(alloc: Global, writer: &mut NoticeWriter, notice: &Notice, sink: &mut MemSink) -> bool {
+    writer.write(alloc, notice, sink).is_ok()
+}
+
+/// Whether the second of three writes fails, and it alone.
+fn is_put_but_once(alloc: Global, notice: &Notice, sink: &mut MemSink) -> bool {
+    let mut writer = NoticeWriter::fresh(alloc);
+    is_put(alloc, &mut writer, notice, sink)
+        && !is_put(alloc, &mut writer, notice, sink)
+        && is_put(alloc, &mut writer, notice, sink)
 }
 
 #[test]
 fn a_notice_is_one_line_and_one_put(rt: HostRuntime) -> Result<(), Fail> {
     let alloc = rt.alloc();
-    let notice = Notice {
-        name: Text::from_str(alloc, "r")?,
-        moment: 120,
-        item: vector(alloc, 1)?,
-    };
-    let lines = b"120 \"r\" [{host=\"a\" time=0}]\n120 \"r\" [{host=\"a\" time=0}]\n".as_slice();
+    let notice = notice(alloc)?;
     let mut sink = MemSink::fresh(alloc, 60, vec![in alloc; 1]?)?;
-    let mut writer = NoticeWriter::fresh(alloc);
-    assert_eq!(rt; writer.write(alloc, &notice, &mut sink), Ok(()));
-    assert_eq!(rt;
-        writer.write(alloc, &notice, &mut sink),
-        Err(LineFault::SinkFault)
-    );
-    assert_eq!(rt; writer.write(alloc, &notice, &mut sink), Ok(()));
-    assert_eq!(rt; sink.text.as_slice(), lines);
-    assert_eq!(rt; (sink.puts, sink.faults), (2, 1));
+    assert!(rt; is_put_but_once(alloc, &notice, &mut sink));
+    let lines = b"120 \"r\" [{host=\"a\" time=0}]\n120 \"r\" [{host=\"a\" time=0}]\n".as_slice();
+    assert!(rt; sink.text.as_slice() == lines && sink.puts == 2 && sink.faults == 1);
+    Ok(())
+}
+
+#[test]
+fn a_single_notice_is_one_put(rt: HostRuntime) -> Result<(), Fail> {
+    let notice = notice(rt.alloc())?;
     let mut counts = CountSink { puts: 0 };
-    assert_eq!(rt; write_notice(alloc, &notice, &mut counts), Ok(()));
-    assert_eq!(rt; counts.puts, 1);
+    assert!(rt; write_notice(rt.alloc(), &notice, &mut counts).is_ok() && counts.puts == 1);
     Ok(())
 }

@@ -1,50 +1,66 @@
-use ev_types::{Blob, Text};
-use ports::{Failed, FileStore, MemSink, MemStore, ReadAnswer, Sink, Store, StreamSink};
+use ev_types::{Blob, Memory, Text};
+use ports::{FileStore, MemSink, MemStore, ReadAnswer, Sink, Store, StoreRead, StreamSink};
+use std::alloc::{AllocError, Global};
 use std::io::ErrorKind;
-use std::process::Abort;
 use std::test::Fail;
 use std::{fs, io, process};
 
 /// How a read has to answer.
-#[derive(Drop)]
+#[derive(Clone, Copy)]
 enum Wanted<'a> {
     Bytes(&'a [u8]),
     Failed,
     TooLong,
 }
 
-fn is_wanted(answer: &ReadAnswer, wanted: &Wanted<'_>) -> bool {
+fn is_wanted(answer: &ReadAnswer, wanted: Wanted) -> bool {
     match (answer, wanted) {
-        (ReadAnswer::Bytes(bytes), Wanted::Bytes(wanted)) => bytes.as_slice() == *wanted,
+        (ReadAnswer::Bytes(bytes), Wanted::Bytes(wanted)) => bytes.as_slice() == wanted,
         (ReadAnswer::Failed, Wanted::Failed) | (ReadAnswer::TooLong, Wanted::TooLong) => true,
         _ => false,
     }
 }
 
-/// Reads once, and compares the answer and the counts.
-fn expect_read<R: AllocGlobal + Abort, S: Store>(
-    rt: &R,
+/// Whether a read answers so.
+fn is_read<S: Store>(
+    alloc: Global,
     store: &mut S,
     name: &str,
     limit: u32,
-    wanted: &Wanted<'_>,
-) -> Result<(), Fail> {
-    let name = Text::from_str(rt.alloc(), name)?;
-    let answer = store.read(rt.alloc(), &name, u64::from(limit));
-    assert!(rt; is_wanted(&answer, wanted));
-    Ok(())
+    wanted: Wanted,
+) -> Result<bool, Memory> {
+    let name = Text::from_str(alloc, name)?;
+    let answer = store.read(alloc, &name, u64::from(limit));
+    Ok(is_wanted(&answer, wanted))
+}
+
+fn file(alloc: Global, name: &str, bytes: &str) -> Result<(Text, Blob), Memory> {
+    let name = Text::from_str(alloc, name)?;
+    Ok((name, Blob::from_slice(alloc, bytes.as_bytes())?))
+}
+
+fn files(alloc: Global, rows: &[(&str, &str)]) -> Result<Vec<(Text, Blob)>, Memory> {
+    let mut files = Vec::new(alloc);
+    for row in rows {
+        files.push(file(alloc, row.0, row.1)?)?;
+    }
+    Ok(files)
+}
+
+/// The names that were read, each with `!` where the read failed.
+fn reads_line(alloc: Global, reads: &[StoreRead]) -> Result<String, AllocError> {
+    let mut line = String::new(alloc);
+    for read in reads {
+        line.push_str(read.name.as_str())?;
+        line.push_str(if read.failed { "! " } else { " " })?;
+    }
+    Ok(line)
 }
 
 #[test]
 fn a_store_in_memory_answers_by_name_limit_and_number(rt: HostRuntime) -> Result<(), Fail> {
     let alloc = rt.alloc();
-    let mut files = Vec::new(alloc);
-    for (name, bytes) in [("a", "first"), ("b", ""), ("a", "second")] {
-        files.push((
-            Text::from_str(alloc, name)?,
-            Blob::from_slice(alloc, bytes.as_bytes())?,
-        ))?;
-    }
+    let files = files(alloc, &[("a", "first"), ("b", ""), ("a", "second")])?;
     let mut store = MemStore::fresh(alloc, files, vec![in alloc; 2]?);
     // name, limit, answer, bytes taken until then, faults until then
     let rows = [
@@ -54,25 +70,23 @@ fn a_store_in_memory_answers_by_name_limit_and_number(rt: HostRuntime) -> Result
         ("c", 5, Wanted::Failed, 10, 2),
         ("b", 0, Wanted::Bytes(b""), 10, 2),
     ];
-    for (name, limit, wanted, taken, faults) in &rows {
-        expect_read(&rt, &mut store, name, *limit, wanted)?;
-        assert_eq!(rt; store.taken, *taken);
-        assert_eq!(rt; store.faults, *faults);
+    for (name, limit, wanted, taken, faults) in rows {
+        let found = is_read(alloc, &mut store, name, limit, wanted)?;
+        assert!(rt;
+            found && store.taken == taken && store.faults == faults,
+            "{name}"
+        );
     }
-    assert_eq!(rt; store.calls, 5);
-    let noted = [
-        ("a", false),
-        ("a", false),
-        ("a", true),
-        ("c", true),
-        ("b", false),
-    ];
-    assert_eq!(rt; store.reads.len(), noted.len());
-    for (read, (name, failed)) in store.reads.as_slice().iter().zip(noted) {
-        assert_eq!(rt; read.name.as_str(), name);
-        assert_eq!(rt; read.failed, failed);
-    }
+    let line = reads_line(alloc, store.reads.as_slice())?;
+    assert!(rt; store.calls == 5 && line.as_str() == "a a a! c! b ");
     Ok(())
+}
+
+/// Whether all the bytes are taken or not, as given, and the sink then holds this text.
+fn is_put(sink: &mut MemSink, bytes: &str, taken: bool, text: &str) -> bool {
+    !bytes.is_empty()
+        && sink.put(bytes.as_bytes()).is_ok() == taken
+        && sink.text.as_slice() == text.as_bytes()
 }
 
 #[test]
@@ -80,57 +94,57 @@ fn a_sink_in_memory_takes_what_it_has_room_for(rt: HostRuntime) -> Result<(), Fa
     let alloc = rt.alloc();
     let mut sink = MemSink::fresh(alloc, 8, vec![in alloc; 1]?)?;
     // bytes, whether all were taken, all the text until then
-    let rows = [
+    for (bytes, taken, text) in [
         ("abc", true, "abc"),
         ("de", false, "abc"),
         ("defg", true, "abcdefg"),
         ("hij", false, "abcdefgh"),
         ("k", false, "abcdefgh"),
-    ];
-    for (bytes, taken, text) in rows {
-        assert!(rt; !bytes.is_empty());
-        assert_eq!(rt; sink.put(bytes.as_bytes()).is_ok(), taken);
-        assert_eq!(rt; sink.text.as_slice(), text.as_bytes());
+    ] {
+        assert!(rt; is_put(&mut sink, bytes, taken, text), "{bytes}");
     }
-    assert_eq!(rt; (sink.calls, sink.puts, sink.faults), (5, 2, 3));
+    assert!(rt; sink.calls == 5 && sink.puts == 2 && sink.faults == 3);
     Ok(())
+}
+
+/// So many bytes that they come in more than one piece.
+fn content(alloc: Global) -> Result<Vec<u8>, AllocError> {
+    let mut bytes = Vec::new(alloc);
+    for i in 0..200_000u32 {
+        bytes.push((i % 251) as u8)?;
+    }
+    Ok(bytes)
 }
 
 #[test]
 fn files_are_read_within_the_limit(rt: HostRuntime) -> Result<(), Fail> {
     let alloc = rt.alloc();
+    let bytes = content(alloc)?;
     let path = format!(in alloc; "/tmp/ports_file_store_{}", process::id(rt.process()))?;
-    let mut bytes = Vec::new(alloc);
-    for i in 0..200_000u32 {
-        bytes.push((i % 251) as u8)?;
-    }
     fs::write(&rt, path.as_str(), bytes.as_slice())?;
     let mut store = FileStore::fresh(&rt);
+    let whole = Wanted::Bytes(bytes.as_slice());
     // path, limit, answer, bytes taken until then, faults until then
     let rows = [
-        (
-            path.as_str(),
-            200_000,
-            Wanted::Bytes(bytes.as_slice()),
-            200_000,
-            0,
-        ),
+        (path.as_str(), 200_000, whole, 200_000, 0),
         (path.as_str(), 199_999, Wanted::TooLong, 400_000, 0),
         (path.as_str(), 0, Wanted::TooLong, 400_001, 0),
         ("/tmp/ports_no_such_file", 9, Wanted::Failed, 400_001, 1),
         ("/tmp", 9, Wanted::Failed, 400_001, 2),
         ("a\0b", 9, Wanted::Failed, 400_001, 3),
     ];
-    for (path, limit, wanted, taken, faults) in &rows {
-        expect_read(&rt, &mut store, path, *limit, wanted)?;
-        assert_eq!(rt; store.taken, *taken);
-        assert_eq!(rt; store.faults, *faults);
+    for (path, limit, wanted, taken, faults) in rows {
+        let found = is_read(alloc, &mut store, path, limit, wanted)?;
+        assert!(rt;
+            found && store.taken == taken && store.faults == faults,
+            "{path}"
+        );
     }
     fs::remove_file(&rt, path.as_str())?;
     Ok(())
 }
 
-/// A writer that takes at most two bytes a call and so many in all, and is interrupted once before.
+/// A writer that takes at most two bytes a call and `room` bytes in all, and is interrupted once before.
 #[derive(Drop)]
 struct Narrow {
     bytes: Vec<u8>,
@@ -157,18 +171,23 @@ impl io::Write for Narrow {
     }
 }
 
+/// Whether all the bytes are written or not, as given, and the writer then has got this text.
+fn is_streamed(sink: &mut StreamSink<Narrow>, bytes: &str, written: bool, text: &str) -> bool {
+    !bytes.is_empty()
+        && sink.put(bytes.as_bytes()).is_ok() == written
+        && sink.writer.bytes.as_slice() == text.as_bytes()
+}
+
 #[test]
-fn a_stream_is_written_on_after_a_short_write(rt: HostRuntime) -> Result<(), Fail> {
+fn a_stream_is_written_on_after_a_short_write(rt: HostRuntime) {
     let mut sink = StreamSink::fresh(Narrow {
         bytes: Vec::new(rt.alloc()),
         room: 8,
         was_interrupted: false,
         flushes: 0,
     });
-    assert_eq!(rt; sink.put(b"abcde"), Ok(()));
-    assert_eq!(rt; sink.writer.bytes.as_slice(), b"abcde".as_slice());
-    assert_eq!(rt; sink.put(b"fghi"), Err(Failed));
-    assert_eq!(rt; sink.writer.bytes.as_slice(), b"abcdefgh".as_slice());
-    assert_eq!(rt; (sink.writer.flushes, sink.faults), (1, 1));
-    Ok(())
+    for (bytes, written, text) in [("abcde", true, "abcde"), ("fghi", false, "abcdefgh")] {
+        assert!(rt; is_streamed(&mut sink, bytes, written, text), "{bytes}");
+    }
+    assert!(rt; sink.writer.flushes == 1 && sink.faults == 1);
 }

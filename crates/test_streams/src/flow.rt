@@ -1,55 +1,69 @@
 //! Streams that keep nothing: sets, defaults, tags and the branch of a rule.
 
+use crate::build::{rule, text};
 use crate::show::put_event;
-use ev_types::{Attr, Event, Field, Memory, Set, Sets, Tags, Text, Value};
+use ev_types::{Attr, Attrs, Event, Field, Memory, Set, Sets, Tags, Text, Value};
 use flow_streams::{apply_defaults, apply_sets, apply_tags, route};
-use pred_eval::{Pred, RegexPatterns, pattern_count};
-use query_lang::read_query;
 use std::alloc::Global;
 use std::test::Fail;
 
-fn text(alloc: Global, chars: &str) -> Result<Text, Memory> {
-    Text::from_str(alloc, chars)
+/// Attributes of these keys, with these values where they are not `-`.
+fn attributes(alloc: Global, rows: &[(&str, &str)]) -> Attrs {
+    let mut attributes = Attrs::fresh(alloc);
+    for row in rows {
+        if let Some(key) = text(alloc, row.0) {
+            let value = text(alloc, row.1);
+            let _ = attributes.push(alloc, Attr { key, value });
+        }
+    }
+    attributes
 }
 
-fn push_attribute(
-    alloc: Global,
-    event: &mut Event,
-    key: &str,
-    value: Option<&str>,
-) -> Result<(), Memory> {
-    let value = match value {
-        Some(value) => Some(text(alloc, value)?),
-        None => None,
-    };
-    let key = text(alloc, key)?;
-    event.attributes.push(alloc, Attr { key, value })
+fn tags(alloc: Global, names: &[&str]) -> Tags {
+    let mut tags = Tags::fresh(alloc);
+    for name in names {
+        if let Some(name) = text(alloc, name) {
+            let _ = tags.push(alloc, name);
+        }
+    }
+    tags
 }
 
-// An event that holds its time, and forms of a metric that are not numbers here.
-fn bare_event(alloc: Global) -> Event {
-    let mut event = Event::at(alloc, 5);
-    event.time_micros = Some(5_000_001);
-    event.raw_d = Some(9);
-    event.raw_f = Some(7);
-    event
+/// An event that holds its time, forms of a metric that are not numbers here, and the tags.
+fn bare_event(alloc: Global, names: &[&str]) -> Event {
+    Event {
+        host: None,
+        service: None,
+        state: None,
+        description: None,
+        tags: tags(alloc, names),
+        time: 5,
+        time_micros: Some(5_000_001),
+        ttl: None,
+        metric: None,
+        raw_d: Some(9),
+        raw_f: Some(7),
+        attributes: Attrs::fresh(alloc),
+    }
 }
 
-// An event that holds something in each field, and the attribute "rack" twice.
-fn full_event(alloc: Global) -> Result<Event, Memory> {
-    let mut event = bare_event(alloc);
-    event.host = Some(text(alloc, "a")?);
-    event.service = Some(text(alloc, "cpu")?);
-    event.state = Some(text(alloc, "ok")?);
-    event.description = Some(text(alloc, "fine")?);
-    event.tags.push(alloc, text(alloc, "y")?)?;
-    event.ttl = Some(60);
-    event.metric = Some(-3);
-    push_attribute(alloc, &mut event, "rack", Some("r7"))?;
-    push_attribute(alloc, &mut event, "room", Some(""))?;
-    push_attribute(alloc, &mut event, "rack", Some("r8"))?;
-    push_attribute(alloc, &mut event, "bare", None)?;
-    Ok(event)
+/// An event that holds something in each field, and the attribute "rack" twice.
+fn full_event(alloc: Global) -> Event {
+    let rows = [("rack", "r7"), ("room", ""), ("rack", "r8"), ("bare", "-")];
+    Event {
+        host: text(alloc, "a"),
+        service: text(alloc, "cpu"),
+        state: text(alloc, "ok"),
+        description: text(alloc, "fine"),
+        tags: tags(alloc, &["y"]),
+        time: 5,
+        time_micros: Some(5_000_001),
+        ttl: Some(60),
+        metric: Some(-3),
+        raw_d: Some(9),
+        raw_f: Some(7),
+        attributes: attributes(alloc, &rows),
+    }
 }
 
 /// A value in a row.
@@ -60,14 +74,18 @@ enum Row<'a> {
     Text(&'a str),
 }
 
+fn value(alloc: Global, row: Row) -> Result<Value, Memory> {
+    match row {
+        Row::Nil => Ok(Value::Nil),
+        Row::Number(number) => Ok(Value::Number(number)),
+        Row::Text(chars) => Ok(Value::Text(Text::from_str(alloc, chars)?)),
+    }
+}
+
 fn push_set(alloc: Global, sets: &mut Sets, name: &str, row: Row) -> Result<(), Memory> {
-    let Some(field) = Field::named(text(alloc, name)?) else {
+    let value = value(alloc, row)?;
+    let Some(field) = Field::named(Text::from_str(alloc, name)?) else {
         return Ok(());
-    };
-    let value = match row {
-        Row::Nil => Value::Nil,
-        Row::Number(number) => Value::Number(number),
-        Row::Text(chars) => Value::Text(text(alloc, chars)?),
     };
     sets.push(alloc, Set { field, value })
 }
@@ -80,16 +98,18 @@ fn sets_of(alloc: Global, rows: &[(&str, Row)]) -> Result<Sets, Memory> {
     Ok(sets)
 }
 
-fn shown(alloc: Global, event: &Event) -> Result<String, Memory> {
+/// Whether all that the event holds is written so.
+fn is_event(alloc: Global, event: &Event, wanted: &str) -> Result<bool, Memory> {
     let mut out = String::new(alloc);
     put_event(alloc, &mut out, event)?;
-    Ok(out)
+    Ok(out.as_str() == wanted)
 }
 
-/// The full event with the sets made.
-fn set_full(alloc: Global, rows: &[(&str, Row)]) -> Result<String, Memory> {
+/// Whether the full event is so once the sets are made.
+fn is_set(alloc: Global, rows: &[(&str, Row)], wanted: &str) -> Result<bool, Memory> {
     let sets = sets_of(alloc, rows)?;
-    shown(alloc, &apply_sets(alloc, &sets, full_event(alloc)?)?)
+    let event = apply_sets(alloc, &sets, full_event(alloc))?;
+    is_event(alloc, &event, wanted)
 }
 
 #[test]
@@ -133,20 +153,21 @@ fn sets_are_made_in_order(rt: HostRuntime) -> Result<(), Fail> {
         ),
     ];
     for (sets, wanted) in rows {
-        assert_eq!(rt; set_full(alloc, sets)?.as_str(), wanted);
+        assert!(rt; is_set(alloc, sets, wanted)?, "{wanted}");
     }
     Ok(())
 }
 
-/// The full event, or else the bare one, with the defaults.
-fn default_of(alloc: Global, full: bool, rows: &[(&str, Row)]) -> Result<String, Memory> {
+/// Whether the event is so with the defaults.
+fn is_filled(
+    alloc: Global,
+    event: Event,
+    rows: &[(&str, Row)],
+    wanted: &str,
+) -> Result<bool, Memory> {
     let sets = sets_of(alloc, rows)?;
-    let event = if full {
-        full_event(alloc)?
-    } else {
-        bare_event(alloc)
-    };
-    shown(alloc, &apply_defaults(alloc, &sets, event)?)
+    let event = apply_defaults(alloc, &sets, event)?;
+    is_event(alloc, &event, wanted)
 }
 
 #[test]
@@ -169,64 +190,65 @@ fn defaults_fill_what_is_absent(rt: HostRuntime) -> Result<(), Fail> {
     ];
     let full =
         "a cpu ok fine #y @rack=r7 @room= @rack=r8 @bare=r3 5 Some(5000001) Some(60) Some(-3) Some(9) Some(7)";
-    assert_eq!(rt; default_of(alloc, true, &texts)?.as_str(), full);
+    assert!(rt; is_filled(alloc, full_event(alloc), &texts, full)?);
     let bare = "b - - late  @rack=r1 @room=r2 @bare=r3 5 Some(5000001) None None Some(9) Some(7)";
-    assert_eq!(rt; default_of(alloc, false, &texts)?.as_str(), bare);
+    assert!(rt; is_filled(alloc, bare_event(alloc, &[]), &texts, bare)?);
     let full =
         "a cpu ok fine #y @rack=r7 @room= @rack=r8 @bare=- 5 Some(5000001) Some(60) Some(-3) Some(9) Some(7)";
-    assert_eq!(rt; default_of(alloc, true, &numbers)?.as_str(), full);
+    assert!(rt; is_filled(alloc, full_event(alloc), &numbers, full)?);
     let bare = "- - - -  5 Some(5000001) Some(0) None None None";
-    assert_eq!(rt; default_of(alloc, false, &numbers)?.as_str(), bare);
+    assert!(rt; is_filled(alloc, bare_event(alloc, &[]), &numbers, bare)?);
     Ok(())
 }
 
-fn tags_of(alloc: Global, chars: &[&str]) -> Result<Tags, Memory> {
-    let mut tags = Tags::fresh(alloc);
-    for chars in chars {
-        tags.push(alloc, text(alloc, chars)?)?;
-    }
-    Ok(tags)
-}
-
-/// The bare event with the first tags, once the others are added.
-fn tagged(alloc: Global, had: &[&str], added: &[&str]) -> Result<String, Memory> {
-    let mut event = bare_event(alloc);
-    event.tags = tags_of(alloc, had)?;
-    shown(alloc, &apply_tags(alloc, &tags_of(alloc, added)?, event)?)
+/// Whether the bare event with the first tags is so once the others are added.
+fn is_tagged(alloc: Global, had: &[&str], added: &[&str], wanted: &str) -> Result<bool, Memory> {
+    let added = tags(alloc, added);
+    let event = apply_tags(alloc, &added, bare_event(alloc, had))?;
+    is_event(alloc, &event, wanted)
 }
 
 #[test]
 fn tags_are_added_once_and_in_order(rt: HostRuntime) -> Result<(), Fail> {
     let alloc = rt.alloc();
     let rows: [(&[&str], &[&str], &str); 5] = [
-        (&["y"], &["x", "y"], "- - - - #y#x 5 "),
-        (&[], &["b", "a", "b"], "- - - - #b#a 5 "),
-        (&["a", "a"], &["a", ""], "- - - - #a#a# 5 "),
-        (&["a"], &["A", "aa"], "- - - - #a#A#aa 5 "),
-        (&["a"], &[], "- - - - #a 5 "),
+        (
+            &["y"],
+            &["x", "y"],
+            "- - - - #y#x 5 Some(5000001) None None Some(9) Some(7)",
+        ),
+        (
+            &[],
+            &["b", "a", "b"],
+            "- - - - #b#a 5 Some(5000001) None None Some(9) Some(7)",
+        ),
+        (
+            &["a", "a"],
+            &["a", ""],
+            "- - - - #a#a# 5 Some(5000001) None None Some(9) Some(7)",
+        ),
+        (
+            &["a"],
+            &["A", "aa"],
+            "- - - - #a#A#aa 5 Some(5000001) None None Some(9) Some(7)",
+        ),
+        (
+            &["a"],
+            &[],
+            "- - - - #a 5 Some(5000001) None None Some(9) Some(7)",
+        ),
     ];
     for (had, added, wanted) in rows {
-        assert!(rt;
-            tagged(alloc, had, added)?.as_str().starts_with(wanted),
-            "{added:?}"
-        );
+        assert!(rt; is_tagged(alloc, had, added, wanted)?, "{wanted}");
     }
     Ok(())
 }
 
 /// The branches of the full and of the bare event below the rule of the query.
 fn branches(alloc: Global, query: &str) -> Result<(u32, u32), Memory> {
-    let Ok(rule) = read_query(alloc, query.as_bytes()) else {
-        return Err(Memory);
-    };
-    if pattern_count(&rule) > 1 {
-        return Err(Memory);
-    }
-    let Ok(mut pred) = Pred::build(alloc, rule, &mut RegexPatterns { refusals: 0 }) else {
-        return Err(Memory);
-    };
-    let full = route(alloc, &mut pred, &full_event(alloc)?)?;
-    let bare = route(alloc, &mut pred, &bare_event(alloc))?;
+    let mut pred = rule(alloc, query)?;
+    let full = route(alloc, &mut pred, &full_event(alloc))?;
+    let bare = route(alloc, &mut pred, &bare_event(alloc, &[]))?;
     Ok((full, bare))
 }
 

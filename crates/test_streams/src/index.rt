@@ -1,35 +1,12 @@
 //! The index of live events.
 
-ghost use Rattle.std.specs.Prelude.{◌≡◌};
-
+use crate::build::{event, rule, text};
 use crate::show::{put_event, put_short};
-use ev_types::{Attr, Event, Events, Memory, Text};
+use ev_types::{Attr, Attrs, Event, Events, Memory, Tags, Text};
 use live_index::LiveIndex;
-use pred_eval::{Pred, RegexPatterns, pattern_count};
-use query_lang::read_query;
 use std::alloc::Global;
 use std::test::Fail;
 use step_count::{NoLedger, Steps};
-
-/// The text, where it is not `-`.
-fn text(alloc: Global, chars: &str) -> Result<Option<Text>, Memory> {
-    if chars == "-" {
-        Ok(None)
-    } else {
-        Ok(Some(Text::from_str(alloc, chars)?))
-    }
-}
-
-fn event(alloc: Global, host: &str, service: &str, state: &str, ttl: u32) -> Result<Event, Memory> {
-    let mut event = Event::at(alloc, 100);
-    event.host = text(alloc, host)?;
-    event.service = text(alloc, service)?;
-    event.state = text(alloc, state)?;
-    if ttl > 0 {
-        event.ttl = Some(ttl);
-    }
-    Ok(event)
-}
 
 /// Writes events of these hosts, services, states and ttls, 0 for none.
 fn write_all(
@@ -38,7 +15,7 @@ fn write_all(
     rows: &[(&str, &str, &str, u32)],
 ) -> Result<(), Memory> {
     for row in rows {
-        index.write(alloc, event(alloc, row.0, row.1, row.2, row.3)?)?;
+        index.write(alloc, event(alloc, row.0, row.1, row.2, 100, row.3))?;
     }
     Ok(())
 }
@@ -50,33 +27,36 @@ fn search(
     query: &str,
     out: &mut Events,
 ) -> Result<(), Memory> {
-    let Ok(rule) = read_query(alloc, query.as_bytes()) else {
-        return Err(Memory);
-    };
-    if pattern_count(&rule) > 0 {
-        return Err(Memory);
-    }
-    let Ok(mut pred) = Pred::build(alloc, rule, &mut RegexPatterns { refusals: 0 }) else {
-        return Err(Memory);
-    };
+    let mut pred = rule(alloc, query)?;
     index.search(alloc, &mut pred, out, &mut Steps::fresh(NoLedger))
 }
 
-fn shown(alloc: Global, events: &Events) -> Result<String, Memory> {
-    let mut out = String::new(alloc);
-    for event in events.as_slice() {
-        put_short(alloc, &mut out, event)?;
-    }
-    Ok(out)
+/// Whether the events are these, in short.
+fn are(alloc: Global, events: &Events, wanted: &str) -> Result<bool, Memory> {
+    let mut line = String::new(alloc);
+    put_all(alloc, &mut line, events)?;
+    Ok(line.as_str() == wanted)
 }
 
-/// The live events that meet the query once these are written.
-fn found(alloc: Global, rows: &[(&str, &str, &str, u32)], query: &str) -> Result<String, Memory> {
+fn put_all(alloc: Global, line: &mut String, events: &Events) -> Result<(), Memory> {
+    for event in events.as_slice() {
+        put_short(alloc, line, event)?;
+    }
+    Ok(())
+}
+
+/// Whether these live events meet the query once the rows are written.
+fn finds(
+    alloc: Global,
+    rows: &[(&str, &str, &str, u32)],
+    query: &str,
+    wanted: &str,
+) -> Result<bool, Memory> {
     let mut index = LiveIndex::fresh(alloc);
     write_all(alloc, &mut index, rows)?;
     let mut out = Events::fresh(alloc);
     search(alloc, &mut index, query, &mut out)?;
-    shown(alloc, &out)
+    are(alloc, &out, wanted)
 }
 
 #[test]
@@ -96,7 +76,7 @@ fn live_events_are_in_key_order(rt: HostRuntime) -> Result<(), Fail> {
     ];
     let wanted =
         "- - - 100 0; - zoo - 100 0;  - - 100 0; a - - 100 0; a  - 100 0; a cpu - 100 0; ab a - 100 0; b Cpu - 100 0; b cpu - 100 0; é cpu - 100 0; ";
-    assert_eq!(rt; found(rt.alloc(), &rows, "true")?.as_str(), wanted);
+    assert!(rt; finds(rt.alloc(), &rows, "true", wanted)?);
     Ok(())
 }
 
@@ -108,7 +88,7 @@ fn a_write_replaces_the_one_of_its_key(rt: HostRuntime) -> Result<(), Fail> {
         ("a", "cpu", "warning", 3),
     ];
     let wanted = "a cpu warning 100 3; a disk ok 100 2; ";
-    assert_eq!(rt; found(rt.alloc(), &rows, "true")?.as_str(), wanted);
+    assert!(rt; finds(rt.alloc(), &rows, "true", wanted)?);
     Ok(())
 }
 
@@ -120,10 +100,7 @@ fn what_meets_the_rule_is_found(rt: HostRuntime) -> Result<(), Fail> {
         ("c", "-", "ok", 1),
     ];
     let wanted = "a - ok 100 1; c - ok 100 1; ";
-    assert_eq!(rt;
-        found(rt.alloc(), &rows, "state = \"ok\"")?.as_str(),
-        wanted
-    );
+    assert!(rt; finds(rt.alloc(), &rows, "state = \"ok\"", wanted)?);
     Ok(())
 }
 
@@ -141,50 +118,89 @@ fn only_the_state_expired_ends_an_event(rt: HostRuntime) -> Result<(), Fail> {
         ("cpu", "expired", 1),
         ("disk", "expired", 0),
     ] {
-        index.write(alloc, event(alloc, "a", service, state, 0)?)?;
+        index.write(alloc, event(alloc, "a", service, state, 100, 0))?;
         assert!(rt; index.len() == live, "{service} {state}");
     }
     Ok(())
 }
 
-#[test]
-fn copies_are_equal_and_come_after_what_was_there(rt: HostRuntime) -> Result<(), Fail> {
-    let alloc = rt.alloc();
-    let mut full = event(alloc, "a", "cpu", "ok", 30)?;
-    full.description = text(alloc, "all is well")?;
-    full.tags.push(alloc, Text::from_str(alloc, "edge")?)?;
-    full.time = -1;
-    full.time_micros = Some(-1_000_000);
-    full.metric = Some(-5);
-    full.raw_d = Some(1);
-    full.raw_f = Some(2);
-    let key = Text::from_str(alloc, "rack")?;
-    let value = text(alloc, "7")?;
-    full.attributes.push(alloc, Attr { key, value })?;
-    let mut index = LiveIndex::fresh(alloc);
-    index.write(alloc, full)?;
-    let mut out = Events::fresh(alloc);
-    out.push(alloc, event(alloc, "-", "-", "first", 0)?)?;
-    search(alloc, &mut index, "true", &mut out)?;
-    let mut shown = String::new(alloc);
-    for event in out.as_slice() {
-        put_event(alloc, &mut shown, event)?;
-        shown.push_str("; ")?;
+fn tags(alloc: Global, name: &str) -> Tags {
+    let mut tags = Tags::fresh(alloc);
+    if let Some(name) = text(alloc, name) {
+        let _ = tags.push(alloc, name);
     }
-    let wanted =
-        "- - first -  100 None None None None None; a cpu ok all is well #edge @rack=7 -1 Some(-1000000) Some(30) Some(-5) Some(1) Some(2); ";
-    assert_eq!(rt; shown.as_str(), wanted);
+    tags
+}
+
+fn attributes(alloc: Global, key: &str, value: &str) -> Attrs {
+    let mut attributes = Attrs::fresh(alloc);
+    if let Some(key) = text(alloc, key) {
+        let value = text(alloc, value);
+        let _ = attributes.push(alloc, Attr { key, value });
+    }
+    attributes
+}
+
+/// An event that holds something in each field.
+fn full_event(alloc: Global) -> Event {
+    Event {
+        host: text(alloc, "a"),
+        service: text(alloc, "cpu"),
+        state: text(alloc, "ok"),
+        description: text(alloc, "all is well"),
+        tags: tags(alloc, "edge"),
+        time: -1,
+        time_micros: Some(-1_000_000),
+        ttl: Some(30),
+        metric: Some(-5),
+        raw_d: Some(1),
+        raw_f: Some(2),
+        attributes: attributes(alloc, "rack", "7"),
+    }
+}
+
+/// Appends all that each event holds.
+fn put_events(alloc: Global, line: &mut String, events: &Events) -> Result<(), Memory> {
+    for event in events.as_slice() {
+        put_event(alloc, line, event)?;
+        line.push_str("; ")?;
+    }
     Ok(())
 }
 
-/// The ttl of the live event of this host and service.
-fn ttl_of(index: &mut LiveIndex, host: Option<&Text>, service: Option<&Text>) -> Option<u32>
-    ensures { index.new ≡ index.old }
-{
+/// Writes the full event, and searches for it after what is there.
+fn find_full(alloc: Global, out: &mut Events) -> Result<(), Memory> {
+    let mut index = LiveIndex::fresh(alloc);
+    index.write(alloc, full_event(alloc))?;
+    search(alloc, &mut index, "true", out)
+}
+
+#[test]
+fn copies_are_equal_and_come_after_what_was_there(rt: HostRuntime) -> Result<(), Fail> {
+    let alloc = rt.alloc();
+    let mut out = Events::fresh(alloc);
+    out.push(alloc, event(alloc, "-", "-", "first", 100, 0))?;
+    find_full(alloc, &mut out)?;
+    let mut line = String::new(alloc);
+    put_events(alloc, &mut line, &out)?;
+    let wanted =
+        "- - first -  100 None None None None None; a cpu ok all is well #edge @rack=7 -1 Some(-1000000) Some(30) Some(-5) Some(1) Some(2); ";
+    assert!(rt; line.as_str() == wanted);
+    Ok(())
+}
+
+/// The ttl of the live event of this host and service, or 0 where there is none.
+fn ttl_of(index: &mut LiveIndex, host: Option<&Text>, service: Option<&Text>) -> u32 {
     match index.get(host, service, &mut Steps::fresh(NoLedger)) {
-        Some(event) => event.ttl,
-        None => None,
+        Some(event) => event.ttl.unwrap_or(0),
+        None => 0,
     }
+}
+
+/// Whether the live event of the host and service has the ttl.
+fn has_ttl(alloc: Global, index: &mut LiveIndex, host: &str, service: &str, wanted: u32) -> bool {
+    let (host, service) = (text(alloc, host), text(alloc, service));
+    ttl_of(index, host.as_ref(), service.as_ref()) == wanted
 }
 
 #[test]
@@ -214,12 +230,27 @@ fn an_event_is_got_by_its_host_and_service(rt: HostRuntime) -> Result<(), Fail> 
         ("-", "", 0),
         ("z", "cpu", 0),
     ] {
-        let (own_host, own_service) = (text(alloc, host)?, text(alloc, service)?);
-        let found = ttl_of(&mut index, own_host.as_ref(), own_service.as_ref());
-        assert!(rt; found.unwrap_or(0) == wanted, "{host} {service}");
+        assert!(rt;
+            has_ttl(alloc, &mut index, host, service, wanted),
+            "{host} {service}"
+        );
     }
-    assert_eq!(rt; index.len(), 5);
+    assert!(rt; index.len() == 5);
     Ok(())
+}
+
+/// Whether these events have expired at the moment, which is at most 2^40, and so many stay.
+fn is_reaped(
+    alloc: Global,
+    index: &mut LiveIndex,
+    moment: u64,
+    wanted: &str,
+    live: usize,
+) -> Result<bool, Memory> {
+    let mut out = Events::fresh(alloc);
+    let moment = moment.min(1 << 40);
+    index.reap(alloc, moment, &mut out, &mut Steps::fresh(NoLedger))?;
+    Ok(are(alloc, &out, wanted)? && index.len() == live)
 }
 
 #[test]
@@ -238,10 +269,8 @@ fn expired_events_are_removed(rt: HostRuntime) -> Result<(), Fail> {
         (106, "a - - 100 5; b - - 100 5; ", 2),
         (161, "c - - 100 0; d - - 100 6; ", 0),
     ] {
-        let mut out = Events::fresh(alloc);
-        index.reap(alloc, moment, &mut out, &mut Steps::fresh(NoLedger))?;
         assert!(rt;
-            shown(alloc, &out)?.as_str() == wanted && index.len() == live,
+            is_reaped(alloc, &mut index, moment, wanted, live)?,
             "{moment}"
         );
     }

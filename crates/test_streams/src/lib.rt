@@ -5,6 +5,8 @@
 #[cfg(test)]
 mod arrivals;
 #[cfg(test)]
+mod build;
+#[cfg(test)]
 mod flow;
 #[cfg(test)]
 mod index;

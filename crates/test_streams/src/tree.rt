@@ -1,53 +1,73 @@
 //! Trees of streams: the outputs of a plan, in their order.
 
+use crate::build::{event, plan};
 use crate::show::put_output;
-use ev_types::{Event, Memory, Outputs, Text};
-use pred_eval::RegexPatterns;
-use sexp_config::read_config;
+use ev_types::{Memory, Outputs};
 use std::alloc::Global;
 use std::test::Fail;
 use step_count::{CountLedger, Steps};
-use stream_plan::{ReadyPlan, build_plan};
 use stream_tree::Tree;
 
-fn event(alloc: Global, host: &str) -> Result<Event, Memory> {
-    let mut event = Event::at(alloc, 5);
-    event.host = Some(Text::from_str(alloc, host)?);
-    Ok(event)
+/// The tree of the configuration, from 100 on.
+fn tree(alloc: Global, config: &str) -> Result<Tree, Memory> {
+    let (plan, _) = plan(alloc, config)?;
+    Tree::fresh(alloc, plan, 100)
 }
 
-/// The plan of the configuration.
-fn ready(alloc: Global, config: &str) -> Result<ReadyPlan, Memory> {
-    let Ok(config) = read_config(alloc, config.as_bytes()) else {
-        return Err(Memory);
-    };
-    match build_plan(alloc, config.plan, &mut RegexPatterns { refusals: 0 }) {
-        Ok(plan) => Ok(plan),
-        Err(_) => Err(Memory),
+/// An event of the host comes at the moment, which is at most 2^40.
+fn post(
+    alloc: Global,
+    tree: &mut Tree,
+    host: &str,
+    now: u64,
+    outputs: &mut Outputs,
+    steps: &mut Steps<CountLedger>,
+) -> Result<(), Memory> {
+    let event = event(alloc, host, "-", "-", 5, 0);
+    tree.item(alloc, event, now.min(1 << 40), outputs, steps)
+}
+
+/// Events of "a" and "b" come at 100, then a second passes, and one of "cb" comes.
+fn play(
+    alloc: Global,
+    tree: &mut Tree,
+    outputs: &mut Outputs,
+    steps: &mut Steps<CountLedger>,
+) -> Result<(), Memory> {
+    post(alloc, tree, "a", 100, outputs, steps)?;
+    post(alloc, tree, "b", 100, outputs, steps)?;
+    tree.tick(alloc, 101, outputs, steps)?;
+    post(alloc, tree, "cb", 101, outputs, steps)
+}
+
+/// Appends the outputs, and at last the counts of forks and entries.
+fn put_outputs(
+    alloc: Global,
+    text: &mut String,
+    outputs: &Outputs,
+    counts: CountLedger,
+) -> Result<(), Memory> {
+    for output in outputs.as_slice() {
+        put_output(alloc, text, output)?;
     }
+    let CountLedger { forks, entries } = counts;
+    let counts = format!(in alloc; "{forks} {entries}")?;
+    text.push_str(counts.as_str())?;
+    Ok(())
 }
 
-/// The outputs of the plan where events of "a" and "b" come at 100, then a second passes, and one of "cb" comes; at last
-/// the counts of forks and entries.
-fn outputs(alloc: Global, config: &str) -> Result<String, Memory> {
+/// Whether the configuration gives these outputs, and at last these counts.
+fn gives(alloc: Global, config: &str, wanted: &str) -> Result<bool, Memory> {
+    let mut tree = tree(alloc, config)?;
+    let mut outputs = Outputs::fresh(alloc);
     let mut steps = Steps::fresh(CountLedger {
         forks: 0,
         entries: 0,
     });
-    let mut outputs = Outputs::fresh(alloc);
-    let mut tree = Tree::fresh(alloc, ready(alloc, config)?, 100)?;
-    tree.item(alloc, event(alloc, "a")?, 100, &mut outputs, &mut steps)?;
-    tree.item(alloc, event(alloc, "b")?, 100, &mut outputs, &mut steps)?;
-    tree.tick(alloc, 101, &mut outputs, &mut steps)?;
-    tree.item(alloc, event(alloc, "cb")?, 101, &mut outputs, &mut steps)?;
+    play(alloc, &mut tree, &mut outputs, &mut steps)?;
     let mut text = String::new(alloc);
-    for output in outputs.as_slice() {
-        put_output(alloc, &mut text, output)?;
-    }
-    let CountLedger { forks, entries } = *steps.ledger();
-    let counts = format!(in alloc; "{forks} {entries}")?;
-    text.push_str(counts.as_str())?;
-    Ok(text)
+    put_outputs(alloc, &mut text, &outputs, *steps.ledger())?;
+    Ok(text.as_str() == wanted)
 }
 
 #[test]
@@ -94,8 +114,7 @@ fn outputs_come_in_order(rt: HostRuntime) -> Result<(), Fail> {
             "begin@100 a - - 5 0; no@100 a - - 5 0; end@100 b - - 5 0; b@100 b - - 5 0; end@101 cb - - 5 0; no@101 cb - - 5 0; 0 0",
         ),
     ] {
-        let found = outputs(alloc, config)?;
-        assert!(rt; found.as_str() == wanted, "{config}");
+        assert!(rt; gives(alloc, config, wanted)?, "{config}");
     }
     Ok(())
 }

@@ -201,23 +201,16 @@ fn append_canonical(alloc: Global, text: &[u8], out: &mut Blob) -> Result<(), Fa
     Ok(())
 }
 
-/// Whether the canonical text of the configuration is the one given, and is the canonical text of itself.
-fn is_written(alloc: Global, text: &[u8], canonical: &[u8]) -> Result<bool, Fail> {
-    let mut once = Blob::fresh(alloc);
-    append_canonical(alloc, text, &mut once)?;
-    let mut again = Blob::fresh(alloc);
-    append_canonical(alloc, once.as_slice(), &mut again)?;
-    Ok(once.as_slice() == canonical && again.as_slice() == canonical)
+/// Whether the canonical text of the configuration is the one given.
+fn is_canonical(alloc: Global, text: &[u8], canonical: &[u8]) -> Result<bool, Fail> {
+    let mut out = Blob::fresh(alloc);
+    append_canonical(alloc, text, &mut out)?;
+    Ok(out.as_slice() == canonical)
 }
 
-/// The first row whose text is a configuration with another canonical text.
-fn first_miswritten(alloc: Global, rows: &[(&[u8], &[u8])]) -> Result<Option<usize>, Fail> {
-    for (i, row) in rows.iter().enumerate() {
-        if !is_written(alloc, row.0, row.1)? {
-            return Ok(Some(i));
-        }
-    }
-    Ok(None)
+/// Whether the canonical text of the configuration is the one given, and is the canonical text of itself.
+fn is_written(alloc: Global, text: &[u8], canonical: &[u8]) -> Result<bool, Fail> {
+    Ok(is_canonical(alloc, text, canonical)? && is_canonical(alloc, canonical, canonical)?)
 }
 
 /// The first row whose text is written in another way.
@@ -239,6 +232,19 @@ fn parted(alloc: Global, parts: [&str; 4]) -> Result<Blob, Fail> {
     Ok(text)
 }
 
+/// Whether the part is written so between the front and the back.
+fn is_part_written<'a>(
+    alloc: Global,
+    part: &'a str,
+    canonical: &'a str,
+    front: &'a str,
+    back: &'a str,
+) -> Result<bool, Fail> {
+    let text = parted(alloc, [front, part, back, ""])?;
+    let canonical = parted(alloc, [FRONT, front, canonical, back])?;
+    is_written(alloc, text.as_slice(), canonical.as_slice())
+}
+
 /// The first row whose part is written in another way between the same front and back.
 fn first_other_part(
     alloc: Global,
@@ -247,9 +253,7 @@ fn first_other_part(
     back: &str,
 ) -> Result<Option<usize>, Fail> {
     for (i, row) in rows.iter().enumerate() {
-        let text = parted(alloc, [front, row.0, back, ""])?;
-        let canonical = parted(alloc, [FRONT, front, row.1, back])?;
-        if !is_written(alloc, text.as_slice(), canonical.as_slice())? {
+        if !is_part_written(alloc, row.0, row.1, front, back)? {
             return Ok(Some(i));
         }
     }
@@ -258,43 +262,38 @@ fn first_other_part(
 
 #[test]
 fn configurations_have_one_canonical_text(rt: HostRuntime) -> Result<(), Fail> {
-    let rows: [(&[u8], &[u8]); 5] = [
+    let rows = [
         (
-            b"",
-            b"(tcp-server {:host \"127.0.0.1\" :port 5555})\n(streams)\n",
+            "",
+            "(tcp-server {:host \"127.0.0.1\" :port 5555})\n(streams)\n",
         ),
         (
-            b"(tcp-server {:port 80}) (periodically-expire 7 {:keep-keys [:host, :tags :k]}) (streams (index))",
-            b"(tcp-server {:host \"127.0.0.1\" :port 80})\n(periodically-expire 7 {:keep-keys [:host :tags :k]})\n(streams index)\n",
+            "(tcp-server {:port 80}) (periodically-expire 7 {:keep-keys [:host, :tags :k]}) (streams (index))",
+            "(tcp-server {:host \"127.0.0.1\" :port 80})\n(periodically-expire 7 {:keep-keys [:host :tags :k]})\n(streams index)\n",
         ),
         (
-            b"(let [a \"n\\\"\"] (streams (where (or (state \"ok\") (:k #\"a\\d\")) index (else (notice a))) (with :state nil (coalesce (smap folds/sum index)))))",
-            b"(tcp-server {:host \"127.0.0.1\" :port 5555})\n(streams (where (or (= state \"ok\") (:k #\"a\\d\")) index (else (notice \"n\\\"\"))) (with {:state nil} (coalesce 1 (smap folds/sum index))))\n",
+            "(let [a \"n\\\"\"] (streams (where (or (state \"ok\") (:k #\"a\\d\")) index (else (notice a))) (with :state nil (coalesce (smap folds/sum index)))))",
+            "(tcp-server {:host \"127.0.0.1\" :port 5555})\n(streams (where (or (= state \"ok\") (:k #\"a\\d\")) index (else (notice \"n\\\"\"))) (with {:state nil} (coalesce 1 (smap folds/sum index))))\n",
         ),
         (
-            b"(streams (over -5 (tag \"a\" (by :host (changed :state {:init \"ok\"} index)))) (expired (tagged [\"a\" \"b\"] (stable 2 :metric_sint64 index))))",
-            b"(tcp-server {:host \"127.0.0.1\" :port 5555})\n(streams (where (> metric -5) (tag [\"a\"] (by [:host] (changed :state {:init \"ok\"} index)))) (where (= state \"expired\") (where (and (tagged \"a\") (tagged \"b\")) (stable 2 :metric index))))\n",
+            "(streams (over -5 (tag \"a\" (by :host (changed :state {:init \"ok\"} index)))) (expired (tagged [\"a\" \"b\"] (stable 2 :metric_sint64 index))))",
+            "(tcp-server {:host \"127.0.0.1\" :port 5555})\n(streams (where (> metric -5) (tag [\"a\"] (by [:host] (changed :state {:init \"ok\"} index)))) (where (= state \"expired\") (where (and (tagged \"a\") (tagged \"b\")) (stable 2 :metric index))))\n",
         ),
         (
-            b"(streams (where (and (not= host nil) (like :service \"a%\") (<= ttl 3)) (rollup 2 9 (notice \"v\"))) (moving-time-window 4))",
-            b"(tcp-server {:host \"127.0.0.1\" :port 5555})\n(streams (where (and (not (= host nil)) (like service \"a%\") (<= ttl 3)) (rollup 2 9 (notice \"v\"))) (moving-time-window 4))\n",
+            "(streams (where (and (not= host nil) (like :service \"a%\") (<= ttl 3)) (rollup 2 9 (notice \"v\"))) (moving-time-window 4))",
+            "(tcp-server {:host \"127.0.0.1\" :port 5555})\n(streams (where (and (not (= host nil)) (like service \"a%\") (<= ttl 3)) (rollup 2 9 (notice \"v\"))) (moving-time-window 4))\n",
         ),
     ];
-    assert_eq!(rt; first_miswritten(rt.alloc(), rows.as_slice())?, None);
+    assert!(rt; first_other_text(rt.alloc(), &rows)?.is_none());
     Ok(())
 }
 
 #[test]
 fn each_form_has_one_canonical_text(rt: HostRuntime) -> Result<(), Fail> {
     let alloc = rt.alloc();
-    assert_eq!(rt;
-        first_other_part(alloc, &STREAMS, "(streams ", ")\n")?,
-        None
-    );
-    assert_eq!(rt;
-        first_other_part(alloc, &PREDICATES, "(streams (where ", " index))\n")?,
-        None
-    );
-    assert_eq!(rt; first_other_text(alloc, &TEXTS)?, None);
+    assert!(rt; first_other_part(alloc, &STREAMS, "(streams ", ")\n")?.is_none());
+    let wrong = first_other_part(alloc, &PREDICATES, "(streams (where ", " index))\n")?;
+    assert!(rt; wrong.is_none());
+    assert!(rt; first_other_text(alloc, &TEXTS)?.is_none());
     Ok(())
 }

@@ -489,31 +489,42 @@ const EXAMPLES: [&str; 3] = [
     "; Notices for each host and service whose metric is too high, at most five vectors an hour.\n(periodically-expire 5)\n\n(let [too-high 90]\n  (streams\n    (default :ttl 120 index)\n    (where (and (service \"cpu\") (> metric 0))\n      (by [:host :service]\n        (over too-high\n          (changed :state {:init \"ok\"}\n            (rollup 5 3600\n              (notice \"too high\"))))))))\n",
 ];
 
+/// Where and why the text is refused, or nothing where it is a configuration.
+fn refusal(alloc: Global, text: &[u8]) -> Result<Option<(usize, ConfigWhy)>, Memory> {
+    match read_config(alloc, text) {
+        Ok(_) => Ok(None),
+        Err(ConfigFault::Refused { place, why }) => Ok(Some((place, why))),
+        Err(ConfigFault::Memory) => Err(Memory),
+    }
+}
+
+/// Whether the text is refused so, or is a configuration where nothing is given.
+fn is_answered(
+    alloc: Global,
+    text: &[u8],
+    wanted: Option<(usize, ConfigWhy)>,
+) -> Result<bool, Memory> {
+    match (refusal(alloc, text)?, wanted) {
+        (Some((place, why)), Some(wanted)) => Ok(place == wanted.0 && why == wanted.1),
+        (None, None) => Ok(true),
+        _ => Ok(false),
+    }
+}
+
 /// The first text that is not accepted.
 fn first_refused(alloc: Global, texts: &[&str]) -> Result<Option<usize>, Memory> {
     for (i, text) in texts.iter().enumerate() {
-        match read_config(alloc, text.as_bytes()) {
-            Ok(_) => {}
-            Err(ConfigFault::Refused { .. }) => return Ok(Some(i)),
-            Err(ConfigFault::Memory) => return Err(Memory),
+        if !is_answered(alloc, text.as_bytes(), None)? {
+            return Ok(Some(i));
         }
     }
     Ok(None)
 }
 
-/// Whether the text is refused at the place for the cause.
-fn is_refused(alloc: Global, text: &[u8], place: usize, why: ConfigWhy) -> Result<bool, Memory> {
-    match read_config(alloc, text) {
-        Ok(_) => Ok(false),
-        Err(ConfigFault::Memory) => Err(Memory),
-        Err(fault) => Ok(fault == ConfigFault::Refused { place, why }),
-    }
-}
-
 /// The first row whose text is not refused so.
 fn first_wrong(alloc: Global, rows: &[(&str, usize, ConfigWhy)]) -> Result<Option<usize>, Memory> {
     for (i, row) in rows.iter().enumerate() {
-        if !is_refused(alloc, row.0.as_bytes(), row.1, row.2)? {
+        if !is_answered(alloc, row.0.as_bytes(), Some((row.1, row.2)))? {
             return Ok(Some(i));
         }
     }
@@ -539,54 +550,61 @@ fn repeated(
 
 #[test]
 fn configurations_are_accepted(rt: HostRuntime) -> Result<(), Fail> {
-    assert_eq!(rt; first_refused(rt.alloc(), &ACCEPTED)?, None);
-    assert_eq!(rt; first_refused(rt.alloc(), &EXAMPLES)?, None);
+    assert!(rt; first_refused(rt.alloc(), &ACCEPTED)?.is_none());
+    assert!(rt; first_refused(rt.alloc(), &EXAMPLES)?.is_none());
     Ok(())
 }
 
 #[test]
 fn each_refusal_has_its_place_and_cause(rt: HostRuntime) -> Result<(), Fail> {
-    assert_eq!(rt; first_wrong(rt.alloc(), &REFUSED)?, None);
+    assert!(rt; first_wrong(rt.alloc(), &REFUSED)?.is_none());
     Ok(())
 }
 
 #[test]
 fn forms_at_the_top_are_refused_in_order(rt: HostRuntime) -> Result<(), Fail> {
-    assert_eq!(rt; first_wrong(rt.alloc(), &REFUSED_AT_THE_TOP)?, None);
+    assert!(rt; first_wrong(rt.alloc(), &REFUSED_AT_THE_TOP)?.is_none());
     Ok(())
 }
 
 #[test]
 fn arguments_of_streams_are_refused(rt: HostRuntime) -> Result<(), Fail> {
-    assert_eq!(rt; first_wrong(rt.alloc(), &REFUSED_STREAMS)?, None);
+    assert!(rt; first_wrong(rt.alloc(), &REFUSED_STREAMS)?.is_none());
     Ok(())
 }
 
 #[test]
 fn tests_of_events_are_refused(rt: HostRuntime) -> Result<(), Fail> {
-    assert_eq!(rt; first_wrong(rt.alloc(), &REFUSED_TESTS)?, None);
+    assert!(rt; first_wrong(rt.alloc(), &REFUSED_TESTS)?.is_none());
     Ok(())
+}
+
+/// Whether the text with `count` copies of the part is answered so.
+fn is_limit(
+    alloc: Global,
+    (front, part, count, back): (&str, &str, usize, &str),
+    wanted: Option<(usize, ConfigWhy)>,
+) -> Result<bool, Memory> {
+    let text = repeated(
+        alloc,
+        front.as_bytes(),
+        part.as_bytes(),
+        count,
+        back.as_bytes(),
+    )?;
+    is_answered(alloc, text.as_slice(), wanted)
 }
 
 #[test]
 fn too_many_streams_are_refused_before_a_kind(rt: HostRuntime) -> Result<(), Fail> {
-    let alloc = rt.alloc();
-    let full = repeated(
-        alloc,
-        b"(streams (smap folds/sum)",
-        b" index",
-        MOST_STREAMS - 1,
-        b")",
-    )?;
-    assert!(rt; is_refused(alloc, full.as_slice(), 9, ConfigWhy::Kind)?);
-    let over = repeated(
-        alloc,
-        b"(streams (smap folds/sum)",
-        b" index",
-        MOST_STREAMS,
-        b")",
-    )?;
-    assert!(rt; is_refused(alloc, over.as_slice(), 24_596, ConfigWhy::Many)?);
+    let front = "(streams (smap folds/sum)";
+    for (count, wanted) in [
+        (MOST_STREAMS - 1, (9, ConfigWhy::Kind)),
+        (MOST_STREAMS, (24_596, ConfigWhy::Many)),
+    ] {
+        let text = (front, " index", count, ")");
+        assert!(rt; is_limit(rt.alloc(), text, Some(wanted))?, "{count}");
+    }
     Ok(())
 }
 
@@ -598,21 +616,32 @@ fn interval_and_keys(expiry: &Option<Expiry>) -> (u32, usize) {
     }
 }
 
+/// Whether the text is a configuration of this host, port 5555, as many streams, and this expiry.
+fn has_settings(
+    alloc: Global,
+    text: &str,
+    host: &str,
+    streams: usize,
+    (interval, keys): (u32, usize),
+) -> Result<bool, Fail> {
+    let config = read_config(alloc, text.as_bytes())?;
+    let found = interval_and_keys(&config.expiry);
+    Ok(
+        config.host.is(host.as_bytes())
+            && config.port == 5555
+            && config.plan.plan().streams.len() == streams
+            && found.0 == interval
+            && found.1 == keys,
+    )
+}
+
 #[test]
 fn defaults_are_filled_in(rt: HostRuntime) -> Result<(), Fail> {
     let alloc = rt.alloc();
-    let bare = read_config(alloc, b"(streams index)")?;
-    assert!(rt; bare.host.is(b"127.0.0.1") && bare.port == 5555 && bare.expiry.is_none());
-    assert_eq!(rt; bare.plan.plan().streams.len(), 1);
-    let full = read_config(
-        alloc,
-        b"(periodically-expire) (tcp-server {:host \"h\"}) (streams index) (let [] (streams index))",
-    )?;
-    assert!(rt; full.host.is(b"h") && full.port == 5555);
-    assert_eq!(rt; full.plan.plan().streams.len(), 2);
-    let (interval, keys) = interval_and_keys(&full.expiry);
-    assert_eq!(rt; interval, 10);
-    assert_eq!(rt; keys, 2);
+    assert!(rt; has_settings(alloc, "(streams index)", "127.0.0.1", 1, (0, 0))?);
+    let full =
+        "(periodically-expire) (tcp-server {:host \"h\"}) (streams index) (let [] (streams index))";
+    assert!(rt; has_settings(alloc, full, "h", 2, (10, 2))?);
     Ok(())
 }
 
@@ -638,29 +667,39 @@ const CAUSES: [(ConfigWhy, &str); 15] = [
 #[test]
 fn causes_have_names(rt: HostRuntime) -> Result<(), Fail> {
     for row in CAUSES {
-        assert_eq!(rt; row.0.name(), row.1);
+        assert!(rt; row.0.name() == row.1, "{}", row.1);
     }
     let why = ConfigWhy::Twice;
     let printed = format!(in rt.alloc(); "{}", ConfigFault::Refused { place: 3, why })?;
-    assert_eq!(rt; printed.as_str(), "config refused at 3: twice");
+    assert!(rt; printed.as_str() == "config refused at 3: twice");
     Ok(())
+}
+
+/// Whether this many streams, each in the one before, are accepted.
+fn is_deepest(alloc: Global, count: usize) -> Result<bool, Memory> {
+    let open = repeated(alloc, b"(streams ", b"(sdo ", count, b"index")?;
+    let closed = repeated(alloc, open.as_slice(), b")", count.saturating_add(1), b"")?;
+    is_answered(alloc, closed.as_slice(), None)
 }
 
 #[test]
 fn limits_are_exact(rt: HostRuntime) -> Result<(), Fail> {
-    let alloc = rt.alloc();
-    let full = repeated(alloc, b"(streams", b" index", MOST_STREAMS, b")")?;
-    assert!(rt; read_config(alloc, full.as_slice()).is_ok());
-    let over = repeated(alloc, b"(streams", b" index", MOST_STREAMS + 1, b")")?;
-    assert!(rt; is_refused(alloc, over.as_slice(), 24_585, ConfigWhy::Many)?);
-    let deepest = repeated(alloc, b"(streams ", b"(sdo ", 63, b"index")?;
-    let closed = repeated(alloc, deepest.as_slice(), b")", 64, b"")?;
-    assert!(rt; read_config(alloc, closed.as_slice()).is_ok());
-    let too_deep = repeated(alloc, b"(streams ", b"(sdo ", 64, b"")?;
-    assert!(rt; is_refused(alloc, too_deep.as_slice(), 324, ConfigWhy::Deep)?);
-    let longest = repeated(alloc, b"(streams index)", b" ", LONGEST - 15, b"")?;
-    assert!(rt; read_config(alloc, longest.as_slice()).is_ok());
-    let too_long = repeated(alloc, b"(streams index)", b" ", LONGEST - 14, b"")?;
-    assert!(rt; is_refused(alloc, too_long.as_slice(), LONGEST, ConfigWhy::Long)?);
+    let index = "(streams index)";
+    for (text, wanted) in [
+        (("(streams", " index", MOST_STREAMS, ")"), None),
+        (
+            ("(streams", " index", MOST_STREAMS + 1, ")"),
+            Some((24_585, ConfigWhy::Many)),
+        ),
+        (("(streams ", "(sdo ", 64, ""), Some((324, ConfigWhy::Deep))),
+        ((index, " ", LONGEST - 15, ""), None),
+        (
+            (index, " ", LONGEST - 14, ""),
+            Some((LONGEST, ConfigWhy::Long)),
+        ),
+    ] {
+        assert!(rt; is_limit(rt.alloc(), text, wanted)?, "{}", text.2);
+    }
+    assert!(rt; is_deepest(rt.alloc(), 63)?);
     Ok(())
 }

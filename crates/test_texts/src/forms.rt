@@ -44,13 +44,18 @@ fn show(out: &mut String, form: &Form) -> Result<(), Fail> {
     Ok(())
 }
 
+/// Whether the forms of the text are written so.
+fn is_read(alloc: Global, text: &[u8], wanted: &str) -> Result<bool, Fail> {
+    let forms = read_forms(alloc, text)?;
+    let mut out = String::new(alloc);
+    show_all(&mut out, forms.as_slice())?;
+    Ok(out.as_str() == wanted)
+}
+
 /// The first row whose text is not read so.
 fn first_misread(alloc: Global, rows: &[(&[u8], &str)]) -> Result<Option<usize>, Fail> {
     for (i, row) in rows.iter().enumerate() {
-        let forms = read_forms(alloc, row.0)?;
-        let mut out = String::new(alloc);
-        show_all(&mut out, forms.as_slice())?;
-        if out.as_str() != row.1 {
+        if !is_read(alloc, row.0, row.1)? {
             return Ok(Some(i));
         }
     }
@@ -82,7 +87,7 @@ fn lists_and_their_parts_are_placed(rt: HostRuntime) -> Result<(), Fail> {
             "0-1 5 1-4 text a 4-8 pattern b 8-10 keyword c ",
         ),
     ];
-    assert_eq!(rt; first_misread(rt.alloc(), rows.as_slice())?, None);
+    assert!(rt; first_misread(rt.alloc(), rows.as_slice())?.is_none());
     Ok(())
 }
 
@@ -97,7 +102,7 @@ fn texts_and_patterns_are_read(rt: HostRuntime) -> Result<(), Fail> {
         (b"#\"\\d\\\"\\\\\"", "0-9 pattern \\d\\\"\\\\ "),
         (b"#\"\"", "0-3 pattern  "),
     ];
-    assert_eq!(rt; first_misread(rt.alloc(), rows.as_slice())?, None);
+    assert!(rt; first_misread(rt.alloc(), rows.as_slice())?.is_none());
     Ok(())
 }
 
@@ -122,17 +127,22 @@ fn numbers_and_names_are_read(rt: HostRuntime) -> Result<(), Fail> {
         ),
         (b"nil", "0-3 symbol nil "),
     ];
-    assert_eq!(rt; first_misread(rt.alloc(), rows.as_slice())?, None);
+    assert!(rt; first_misread(rt.alloc(), rows.as_slice())?.is_none());
     Ok(())
+}
+
+/// Whether the forms of the text are written so on lines.
+fn is_written(alloc: Global, text: &[u8], wanted: &[u8]) -> Result<bool, Fail> {
+    let forms = read_forms(alloc, text)?;
+    let mut out = Blob::fresh(alloc);
+    write_forms(alloc, forms.as_slice(), &mut out)?;
+    Ok(out.as_slice() == wanted)
 }
 
 /// The first row whose forms are not written so.
 fn first_miswritten(alloc: Global, rows: &[(&[u8], &[u8])]) -> Result<Option<usize>, Fail> {
     for (i, row) in rows.iter().enumerate() {
-        let forms = read_forms(alloc, row.0)?;
-        let mut out = Blob::fresh(alloc);
-        write_forms(alloc, forms.as_slice(), &mut out)?;
-        if out.as_slice() != row.1 {
+        if !is_written(alloc, row.0, row.1)? {
             return Ok(Some(i));
         }
     }
@@ -149,7 +159,7 @@ fn forms_are_written_on_lines(rt: HostRuntime) -> Result<(), Fail> {
         (b"#\"a\\\"\\d\n\"(>= b)", b"#\"a\\\"\\d\n\"\n(>= b)\n"),
         (b"\"\xe2\x82\xac\"", b"\"\xe2\x82\xac\"\n"),
     ];
-    assert_eq!(rt; first_miswritten(rt.alloc(), rows.as_slice())?, None);
+    assert!(rt; first_miswritten(rt.alloc(), rows.as_slice())?.is_none());
     Ok(())
 }
 
@@ -168,7 +178,7 @@ fn closing_brackets_close_their_own(rt: HostRuntime) -> Result<(), Fail> {
         (b"{} }", 3, SexpWhy::Close),
         (b"(\") ; )\"]", 8, SexpWhy::Close),
     ];
-    assert_eq!(rt; first_other(rt.alloc(), rows.as_slice()), None);
+    assert!(rt; first_other(rt.alloc(), rows.as_slice()).is_none());
     Ok(())
 }
 
@@ -185,7 +195,7 @@ fn runs_that_begin_as_numbers_are_numbers(rt: HostRuntime) -> Result<(), Fail> {
         (b"-9223372036854775809", 0, SexpWhy::Number),
         (b"99999999999999999999999", 0, SexpWhy::Number),
     ];
-    assert_eq!(rt; first_other(rt.alloc(), rows.as_slice()), None);
+    assert!(rt; first_other(rt.alloc(), rows.as_slice()).is_none());
     Ok(())
 }
 
@@ -214,7 +224,7 @@ fn other_runs_are_keywords_or_symbols(rt: HostRuntime) -> Result<(), Fail> {
         (b"a\\b", 0, SexpWhy::Token),
         (b"a\x0cb", 0, SexpWhy::Token),
     ];
-    assert_eq!(rt; first_other(rt.alloc(), rows.as_slice()), None);
+    assert!(rt; first_other(rt.alloc(), rows.as_slice()).is_none());
     Ok(())
 }
 
@@ -226,7 +236,7 @@ fn escapes_are_five(rt: HostRuntime) -> Result<(), Fail> {
         (b"\"\\\xc3\xa9\"", 1, SexpWhy::Escape),
         (b"(\"\\a", 2, SexpWhy::Escape),
     ];
-    assert_eq!(rt; first_other(rt.alloc(), rows.as_slice()), None);
+    assert!(rt; first_other(rt.alloc(), rows.as_slice()).is_none());
     Ok(())
 }
 
@@ -241,7 +251,7 @@ fn what_is_unclosed_is_placed(rt: HostRuntime) -> Result<(), Fail> {
         (b"[#\"a\\\"", 1, SexpWhy::Open),
         (b"(a ; )", 0, SexpWhy::Open),
     ];
-    assert_eq!(rt; first_other(rt.alloc(), rows.as_slice()), None);
+    assert!(rt; first_other(rt.alloc(), rows.as_slice()).is_none());
     Ok(())
 }
 
@@ -253,17 +263,14 @@ fn the_first_fault_counts(rt: HostRuntime) -> Result<(), Fail> {
         (b"(+5 \xff", 4, SexpWhy::Utf8),
         (b"\"\xe2\x82\"", 1, SexpWhy::Utf8),
     ];
-    assert_eq!(rt; first_other(rt.alloc(), rows.as_slice()), None);
+    assert!(rt; first_other(rt.alloc(), rows.as_slice()).is_none());
     Ok(())
 }
 
 /// The byte, `count` times, and then other bytes.
 fn repeated(alloc: Global, byte: u8, count: usize, last: &[u8]) -> Result<Blob, Fail> {
     let mut text = Blob::fresh(alloc);
-    for _ in 0..count {
-        text.push(alloc, byte)?;
-    }
-    text.append(alloc, last)?;
+    add(alloc, &mut text, byte, count, last)?;
     Ok(text)
 }
 
@@ -274,32 +281,58 @@ fn is_refused(alloc: Global, text: &[u8], at: usize, cause: SexpWhy) -> bool {
     }
 }
 
+/// Whether the text is so many forms.
+fn has_forms(alloc: Global, text: &[u8], count: usize) -> bool {
+    match read_forms(alloc, text) {
+        Ok(forms) => forms.len() == count,
+        Err(_) => false,
+    }
+}
+
+/// Adds the byte, `count` times, and then other bytes.
+fn add(alloc: Global, text: &mut Blob, byte: u8, count: usize, last: &[u8]) -> Result<(), Fail> {
+    for _ in 0..count {
+        text.push(alloc, byte)?;
+    }
+    text.append(alloc, last)?;
+    Ok(())
+}
+
 #[test]
 fn sixty_four_brackets_are_open_at_most(rt: HostRuntime) -> Result<(), Fail> {
     let alloc = rt.alloc();
-    let deepest = repeated(alloc, b'[', 64, b"5")?;
-    assert!(rt; is_refused(alloc, deepest.as_slice(), 63, SexpWhy::Open));
-    let mut closed = deepest;
-    for _ in 0..64 {
-        closed.push(alloc, b']')?;
-    }
-    assert_eq!(rt; read_forms(alloc, closed.as_slice())?.len(), 1);
-    closed.append(alloc, b"()")?;
-    assert_eq!(rt; read_forms(alloc, closed.as_slice())?.len(), 2);
-    let deeper = repeated(alloc, b'{', 65, b"")?;
-    assert!(rt; is_refused(alloc, deeper.as_slice(), 64, SexpWhy::Deep));
+    let mut text = repeated(alloc, b'[', 64, b"5")?;
+    assert!(rt; is_refused(alloc, text.as_slice(), 63, SexpWhy::Open));
+    add(alloc, &mut text, b']', 64, b"")?;
+    assert!(rt; has_forms(alloc, text.as_slice(), 1));
+    add(alloc, &mut text, b' ', 0, b"()")?;
+    assert!(rt; has_forms(alloc, text.as_slice(), 2));
+    Ok(())
+}
+
+#[test]
+fn a_65th_bracket_is_refused(rt: HostRuntime) -> Result<(), Fail> {
+    let text = repeated(rt.alloc(), b'{', 65, b"")?;
+    assert!(rt; is_refused(rt.alloc(), text.as_slice(), 64, SexpWhy::Deep));
     Ok(())
 }
 
 #[test]
 fn texts_have_a_longest_length(rt: HostRuntime) -> Result<(), Fail> {
     let alloc = rt.alloc();
-    let longest = repeated(alloc, b'a', LONGEST - 1, b" ")?;
-    assert_eq!(rt; read_forms(alloc, longest.as_slice())?.len(), 1);
-    let mut longer = longest;
-    longer.append(alloc, b"\xff")?;
-    assert!(rt; is_refused(alloc, longer.as_slice(), LONGEST, SexpWhy::Long));
+    let mut text = repeated(alloc, b'a', LONGEST - 1, b" ")?;
+    assert!(rt; has_forms(alloc, text.as_slice(), 1));
+    text.append(alloc, b"\xff")?;
+    assert!(rt; is_refused(alloc, text.as_slice(), LONGEST, SexpWhy::Long));
     Ok(())
+}
+
+/// Whether a fault at byte 7 for the cause, and the name of the cause, are printed so.
+fn is_printed(alloc: Global, why: SexpWhy, wanted: &str) -> Result<bool, Fail> {
+    let fault = SexpFault::Refused { place: 7, why };
+    let name = why.name();
+    let printed = format!(in alloc; "{fault} ({name})")?;
+    Ok(printed.as_str() == wanted)
 }
 
 #[test]
@@ -315,13 +348,7 @@ fn faults_are_printed_with_the_names_of_their_causes(rt: HostRuntime) -> Result<
         (SexpWhy::Deep, "text refused at 7: deep (deep)"),
     ];
     for row in rows {
-        let fault = SexpFault::Refused {
-            place: 7,
-            why: row.0,
-        };
-        let mut out = String::new(rt.alloc());
-        write!(out, "{fault} ({})", row.0.name())?;
-        assert_eq!(rt; out.as_str(), row.1);
+        assert!(rt; is_printed(rt.alloc(), row.0, row.1)?, "{}", row.1);
     }
     Ok(())
 }

@@ -84,11 +84,23 @@ const REFUSED: &[(&[u8], usize)] = &[
     (b"#", 0),
 ];
 
-fn rewritten(alloc: Global, text: &[u8]) -> Result<Blob, QueryFault> {
+/// Appends what is written of the rule that the text states.
+fn put_rewritten(alloc: Global, text: &[u8], out: &mut Blob) -> Result<(), QueryFault> {
     let rule = read_query(alloc, text)?;
+    write_query(alloc, &rule, out)?;
+    Ok(())
+}
+
+/// Whether the rule that the text states is written so.
+fn is_rewritten(alloc: Global, text: &str, wanted: &str) -> Result<bool, QueryFault> {
     let mut out = Blob::fresh(alloc);
-    write_query(alloc, &rule, &mut out)?;
-    Ok(out)
+    put_rewritten(alloc, text.as_bytes(), &mut out)?;
+    Ok(out.as_slice() == wanted.as_bytes())
+}
+
+/// Why the text is not a query, if it is not.
+fn fault(alloc: Global, text: &[u8]) -> Option<QueryFault> {
+    read_query(alloc, text).err()
 }
 
 /// The part `count` times, and the tail.
@@ -125,83 +137,89 @@ fn is_not_equal(rule: &Rule, name: &[u8], wanted: Option<i64>) -> bool {
     }
 }
 
+/// Whether the rule is `a = 1 or b = 2 and not c = nil`.
+fn is_joined(rule: &Rule) -> bool {
+    let Rule::Any(parts) = rule else {
+        return false;
+    };
+    match parts.as_slice() {
+        [first, Rule::All(both)] => { is_equal(first, b"a", Some(1)) && is_both(both.as_slice()) }
+        _ => false,
+    }
+}
+
+/// Whether the rules are `b = 2` and `not c = nil`.
+fn is_both(rules: &[Rule]) -> bool {
+    match rules {
+        [first, second] => is_equal(first, b"b", Some(2)) && is_not_equal(second, b"c", None),
+        _ => false,
+    }
+}
+
 #[test]
 fn or_joins_what_and_joins(rt: HostRuntime) -> Result<(), Fail> {
     let rule = read_query(rt.alloc(), b"a = 1 or b = 2 and not c = nil")?;
-    if let Rule::Any(parts) = &rule {
-        assert_eq!(rt; parts.len(), 2);
-        assert!(rt; is_equal(&parts[0], b"a", Some(1)));
-        if let Rule::All(both) = &parts[1] {
-            assert_eq!(rt; both.len(), 2);
-            assert!(rt; is_equal(&both[0], b"b", Some(2)));
-            assert!(rt; is_not_equal(&both[1], b"c", None));
-            return Ok(());
-        }
-    }
-    assert!(rt; false, "another rule");
+    assert!(rt; is_joined(&rule));
     Ok(())
 }
 
 #[test]
 fn queries_are_written_again(rt: HostRuntime) -> Result<(), Fail> {
     for row in WRITTEN {
-        let out = rewritten(rt.alloc(), row.0.as_bytes())?;
-        assert!(rt; out.as_slice() == row.1.as_bytes(), "{}", row.0);
+        assert!(rt; is_rewritten(rt.alloc(), row.0, row.1)?, "{}", row.0);
     }
     Ok(())
 }
 
 #[test]
-fn other_texts_are_refused_at_their_place(rt: HostRuntime) -> Result<(), Fail> {
+fn other_texts_are_refused_at_their_place(rt: HostRuntime) {
     for row in REFUSED {
-        let fault = read_query(rt.alloc(), row.0).err();
-        assert_eq!(rt; fault, Some(QueryFault::Refused { place: row.1 }));
+        let wanted = Some(QueryFault::Refused { place: row.1 });
+        assert!(rt; fault(rt.alloc(), row.0) == wanted, "{}", row.1);
     }
-    Ok(())
+}
+
+/// Whether the part `count` times, and the tail, are answered so.
+fn is_limit(
+    alloc: Global,
+    (part, count, tail): (&str, usize, &str),
+    wanted: Option<QueryFault>,
+) -> Result<bool, Memory> {
+    let text = repeated(alloc, part.as_bytes(), count, tail.as_bytes())?;
+    Ok(fault(alloc, text.as_slice()) == wanted)
 }
 
 #[test]
 fn a_query_is_too_deep_at_the_65th(rt: HostRuntime) -> Result<(), Fail> {
-    let alloc = rt.alloc();
-    let text = repeated(alloc, b"(", 64, b"")?;
-    assert_eq!(rt;
-        read_query(alloc, text.as_slice()).err(),
-        Some(QueryFault::Refused { place: 64 })
-    );
-    let text = repeated(alloc, b"(", 65, b"")?;
-    assert_eq!(rt;
-        read_query(alloc, text.as_slice()).err(),
-        Some(QueryFault::TooDeep { place: 64 })
-    );
-    let text = repeated(alloc, b"not ", 64, b"true")?;
-    assert!(rt; read_query(alloc, text.as_slice()).is_ok());
-    let text = repeated(alloc, b"not ", 65, b"true")?;
-    assert_eq!(rt;
-        read_query(alloc, text.as_slice()).err(),
-        Some(QueryFault::TooDeep { place: 256 })
-    );
-    let text = repeated(alloc, b"(true) or ", 64, b"(true)")?;
-    assert_eq!(rt;
-        read_query(alloc, text.as_slice()).err(),
-        Some(QueryFault::TooDeep { place: 640 })
-    );
-    let text = repeated(alloc, b"(", 64, b"true (")?;
-    assert_eq!(rt;
-        read_query(alloc, text.as_slice()).err(),
-        Some(QueryFault::Refused { place: 69 })
-    );
+    for (text, wanted) in [
+        (("(", 64, ""), Some(QueryFault::Refused { place: 64 })),
+        (("(", 65, ""), Some(QueryFault::TooDeep { place: 64 })),
+        (("not ", 64, "true"), None),
+        (
+            ("not ", 65, "true"),
+            Some(QueryFault::TooDeep { place: 256 }),
+        ),
+        (
+            ("(true) or ", 64, "(true)"),
+            Some(QueryFault::TooDeep { place: 640 }),
+        ),
+        (("(", 64, "true ("), Some(QueryFault::Refused { place: 69 })),
+    ] {
+        assert!(rt; is_limit(rt.alloc(), text, wanted)?, "{}", text.0);
+    }
     Ok(())
 }
 
 #[test]
 fn a_query_has_4096_bytes_at_most(rt: HostRuntime) -> Result<(), Fail> {
-    let alloc = rt.alloc();
-    let text = repeated(alloc, b" ", 4092, b"true")?;
-    assert!(rt; read_query(alloc, text.as_slice()).is_ok());
-    let text = repeated(alloc, b" ", 4093, b"true")?;
-    assert_eq!(rt;
-        read_query(alloc, text.as_slice()).err(),
-        Some(QueryFault::TooLong { length: 4097 })
-    );
+    for (text, wanted) in [
+        ((" ", 4092, "true"), None),
+        (
+            (" ", 4093, "true"),
+            Some(QueryFault::TooLong { length: 4097 }),
+        ),
+    ] {
+        assert!(rt; is_limit(rt.alloc(), text, wanted)?, "{}", text.1);
+    }
     Ok(())
 }
