@@ -1,5 +1,5 @@
 -- Lines that were written to a sink, one after another.
-use Rattle.std.proofs.Common.{◌≡◌, ℕ, ◌+◌, ◌<◌, ◌≤◌, ◌⊎◌, inl, inr, List, [], ◌∷◌, ◌++◌, length, get_or, take, drop, refl, ap, sym, ◌∙◌, arith, append-nil, append_assoc}
+use Rattle.std.proofs.Common.{◌≡◌, ℕ, suc, ◌+◌, ◌<◌, ◌≤◌, ◌⊎◌, inl, inr, List, [], ◌∷◌, ◌++◌, length, get_or, take, drop, refl, ap, sym, ◌∙◌, arith, append-nil, append_assoc}
 use Rattle.std.specs.Prelude.{Option, Some, None}
 use Rattle.std.specs.Option.{option_map}
 use Rattle.std.proofs.lemmas.Grind.{flat_map-append}
@@ -7,7 +7,8 @@ use Rattle.std.proofs.lemmas.List.{drop_more, take-append-le, take_all, take_mor
 use Rattle.std.proofs.Math.Seq.{take-append-add}
 use Rattle.ev_types.specs.declared.item.Notice.{Notice}
 use Rattle.notice_sink.specs.Lines.{lines_of, notice_line}
-use Rattle.ports.specs.Writing.{Got, GotFront}
+use Rattle.ports.specs.Writing.{Got, GotPrefix}
+use Rattle.conn_core.specs.Turning.{CountedPuts, puts_after}
 
 pub got_nothing : (text : Option (List ℕ)) → Got text [] text
 got_nothing None = refl
@@ -30,7 +31,7 @@ front_of n bytes rest =
       | inr over ↦ (length bytes, take_all n bytes over ∙ sym (take_all (length bytes) bytes (omega arith)) ∙ sym (take-append-le (length bytes) bytes rest (omega arith)))
     ]
 
-pub front_then : (a b c : Option (List ℕ)) (first second rest whole : List ℕ) → whole ≡ first ++ (second ++ rest) → Got a first b → GotFront b second c → GotFront a whole c
+pub front_then : (a b c : Option (List ℕ)) (first second rest whole : List ℕ) → whole ≡ first ++ (second ++ rest) → Got a first b → GotPrefix b second c → GotPrefix a whole c
 front_then a b c first second rest whole is one two =
     let front = front_of two.0 second rest in (
       length first + front.0,
@@ -39,7 +40,7 @@ front_then a b c first second rest whole is one two =
           ∙ ap (λ (bytes : List ℕ). option_map (λ (text : List ℕ). text ++ bytes) a) (sym (take-append-add first (second ++ rest) front.0) ∙ ap (take (length first + front.0)) (sym is)),
     )
 
-pub front_nothing : (text : Option (List ℕ)) (whole : List ℕ) → GotFront text whole text
+pub front_nothing : (text : Option (List ℕ)) (whole : List ℕ) → GotPrefix text whole text
 front_nothing text whole = (0, got_nothing text)
 
 -- one more notice
@@ -59,3 +60,16 @@ lines_split notices i notice within is =
     ∙ flat_map-append notice_line (take i notices) (drop i notices)
     ∙ ap (λ (ns : List Notice). lines_of (take i notices) ++ lines_of ns) (drop_more notices i notice within)
     ∙ ap (λ (n : Notice). lines_of (take i notices) ++ (notice_line n ++ lines_of (drop (i + 1) notices))) (sym is)
+
+-- ---- the count of puts
+
+pub counted_nothing : (puts : Option ℕ) → CountedPuts puts 0 puts
+counted_nothing None = refl
+counted_nothing (Some count) = refl
+
+counted_one : (puts : Option ℕ) (i : ℕ) → option_map (puts_after 1) (option_map (puts_after i) puts) ≡ option_map (puts_after (suc i)) puts
+counted_one None i = refl
+counted_one (Some count) i = refl
+
+pub counted_then : (a b c : Option ℕ) (i : ℕ) → CountedPuts a i b → CountedPuts b 1 c → CountedPuts a (suc i) c
+counted_then a b c i one two = two ∙ ap (option_map (puts_after 1)) one ∙ counted_one a i

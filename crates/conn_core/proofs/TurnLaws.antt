@@ -20,11 +20,11 @@ use Rattle.ports.specs.declared.entry.Entry.{Entry}
 use Rattle.ports.specs.declared.links.Turn.{Turn}
 use Rattle.ports.specs.declared.links.What.{What}
 use Rattle.ports.specs.declared.links.What.TheVariants.{Idle, Opened, Read, Ended, Broken, Room, Stopped, Failed, Memory as NoMemory}
-use Rattle.ports.specs.Writing.{Got, GotFront}
+use Rattle.ports.specs.Writing.{GotPrefix}
 use Rattle.stream_meaning.specs.Arrivals.{Arrival, Elapsed}
 use Rattle.conn_core.specs.Hub.{Follows, IsAt, wants_in}
 use Rattle.conn_core.specs.Occurring.{OccursFrom}
-use Rattle.conn_core.specs.Turning.{Turns, longer, turn_step}
+use Rattle.conn_core.specs.Turning.{GotLines, SinkGot, Turns, longer, turn_step}
 use Rattle.conn_core.specs.declared.hub.Hub.{Hub}
 use Rattle.conn_core.specs.declared.stop.Stop.{Stop}
 use Rattle.conn_core.proofs.LineLaws.{front_nothing}
@@ -56,7 +56,7 @@ err_front (Err e) fact = fact
 -- ---- no verdict is always possible
 
 none_if : (config : CoreConfig) (piece : List ℕ) (state : RunState) (link : Link) (t : Bool) → VerdictsIf t config piece [] state link
-none_if config piece state link true = record { each = omega arith; possible = none_refused config state.now (new_frames link.came piece) (talk_of piece state link) }
+none_if config piece state link true = record { few = omega arith; possible = none_refused config state.now (new_frames link.came piece) (talk_of piece state link) }
 none_if config piece state link false = refl
 
 none_on : (config : CoreConfig) (piece : List ℕ) (state : RunState) (found : Option Link) → VerdictsOn config piece [] state found
@@ -95,7 +95,7 @@ module _ (turn : Turn) (piece : List ℕ) (hub : Hub) (config : CoreConfig) (ste
       (record { wanted = follows.state.links.wants; settled = follows.settled; verdicts = possible }, subst (IsLegalFrom config (plain run)) (sym (turned_is verdicts)) legal)
 
   -- out of memory while the seconds passed
-  pub turns_unpassed : (hub' : Hub) (patterns : PatternsState) (forks forks' : ℕ) (text : Option (List ℕ)) (result : Result (Unit {0}) Stop) → IsErr result
+  pub turns_unpassed : (hub' : Hub) (patterns : PatternsState) (forks forks' : ℕ) (text : SinkGot) (result : Result (Unit {0}) Stop) → IsErr result
       → Turns turn piece hub hub' patterns patterns forks forks' text text result config steps []
   turns_unpassed hub' patterns forks forks' text result failed =
       let tells = more_notices config steps (turn_step (wants_in hub) turn piece [] ∷ []) in
@@ -106,7 +106,7 @@ module _ (turn : Turn) (piece : List ℕ) (hub : Hub) (config : CoreConfig) (ste
         made = tells.made;
         notices = tells.is;
         lines = none_ok _ result failed;
-        front = err_front result (front_nothing text (lines_of tells.made));
+        prefix = err_front result (front_nothing text.text (lines_of tells.made));
         follows = none_ok _ result failed;
         counted = none_ok _ result failed;
       }
@@ -126,7 +126,7 @@ module _ (turn : Turn) (piece : List ℕ) (hub : Hub) (config : CoreConfig) (ste
       }
 
   -- out of memory at its occurrence
-  pub turns_unfinished : (one hub' : Hub) (patterns patterns' : PatternsState) (old new : Told) (forks forks' : ℕ) (text : Option (List ℕ)) (result : Result (Unit {0}) Stop) (failure : Result (Unit {0}) Memory) (run : List Entry) → IsErr result
+  pub turns_unfinished : (one hub' : Hub) (patterns patterns' : PatternsState) (old new : Told) (forks forks' : ℕ) (text : SinkGot) (result : Result (Unit {0}) Stop) (failure : Result (Unit {0}) Memory) (run : List Entry) → IsErr result
       → IsAt one config (passed (next_moment (state_after config steps).now turn.secs) (state_after config steps))
       → OccursFrom turn.what piece one hub' patterns patterns' old new failure run
       → Turns turn piece hub hub' patterns patterns' forks forks' text text result config steps run
@@ -140,17 +140,17 @@ module _ (turn : Turn) (piece : List ℕ) (hub : Hub) (config : CoreConfig) (ste
         made = tells.made;
         notices = tells.is;
         lines = none_ok _ result failed;
-        front = err_front result (front_nothing text (lines_of tells.made));
+        prefix = err_front result (front_nothing text.text (lines_of tells.made));
         follows = none_ok _ result failed;
         counted = none_ok _ result failed;
       }
 
   -- all was done but the lines
-  pub turns_told : (one hub' : Hub) (patterns patterns' : PatternsState) (middle : Told) (notices : List Notice) (forks forks' : ℕ) (text text' : Option (List ℕ)) (result : Result (Unit {0}) Stop) (run : List Entry)
+  pub turns_told : (one hub' : Hub) (patterns patterns' : PatternsState) (middle : Told) (notices : List Notice) (forks forks' : ℕ) (text text' : SinkGot) (result : Result (Unit {0}) Stop) (run : List Entry)
       → ((arrivals : List Arrival) → Represents hub.core arrivals → Arrives hub.core one.core arrivals (replicate (next_moment (now_of hub.core) turn.secs - now_of hub.core) Elapsed) (told [] forks) middle)
       → IsAt one config (passed (next_moment (state_after config steps).now turn.secs) (state_after config steps))
       → OccursFrom turn.what piece one hub' patterns patterns' middle (told notices forks') (Ok tt) run
-      → OnOk result (Got text (lines_of notices) text') → OnErr result (GotFront text (lines_of notices) text')
+      → OnOk result (GotLines text notices text') → OnErr result (GotPrefix text.text (lines_of notices) text'.text)
       → Turns turn piece hub hub' patterns patterns' forks forks' text text' result config steps run
   turns_told one hub' patterns patterns' middle notices forks forks' text text' result run arrives at occurs lines front =
       let occurred_so = occurs config (passed (next_moment (state_after config steps).now turn.secs) (state_after config steps)) at follows.settled in
@@ -173,7 +173,7 @@ module _ (turn : Turn) (piece : List ℕ) (hub : Hub) (config : CoreConfig) (ste
         made = notices;
         notices = ap (notices_by config) arrivals ∙ both.notices ∙ ap (λ (ns : List Notice). notices_after config steps ++ ns) (sym both.told);
         lines = lines;
-        front = front;
+        prefix = front;
         follows = on_ok_from result (record {
           legal = longer_legal verdicts run occurred_so.possible occurred_so.legal;
           state = subst (IsAt hub' config) (sym is) done.at;

@@ -1,5 +1,6 @@
 -- What a turn does.
-use Rattle.std.specs.Prelude.{◌≡◌, ℕ, ◌+◌, List, ◌∷◌, ◌++◌, Option, Result, OnOk, OnErr}
+use Rattle.std.specs.Prelude.{◌≡◌, ℕ, zero, suc, ◌+◌, List, ◌∷◌, ◌++◌, length, Option, Result, OnOk, OnErr}
+use Rattle.std.specs.Option.{option_map}
 use Rattle.ev_types.specs.declared.item.Notice.{Notice}
 use Rattle.event_core.specs.Core.{CoreConfig, forks_by}
 use Rattle.hub_meaning.specs.Legal.{IsLegal}
@@ -10,10 +11,33 @@ use Rattle.ports.specs.declared.entry.Entry.{Entry}
 use Rattle.ports.specs.declared.entry.Entry.TheVariants.{Next}
 use Rattle.ports.specs.declared.links.Turn.{Turn}
 use Rattle.ports.specs.declared.links.Want.{Want}
-use Rattle.ports.specs.Writing.{Got, GotFront}
+use Rattle.ports.specs.Counts.{count_after}
+use Rattle.ports.specs.Writing.{Got, GotPrefix}
 use Rattle.conn_core.specs.Hub.{Follows, wants_in}
 use Rattle.conn_core.specs.declared.hub.Hub.{Hub}
 use Rattle.conn_core.specs.declared.stop.Stop.{Stop}
+
+-- what a sink of lines reports: all that it got, and how many puts succeeded
+pub record SinkGot : Type 0 where
+  pub text : Option (List ℕ)
+  pub puts : Option ℕ
+
+abbrev pub sink_got : Option (List ℕ) → Option ℕ → SinkGot
+sink_got text puts = record { text = text; puts = puts }
+
+-- a count of puts after so many more; at its greatest number it stays
+abbrev pub puts_after : ℕ → ℕ → ℕ
+puts_after zero count = count
+puts_after (suc more) count = count_after (puts_after more count) 1
+
+-- the same, where it is reported
+abbrev pub CountedPuts : Option ℕ → ℕ → Option ℕ → Type 0
+CountedPuts old more new = new ≡ option_map (puts_after more) old
+
+-- the sink got the lines of these notices, each in one put
+pub record GotLines (old : SinkGot) (notices : List Notice) (new : SinkGot) : Type 0 where
+  pub text : Got old.text (lines_of notices) new.text
+  pub puts : CountedPuts old.puts (length notices) new.puts
 
 -- the step of a turn
 abbrev pub turn_step : List Want → Turn → List ℕ → List (Option Refusal) → Step
@@ -26,21 +50,21 @@ longer steps turn run = steps ++ (turn ∷ plain run)
 -- The turn was done, or the hub stopped in the middle of it. The verdicts on its messages are those that were reported
 -- of the patterns.
 pub record Turns (turn : Turn) (piece : List ℕ) (hub hub' : Hub) (patterns patterns' : PatternsState) (forks forks' : ℕ)
-    (text text' : Option (List ℕ)) (result : Result (Unit {0}) Stop) (config : CoreConfig) (steps : List Step) (run : List Entry) : Type 0 where
+    (sink sink' : SinkGot) (result : Result (Unit {0}) Stop) (config : CoreConfig) (steps : List Step) (run : List Entry) : Type 0 where
   pub verdicts : List (Option Refusal)
   pub reported : AfterVerdicts patterns patterns' verdicts
   pub legal : IsLegal config (longer steps (turn_step (wants_in hub) turn piece verdicts) run)
   pub made : List Notice
   pub notices : notices_after config (longer steps (turn_step (wants_in hub) turn piece verdicts) run) ≡ notices_after config steps ++ made
   -- the lines of these notices were written, or a prefix of them
-  pub lines : OnOk result (Got text (lines_of made) text')
-  pub front : OnErr result (GotFront text (lines_of made) text')
+  pub lines : OnOk result (GotLines sink made sink')
+  pub prefix : OnErr result (GotPrefix sink.text (lines_of made) sink'.text)
   pub follows : OnOk result (Follows hub' config (longer steps (turn_step (wants_in hub) turn piece verdicts) run))
   pub counted : OnOk result (forks + forks_by config (state_after config (longer steps (turn_step (wants_in hub) turn piece verdicts) run)).arrivals
       ≡ forks' + forks_by config (state_after config steps).arrivals)
 
 -- it does so after any steps that the hub follows
-abbrev pub TurnsFrom : Turn → List ℕ → Hub → Hub → PatternsState → PatternsState → ℕ → ℕ → Option (List ℕ) → Option (List ℕ) → Result (Unit {0}) Stop → List Entry → Type 0
-TurnsFrom turn piece hub hub' patterns patterns' forks forks' text text' result run =
+abbrev pub TurnsFrom : Turn → List ℕ → Hub → Hub → PatternsState → PatternsState → ℕ → ℕ → SinkGot → SinkGot → Result (Unit {0}) Stop → List Entry → Type 0
+TurnsFrom turn piece hub hub' patterns patterns' forks forks' sink sink' result run =
     (config : CoreConfig) (steps : List Step) → Follows hub config steps
-    → Turns turn piece hub hub' patterns patterns' forks forks' text text' result config steps run
+    → Turns turn piece hub hub' patterns patterns' forks forks' sink sink' result config steps run

@@ -1,8 +1,8 @@
-ghost use Rattle.std.specs.Prelude.{◌≡◌, ◌≢◌, ◌+◌, ◌-◌, ◌^◌, ◌≤◌, ℕ, [], List, replicate, OnOk};
+ghost use Rattle.std.specs.Prelude.{◌≡◌, ◌≢◌, ◌+◌, ◌-◌, ◌^◌, ◌≤◌, ℕ, [], List, replicate, IfOk, OnOk};
 ghost use Rattle.conn_core.specs.Hub.{core_of, wants_in, Follows};
 ghost use Rattle.conn_core.specs.Known.{Answered, AreUnclosed, IsOpenedBy};
 ghost use Rattle.conn_core.specs.Occurring.{OccursFrom};
-ghost use Rattle.conn_core.specs.Turning.{TurnsFrom};
+ghost use Rattle.conn_core.specs.Turning.{TurnsFrom, sink_got};
 ghost use Rattle.event_core.specs.Core.{Represents, config_of, now_of};
 ghost use Rattle.hub_link.specs.Added.{Added};
 ghost use Rattle.hub_meaning.specs.Clock.{next_moment};
@@ -38,16 +38,16 @@ pub struct Hub {
 }
 
 impl Hub {
-    /// A hub without links, over a core to which nothing has arrived. It takes no memory.
-    pub fn fresh(alloc: Global, core: Core) -> Hub
-        ensures follows { Represents core [] → Follows result (config_of core) [] }
-        ensures core { core_of result ≡ core }
-        ensures wants { wants_in result ≡ [] }
+    /// A hub without links, over a core to which nothing has arrived.
+    pub fn fresh(alloc: Global, core: Core) -> Result<Hub, Memory>
+        ensures follows { IfOk result (λ hub. Represents core [] → Follows hub (config_of core) []) }
+        ensures core { IfOk result (λ hub. core_of hub ≡ core) }
+        ensures wants { IfOk result (λ hub. wants_in hub ≡ []) }
     {
-        Hub {
+        Ok(Hub {
             core,
             table: LinkTable::fresh(alloc),
-        }
+        })
     }
 
     /// What is waited for on each connected link, by rising number.
@@ -85,7 +85,8 @@ impl Hub {
             (TurnsFrom turn piece.now self.old self.new
             (patterns_state (P.refusals patterns.old) (P.refused patterns.old))
             (patterns_state (P.refusals patterns.new) (P.refused patterns.new))
-            steps.old.forks steps.new.forks (O.text sink.old) (O.text sink.new) result) }
+            steps.old.forks steps.new.forks (sink_got (O.text sink.old) (O.puts sink.old))
+            (sink_got (O.text sink.new) (O.puts sink.new)) result) }
         ensures fault { result ≡ Err Stop.SinkFault →
             Rose (O.faults sink.old) (O.faults sink.new) }
         ensures memory { result ≡ Err Stop.Memory → O.faults sink.new ≡ O.faults sink.old }

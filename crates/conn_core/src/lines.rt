@@ -1,7 +1,8 @@
 ghost use Rattle.std.specs.Prelude.{◌≡◌, ◌≤◌, OnErr, OnOk};
+ghost use Rattle.conn_core.specs.Turning.{CountedPuts, GotLines, sink_got};
 ghost use Rattle.notice_sink.specs.Lines.{lines_of, notice_line};
 ghost use Rattle.ports.specs.Counts.{Rose};
-ghost use Rattle.ports.specs.Writing.{Got, GotFront};
+ghost use Rattle.ports.specs.Writing.{Got, GotPrefix};
 
 use crate::stop::Stop;
 use ev_types::Notice;
@@ -15,8 +16,9 @@ pub(crate) fn write_lines<O: Sink>(
     notices: &[Notice],
     sink: &mut O,
 ) -> Result<(), Stop>
-    ensures all { OnOk result (Got (O.text sink.old) (lines_of notices.now) (O.text sink.new)) }
-    ensures front { OnErr result (GotFront (O.text sink.old) (lines_of notices.now)
+    ensures all { OnOk result (GotLines (sink_got (O.text sink.old) (O.puts sink.old)) notices.now
+        (sink_got (O.text sink.new) (O.puts sink.new))) }
+    ensures prefix { OnErr result (GotPrefix (O.text sink.old) (lines_of notices.now)
         (O.text sink.new)) }
     ensures fault { result ≡ Err Stop.SinkFault → Rose (O.faults sink.old) (O.faults sink.new) }
     ensures memory { result ≡ Err Stop.Memory → O.faults sink.new ≡ O.faults sink.old }
@@ -39,7 +41,8 @@ fn write_line<O: Sink>(
 ) -> Result<(), Stop>
     ensures all { OnOk result (Got (O.text sink.old) (notice_line notice.now)
         (O.text sink.new)) }
-    ensures front { OnErr result (GotFront (O.text sink.old) (notice_line notice.now)
+    ensures counted { OnOk result (CountedPuts (O.puts sink.old) 1 (O.puts sink.new)) }
+    ensures prefix { OnErr result (GotPrefix (O.text sink.old) (notice_line notice.now)
         (O.text sink.new)) }
     ensures fault { result ≡ Err Stop.SinkFault → Rose (O.faults sink.old) (O.faults sink.new) }
     ensures memory { result ≡ Err Stop.Memory → O.faults sink.new ≡ O.faults sink.old }

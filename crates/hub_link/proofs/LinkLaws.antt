@@ -86,7 +86,7 @@ are_verdicts : (piece : List ℕ) (verdicts : List (Option Refusal)) (link : Hub
 are_verdicts piece verdicts link pushed core opened held few possible state meant is =
     let frames = frames_in link piece pushed meant held is.represents in
     let all : AreVerdicts (config_of core) piece verdicts state meant = record {
-      each = subst (λ (fs : List (List ℕ)). length verdicts ≤ length fs) frames few;
+      few = subst (λ (fs : List (List ℕ)). length verdicts ≤ length fs) frames few;
       possible = subst (λ (now : ℕ). ArePossible (config_of core) now (messages_in piece verdicts meant) (talk_of piece state meant)) is.now
           (subst (λ (fs : List (List ℕ)). ArePossible (config_of core) (now_of core) (judged fs verdicts) (talk_of piece state meant)) frames
           (possible (talk_of piece state meant) (talk_at piece core link state meant is)));
@@ -98,7 +98,7 @@ no_verdicts_are : (piece : List ℕ) (link : HubLink) (core : Core) (state : Run
 no_verdicts_are piece link core state meant = by_case (is_open meant)
   where
     by_case : (t : Bool) → VerdictsIf t (config_of core) piece [] state meant
-    by_case true = record { each = omega arith; possible = none_refused (config_of core) state.now (new_frames meant.came piece) (talk_of piece state meant) }
+    by_case true = record { few = omega arith; possible = none_refused (config_of core) state.now (new_frames meant.came piece) (talk_of piece state meant) }
     by_case false = refl
 
 -- ---- the piece

@@ -4,8 +4,8 @@ use Rattle.std.specs.Prelude.{ℕ, ◌+◌, ◌^◌, min, max}
 abbrev pub latest_moment : ℕ
 latest_moment = 2 ^ 40
 
-abbrev pub seconds_per_turn : ℕ
-seconds_per_turn = 3600
+abbrev pub seconds_per_turn_limit : ℕ
+seconds_per_turn_limit = 3600
 
 -- the moment at which a server begins that reads this clock
 abbrev pub first_moment : ℕ → ℕ
@@ -13,4 +13,4 @@ first_moment secs = min secs latest_moment
 
 -- the moment of a turn that reads this clock
 abbrev pub next_moment : ℕ → ℕ → ℕ
-next_moment now secs = max now (min secs (min (now + seconds_per_turn) latest_moment))
+next_moment now secs = max now (min secs (min (now + seconds_per_turn_limit) latest_moment))

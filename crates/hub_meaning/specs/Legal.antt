@@ -15,7 +15,7 @@ use Rattle.hub_meaning.specs.Verdicts.{IsPossible, Message, Refusal}
 
 -- ---- when a turn may be asked for
 
--- all is sent that is taken, and a link of which no more is read has something unsent
+-- an open link has nothing unsent or is blocked; a read-closed link still has unsent bytes and is blocked
 abbrev pub IsSettledAs : Link → Status → Type 0
 IsSettledAs link Open = 0 < length (unsent link) → link.blocked ≡ true
 IsSettledAs link ReadClosed = (0 < length (unsent link)) × (link.blocked ≡ true)
@@ -37,9 +37,9 @@ ArePossible config now [] talk = Unit {0}
 ArePossible config now (message ∷ messages) talk =
     IsPossible now (length (unsent talk.link)) message × ArePossible config now messages (answered config now message talk)
 
--- no message has more than one; a message without one had no pattern refused
+-- there are at most as many verdicts as messages; a message without one had no pattern refused
 pub record AreVerdicts (config : CoreConfig) (piece : List ℕ) (verdicts : List (Option Refusal)) (state : RunState) (link : Link) : Type 0 where
-  pub each : length verdicts ≤ length (new_frames link.came piece)
+  pub few : length verdicts ≤ length (new_frames link.came piece)
   pub possible : ArePossible config state.now (messages_in piece verdicts link) (talk_of piece state link)
 
 abbrev pub VerdictsIf : Bool → CoreConfig → List ℕ → List (Option Refusal) → RunState → Link → Type 0

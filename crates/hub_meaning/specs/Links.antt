@@ -11,7 +11,7 @@ pub use Rattle.hub_meaning.specs.declared.status.Status.TheVariants.{Open, ReadC
 pub record Link : Type 0 where
   pub number : ℕ
   pub status : Status
-  -- a send was not taken whole, and it is not known yet that there is room again
+  -- a send took nothing, and it is not known yet that there is room again
   pub blocked : Bool
   -- the bytes that were read from it
   pub came : List ℕ
@@ -110,7 +110,7 @@ closed link = with_status Closed link
 
 -- ---- what is wanted of links
 
--- no more is read while so many bytes are unsent
+-- no more is read while as many bytes as a body may have are unsent
 abbrev pub want_of : Link → Want
 want_of link = record {
   link = link.number;

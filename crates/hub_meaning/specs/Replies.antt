@@ -7,8 +7,7 @@ use Rattle.framing.specs.Frames.{frame}
 use Rattle.riemann_msg.specs.declared.msg.Msg.{Msg}
 use Rattle.riemann_msg.specs.declared.msg.QueryPart.{QueryPart}
 use Rattle.riemann_msg.specs.declared.fault.MsgWhy.{MsgWhy}
-use Rattle.riemann_msg.specs.declared.fault.MsgWhy.TheVariants.{Short, Varint, Tag, Wire, Utf8, Key, Ttl}
-use Rattle.riemann_msg.specs.Fault.{Fault}
+use Rattle.riemann_msg.specs.Fault.{Fault, why_name}
 use Rattle.riemann_msg.specs.Spelling.{spelling}
 use Rattle.index_log.specs.Live.{IndexLog, live_events}
 use Rattle.pred_eval.specs.Tree.{Tree}
@@ -41,19 +40,9 @@ over_limit size = codes "reply of " ++ (decimal size ++ codes " bytes over 41943
 unfoldable pub limited : Msg → Msg
 limited msg = if nat_le (length (spelling msg)) BODY_LIMIT then msg else refused (over_limit (length (spelling msg)))
 
--- the name of a cause
-abbrev pub why_text : MsgWhy → List ℕ
-why_text Short = codes "short"
-why_text Varint = codes "varint"
-why_text Tag = codes "tag"
-why_text Wire = codes "wire"
-why_text Utf8 = codes "utf8"
-why_text Key = codes "key"
-why_text Ttl = codes "ttl"
-
 -- the reason for which a message is refused for a fault
 unfoldable pub message_refusal : ℕ → MsgWhy → List ℕ
-message_refusal place why = codes "message refused at " ++ (decimal place ++ (codes ": " ++ why_text why))
+message_refusal place why = codes "message refused at " ++ (decimal place ++ (codes ": " ++ why_name why))
 
 -- the reason for which a query is not answered while so many bytes are unsent
 unfoldable pub busy : ℕ → List ℕ

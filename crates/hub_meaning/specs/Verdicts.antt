@@ -1,6 +1,6 @@
 -- What is reported of the patterns of queries. Which patterns can be built is not known here, so a run has a list of
--- verdicts beside it: one for each message.
-use Rattle.std.specs.Prelude.{◌≡◌, ℕ, ◌≤◌, Bool, IsTrue, IfSome, is_some, nat_le, if◌then◌else◌, List, [], ◌∷◌, ◌++◌, Option, Some, None, slice_get, option_map, option_to_list}
+-- verdicts beside it, in the order of the messages. A message without a verdict had no pattern refused.
+use Rattle.std.specs.Prelude.{◌≡◌, ℕ, ◌≤◌, Bool, false, IsTrue, IfSome, is_some, nat_le, if◌then◌else◌, List, [], ◌∷◌, ◌++◌, Option, Some, None, slice_get, option_map, option_to_list}
 use Rattle.std.specs.List.{flat_map, list_any}
 use Rattle.framing.specs.declared.TheConstants.{BODY_LIMIT}
 use Rattle.list_laws.specs.Counts.{Rose}
@@ -28,7 +28,7 @@ judged (body ∷ bodies) (verdict ∷ verdicts) = record { body = body; refusal 
 abbrev pub is_busy : ℕ → Bool
 is_busy unsent = nat_le BODY_LIMIT unsent
 
--- the rule whose patterns are built: that of a query which is not met by a busy link
+-- the rule whose patterns are built: that of the query, unless the link is busy
 abbrev pub built_rule : ℕ → ℕ → List ℕ → Option Tree
 built_rule now unsent body = if is_busy unsent then None else rule_of now body
 
@@ -63,3 +63,4 @@ pub record AfterVerdicts (old new : PatternsState) (verdicts : List (Option Refu
   pub told : new.refused ≡ option_map (λ texts. texts ++ texts_refused verdicts) old.refused
   pub never_falls : old.refusals ≤ new.refusals
   pub rose : IsTrue (list_any is_refused verdicts) → Rose old.refusals new.refusals
+  pub still : list_any is_refused verdicts ≡ false → new.refusals ≡ old.refusals

@@ -13,7 +13,8 @@ use Rattle.riemann_msg.specs.declared.fault.MsgWhy.{MsgWhy}
 use Rattle.riemann_msg.specs.declared.fault.MsgWhy.TheVariants.{Short, Varint, Tag, Wire, Utf8, Key, Ttl}
 use Rattle.riemann_msg.specs.declared.msg.Msg.{Msg}
 use Rattle.riemann_msg.specs.Spelling.{spelling, message_values}
-use Rattle.hub_meaning.specs.Replies.{accepted, busy, limited, message_refusal, over_limit, oversized, pattern_refusal, query_refusal, refused, why_text}
+use Rattle.riemann_msg.specs.Fault.{why_name}
+use Rattle.hub_meaning.specs.Replies.{accepted, busy, limited, message_refusal, over_limit, oversized, pattern_refusal, query_refusal, refused}
 
 pub accepted_length : length (spelling accepted) ≡ 2
 unfolding spelling message_values field_spelling varint spelled_within
@@ -54,7 +55,7 @@ over_limit_length size small =
     let digits : length (decimal size) ≤ 20 = length-decimal-le 20 size (lit< tt) (omega arith) small in
     simp length-append (omega arith)
 
-why_length : (why : MsgWhy) → length (why_text why) ≤ 6
+why_length : (why : MsgWhy) → length (why_name why) ≤ 6
 why_length Short = omega arith
 why_length Varint = omega arith
 why_length Tag = omega arith

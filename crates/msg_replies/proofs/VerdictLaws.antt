@@ -19,7 +19,7 @@ appended_twice None xs ys = refl
 appended_twice (Some texts) xs ys = ap Some (append_assoc texts xs ys)
 
 pub no_verdict : (asked : Option Tree) (state : PatternsState) → AfterVerdict asked None state state
-no_verdict asked state = record { possible = tt; told = appended_nothing state.refused; never_falls = omega arith; rose = λ refused. absurd (cc refused) }
+no_verdict asked state = record { possible = tt; told = appended_nothing state.refused; never_falls = omega arith; rose = λ refused. absurd (cc refused); still = λ _. refl }
 
 pub refused_verdict : (rule : Tree) (number : ℕ) (old new : PatternsState) → number < length (searches rule) → Rose old.refusals new.refusals → old.refusals ≤ new.refusals
     → new.refused ≡ option_map (λ texts. texts ++ slice_index_or (searches rule) number [] ∷ []) old.refused
@@ -29,10 +29,11 @@ refused_verdict rule number old new within rose rises told = record {
   told = told;
   never_falls = rises;
   rose = λ _. rose;
+  still = λ none. absurd (cc none);
 }
 
 pub no_verdicts : (state : PatternsState) → AfterVerdicts state state []
-no_verdicts state = record { told = appended_nothing state.refused; never_falls = omega arith; rose = λ refused. absurd (cc refused) }
+no_verdicts state = record { told = appended_nothing state.refused; never_falls = omega arith; rose = λ refused. absurd (cc refused); still = λ _. refl }
 
 texts_more : (verdicts : List (Option Refusal)) (last : Option Refusal) → texts_refused (verdicts ++ last ∷ []) ≡ texts_refused verdicts ++ option_to_list (option_map refused_text last)
 texts_more [] last = append-nil _
@@ -62,6 +63,10 @@ rose_either : (t u : Bool) (a b c : ℕ) → (IsTrue t → Rose a b) → (IsTrue
 rose_either true u a b c first last below above either = rose_first a b c (first refl) above
 rose_either false u a b c first last below above either = rose_last a b c below (last either)
 
+still_both : (t u : Bool) (a b c : ℕ) → (t ≡ false → b ≡ a) → (u ≡ false → c ≡ b) → t || u ≡ false → c ≡ a
+still_both true u a b c first last neither = absurd (cc neither)
+still_both false u a b c first last neither = last neither ∙ first refl
+
 pub more_verdicts : (asked : Option Tree) (start mid new : PatternsState) (verdicts : List (Option Refusal)) (refusal : Option Refusal)
     → AfterVerdicts start mid verdicts → AfterVerdict asked refusal mid new → AfterVerdicts start new (verdicts ++ refusal ∷ [])
 more_verdicts asked start mid new verdicts refusal before last = record {
@@ -72,4 +77,6 @@ more_verdicts asked start mid new verdicts refusal before last = record {
   never_falls = omega (arith, before.never_falls, last.never_falls);
   rose = λ refused. rose_either (list_any is_refused verdicts) (is_refused refusal) start.refusals mid.refusals new.refusals before.rose last.rose before.never_falls last.never_falls
       (sym (any_more verdicts refusal) ∙ refused);
+  still = λ none. still_both (list_any is_refused verdicts) (is_refused refusal) start.refusals mid.refusals new.refusals before.still last.still
+      (sym (any_more verdicts refusal) ∙ none);
 }

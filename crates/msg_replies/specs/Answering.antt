@@ -1,5 +1,5 @@
 -- How one message is answered.
-use Rattle.std.specs.Prelude.{◌≡◌, ℕ, ◌+◌, ◌≤◌, IsTrue, IfSome, OnOk, is_some, if◌then◌else◌, List, ◌++◌, Option, None, Result, option_and_then, option_map, option_to_list}
+use Rattle.std.specs.Prelude.{◌≡◌, ℕ, ◌+◌, ◌≤◌, false, IsTrue, IfSome, OnOk, is_some, if◌then◌else◌, List, ◌++◌, Option, None, Result, option_and_then, option_map, option_to_list}
 use Rattle.event_core.specs.declared.arrivals.Core.{Core}
 use Rattle.event_core.specs.Core.{Represents, now_of, config_of, state_by}
 use Rattle.index_log.specs.Live.{IndexLog}
@@ -20,6 +20,7 @@ pub record AfterVerdict (asked : Option Tree) (refusal : Option Refusal) (old ne
   pub told : new.refused ≡ option_map (λ texts. texts ++ option_to_list (option_map refused_text refusal)) old.refused
   pub never_falls : old.refusals ≤ new.refusals
   pub rose : IsTrue (is_some refusal) → Rose old.refusals new.refusals
+  pub still : is_some refusal ≡ false → new.refusals ≡ old.refusals
 
 -- the rule whose patterns are built for a query: none where there is no query, or where the link is busy
 abbrev pub asked_of : ℕ → Option QueryPart → Option Tree

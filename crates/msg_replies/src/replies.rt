@@ -1,7 +1,7 @@
 ghost use Rattle.std.specs.Prelude.{◌≡◌, ℕ, ◌^◌, ◌<◌, ◌++◌, ◌∷◌, [], length, map, OnOk, IfOk, codes, List, Some, None};
 ghost use Rattle.std.specs.String.{string_bytes};
 ghost use Rattle.event_core.specs.Core.{Represents, now_of, config_of};
-ghost use Rattle.hub_meaning.specs.Replies.{accepted, framed, message_refusal, refused, reply_to_oversized, oversized, why_text};
+ghost use Rattle.hub_meaning.specs.Replies.{accepted, framed, message_refusal, refused, reply_to_oversized, oversized};
 ghost use Rattle.hub_meaning.specs.Verdicts.{patterns_state};
 ghost use Rattle.riemann_msg.specs.Spelling.{spelling};
 ghost use Rattle.stream_meaning.specs.Arrivals.{Arrival, Post};
@@ -92,22 +92,8 @@ fn refuse_msg(alloc: Global, place: usize, why: MsgWhy, replies: &mut Blob) -> R
 fn message_refusal(alloc: Global, place: usize, why: MsgWhy) -> Result<String, AllocError>
     ensures { IfOk result (λ reason. string_bytes reason ≡ message_refusal place why) }
 {
-    let why = why_text(why);
+    let why = why.name();
     format!(in alloc; "message refused at {place}: {why}")
-}
-
-fn why_text(why: MsgWhy) -> &'static str
-    ensures { result.now ≡ why_text why }
-{
-    match why {
-        MsgWhy::Short => "short",
-        MsgWhy::Varint => "varint",
-        MsgWhy::Tag => "tag",
-        MsgWhy::Wire => "wire",
-        MsgWhy::Utf8 => "utf8",
-        MsgWhy::Key => "key",
-        MsgWhy::Ttl => "ttl",
-    }
 }
 
 /// Appends a reply that the message was refused for this reason.

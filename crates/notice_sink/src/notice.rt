@@ -1,7 +1,7 @@
 ghost use Rattle.std.specs.Prelude.{◌≡◌, ◌+◌, ◌<◌, ◌≤◌, ◌++◌, length, min, OnOk, OnErr};
 ghost use Rattle.std.specs.Option.{option_map};
 ghost use Rattle.ports.specs.Counts.{Rose, greatest};
-ghost use Rattle.ports.specs.Writing.{Got, GotFront};
+ghost use Rattle.ports.specs.Writing.{Got, GotPrefix};
 ghost use Rattle.notice_sink.specs.Lines.{notice_line};
 ghost use Rattle.notice_sink.specs.Quoting.{Grew};
 ghost use Rattle.notice_sink.specs.declared.notice.LineFault.TheVariants.{Memory as out_of_memory};
@@ -61,7 +61,7 @@ impl NoticeWriter {
             ≡ option_map (λ n. min (n + 1) greatest) (O.puts sink.old)) }
         ensures no_fault { OnOk result (O.faults sink.new ≡ O.faults sink.old) }
         ensures front { result ≡ Err LineFault.SinkFault
-            → GotFront (O.text sink.old) (notice_line notice.now) (O.text sink.new) }
+            → GotPrefix (O.text sink.old) (notice_line notice.now) (O.text sink.new) }
         ensures uncounted { result ≡ Err LineFault.SinkFault →
             O.puts sink.new ≡ O.puts sink.old }
         ensures fault { result ≡ Err LineFault.SinkFault →
@@ -102,7 +102,7 @@ fn put_whole<O: Sink>(line: &[u8], sink: &mut O) -> Result<(), LineFault>
         ≡ option_map (λ n. min (n + 1) greatest) (O.puts sink.old)) }
     ensures no_fault { OnOk result (O.faults sink.new ≡ O.faults sink.old) }
     ensures no_memory { result ≡ Err LineFault.Memory → ⊥ }
-    ensures front { OnErr result (GotFront (O.text sink.old) line.now (O.text sink.new)) }
+    ensures front { OnErr result (GotPrefix (O.text sink.old) line.now (O.text sink.new)) }
     ensures uncounted { OnErr result (O.puts sink.new ≡ O.puts sink.old) }
     ensures fault { OnErr result (Rose (O.faults sink.old) (O.faults sink.new)) }
     ensures faults { O.faults sink.old ≤ O.faults sink.new }
@@ -121,7 +121,7 @@ pub fn write_notice<O: Sink>(alloc: Global, notice: &Notice, sink: &mut O) -> Re
         ≡ option_map (λ n. min (n + 1) greatest) (O.puts sink.old)) }
     ensures no_fault { OnOk result (O.faults sink.new ≡ O.faults sink.old) }
     ensures front { result ≡ Err LineFault.SinkFault
-        → GotFront (O.text sink.old) (notice_line notice.now) (O.text sink.new) }
+        → GotPrefix (O.text sink.old) (notice_line notice.now) (O.text sink.new) }
     ensures uncounted { result ≡ Err LineFault.SinkFault → O.puts sink.new ≡ O.puts sink.old }
     ensures fault { result ≡ Err LineFault.SinkFault →
         Rose (O.faults sink.old) (O.faults sink.new) }

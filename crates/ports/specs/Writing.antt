@@ -7,8 +7,8 @@ use Rattle.ports.specs.Counts.{Rose}
 abbrev pub Got : Option (List ℕ) → List ℕ → Option (List ℕ) → Type 0
 Got old bytes new = new ≡ option_map (λ text. text ++ bytes) old
 
-abbrev pub GotFront : Option (List ℕ) → List ℕ → Option (List ℕ) → Type 0
-GotFront old bytes new = (n : ℕ) × Got old (take n bytes) new
+abbrev pub GotPrefix : Option (List ℕ) → List ℕ → Option (List ℕ) → Type 0
+GotPrefix old bytes new = (n : ℕ) × Got old (take n bytes) new
 
 -- what a sink reports: all that it got, and the number of puts that failed
 pub record SinkState : Type 0 where
@@ -20,4 +20,4 @@ sink_state text faults = record { text = text; faults = faults }
 
 -- the sink got a line, or a prefix of it where a put failed
 abbrev pub GotLine : SinkState → List ℕ → SinkState → Type 0
-GotLine old line new = Got old.text line new.text ⊎ (GotFront old.text line new.text × Rose old.faults new.faults)
+GotLine old line new = Got old.text line new.text ⊎ (GotPrefix old.text line new.text × Rose old.faults new.faults)

@@ -2,7 +2,7 @@ ghost use Rattle.std.specs.Prelude.{◌≡◌, ◌↔◌, ℕ, ◌+◌, ◌-◌,
 ghost use Rattle.std.specs.Option.{option_map};
 ghost use Rattle.std.specs.List.{list_any};
 ghost use Rattle.ports.specs.Counts.{Rose, count_after, greatest};
-ghost use Rattle.ports.specs.Writing.{Got, GotFront};
+ghost use Rattle.ports.specs.Writing.{Got, GotPrefix};
 
 use crate::sink::{Failed, Sink};
 use ev_types::Memory;
@@ -73,7 +73,7 @@ impl Sink for MemSink {
         ensures all { OnOk result (self.new.text.items ≡ self.old.text.items ++ bytes.now) }
         ensures counted { OnOk result (self.new.puts ≡ min (self.old.puts + 1) greatest) }
         ensures no_fault { OnOk result (self.new.faults ≡ self.old.faults) }
-        ensures front { OnErr result (GotFront (Some self.old.text.items) bytes.now
+        ensures front { OnErr result (GotPrefix (Some self.old.text.items) bytes.now
             (Some self.new.text.items)) }
         ensures uncounted { OnErr result (self.new.puts ≡ self.old.puts) }
         ensures fault { OnErr result (Rose self.old.faults self.new.faults) }

@@ -69,6 +69,13 @@ impl ScriptLinks {
         }
     }
 
+    /// The script that is played.
+    pub fn script(&self) -> &Script
+        ensures { result.now ≡ self.now.script }
+    {
+        &self.place.script
+    }
+
     /// The bytes that were taken from the link, in order.
     pub fn taken(&self, link: u64) -> &Blob
         ensures { result.now ≡ bytes_taken link self.now.log }

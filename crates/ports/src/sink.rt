@@ -1,7 +1,7 @@
 ghost use Rattle.std.specs.Prelude.{◌≡◌, ℕ, ◌<◌, ◌≤◌, min, ◌+◌, length, OnOk, OnErr};
 ghost use Rattle.std.specs.Option.{option_map};
 ghost use Rattle.ports.specs.Counts.{Rose, greatest};
-ghost use Rattle.ports.specs.Writing.{Got, GotFront};
+ghost use Rattle.ports.specs.Writing.{Got, GotPrefix};
 
 use thiserror::Error;
 
@@ -25,7 +25,7 @@ pub trait Sink {
         ensures counted { OnOk result (puts self.new
             ≡ option_map (λ n. min (n + 1) greatest) (puts self.old)) }
         ensures no_fault { OnOk result (faults self.new ≡ faults self.old) }
-        ensures front { OnErr result (GotFront (text self.old) bytes.now (text self.new)) }
+        ensures front { OnErr result (GotPrefix (text self.old) bytes.now (text self.new)) }
         ensures uncounted { OnErr result (puts self.new ≡ puts self.old) }
         ensures fault { OnErr result (Rose (faults self.old) (faults self.new)) }
         ensures faults { faults self.old ≤ faults self.new };

@@ -1,9 +1,2 @@
-pub mod CheckLaws
-pub mod EndingLaws
-pub mod FeedLaws
-pub mod FileLaws
-pub mod PlanLaws
-pub mod ProgressLaws
-pub mod ReplyLaws
-pub mod Sinks
-pub mod VerdictLaws
+pub mod CommandLaws
+pub mod WordLaws

@@ -1,17 +1,2 @@
 pub mod Words
 pub mod Commands
-pub mod Bodies
-pub mod Verdicts
-pub mod Replies
-pub mod Progress
-pub mod Reports
-pub mod Files
-pub mod Configs
-pub mod Fetches
-pub mod Lines
-pub mod Endings
-pub mod Feeds
-pub mod FeedFile
-pub mod Runs
-pub mod Checks
-pub mod Building

@@ -1,5 +1,8 @@
 -- The words of the command line.
-use Rattle.std.specs.Prelude.{◌≡◌, ℕ, ◌⊎◌, List, [], ◌∷◌, codes}
+use Rattle.std.specs.Prelude.{◌≡◌, ℕ, ◌≤◌, ◌⊎◌, List, [], ◌∷◌, codes, Some}
+use Rattle.load_command.specs.declared.play.TheConstants.{EVENT_LIMIT}
+use Rattle.ports.specs.Counts.{greatest}
+use Rattle.script_text.specs.Words.{number_of}
 
 abbrev pub feed_words : List ℕ → List ℕ → List (List ℕ)
 feed_words config file = codes "feed" ∷ (config ∷ (file ∷ []))
@@ -7,18 +10,50 @@ feed_words config file = codes "feed" ∷ (config ∷ (file ∷ []))
 abbrev pub check_words : List ℕ → List (List ℕ)
 check_words config = codes "check" ∷ (config ∷ [])
 
--- a fact of the two names, where the words are `feed CONFIG FILE`
+abbrev pub replay_words : List ℕ → List ℕ → List (List ℕ)
+replay_words config script = codes "replay" ∷ (config ∷ (script ∷ []))
+
+abbrev pub serve_words : List ℕ → List (List ℕ)
+serve_words config = codes "serve" ∷ (config ∷ [])
+
+abbrev pub serve_turns_words : List ℕ → List ℕ → List (List ℕ)
+serve_turns_words config number = codes "serve" ∷ (config ∷ (codes "--turns" ∷ (number ∷ [])))
+
+-- the words are `serve CONFIG --turns N` with this number, or `serve CONFIG` and it is the greatest one
+abbrev pub IsServe : List (List ℕ) → List ℕ → ℕ → Type 0
+IsServe words config turns = ((words ≡ serve_words config) × (turns ≡ greatest))
+    ⊎ ((number : List ℕ) × (words ≡ serve_turns_words config number) × (number_of number ≡ Some turns))
+
+abbrev pub load_words : List ℕ → List ℕ → List ℕ → List (List ℕ)
+load_words config count start = codes "load" ∷ (config ∷ (count ∷ (start ∷ [])))
+
+-- the words are `load CONFIG N START` with these numbers, and N is within its limit
+pub record IsLoad (words : List (List ℕ)) (config : List ℕ) (count start : ℕ) : Type 0 where
+  pub first : List ℕ
+  pub second : List ℕ
+  pub are : words ≡ load_words config first second
+  pub counts : number_of first ≡ Some count
+  pub few : count ≤ EVENT_LIMIT
+  pub starts : number_of second ≡ Some start
+
+-- ---- facts of the names, where the words are those of the command
+
 abbrev pub OnFeed : List (List ℕ) → (List ℕ → List ℕ → Type 0) → Type 0
 OnFeed words P = (config file : List ℕ) → words ≡ feed_words config file → P config file
 
--- a fact of the name, where the words are `check CONFIG`
 abbrev pub OnCheck : List (List ℕ) → (List ℕ → Type 0) → Type 0
 OnCheck words P = (config : List ℕ) → words ≡ check_words config → P config
+
+abbrev pub OnReplay : List (List ℕ) → (List ℕ → List ℕ → Type 0) → Type 0
+OnReplay words P = (config script : List ℕ) → words ≡ replay_words config script → P config script
+
+abbrev pub OnServe : List (List ℕ) → (List ℕ → ℕ → Type 0) → Type 0
+OnServe words P = (config : List ℕ) (turns : ℕ) → IsServe words config turns → P config turns
+
+abbrev pub OnLoad : List (List ℕ) → (List ℕ → ℕ → ℕ → Type 0) → Type 0
+OnLoad words P = (config : List ℕ) (count start : ℕ) → IsLoad words config count start → P config count start
 
 -- no command matches the words
 abbrev pub IsUsage : List (List ℕ) → Type 0
 IsUsage words = OnFeed words (λ config file. ⊥) × OnCheck words (λ config. ⊥)
-
--- a command matches the words
-abbrev pub IsCommand : List (List ℕ) → Type 0
-IsCommand words = ((config : List ℕ) × (file : List ℕ) × (words ≡ feed_words config file)) ⊎ ((config : List ℕ) × (words ≡ check_words config))
+    × OnReplay words (λ config script. ⊥) × OnServe words (λ config turns. ⊥) × OnLoad words (λ config count start. ⊥)

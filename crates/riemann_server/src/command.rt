@@ -1,14 +1,35 @@
-ghost use Rattle.std.specs.Prelude.{◌≡◌, MatchOption};
+ghost use Rattle.std.specs.Prelude.{◌≡◌, [], ◌∷◌, MatchOption};
 ghost use Rattle.riemann_server.specs.Commands.{IsCommandOf};
-ghost use Rattle.riemann_server.specs.Words.{IsUsage};
+ghost use Rattle.riemann_server.specs.Words.{IsUsage, load_words};
 
 use ev_types::Text;
+use load_command::EVENT_LIMIT;
+use script_text::read_number;
 
 /// A command, with the names of its files.
 #[derive(Clone, Copy)]
 pub(crate) enum Command<'a> {
-    Feed { config: &'a Text, file: &'a Text },
-    Check { config: &'a Text },
+    Feed {
+        config: &'a Text,
+        file: &'a Text,
+    },
+    Check {
+        config: &'a Text,
+    },
+    Replay {
+        config: &'a Text,
+        script: &'a Text,
+    },
+    /// It takes at most so many turns.
+    Serve {
+        config: &'a Text,
+        turns: u64,
+    },
+    Load {
+        config: &'a Text,
+        count: u64,
+        start: u64,
+    },
 }
 
 /// The command that matches the words.
@@ -16,8 +37,84 @@ pub(crate) fn command_of<'a>(words: &'a [Text]) -> Option<Command<'a>>
     ensures { MatchOption result (IsUsage words.now) (λ command. IsCommandOf words.now command) }
 {
     match words {
-        [command, config, file] if command.is(b"feed") => Some(Command::Feed { config, file }),
-        [command, config] if command.is(b"check") => Some(Command::Check { config }),
+        [command, config] => command_on_one(command, config),
+        [command, config, file] => command_on_two(command, config, file),
+        [command, config, second, third] => command_on_three(command, config, second, third),
         _ => None,
     }
+}
+
+/// The command of two words.
+fn command_on_one<'a>(command: &'a Text, config: &'a Text) -> Option<Command<'a>>
+    ensures { MatchOption result (IsUsage (command.now ∷ (config.now ∷ [])))
+        (λ found. IsCommandOf (command.now ∷ (config.now ∷ [])) found) }
+{
+    if command.is(b"check") {
+        Some(Command::Check { config })
+    } else if command.is(b"serve") {
+        Some(Command::Serve {
+            config,
+            turns: u64::MAX,
+        })
+    } else {
+        None
+    }
+}
+
+/// The command of three words.
+fn command_on_two<'a>(command: &'a Text, config: &'a Text, file: &'a Text) -> Option<Command<'a>>
+    ensures { MatchOption result (IsUsage (command.now ∷ (config.now ∷ (file.now ∷ []))))
+        (λ found. IsCommandOf (command.now ∷ (config.now ∷ (file.now ∷ []))) found) }
+{
+    if command.is(b"feed") {
+        Some(Command::Feed { config, file })
+    } else if command.is(b"replay") {
+        Some(Command::Replay {
+            config,
+            script: file,
+        })
+    } else {
+        None
+    }
+}
+
+/// The command of four words.
+fn command_on_three<'a>(
+    command: &'a Text,
+    config: &'a Text,
+    second: &'a Text,
+    third: &'a Text,
+) -> Option<Command<'a>>
+    ensures { MatchOption result
+        (IsUsage (command.now ∷ (config.now ∷ (second.now ∷ (third.now ∷ [])))))
+        (λ found. IsCommandOf
+        (command.now ∷ (config.now ∷ (second.now ∷ (third.now ∷ [])))) found) }
+{
+    if command.is(b"load") {
+        return load_of(config, second, third);
+    }
+    if !command.is(b"serve") || !second.is(b"--turns") {
+        return None;
+    }
+    match read_number(third.as_bytes()) {
+        Some(turns) => Some(Command::Serve { config, turns }),
+        None => None,
+    }
+}
+
+/// The command `load` with these numbers.
+fn load_of<'a>(config: &'a Text, count: &'a Text, start: &'a Text) -> Option<Command<'a>>
+    ensures { MatchOption result (IsUsage (load_words config.now count.now start.now))
+        (λ found. IsCommandOf (load_words config.now count.now start.now) found) }
+{
+    let count = read_number(count.as_bytes())?;
+    let start = read_number(start.as_bytes())?;
+    if count > EVENT_LIMIT {
+        return None;
+    }
+    Some(Command::Load {
+        config,
+        count,
+        start,
+    })
 }

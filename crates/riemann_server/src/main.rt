@@ -3,46 +3,43 @@
 
 ghost use Rattle.std.specs.Prelude.{◌≡◌};
 ghost use Rattle.std.specs.Process.{exit_status};
-ghost use Rattle.riemann_server.specs.Endings.{code_of};
+ghost use Rattle.command_io.specs.Endings.{code_of};
 
-mod answers;
-mod check;
 mod command;
-mod ending;
-mod feed;
-mod fetch;
-mod lines;
-mod plain;
 mod program;
-mod queries;
-mod read;
-mod replies;
-mod run;
 mod server;
-mod status;
 #[cfg(test)]
 mod tests;
-mod write;
 
+pub use command_io::Status;
+use command_io::{MEMORY_LINE, put_line};
+use mio_links::MioLinks;
 use ports::{FileStore, StreamSink};
 use pred_eval::RegexPatterns;
-pub use server::{CONFIG_LIMIT, FILE_LIMIT, riemann};
-pub use status::Status;
+pub use server::riemann;
 use std::process::ExitCode;
+use step_count::{NoLedger, Steps};
 
 fn main(rt: HostRuntime) -> ExitCode {
     let mut store = FileStore::fresh(&rt);
     let mut out = StreamSink::fresh(rt.stdout());
     let mut err = StreamSink::fresh(rt.stderr());
     let mut patterns = RegexPatterns { refusals: 0 };
+    let mut steps = Steps::fresh(NoLedger);
+    let Ok(mut links) = MioLinks::fresh(&rt, rt.alloc()) else {
+        put_line(&mut err, &[MEMORY_LINE]);
+        return exit_code(Status::Memory);
+    };
     let words = program::words(&rt);
     let status = program::run(
         rt.alloc(),
         words,
         &mut store,
+        &mut links,
         &mut out,
         &mut err,
         &mut patterns,
+        &mut steps,
     );
     exit_code(status)
 }

@@ -2,28 +2,33 @@ ghost use Rattle.std.specs.Prelude.{◌≡◌, ◌≢◌};
 ghost use Rattle.ports.specs.Counts.{Rose};
 ghost use Rattle.ports.specs.Writing.{Got};
 
-use crate::Status;
-use crate::lines::{MEMORY_LINE, put_line};
-use crate::server::{USAGE, riemann};
-use crate::write::put_all;
+use crate::server::riemann;
+use command_io::{MEMORY_LINE, Status, USAGE, put_all, put_line};
 use ev_types::Text;
-use ports::{Sink, Store};
+use ports::{Links, Sink, Store};
 use pred_eval::Patterns;
 use std::alloc::Global;
 use std::rt::Env;
 use std::{env, io};
+use step_count::{Ledger, Steps};
 
 const VERSION: &str = "riemann 0.1.0\n";
 
-const HELP: &str = "usage: riemann feed CONFIG FILE
+const HELP: &str = "usage: riemann COMMAND
 
 commands:
-  feed CONFIG FILE  answer the messages in FILE, and write the replies to standard output
-  check CONFIG      read the configuration CONFIG, and write its canonical text to standard output
+  feed CONFIG FILE        answer the messages in FILE; the replies go to standard output,
+                          the lines of notices to standard error
+  check CONFIG            write the canonical text of the configuration CONFIG
+  replay CONFIG SCRIPT    play the links in SCRIPT; write the lines of notices,
+                          and then what each link was sent
+  serve CONFIG            serve clients; write the lines of notices
+  serve CONFIG --turns N  the same, for at most N turns
+  load CONFIG N START     serve a generated load of N events in memory; write what it came to
 
 options:
-  --help            write this text
-  --version         write the version
+  --help                  write this text
+  --version               write the version
 ";
 
 /// Why the words of the command line could not be read.
@@ -54,19 +59,21 @@ fn fault_of(error: io::Error) -> WordsFault {
 }
 
 /// Answers `--help` and `--version`, and carries out any other command.
-pub(crate) fn run<S: Store, O: Sink, E: Sink, P: Patterns>(
+pub(crate) fn run<S: Store, L: Links, O: Sink, E: Sink, P: Patterns, G: Ledger>(
     alloc: Global,
     words: Result<Vec<Text>, WordsFault>,
     store: &mut S,
+    links: &mut L,
     out: &mut O,
     err: &mut E,
     patterns: &mut P,
+    steps: &mut Steps<G>,
 ) -> Status {
     match words {
         Ok(words) => match words.as_slice() {
             [word] if word.is(b"--help") => put_text(out, HELP),
             [word] if word.is(b"--version") => put_text(out, VERSION),
-            words => riemann(alloc, words, store, out, err, patterns),
+            words => riemann(alloc, words, store, links, out, err, patterns, steps),
         },
         Err(WordsFault::NoText) => {
             put_line(err, &[USAGE]);

@@ -1,88 +1,152 @@
-ghost use Rattle.std.specs.Prelude.{◌≡◌, ◌≢◌, ◌↔◌};
+ghost use Rattle.std.specs.Prelude.{◌≡◌, ◌≢◌, ◌↔◌, ◌⊎◌};
+ghost use Rattle.check_command.specs.Checks.{Checks};
+ghost use Rattle.command_io.specs.Endings.{GotLineOf, IsRefusal};
+ghost use Rattle.command_io.specs.Lines.{usage_line};
+ghost use Rattle.command_io.specs.Reports.{links_report, reports, sink_report, store_report};
+ghost use Rattle.feed_command.specs.Feeds.{Feeds};
+ghost use Rattle.hub_meaning.specs.Verdicts.{patterns_state};
+ghost use Rattle.load_command.specs.Loads.{Loads};
 ghost use Rattle.ports.specs.Counts.{Rose};
-ghost use Rattle.riemann_server.specs.Checks.{Checks};
-ghost use Rattle.riemann_server.specs.Endings.{GotLineOf, HasLine, IsRefusal};
-ghost use Rattle.riemann_server.specs.Feeds.{Feeds};
-ghost use Rattle.riemann_server.specs.Lines.{usage_line};
-ghost use Rattle.riemann_server.specs.Reports.{reports, sink_report, store_report};
-ghost use Rattle.riemann_server.specs.Verdicts.{patterns_state};
-ghost use Rattle.riemann_server.specs.Words.{IsCommand, IsUsage, OnCheck, OnFeed};
+ghost use Rattle.replay_command.specs.Replays.{Replays};
+ghost use Rattle.serve_command.specs.Serves.{Serves};
+ghost use Rattle.riemann_server.specs.Commands.{IsCommand};
+ghost use Rattle.riemann_server.specs.Words.{IsUsage, OnCheck, OnFeed, OnLoad, OnReplay, OnServe};
 
-use crate::Status;
-use crate::check::check;
 use crate::command::{Command, command_of};
-use crate::feed::feed;
-use crate::lines::put_line;
+use check_command::check;
+use command_io::{Status, USAGE, put_line};
 use ev_types::Text;
-use ports::{Sink, Store};
+use feed_command::feed;
+use load_command::load;
+use ports::{Links, Sink, Store};
 use pred_eval::Patterns;
+use replay_command::replay;
+use serve_command::serve;
 use std::alloc::Global;
-
-/// The greatest number of bytes of a configuration.
-pub const CONFIG_LIMIT: u64 = 1_048_576;
-
-/// The greatest number of bytes of a file that is fed.
-pub const FILE_LIMIT: u64 = 67_108_864;
-
-pub(crate) const USAGE: &str =
-    "riemann: usage: feed CONFIG FILE, check CONFIG, replay CONFIG SCRIPT, serve CONFIG [--turns N], load CONFIG N START\n";
+use step_count::{Ledger, Steps};
 
 /// Carries out the command that the words name, and says how it ended.
 ///
-/// `feed CONFIG FILE` answers the messages in a file. It reads the frames, enters their events into an index, and
-/// writes the reply to each message, in order, to `out`. The configuration has to be that of an index alone, as
-/// `(streams index)`. `check CONFIG` reads a configuration, builds its regular expressions, and writes its canonical
-/// text to `out`.
+/// | Words | What it does |
+/// |---|---|
+/// | `feed CONFIG FILE` | runs a server over one link that sends the bytes of the file; notice lines go to `err`, and then the replies to `out` |
+/// | `check CONFIG` | reads a configuration, builds its patterns, and writes its canonical text to `out` |
+/// | `replay CONFIG SCRIPT` | runs a server over links that play the script; notice lines go to `out`, and then a line for each link |
+/// | `serve CONFIG` | runs a server over `links`; notice lines go to `out` |
+/// | `serve CONFIG --turns N` | the same, for at most N turns |
+/// | `load CONFIG N START` | runs a server over a generated load of N events; counts notices, and writes one line to `out` |
 ///
-/// The regular expressions are built by `patterns`. A status other than `Done` and `SinkFault` has a line on `err`,
-/// which is cut where a write to `err` fails.
-pub fn riemann<S: Store, O: Sink, E: Sink, P: Patterns>(
+/// Patterns are built by `patterns`, and the forks that are entered are counted in `steps`. A status other than `Done` and
+/// `SinkFault` has a line on `err`, which is cut where a write to `err` fails.
+pub fn riemann<S: Store, L: Links, O: Sink, E: Sink, P: Patterns, G: Ledger>(
     alloc: Global,
     words: &[Text],
     store: &mut S,
+    links: &mut L,
     out: &mut O,
     err: &mut E,
     patterns: &mut P,
+    steps: &mut Steps<G>,
 ) -> Status
     // What holds of all commands. No command matches the words exactly where the status says so.
     ensures usage { (result ≡ Status.Usage) ↔ IsUsage words.now }
     ensures command { result ≢ Status.Usage → IsCommand words.now }
-    ensures idle { result ≡ Status.Usage → (store.new ≡ store.old) ×
-        (patterns.new ≡ patterns.old) × GotLineOf usage_line
+    ensures idle { result ≡ Status.Usage → (store.new ≡ store.old) × (links.new ≡ links.old) ×
+        (patterns.new ≡ patterns.old) × (steps.new ≡ steps.old) × GotLineOf usage_line
         (sink_report (E.text err.old) (E.puts err.old) (E.faults err.old))
         (sink_report (E.text err.new) (E.puts err.new) (E.faults err.new)) }
-    ensures line { HasLine (sink_report (E.text err.old) (E.puts err.old) (E.faults err.old))
-        (sink_report (E.text err.new) (E.puts err.new) (E.faults err.new)) result }
-    ensures untouched { IsRefusal result → out.new ≡ out.old }
+    ensures untouched { IsRefusal result → (out.new ≡ out.old) × (links.new ≡ links.old) }
     ensures read_fault { result ≡ Status.ReadFault →
         Rose (S.faults store.old) (S.faults store.new) }
-    ensures sink_fault { result ≡ Status.SinkFault → Rose (O.faults out.old) (O.faults out.new) }
+    ensures sink_fault { result ≡ Status.SinkFault →
+        Rose (O.faults out.old) (O.faults out.new) ⊎ Rose (E.faults err.old) (E.faults err.new) }
+    ensures link_fault { result ≡ Status.LinkFault →
+        Rose (L.faults links.old) (L.faults links.new) }
 
     // What each command promises.
     ensures feed { OnFeed words.now (λ config file. Feeds config file
         (reports (store_report (S.held store.old) (S.reads store.old) (S.taken store.old)
-        (S.faults store.old)) (sink_report (O.text out.old) (O.puts out.old) (O.faults out.old))
+        (S.faults store.old)) (links_report (L.log links.old) (L.faults links.old))
+        (sink_report (O.text out.old) (O.puts out.old) (O.faults out.old))
         (sink_report (E.text err.old) (E.puts err.old) (E.faults err.old))
-        (patterns_state (P.refusals patterns.old) (P.refused patterns.old)))
+        (patterns_state (P.refusals patterns.old) (P.refused patterns.old)) steps.old.forks)
         (reports (store_report (S.held store.new) (S.reads store.new) (S.taken store.new)
-        (S.faults store.new)) (sink_report (O.text out.new) (O.puts out.new) (O.faults out.new))
+        (S.faults store.new)) (links_report (L.log links.new) (L.faults links.new))
+        (sink_report (O.text out.new) (O.puts out.new) (O.faults out.new))
         (sink_report (E.text err.new) (E.puts err.new) (E.faults err.new))
-        (patterns_state (P.refusals patterns.new) (P.refused patterns.new))) result) }
+        (patterns_state (P.refusals patterns.new) (P.refused patterns.new)) steps.new.forks)
+        result) }
     ensures check { OnCheck words.now (λ config. Checks config
         (reports (store_report (S.held store.old) (S.reads store.old) (S.taken store.old)
-        (S.faults store.old)) (sink_report (O.text out.old) (O.puts out.old) (O.faults out.old))
+        (S.faults store.old)) (links_report (L.log links.old) (L.faults links.old))
+        (sink_report (O.text out.old) (O.puts out.old) (O.faults out.old))
         (sink_report (E.text err.old) (E.puts err.old) (E.faults err.old))
-        (patterns_state (P.refusals patterns.old) (P.refused patterns.old)))
+        (patterns_state (P.refusals patterns.old) (P.refused patterns.old)) steps.old.forks)
         (reports (store_report (S.held store.new) (S.reads store.new) (S.taken store.new)
-        (S.faults store.new)) (sink_report (O.text out.new) (O.puts out.new) (O.faults out.new))
+        (S.faults store.new)) (links_report (L.log links.new) (L.faults links.new))
+        (sink_report (O.text out.new) (O.puts out.new) (O.faults out.new))
         (sink_report (E.text err.new) (E.puts err.new) (E.faults err.new))
-        (patterns_state (P.refusals patterns.new) (P.refused patterns.new))) result) }
+        (patterns_state (P.refusals patterns.new) (P.refused patterns.new)) steps.new.forks)
+        result) }
+    ensures replay { OnReplay words.now (λ config script. Replays config script
+        (reports (store_report (S.held store.old) (S.reads store.old) (S.taken store.old)
+        (S.faults store.old)) (links_report (L.log links.old) (L.faults links.old))
+        (sink_report (O.text out.old) (O.puts out.old) (O.faults out.old))
+        (sink_report (E.text err.old) (E.puts err.old) (E.faults err.old))
+        (patterns_state (P.refusals patterns.old) (P.refused patterns.old)) steps.old.forks)
+        (reports (store_report (S.held store.new) (S.reads store.new) (S.taken store.new)
+        (S.faults store.new)) (links_report (L.log links.new) (L.faults links.new))
+        (sink_report (O.text out.new) (O.puts out.new) (O.faults out.new))
+        (sink_report (E.text err.new) (E.puts err.new) (E.faults err.new))
+        (patterns_state (P.refusals patterns.new) (P.refused patterns.new)) steps.new.forks)
+        result) }
+    ensures serve { OnServe words.now (λ config turns. Serves config turns
+        (reports (store_report (S.held store.old) (S.reads store.old) (S.taken store.old)
+        (S.faults store.old)) (links_report (L.log links.old) (L.faults links.old))
+        (sink_report (O.text out.old) (O.puts out.old) (O.faults out.old))
+        (sink_report (E.text err.old) (E.puts err.old) (E.faults err.old))
+        (patterns_state (P.refusals patterns.old) (P.refused patterns.old)) steps.old.forks)
+        (reports (store_report (S.held store.new) (S.reads store.new) (S.taken store.new)
+        (S.faults store.new)) (links_report (L.log links.new) (L.faults links.new))
+        (sink_report (O.text out.new) (O.puts out.new) (O.faults out.new))
+        (sink_report (E.text err.new) (E.puts err.new) (E.faults err.new))
+        (patterns_state (P.refusals patterns.new) (P.refused patterns.new)) steps.new.forks)
+        result) }
+    ensures load { OnLoad words.now (λ config count start. Loads config count start
+        (reports (store_report (S.held store.old) (S.reads store.old) (S.taken store.old)
+        (S.faults store.old)) (links_report (L.log links.old) (L.faults links.old))
+        (sink_report (O.text out.old) (O.puts out.old) (O.faults out.old))
+        (sink_report (E.text err.old) (E.puts err.old) (E.faults err.old))
+        (patterns_state (P.refusals patterns.old) (P.refused patterns.old)) steps.old.forks)
+        (reports (store_report (S.held store.new) (S.reads store.new) (S.taken store.new)
+        (S.faults store.new)) (links_report (L.log links.new) (L.faults links.new))
+        (sink_report (O.text out.new) (O.puts out.new) (O.faults out.new))
+        (sink_report (E.text err.new) (E.puts err.new) (E.faults err.new))
+        (patterns_state (P.refusals patterns.new) (P.refused patterns.new)) steps.new.forks)
+        result) }
 {
     match command_of(words) {
         Some(Command::Feed { config, file }) => {
-            feed(alloc, config, file, store, out, err, patterns)
+            feed(alloc, config, file, store, out, err, patterns, steps)
         }
         Some(Command::Check { config }) => check(alloc, config, store, out, err, patterns),
+        Some(Command::Replay { config, script }) => {
+            replay(alloc, config, script, store, out, err, patterns, steps)
+        }
+        Some(Command::Serve { config, turns }) => {
+            serve(
+                alloc, config, turns, store, links, out, err, patterns, steps,
+            )
+        }
+        Some(
+            Command::Load {
+                config,
+                count,
+                start,
+            },
+        ) => load(
+            alloc, config, count, start, store, out, err, patterns, steps,
+        ),
         None => {
             put_line(err, &[USAGE]);
             Status::Usage

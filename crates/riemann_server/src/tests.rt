@@ -2,35 +2,43 @@
 
 use crate::{Status, riemann};
 use ev_types::{Blob, Text, Texts};
-use ports::{MemSink, MemStore};
+use ports::{FaultLinks, MemSink, MemStore};
 use pred_eval::ListPatterns;
+use script_text::read_script;
 use std::process::Abort;
 use std::test::Fail;
+use step_count::{NoLedger, Steps};
 
 mod check;
 mod faults;
 mod feed;
 mod queries;
+mod serve;
 
 /// How a call ended, and what it wrote.
 #[derive(Drop)]
 struct Ended {
     status: Status,
     store: MemStore,
+    links: FaultLinks,
     out: MemSink,
     err: MemSink,
     patterns: ListPatterns,
 }
 
-/// The faults that a call meets: the numbers, from 0, of the calls that fail.
+/// What a call meets: the script that the links play, and the numbers, from 0, of the calls that fail.
 #[derive(Clone, Copy)]
 struct Failing<'a> {
+    script: &'a str,
+    links: &'a [u64],
     reads: &'a [u64],
     out: &'a [u64],
     err: &'a [u64],
 }
 
 const NOTHING_FAILS: Failing<'static> = Failing {
+    script: "start 0",
+    links: &[],
     reads: &[],
     out: &[],
     err: &[],
@@ -62,6 +70,13 @@ fn store_of<R: AllocGlobal>(
     Ok(MemStore::fresh(rt.alloc(), held, failing))
 }
 
+/// Links that play the script, of which these calls fail.
+fn links_of<R: AllocGlobal>(rt: &R, script: &str, failing: &[u64]) -> Result<FaultLinks, Fail> {
+    let inner = read_script(rt.alloc(), script.as_bytes())?;
+    let failing = Vec::from_slice(rt.alloc(), failing)?;
+    Ok(FaultLinks::fresh(inner, failing))
+}
+
 /// An empty sink with room for 1 MiB.
 fn sink<R: AllocGlobal>(rt: &R, failing: &[u64]) -> Result<MemSink, Fail> {
     let failing = Vec::from_slice(rt.alloc(), failing)?;
@@ -77,23 +92,28 @@ fn run<R: AllocGlobal>(
 ) -> Result<Ended, Fail> {
     let texts = owned_words(rt, words)?;
     let mut store = store_of(rt, files, failing.reads)?;
+    let mut links = links_of(rt, failing.script, failing.links)?;
     let mut out = sink(rt, failing.out)?;
     let mut err = sink(rt, failing.err)?;
     let mut patterns = ListPatterns {
         refusals: 0,
         refused: Texts::fresh(rt.alloc()),
     };
+    let mut steps = Steps::fresh(NoLedger);
     let status = riemann(
         rt.alloc(),
         texts.as_slice(),
         &mut store,
+        &mut links,
         &mut out,
         &mut err,
         &mut patterns,
+        &mut steps,
     );
     Ok(Ended {
         status,
         store,
+        links,
         out,
         err,
         patterns,

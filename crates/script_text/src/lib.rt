@@ -10,3 +10,4 @@ mod word;
 
 pub use law::scripts_are_their_lines;
 pub use read::{ScriptFault, read_script};
+pub use word::read_number;

@@ -23,7 +23,7 @@ pub(crate) fn is(word: &[u8], wanted: &[u8]) -> bool
 
 /// The value of 1 to 20 decimal digits, where it is below 2^64.
 #[tactic(auto, using(crate::proofs::NumberLemmas::number_of_many, crate::proofs::NumberLemmas::number_of_none, crate::proofs::NumberLemmas::number_with_plus))]
-pub(crate) fn read_number(word: &[u8]) -> Option<u64>
+pub fn read_number(word: &[u8]) -> Option<u64>
     ensures { result ≡ number_of word.now }
 {
     if word.is_empty() || word.len() > DIGITS_LIMIT || word[0] == PLUS {

@@ -2,7 +2,7 @@
 use Rattle.std.specs.Option.{option_map}
 use Rattle.sexp_config.specs.declared.server.Server as code_server
 use Rattle.sexp_config.specs.declared.server.Listens as code_listens
-use Rattle.sexp_config.specs.declared.tops.Draft as code_draft
+use Rattle.sexp_config.specs.declared.draft.Draft as code_draft
 use Rattle.sexp_config.specs.Tops.{Server, Listens, Draft}
 use Rattle.sexp_config.specs.Made.{below_in}
 

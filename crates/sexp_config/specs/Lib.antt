@@ -15,3 +15,4 @@ pub mod Made
 pub mod Drafts
 pub mod Built
 pub mod Answer
+pub mod Expiry

@@ -1,6 +1,6 @@
 //! How expired events are looked for.
 
-ghost use Rattle.std.specs.Prelude.{◌≡◌, [], IfOk, None, Ok};
+ghost use Rattle.std.specs.Prelude.{◌≡◌, ◌≤◌, [], IfOk, None, Ok};
 ghost use Rattle.sexp_read.specs.Tree.{form_tree, form_trees};
 ghost use Rattle.sexp_config.specs.Words.{keep_text};
 ghost use Rattle.sexp_config.specs.Steps.{Gives, GivesAs, each, nth as nth_of};
@@ -111,7 +111,8 @@ fn default_keys(alloc: Global) -> Result<KeepKeys, ConfigFault>
 }
 
 fn interval_of(env: &[Binding], forms: &[Form]) -> Result<u32, ConfigFault>
-    ensures { Gives result (interval_of env.now (nth_of 0 (form_trees forms.now))) }
+    ensures gives { Gives result (interval_of env.now (nth_of 0 (form_trees forms.now))) }
+    ensures within { IfOk result (λ interval. (1 ≤ interval) × (interval ≤ MAX_SECS)) }
 {
     match nth(forms, 0) {
         None => Ok(DEFAULT_INTERVAL),
@@ -143,7 +144,9 @@ pub(crate) fn expiry_in(
     env: &[Binding],
     forms: &[Form],
 ) -> Result<Expiry, ConfigFault>
-    ensures { Gives result (expiry_of env.now (form_trees forms.now)) }
+    ensures gives { Gives result (expiry_of env.now (form_trees forms.now)) }
+    ensures within { IfOk result (λ expiry. (1 ≤ expiry.interval) ×
+        (expiry.interval ≤ MAX_SECS)) }
 {
     let interval = interval_of(env, forms)?;
     let keep = keys_by(alloc, env, forms)?;

@@ -1,6 +1,6 @@
 //! The configuration that was read, and the check of its streams.
 
-ghost use Rattle.std.specs.Prelude.{◌≡◌, ◌≤◌, Ok};
+ghost use Rattle.std.specs.Prelude.{◌≡◌, ◌≤◌, IfOk, Ok};
 ghost use Rattle.std.specs.Option.{option_map};
 ghost use Rattle.sexp_read.specs.Tree.{form_trees};
 ghost use Rattle.sexp_read.specs.Grammar.{depth, deepest};
@@ -12,12 +12,14 @@ ghost use Rattle.sexp_config.specs.Config.{config_of as config_read, checked as 
 ghost use Rattle.sexp_config.specs.Built.{IsWellBuilt, IsLeft};
 ghost use Rattle.sexp_config.specs.Made.{located_in, source_list, source_tree};
 ghost use Rattle.sexp_config.specs.Drafts.{draft_in, server_made};
+ghost use Rattle.sexp_config.specs.Expiry.{IsInterval};
 
+use crate::draft::Draft;
 use crate::forms::refused;
 use crate::server::{Server, default_server};
 use crate::source::Source;
 use crate::streams::Located;
-use crate::tops::{Draft, run};
+use crate::tops::run;
 use crate::{Config, ConfigFault, ConfigWhy};
 use sexp_read::Form;
 use std::alloc::Global;
@@ -101,7 +103,8 @@ fn server_of(alloc: Global, server: Option<Server>) -> Result<Server, ConfigFaul
 
 fn finish(alloc: Global, draft: Draft) -> Result<Config, ConfigFault>
     requires { IsWellBuilt (draft_in draft).below.children.streams }
-    ensures { Gives result (finished (draft_in draft)) }
+    ensures gives { Gives result (finished (draft_in draft)) }
+    ensures interval { IfOk result (λ config. IsInterval config.expiry) }
 {
     let server = server_of(alloc, draft.server)?;
     let below = draft.below;
@@ -118,7 +121,8 @@ fn finish(alloc: Global, draft: Draft) -> Result<Config, ConfigFault>
 #[tactic(auto, unfolding(crate::specs::Config::config_of))]
 pub(crate) fn config_of(alloc: Global, forms: &[Form]) -> Result<Config, ConfigFault>
     requires { depth (form_trees forms.now) ≤ deepest }
-    ensures { Gives result (config_read (form_trees forms.now)) }
+    ensures gives { Gives result (config_read (form_trees forms.now)) }
+    ensures interval { IfOk result (λ config. IsInterval config.expiry) }
 {
     let mut env = Vec::new(alloc);
     let draft = run(alloc, &mut env, forms, Draft::fresh(alloc))?;

@@ -6,6 +6,7 @@ mod bare;
 mod binding;
 mod canonical;
 mod config;
+mod draft;
 mod expiry;
 mod fault;
 mod finish;

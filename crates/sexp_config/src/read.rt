@@ -3,6 +3,7 @@
 ghost use Rattle.std.specs.Prelude.{◌≡◌, ◌≤◌, ℕ, length, IfOk, IfErr};
 ghost use Rattle.sexp_read.specs.Grammar.{longest};
 ghost use Rattle.stream_plan.specs.Ready.{plan_patterns};
+ghost use Rattle.sexp_config.specs.Expiry.{IsInterval};
 ghost use Rattle.sexp_config.specs.Config.{IsConfigOf, IsConfigFault, IsRefusedFor, IsReadAs, IsRefusedAs, fault_in, why_of as why_of_forms};
 
 use crate::finish::config_of;
@@ -27,6 +28,7 @@ use std::alloc::Global;
 pub fn read_config(alloc: Global, text: &[u8]) -> Result<Config, ConfigFault>
     ensures config { IfOk result (λ config. IsConfigOf text.now config) }
     ensures few { IfOk result (λ config. length (plan_patterns config.plan) ≤ longest) }
+    ensures interval { IfOk result (λ config. IsInterval config.expiry) }
     ensures only { (config : Config) → IsConfigOf text.now config → IsReadAs config result }
     ensures refused { IfErr result (λ fault. IsRefusedFor text.now fault) }
     ensures only_refused { (place : ℕ) (why : ConfigWhy) → IsConfigFault text.now place why →

@@ -7,25 +7,18 @@ ghost use Rattle.sexp_config.specs.Words.{top_word as top_word_of};
 ghost use Rattle.sexp_config.specs.Tops.{fresh_draft, with_server, with_expiry, with_streams, top_by, let_by, top_at as top_from, tops_in as steps_of, run as run_of};
 ghost use Rattle.sexp_config.specs.Drafts.{draft_in};
 
+use crate::draft::Draft;
 use crate::expiry::expiry_in;
 use crate::forms::{View, argument, first, later, refused, view_of};
 use crate::names::names_at;
 use crate::rules::no_form;
-use crate::server::{Server, server_in};
+use crate::server::server_in;
 use crate::streams::{Below, parts_onto};
 use crate::word::top_word;
 use crate::{Binding, ConfigFault, ConfigWhy, TopWord};
-use ev_types::{Expiry, Text};
+use ev_types::Text;
 use sexp_read::Form;
 use std::alloc::Global;
-
-/// What was read of a configuration so far.
-#[derive(Drop)]
-pub(crate) struct Draft {
-    pub(crate) server: Option<Server>,
-    pub(crate) expiry: Option<Expiry>,
-    pub(crate) below: Below,
-}
 
 impl Draft {
     pub(crate) fn fresh(alloc: Global) -> Draft

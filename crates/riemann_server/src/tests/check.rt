@@ -170,7 +170,12 @@ fn a_configuration_that_is_absent_or_too_long_is_named(rt: HostRuntime) -> Resul
 #[test]
 fn each_read_and_write_of_a_check_may_fail(rt: HostRuntime) -> Result<(), Fail> {
     for (reads, out, err, config, status, line) in FAILING {
-        let failing = Failing { reads, out, err };
+        let failing = Failing {
+            reads,
+            out,
+            err,
+            ..NOTHING_FAILS
+        };
         let wanted: Wanted<'_> = (*status, "", *line, &[]);
         check(&rt, ("c", config.as_bytes()), failing, wanted)?;
     }

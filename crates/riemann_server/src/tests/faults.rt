@@ -12,8 +12,6 @@ const NO_CONFIG: &str = "riemann: cannot read c\n";
 
 const NO_FILE: &str = "riemann: cannot read f\n";
 
-const NOT_BUILT: &str = "riemann: config not built yet\n";
-
 /// Words that no command matches.
 const WRONG_WORDS: &[&[&str]] = &[
     &[],
@@ -24,7 +22,18 @@ const WRONG_WORDS: &[&[&str]] = &[
     &["check"],
     &["check", "c", "f"],
     &["feed check", "c"],
-    &["replay", "c", "f"],
+    &["replay", "c"],
+    &["serve"],
+    &["serve", "c", "f"],
+    &["serve", "c", "--turns"],
+    &["serve", "c", "--turns", ""],
+    &["serve", "c", "--turns", "+1"],
+    &["serve", "c", "--turns", "18446744073709551616"],
+    &["serve", "c", "--turn", "1"],
+    &["serve", "c", "--turns", "1", "x"],
+    &["load", "c", "1000001", "1"],
+    &["load", "c", "1", ""],
+    &["load", "c", "1"],
 ];
 
 /// Files among which one is absent, the line that names it, and how many reads there are.
@@ -33,15 +42,8 @@ const ABSENT: &[(&[(&str, &[u8])], &str, usize)] = &[
     (&[("c", PLAIN)], NO_FILE, 2),
 ];
 
-/// Configurations other than the index alone, and the lines that say so.
+/// Texts that are not configurations, and the lines that say so.
 const REFUSED: &[(&str, &str)] = &[
-    ("", NOT_BUILT),
-    ("(streams)", NOT_BUILT),
-    ("(streams index index)", NOT_BUILT),
-    ("(streams (sdo index))", NOT_BUILT),
-    ("(streams (notice \"n\"))", NOT_BUILT),
-    ("(periodically-expire) (streams index)", NOT_BUILT),
-    ("(streams (where (host #\"(\") index))", NOT_BUILT),
     ("(streams index", "riemann: config refused at 0: open\n"),
     ("(streams Index)", "riemann: config refused at 9: name\n"),
     (
@@ -126,23 +128,9 @@ fn a_file_that_is_absent_or_fails_is_named(rt: HostRuntime) -> Result<(), Fail> 
 }
 
 #[test]
-fn a_configuration_other_than_the_index_is_refused(rt: HostRuntime) -> Result<(), Fail> {
+fn a_text_that_is_not_a_configuration_is_refused(rt: HostRuntime) -> Result<(), Fail> {
     for (config, line) in REFUSED {
         let wanted = (Status::Config, *line, 1);
-        check_feed(&rt, config.as_bytes(), &[], NOTHING_FAILS, wanted)?;
-    }
-    Ok(())
-}
-
-#[test]
-fn the_index_alone_is_accepted_however_it_is_written(rt: HostRuntime) -> Result<(), Fail> {
-    for config in [
-        "(streams index)",
-        "; the index alone\n(streams\n  (index))\n",
-        "(let [i (index)] (streams i))",
-        "(tcp-server {:port 0}) (streams) (streams index)",
-    ] {
-        let wanted = (Status::Done, "", 2);
         check_feed(&rt, config.as_bytes(), &[], NOTHING_FAILS, wanted)?;
     }
     Ok(())
@@ -157,7 +145,7 @@ fn a_file_over_its_limit_is_named(rt: HostRuntime) -> Result<(), Fail> {
     let file_over = "riemann: f is longer than 67108864 bytes\n";
     for (config, file, status, line, reads) in [
         (over.as_slice(), PLAIN, Status::TooLong, config_over, 1),
-        (within.as_slice(), PLAIN, Status::Config, NOT_BUILT, 1),
+        (within.as_slice(), &[], Status::Done, "", 2),
         (PLAIN, file.as_slice(), Status::TooLong, file_over, 2),
     ] {
         check_feed(&rt, config, file, NOTHING_FAILS, (status, line, reads))?;

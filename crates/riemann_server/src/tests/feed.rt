@@ -25,6 +25,10 @@ const EXPIRED: &str = "0000000e320c120765787069726564220162";
 /// Events of the hosts "b" and "a".
 const BOTH: &str = "0000000a32032201623203220161";
 
+/// The error `frame of 4194305 bytes over 4194304`.
+const FRAME_TOO_LONG: &str =
+    "0000002710001a236672616d65206f662034313934333035206279746573206f7665722034313934333034";
+
 const FOUND_A: &str = "00000009100132050800220161";
 
 const ANSWERED: &[Row<'static>] = &[
@@ -120,12 +124,12 @@ const LEFT: &[(&[&str], &[&str], &str)] = &[
     ),
     (
         &["00400001"],
-        &[],
+        &[FRAME_TOO_LONG],
         "riemann: 4 bytes left of no whole frame\n",
     ),
     (
         &[EVENT, "00400001", EVENT],
-        &[OK],
+        &[OK, FRAME_TOO_LONG],
         "riemann: 24 bytes left of no whole frame\n",
     ),
 ];
@@ -253,6 +257,8 @@ fn frames_are_found_across_the_pieces_of_a_file(rt: HostRuntime) -> Result<(), F
 
     // The bytes of a length over the limit in the first piece are left, with all that follows them.
     file.extend_from_slice(spelled(&rt, &["00400001", EVENT])?.as_slice())?;
+    let mut wanted = wanted;
+    wanted.extend_from_slice(bytes(&rt, FRAME_TOO_LONG)?.as_slice())?;
     let run = feed_plain(&rt, file.as_slice())?;
     compare(
         &rt,

@@ -24,6 +24,7 @@ pub returns-then-is_over-clause-finishes : goal.returns-then-is_over-clause-fini
 returns-then-is_over-clause-finishes g c = record {
   run = Close c.args.number ∷ [];
   grew = c.close.ensures.log;
+  calls = (tt, tt);
   holds = finishes_closed c.args.table.now c.remove.new.self c.args.number c.args.place
       (λ meant all.
       let represents : RepresentsLink c.value-link.result.now meant =

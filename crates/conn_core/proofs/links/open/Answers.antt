@@ -25,6 +25,7 @@ pub returns-then-len-ge-CONNECTED_LIMIT-clause-changes : goal.returns-then-len-g
 returns-then-len-ge-CONNECTED_LIMIT-clause-changes g c = record {
   run = Close c.args.number ∷ [];
   grew = c.close.ensures.log;
+  calls = (tt, tt);
   holds = changes_full c.args.table.now c.note.new.self c.args.number (sym c.is_newer.ensures.value ∙ c.if-not-is_newer.false) (omega arith)
       (ap (λ (t : Kept HubLink). t.wants) c.note.ensures) (ap (λ (t : Kept HubLink). t.values) c.note.ensures) (ap (λ (t : Kept HubLink). t.newest) c.note.ensures);
 }

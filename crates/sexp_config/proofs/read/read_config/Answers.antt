@@ -9,16 +9,16 @@ use Rattle.sexp_config.proofs.ReadLaws.{config_read, refused_read, only_config, 
 use Rattle.sexp_config.proofs.read.read_config.Goals as goal
 
 pub returns-in-Ok-clause-config : goal.returns-in-Ok-clause-config
-returns-in-Ok-clause-config c = config_read c.args.text.now (form_trees c.in-Ok.forms.items) c.in-Ok.ensures.forms c.config_of.result (subst (λ (forms : List Form). Gives c.config_of.result (config_of (form_trees forms))) c.as_slice.ensures.value c.config_of.ensures)
+returns-in-Ok-clause-config c = config_read c.args.text.now (form_trees c.in-Ok.forms.items) c.in-Ok.ensures.forms c.config_of.result (subst (λ (forms : List Form). Gives c.config_of.result (config_of (form_trees forms))) c.as_slice.ensures.value c.config_of.ensures.gives)
 
 pub returns-in-Ok-clause-refused : goal.returns-in-Ok-clause-refused
-returns-in-Ok-clause-refused c = refused_read c.args.text.now (form_trees c.in-Ok.forms.items) c.in-Ok.ensures.forms c.config_of.result (subst (λ (forms : List Form). Gives c.config_of.result (config_of (form_trees forms))) c.as_slice.ensures.value c.config_of.ensures)
+returns-in-Ok-clause-refused c = refused_read c.args.text.now (form_trees c.in-Ok.forms.items) c.in-Ok.ensures.forms c.config_of.result (subst (λ (forms : List Form). Gives c.config_of.result (config_of (form_trees forms))) c.as_slice.ensures.value c.config_of.ensures.gives)
 
 pub returns-in-Ok-clause-only : goal.returns-in-Ok-clause-only
-returns-in-Ok-clause-only c = only_config c.args.text.now (form_trees c.in-Ok.forms.items) c.config_of.result c.in-Ok.ensures.only (subst (λ (forms : List Form). Gives c.config_of.result (config_of (form_trees forms))) c.as_slice.ensures.value c.config_of.ensures)
+returns-in-Ok-clause-only c = only_config c.args.text.now (form_trees c.in-Ok.forms.items) c.config_of.result c.in-Ok.ensures.only (subst (λ (forms : List Form). Gives c.config_of.result (config_of (form_trees forms))) c.as_slice.ensures.value c.config_of.ensures.gives)
 
 pub returns-in-Ok-clause-only_refused : goal.returns-in-Ok-clause-only_refused
-returns-in-Ok-clause-only_refused c = only_fault c.args.text.now (form_trees c.in-Ok.forms.items) c.config_of.result c.in-Ok.ensures.only c.in-Ok.ensures.faultless (subst (λ (forms : List Form). Gives c.config_of.result (config_of (form_trees forms))) c.as_slice.ensures.value c.config_of.ensures)
+returns-in-Ok-clause-only_refused c = only_fault c.args.text.now (form_trees c.in-Ok.forms.items) c.config_of.result c.in-Ok.ensures.only c.in-Ok.ensures.faultless (subst (λ (forms : List Form). Gives c.config_of.result (config_of (form_trees forms))) c.as_slice.ensures.value c.config_of.ensures.gives)
 
 pub returns-in-Err-clause-refused : goal.returns-in-Err-clause-refused
 returns-in-Err-clause-refused c = refused_forms c.args.text.now c.in-Err.fault c.forms_fault.result c.in-Err.ensures.refused c.forms_fault.ensures

@@ -7,10 +7,10 @@ use Rattle.hub_meaning.specs.Clock.{next_moment}
 use Rattle.hub_meaning.specs.Verdicts.{patterns_state}
 use Rattle.msg_replies.specs.Arriving.{Arrives, told}
 use Rattle.notice_sink.specs.Lines.{lines_of}
-use Rattle.ports.specs.Writing.{Got, GotFront}
+use Rattle.ports.specs.Writing.{GotPrefix}
 use Rattle.stream_meaning.specs.Arrivals.{Arrival, Elapsed}
 use Rattle.conn_core.specs.Occurring.{OccursFrom}
-use Rattle.conn_core.specs.Turning.{TurnsFrom}
+use Rattle.conn_core.specs.Turning.{GotLines, TurnsFrom, sink_got}
 use Rattle.conn_core.specs.declared.hub.Hub.{Hub}
 use Rattle.conn_core.proofs.KnownLaws.{opened_by}
 use Rattle.conn_core.proofs.TurnLaws.{passed_at, turn_is, turns_told, turns_unfinished, turns_unpassed}
@@ -25,7 +25,7 @@ returns-in_err-pass-clause-turns g c =
     let hub = c.args.self.now in
     let hub' : Hub = record hub { core = c.pass.new.core } in
     let patterns = patterns_state (g.P.Patterns.refusals c.args.patterns.now) (g.P.Patterns.refused c.args.patterns.now) in
-    let text = g.O.Sink.text c.args.sink.now in
+    let text = sink_got (g.O.Sink.text c.args.sink.now) (g.O.Sink.puts c.args.sink.now) in
     rw p.1 (added_nothing (g.L.Links.log c.args.links.now)
     (TurnsFrom c.args.turn c.args.piece.now hub hub' patterns patterns c.args.steps.now.forks c.pass.new.steps.forks text text (Err p.0))
     (λ config steps follows. turns_unpassed c.args.turn c.args.piece.now hub config steps (turn_is c.args.turn.what c.requires.failed c.requires.memory) follows
@@ -39,7 +39,7 @@ returns-in_err-occur-clause-turns g c =
     let hub' = c.occur.new.self in
     let patterns = patterns_state (g.P.Patterns.refusals c.args.patterns.now) (g.P.Patterns.refused c.args.patterns.now) in
     let patterns' = patterns_state (g.P.Patterns.refusals c.occur.new.patterns) (g.P.Patterns.refused c.occur.new.patterns) in
-    let text = g.O.Sink.text c.args.sink.now in
+    let text = sink_got (g.O.Sink.text c.args.sink.now) (g.O.Sink.puts c.args.sink.now) in
     let forks = c.args.steps.now.forks in
     let forks' = c.occur.new.steps.forks in
     let middle = told c.pass.new.notices c.pass.new.steps.forks in
@@ -62,13 +62,13 @@ returns-in_err-write_lines-clause-turns g c =
     let hub' = c.occur.new.self in
     let patterns = patterns_state (g.P.Patterns.refusals c.args.patterns.now) (g.P.Patterns.refused c.args.patterns.now) in
     let patterns' = patterns_state (g.P.Patterns.refusals c.occur.new.patterns) (g.P.Patterns.refused c.occur.new.patterns) in
-    let text = g.O.Sink.text c.args.sink.now in
-    let text' = g.O.Sink.text c.write_lines.new.sink in
+    let text = sink_got (g.O.Sink.text c.args.sink.now) (g.O.Sink.puts c.args.sink.now) in
+    let text' = sink_got (g.O.Sink.text c.write_lines.new.sink) (g.O.Sink.puts c.write_lines.new.sink) in
     let forks = c.args.steps.now.forks in
     let forks' = c.occur.new.steps.forks in
     let middle = told c.pass.new.notices c.pass.new.steps.forks in
     let notices = c.occur.new.notices in
-    let front = subst (λ (ns : List Notice). GotFront text (lines_of ns) text') c.as_slice.ensures c.in_err-write_lines.ensures.front in
+    let front = subst (λ (ns : List Notice). GotPrefix text.text (lines_of ns) text'.text) c.as_slice.ensures c.in_err-write_lines.ensures.prefix in
     let arrives = subst (λ (ns : List Notice). (arrivals : List Arrival) → Represents hub.core arrivals
     → Arrives hub.core c.pass.new.core arrivals (replicate (next_moment (now_of hub.core) c.args.turn.secs - now_of hub.core) Elapsed) (told ns forks) middle) c.fresh-notices.ensures c.in_ok-pass.ensures.arrives in
     rw p.1 (added_weaken (g.L.Links.log c.args.links.now) (g.L.Links.log c.occur.new.links)
@@ -87,13 +87,13 @@ returns-clause-turns g c =
     let hub' = c.occur.new.self in
     let patterns = patterns_state (g.P.Patterns.refusals c.args.patterns.now) (g.P.Patterns.refused c.args.patterns.now) in
     let patterns' = patterns_state (g.P.Patterns.refusals c.occur.new.patterns) (g.P.Patterns.refused c.occur.new.patterns) in
-    let text = g.O.Sink.text c.args.sink.now in
-    let text' = g.O.Sink.text c.write_lines.new.sink in
+    let text = sink_got (g.O.Sink.text c.args.sink.now) (g.O.Sink.puts c.args.sink.now) in
+    let text' = sink_got (g.O.Sink.text c.write_lines.new.sink) (g.O.Sink.puts c.write_lines.new.sink) in
     let forks = c.args.steps.now.forks in
     let forks' = c.occur.new.steps.forks in
     let middle = told c.pass.new.notices c.pass.new.steps.forks in
     let notices = c.occur.new.notices in
-    let lines = subst (λ (ns : List Notice). Got text (lines_of ns) text') c.as_slice.ensures c.in_ok-write_lines.ensures.all in
+    let lines = subst (λ (ns : List Notice). GotLines text ns text') c.as_slice.ensures c.in_ok-write_lines.ensures.all in
     let arrives = subst (λ (ns : List Notice). (arrivals : List Arrival) → Represents hub.core arrivals
     → Arrives hub.core c.pass.new.core arrivals (replicate (next_moment (now_of hub.core) c.args.turn.secs - now_of hub.core) Elapsed) (told ns forks) middle) c.fresh-notices.ensures c.in_ok-pass.ensures.arrives in
     added_weaken (g.L.Links.log c.args.links.now) (g.L.Links.log c.occur.new.links)

@@ -1,0 +1,64 @@
+-- What `check CONFIG` promises.
+use Rattle.std.specs.Prelude.{◌≡◌, ℕ, ◌≤◌, List, [], ◌∷◌, length}
+use Rattle.ports.specs.Counts.{IsStill}
+use Rattle.ports.specs.Reading.{Content, IsHeld, IsOverLimit}
+use Rattle.ports.specs.Writing.{Got, GotPrefix}
+use Rattle.sexp_config.specs.declared.config.Config.{Config as Configuration}
+use Rattle.sexp_config.specs.Canonical.{canonical_text}
+use Rattle.sexp_config.specs.Config.{IsConfigOf}
+use Rattle.command_io.specs.declared.ending.Ending.{Ending}
+use Rattle.command_io.specs.declared.ending.Ending.TheVariants.{Finished, ConfigRefused, Unread, OverLimit, BytesLeft, WriteFailed, LinksFailed, ScriptRefused}
+use Rattle.command_io.specs.declared.ending.Source.TheVariants.{ConfigFile, OtherFile}
+use Rattle.command_io.specs.declared.limits.TheConstants.{CONFIG_LIMIT}
+use Rattle.command_io.specs.declared.status.Status.{Status}
+use Rattle.command_io.specs.Building.{AreBuilt}
+use Rattle.command_io.specs.Configs.{ForConfig, RefusesConfig}
+use Rattle.command_io.specs.Endings.{IsComplete, IsDoneOrMemory, IsReadOnce, Reads, Says, TookMore, status_of}
+use Rattle.command_io.specs.Reports.{Reports, SinkReport}
+use Rattle.hub_meaning.specs.Verdicts.{PatternsState}
+
+-- what an ending says of the contents of the file
+abbrev pub CheckCause : Content → Ending → Type 0
+CheckCause config (OverLimit ConfigFile) = IsOverLimit config CONFIG_LIMIT
+CheckCause config (OverLimit OtherFile) = ⊥
+CheckCause config (Unread OtherFile) = ⊥
+CheckCause config (BytesLeft count) = ⊥
+CheckCause config LinksFailed = ⊥
+CheckCause config (ScriptRefused line) = ⊥
+CheckCause config _ = Unit {0}
+
+-- the file is a configuration whose patterns were built, and of its canonical text so much was written
+abbrev pub WritesText : Content → (List ℕ → Type 0) → Type 0
+WritesText content Wrote = ForConfig content (λ config. AreBuilt config.plan × Wrote (canonical_text config))
+
+-- What was written, and which pattern was refused: the canonical text where all was done, and a prefix of it where a
+-- write failed.
+abbrev pub CheckWrites : Content → PatternsState → PatternsState → SinkReport → SinkReport → Ending → Type 0
+CheckWrites config patterns patterns' out out' Finished = WritesText config (λ text. Got out.text text out'.text) × (patterns' ≡ patterns)
+CheckWrites config patterns patterns' out out' WriteFailed = WritesText config (λ text. GotPrefix out.text text out'.text) × (patterns' ≡ patterns)
+CheckWrites config patterns patterns' out out' (ConfigRefused refusal) = RefusesConfig config patterns patterns' refusal × (out' ≡ out)
+CheckWrites config patterns patterns' out out' _ = (patterns' ≡ patterns) × (out' ≡ out)
+
+-- with a configuration within its limit, no fault and no pattern refused, its text is written, or memory runs out
+abbrev pub CheckCompletes : List ℕ → Reports → Reports → Status → Type 0
+CheckCompletes config old new status = (text : List ℕ) (read : Configuration)
+    → IsHeld (old.store.held config) text → IsConfigOf text read → length text ≤ CONFIG_LIMIT
+    → IsStill old.store.faults new.store.faults → IsStill old.out.faults new.out.faults
+    → IsStill old.patterns.refusals new.patterns.refusals → IsDoneOrMemory status
+
+pub record Checks (config : List ℕ) (old new : Reports) (status : Status) : Type 0 where
+  -- how it ended, as the status and the line on the error stream say
+  pub ending : Ending
+  pub ended : status ≡ status_of ending
+  pub says : Says config config ending old.err new.err
+  -- why it ended so
+  pub cause : CheckCause (old.store.held config) ending
+  -- what it read, and what it wrote
+  pub reads : Reads (config ∷ []) (IsReadOnce ending) old.store.reads new.store.reads ending
+  pub taken : TookMore ending old.store.taken new.store.taken
+  pub writes : CheckWrites (old.store.held config) old.patterns new.patterns old.out new.out ending
+  -- where it did all that it had to, no read and no write of the text failed
+  pub quiet : IsComplete ending → (new.store.faults ≡ old.store.faults) × (new.out.faults ≡ old.out.faults)
+  -- it calls no link, and enters no fork
+  pub idle : (new.links ≡ old.links) × (new.forks ≡ old.forks)
+  pub complete : CheckCompletes config old new status

@@ -1,0 +1,125 @@
+ghost use Rattle.std.specs.Prelude.{◌≡◌, ◌≢◌, ◌≤◌, ℕ, [], ◌∷◌, length};
+ghost use Rattle.ports.specs.Counts.{Rose};
+ghost use Rattle.stream_plan.specs.Ready.{plan_patterns};
+ghost use Rattle.check_command.specs.Building.{BuildsText, EndsCheck};
+ghost use Rattle.check_command.specs.Checks.{CheckCause, CheckWrites, Checks};
+ghost use Rattle.command_io.specs.Endings.{IsComplete, IsReadOnce, IsRefusal, Reads, TookMore, status_of};
+ghost use Rattle.command_io.specs.Reports.{LinksReport, reports, sink_report, store_report};
+ghost use Rattle.hub_meaning.specs.Verdicts.{patterns_state};
+
+use command_io::{
+    CONFIG_LIMIT, ConfigRefusal, Ending, Status, build_ready, fetch_config, put_all, report,
+};
+use ev_types::{Blob, Text};
+use ports::{Sink, Store};
+use pred_eval::{BuildFault, Patterns};
+use sexp_config::{Config, write_config};
+use std::alloc::Global;
+
+/// Carries out `check CONFIG`. The line of the ending goes to `err`.
+pub fn check<S: Store, O: Sink, E: Sink, P: Patterns>(
+    alloc: Global,
+    config: &Text,
+    store: &mut S,
+    out: &mut O,
+    err: &mut E,
+    patterns: &mut P,
+) -> Status
+    ensures promise { (links : LinksReport) (forks : ℕ) → Checks config.now
+        (reports (store_report (S.held store.old) (S.reads store.old) (S.taken store.old)
+        (S.faults store.old)) links
+        (sink_report (O.text out.old) (O.puts out.old) (O.faults out.old))
+        (sink_report (E.text err.old) (E.puts err.old) (E.faults err.old))
+        (patterns_state (P.refusals patterns.old) (P.refused patterns.old)) forks)
+        (reports (store_report (S.held store.new) (S.reads store.new) (S.taken store.new)
+        (S.faults store.new)) links
+        (sink_report (O.text out.new) (O.puts out.new) (O.faults out.new))
+        (sink_report (E.text err.new) (E.puts err.new) (E.faults err.new))
+        (patterns_state (P.refusals patterns.new) (P.refused patterns.new)) forks) result }
+    ensures read_fault { result ≡ Status.ReadFault →
+        Rose (S.faults store.old) (S.faults store.new) }
+    ensures sink_fault { result ≡ Status.SinkFault → Rose (O.faults out.old) (O.faults out.new) }
+    ensures links_work { result ≢ Status.LinkFault }
+    ensures untouched { IsRefusal result → out.new ≡ out.old }
+{
+    let ending = check_file(alloc, config, store, out, patterns);
+    report(ending, config, config, err)
+}
+
+/// Reads the configuration, builds its patterns, and writes its canonical text.
+fn check_file<S: Store, O: Sink, P: Patterns>(
+    alloc: Global,
+    config: &Text,
+    store: &mut S,
+    out: &mut O,
+    patterns: &mut P,
+) -> Ending
+    ensures cause { CheckCause (S.held store.old config.now) result }
+    ensures reads { Reads (config.now ∷ []) (IsReadOnce result) (S.reads store.old)
+        (S.reads store.new) result }
+    ensures taken { TookMore result (S.taken store.old) (S.taken store.new) }
+    ensures writes { CheckWrites (S.held store.old config.now)
+        (patterns_state (P.refusals patterns.old) (P.refused patterns.old))
+        (patterns_state (P.refusals patterns.new) (P.refused patterns.new))
+        (sink_report (O.text out.old) (O.puts out.old) (O.faults out.old))
+        (sink_report (O.text out.new) (O.puts out.new) (O.faults out.new)) result }
+    ensures quiet { IsComplete result → (S.faults store.new ≡ S.faults store.old) ×
+        (O.faults out.new ≡ O.faults out.old) }
+    ensures read_fault { status_of result ≡ Status.ReadFault →
+        Rose (S.faults store.old) (S.faults store.new) }
+    ensures sink_fault { status_of result ≡ Status.SinkFault →
+        Rose (O.faults out.old) (O.faults out.new) }
+    ensures untouched { IsRefusal (status_of result) → out.new ≡ out.old }
+{
+    match fetch_config(alloc, config, store) {
+        Ok(config) => check_config(alloc, config, out, patterns),
+        Err(fault) => fault.ending(),
+    }
+}
+
+/// Builds the patterns of the configuration, and writes its canonical text.
+fn check_config<O: Sink, P: Patterns>(
+    alloc: Global,
+    config: Config,
+    out: &mut O,
+    patterns: &mut P,
+) -> Ending
+    requires few { length (plan_patterns config.plan) ≤ CONFIG_LIMIT }
+    ensures ends { EndsCheck config
+        (patterns_state (P.refusals patterns.old) (P.refused patterns.old))
+        (patterns_state (P.refusals patterns.new) (P.refused patterns.new))
+        (sink_report (O.text out.old) (O.puts out.old) (O.faults out.old))
+        (sink_report (O.text out.new) (O.puts out.new) (O.faults out.new)) result }
+    ensures untouched { IsRefusal (status_of result) → out.new ≡ out.old }
+{
+    match build_text(alloc, config, patterns) {
+        Ok(text) => match put_all(out, text.as_slice()) {
+            Ok(()) => Ending::Finished,
+            Err(_) => Ending::WriteFailed,
+        },
+        Err(BuildFault::Pattern { number }) => {
+            Ending::ConfigRefused(ConfigRefusal::Pattern { number })
+        }
+        Err(BuildFault::Memory) => Ending::OutOfMemory,
+    }
+}
+
+/// Builds the patterns of the configuration, and gives its canonical text.
+fn build_text<P: Patterns>(
+    alloc: Global,
+    config: Config,
+    patterns: &mut P,
+) -> Result<Blob, BuildFault>
+    requires few { length (plan_patterns config.plan) ≤ CONFIG_LIMIT }
+    ensures { BuildsText config
+        (patterns_state (P.refusals patterns.old) (P.refused patterns.old))
+        (patterns_state (P.refusals patterns.new) (P.refused patterns.new)) result }
+{
+    let mut text = Blob::fresh(alloc);
+    write_config(alloc, &config, &mut text)?;
+    match build_ready(alloc, config.plan, patterns) {
+        Ok(_) => Ok(text),
+        Err(BuildFault::Pattern { number }) => Err(BuildFault::Pattern { number }),
+        Err(BuildFault::Memory) => Err(BuildFault::Memory),
+    }
+}

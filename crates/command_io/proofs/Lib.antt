@@ -1,0 +1,6 @@
+pub mod BuildLaws
+pub mod ConfigLaws
+pub mod EndingLaws
+pub mod FileLaws
+pub mod ReadLaws
+pub mod Sinks

@@ -1,0 +1,75 @@
+-- What a command read, from what one read after another answered.
+use Rattle.std.proofs.Common.{◌≡◌, ℕ, suc, List, [], ◌∷◌, length, take, refl, ap, ◌∙◌}
+use Rattle.std.specs.Prelude.{Err, Option, map}
+use Rattle.ports.specs.declared.store.StoreRead.{StoreRead}
+use Rattle.command_io.specs.declared.ending.Ending.{Ending}
+use Rattle.command_io.specs.declared.ending.Ending.TheVariants.{Finished, ConfigRefused, Unread, OverLimit, BytesLeft, WriteFailed, LinksFailed, ScriptRefused, OutOfMemory}
+use Rattle.command_io.specs.declared.fetch.FetchFault.{FetchFault}
+use Rattle.command_io.specs.declared.fetch.FetchFault.TheVariants.{Refused, File, Memory}
+use Rattle.command_io.specs.declared.read.FileFault.TheVariants as file
+use Rattle.command_io.specs.Endings.{HaveFailed, IsReadOnce, Reads}
+use Rattle.command_io.specs.Fetches.{ending_of_fetch, fetch_reads}
+use Rattle.command_io.specs.Files.{LastFailed, ReadMore, bad_read, good_read, read_name}
+use Rattle.command_io.proofs.Sinks.{appended_twice}
+
+-- one good read, of the only file
+pub read_alone : (C : ℕ → Type 0) (old new : Option (List StoreRead)) (name : List ℕ) (ending : Ending) → ReadMore (good_read name ∷ []) old new → C 1
+    → HaveFailed ending (good_read name ∷ []) → Reads (name ∷ []) C old new ending
+read_alone C old new name ending grew counted failed = record { made = good_read name ∷ []; grew = grew; named = refl; counted = counted; failed = failed }
+
+-- the reads of a configuration that there is not
+pub fetch_reads_once : (old new : Option (List StoreRead)) (name : List ℕ) (fault : FetchFault) → ReadMore (fetch_reads name (Err fault)) old new
+    → Reads (name ∷ []) (IsReadOnce (ending_of_fetch fault)) old new (ending_of_fetch fault)
+fetch_reads_once old new name (Refused place why) grew = record { made = good_read name ∷ []; grew = grew; named = refl; counted = refl; failed = (refl, tt) }
+fetch_reads_once old new name (File file.Unread) grew = record { made = bad_read name ∷ []; grew = grew; named = refl; counted = refl; failed = refl }
+fetch_reads_once old new name (File file.TooLong) grew = record { made = good_read name ∷ []; grew = grew; named = refl; counted = refl; failed = (refl, tt) }
+fetch_reads_once old new name (File file.Memory) grew = record { made = []; grew = grew; named = refl; counted = tt; failed = tt }
+fetch_reads_once old new name Memory grew = record { made = good_read name ∷ []; grew = grew; named = refl; counted = tt; failed = (refl, tt) }
+
+-- one good read, of the first of two files
+pub read_first : (C : ℕ → Type 0) (old new : Option (List StoreRead)) (name other : List ℕ) (ending : Ending) → ReadMore (good_read name ∷ []) old new → C 1
+    → HaveFailed ending (good_read name ∷ []) → Reads (name ∷ (other ∷ [])) C old new ending
+read_first C old new name other ending grew counted failed = record { made = good_read name ∷ []; grew = grew; named = refl; counted = counted; failed = failed }
+
+-- the names of reads that are the first of one file are the first of it and another
+first_of_more : {A : Type 0} (made : List StoreRead) (f : StoreRead → A) (a b : A) → map f made ≡ take (length made) (a ∷ []) → map f made ≡ take (length made) (a ∷ (b ∷ []))
+first_of_more [] f a b named = refl
+first_of_more (read ∷ []) f a b named = named
+first_of_more (read ∷ (next ∷ made)) f a b named = absurd cc
+
+-- what was read of the only file was read as the first of two
+pub reads_first : (C D : ℕ → Type 0) (old new : Option (List StoreRead)) (name other : List ℕ) (ending : Ending) → ((count : ℕ) → C count → D count)
+    → Reads (name ∷ []) C old new ending → Reads (name ∷ (other ∷ [])) D old new ending
+reads_first C D old new name other ending more reads = record {
+  made = reads.made;
+  grew = reads.grew;
+  named = first_of_more reads.made read_name name other reads.named;
+  counted = more (length reads.made) reads.counted;
+  failed = reads.failed;
+}
+
+last_failed_after : (name : List ℕ) (made : List StoreRead) → LastFailed made → LastFailed (good_read name ∷ made)
+last_failed_after name [] failed = absurd failed
+last_failed_after name (read ∷ made) failed = (refl, failed)
+
+failed_after : (name : List ℕ) (ending : Ending) (made : List StoreRead) → HaveFailed ending made → HaveFailed ending (good_read name ∷ made)
+failed_after name Finished made failed = (refl, failed)
+failed_after name (ConfigRefused refusal) made failed = (refl, failed)
+failed_after name (Unread source) made failed = last_failed_after name made failed
+failed_after name (OverLimit source) made failed = (refl, failed)
+failed_after name (BytesLeft count) made failed = (refl, failed)
+failed_after name WriteFailed made failed = (refl, failed)
+failed_after name LinksFailed made failed = (refl, failed)
+failed_after name (ScriptRefused line) made failed = (refl, failed)
+failed_after name OutOfMemory made failed = (refl, failed)
+
+-- the first file was read, and then the other one
+pub reads_both : (C D : ℕ → Type 0) (old mid new : Option (List StoreRead)) (name other : List ℕ) (ending : Ending) → ReadMore (good_read name ∷ []) old mid
+    → ((count : ℕ) → C count → D (suc count)) → Reads (other ∷ []) C mid new ending → Reads (name ∷ (other ∷ [])) D old new ending
+reads_both C D old mid new name other ending first more second = record {
+  made = good_read name ∷ second.made;
+  grew = second.grew ∙ (rw first (appended_twice old (good_read name ∷ []) second.made));
+  named = ap (λ names. name ∷ names) second.named;
+  counted = more (length second.made) second.counted;
+  failed = failed_after name ending second.made second.failed;
+}

@@ -1,0 +1,111 @@
+-- How a call ends: its status, its line, and what it read of its files.
+use Rattle.std.specs.Prelude.{◌≡◌, ℕ, ◌+◌, List, [], length, take, map, Option}
+use Rattle.ports.specs.Counts.{RoseBy}
+use Rattle.ports.specs.Writing.{GotLine, sink_state}
+use Rattle.ports.specs.declared.store.StoreRead.{StoreRead}
+use Rattle.command_io.specs.declared.ending.Ending.{Ending}
+use Rattle.command_io.specs.declared.ending.Ending.TheVariants.{Finished, ConfigRefused, Unread, OverLimit, BytesLeft, WriteFailed, LinksFailed, ScriptRefused, OutOfMemory}
+use Rattle.command_io.specs.declared.ending.Source.{Source}
+use Rattle.command_io.specs.declared.ending.Source.TheVariants.{ConfigFile, OtherFile}
+use Rattle.command_io.specs.declared.limits.TheConstants.{CONFIG_LIMIT, FILE_LIMIT}
+use Rattle.command_io.specs.declared.status.Status.{Status}
+use Rattle.command_io.specs.declared.status.Status.TheVariants.{Done, Usage, Config, ReadFault, SinkFault, LinkFault, Memory, Script, Truncated, TooLong}
+use Rattle.command_io.specs.Files.{LastFailed, NoneFailed, ReadMore, read_name}
+use Rattle.command_io.specs.Lines.{left_line, links_line, memory_line, refusal_line, script_line, too_long_line, unread_line}
+use Rattle.command_io.specs.Reports.{SinkReport}
+
+-- the number of each status
+abbrev pub code_of : Status → ℕ
+code_of Done = 0
+code_of Usage = 1
+code_of Config = 2
+code_of ReadFault = 3
+code_of SinkFault = 4
+code_of LinkFault = 5
+code_of Memory = 6
+code_of Script = 7
+code_of Truncated = 8
+code_of TooLong = 9
+
+abbrev pub status_of : Ending → Status
+status_of Finished = Done
+status_of (ConfigRefused refusal) = Config
+status_of (Unread source) = ReadFault
+status_of (OverLimit source) = TooLong
+status_of (BytesLeft count) = Truncated
+status_of WriteFailed = SinkFault
+status_of LinksFailed = LinkFault
+status_of (ScriptRefused line) = Script
+status_of OutOfMemory = Memory
+
+-- what belongs to one of the two files of a command
+abbrev pub of_source : {A : Type 0} → A → A → Source → A
+of_source config other ConfigFile = config
+of_source config other OtherFile = other
+
+abbrev pub limit_of : Source → ℕ
+limit_of = of_source CONFIG_LIMIT FILE_LIMIT
+
+-- the line of an ending, with the names of the two files; nothing for those that have none
+abbrev pub line_of : List ℕ → List ℕ → Ending → List ℕ
+line_of config other (ConfigRefused refusal) = refusal_line refusal
+line_of config other (Unread source) = unread_line (of_source config other source)
+line_of config other (OverLimit source) = too_long_line (of_source config other source) (limit_of source)
+line_of config other (BytesLeft count) = left_line count
+line_of config other LinksFailed = links_line
+line_of config other (ScriptRefused line) = script_line line
+line_of config other OutOfMemory = memory_line
+line_of config other _ = []
+
+abbrev pub GotLineOf : List ℕ → SinkReport → SinkReport → Type 0
+GotLineOf line old new = GotLine (sink_state old.text old.faults) line (sink_state new.text new.faults)
+
+-- the error stream got the line of an ending, or a prefix of it where a put failed; without a line nothing was put
+abbrev pub Says : List ℕ → List ℕ → Ending → SinkReport → SinkReport → Type 0
+Says config other Finished old new = new ≡ old
+Says config other WriteFailed old new = new ≡ old
+Says config other ending old new = GotLineOf (line_of config other ending) old new
+
+-- the statuses of a call that refused what it was given
+abbrev pub IsRefusal : Status → Type 0
+IsRefusal Usage = Unit {0}
+IsRefusal Config = Unit {0}
+IsRefusal ReadFault = Unit {0}
+IsRefusal TooLong = Unit {0}
+IsRefusal Script = Unit {0}
+IsRefusal _ = ⊥
+
+-- the endings of a command that did all that it had to
+abbrev pub IsComplete : Ending → Type 0
+IsComplete Finished = Unit {0}
+IsComplete (BytesLeft count) = Unit {0}
+IsComplete _ = ⊥
+
+-- the status of a command that did all that it had to, or ran out of memory
+abbrev pub IsDoneOrMemory : Status → Type 0
+IsDoneOrMemory Done = Unit {0}
+IsDoneOrMemory Memory = Unit {0}
+IsDoneOrMemory _ = ⊥
+
+-- the last read failed where the ending says so, and no other
+abbrev pub HaveFailed : Ending → List StoreRead → Type 0
+HaveFailed (Unread source) made = LastFailed made
+HaveFailed _ made = NoneFailed made
+
+-- of a file that is over its limit at least one byte more than the limit was taken
+abbrev pub TookMore : Ending → ℕ → ℕ → Type 0
+TookMore (OverLimit source) old new = RoseBy (limit_of source + 1) old new
+TookMore _ old new = Unit {0}
+
+-- of one file: it was read, unless there was no memory for it
+abbrev pub IsReadOnce : Ending → ℕ → Type 0
+IsReadOnce OutOfMemory count = Unit {0}
+IsReadOnce _ count = count ≡ 1
+
+-- What a command read: the first of these files, in order, each once, and as many of them as its ending says.
+pub record Reads (files : List (List ℕ)) (Counted : ℕ → Type 0) (old new : Option (List StoreRead)) (ending : Ending) : Type 0 where
+  pub made : List StoreRead
+  pub grew : ReadMore made old new
+  pub named : map read_name made ≡ take (length made) files
+  pub counted : Counted (length made)
+  pub failed : HaveFailed ending made

@@ -1,0 +1,31 @@
+ghost use Rattle.std.specs.Prelude.{◌≡◌, ◌≤◌, length};
+ghost use Rattle.hub_meaning.specs.Verdicts.{patterns_state};
+ghost use Rattle.stream_plan.specs.Ready.{plan_patterns};
+ghost use Rattle.command_io.specs.Building.{BuildsPlan};
+
+use crate::limits::CONFIG_LIMIT;
+use pred_eval::{BuildFault, Patterns};
+use std::alloc::Global;
+use stream_plan::{CheckedPlan, ReadyPlan, build_plan};
+
+/// Builds the patterns of a plan, of which there are at most as many as a configuration has bytes.
+#[tactic(auto, using(crate::proofs::BuildLaws::refused_pattern))]
+pub fn build_ready<P: Patterns>(
+    alloc: Global,
+    plan: CheckedPlan,
+    patterns: &mut P,
+) -> Result<ReadyPlan, BuildFault>
+    requires few { length (plan_patterns plan) ≤ CONFIG_LIMIT }
+    ensures { BuildsPlan plan
+        (patterns_state (P.refusals patterns.old) (P.refused patterns.old))
+        (patterns_state (P.refusals patterns.new) (P.refused patterns.new)) result }
+{
+    match build_plan(alloc, plan, patterns) {
+        Ok(ready) => {
+            let _built = ready.patterns();
+            Ok(ready)
+        }
+        Err(BuildFault::Pattern { number }) => Err(BuildFault::Pattern { number }),
+        Err(BuildFault::Memory) => Err(BuildFault::Memory),
+    }
+}

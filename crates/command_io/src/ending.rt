@@ -1,0 +1,61 @@
+ghost use Rattle.std.specs.Prelude.{◌≡◌};
+ghost use Rattle.command_io.specs.Endings.{status_of};
+
+use crate::Status;
+use sexp_config::ConfigWhy;
+
+/// How a command ended, with the values that its line shows.
+#[derive(Clone, Copy)]
+pub enum Ending {
+    /// It did all that it had to.
+    Finished,
+    ConfigRefused(ConfigRefusal),
+    /// The file could not be read.
+    Unread(Source),
+    /// The file is longer than its limit.
+    OverLimit(Source),
+    /// It did all that it had to, and so many bytes were left after the last whole frame.
+    BytesLeft { count: usize },
+    /// A write of what it was to write failed.
+    WriteFailed,
+    /// The links failed.
+    LinksFailed,
+    /// The script was refused at the line of this number, from 1.
+    ScriptRefused { line: u64 },
+    OutOfMemory,
+}
+
+/// Why a configuration was refused.
+#[derive(Clone, Copy)]
+pub enum ConfigRefusal {
+    /// The text is not a configuration, for this cause at the place.
+    Refused { place: usize, why: ConfigWhy },
+    /// The pattern of this number was refused.
+    Pattern { number: u32 },
+}
+
+/// One of the two files of a command.
+#[derive(Clone, Copy)]
+pub enum Source {
+    ConfigFile,
+    OtherFile,
+}
+
+impl Ending {
+    /// The status of a command that ended so.
+    pub fn status(self) -> Status
+        ensures { result ≡ status_of self }
+    {
+        match self {
+            Ending::Finished => Status::Done,
+            Ending::ConfigRefused(_) => Status::Config,
+            Ending::Unread(_) => Status::ReadFault,
+            Ending::OverLimit(_) => Status::TooLong,
+            Ending::BytesLeft { .. } => Status::Truncated,
+            Ending::WriteFailed => Status::SinkFault,
+            Ending::LinksFailed => Status::LinkFault,
+            Ending::ScriptRefused { .. } => Status::Script,
+            Ending::OutOfMemory => Status::Memory,
+        }
+    }
+}

@@ -1,0 +1,77 @@
+ghost use Rattle.std.specs.Prelude.{◌≡◌, ◌≤◌, IfErr, IfOk, OnOk, length};
+ghost use Rattle.sexp_config.specs.Expiry.{IsInterval};
+ghost use Rattle.stream_plan.specs.Ready.{plan_patterns};
+ghost use Rattle.command_io.specs.Configs.{ReadsAs};
+ghost use Rattle.command_io.specs.Fetches.{IsFetchFault, IsTextFault, ending_of_fetch, fetch_reads};
+ghost use Rattle.command_io.specs.Files.{ForHeld, ReadMore};
+
+use crate::ending::{ConfigRefusal, Ending, Source};
+use crate::limits::CONFIG_LIMIT;
+use crate::read::{FileFault, read_file};
+use ev_types::Text;
+use ports::Store;
+use sexp_config::{Config, ConfigFault, ConfigWhy, read_config};
+use std::alloc::Global;
+
+/// Why there is no configuration.
+#[derive(Clone, Copy)]
+pub enum FetchFault {
+    /// The text is not a configuration, for this cause at the place.
+    Refused { place: usize, why: ConfigWhy },
+    /// The file was not read.
+    File(FileFault),
+    /// Out of memory once the file was read.
+    Memory,
+}
+
+impl FetchFault {
+    /// How the command ends.
+    pub fn ending(self) -> Ending
+        ensures { result ≡ ending_of_fetch self }
+    {
+        match self {
+            FetchFault::Refused { place, why } => {
+                Ending::ConfigRefused(ConfigRefusal::Refused { place, why })
+            }
+            FetchFault::File(fault) => fault.ending(Source::ConfigFile),
+            FetchFault::Memory => Ending::OutOfMemory,
+        }
+    }
+}
+
+/// Reads the configuration in the file of the name.
+pub fn fetch_config<S: Store>(
+    alloc: Global,
+    name: &Text,
+    store: &mut S,
+) -> Result<Config, FetchFault>
+    ensures config { IfOk result (λ config. ForHeld (S.held store.old name.now)
+        (λ text. (length text ≤ CONFIG_LIMIT) × ReadsAs text config)) }
+    ensures few { IfOk result (λ config. length (plan_patterns config.plan) ≤ CONFIG_LIMIT) }
+    ensures interval { IfOk result (λ config. IsInterval config.expiry) }
+    ensures fault { IfErr result (λ fault. IsFetchFault (S.held store.old name.now)
+        (S.faults store.old) (S.faults store.new) (S.taken store.old) (S.taken store.new) fault) }
+    ensures reads { ReadMore (fetch_reads name.now result) (S.reads store.old)
+        (S.reads store.new) }
+    ensures quiet { OnOk result (S.faults store.new ≡ S.faults store.old) }
+    ensures held { S.held store.new ≡ S.held store.old }
+    ensures taken { S.taken store.old ≤ S.taken store.new }
+{
+    match read_file(alloc, name, CONFIG_LIMIT, store) {
+        Ok(text) => read_text(alloc, text.as_slice()),
+        Err(fault) => Err(FetchFault::File(fault)),
+    }
+}
+
+fn read_text(alloc: Global, text: &[u8]) -> Result<Config, FetchFault>
+    ensures config { IfOk result (λ config. ReadsAs text.now config) }
+    ensures few { IfOk result (λ config. length (plan_patterns config.plan) ≤ CONFIG_LIMIT) }
+    ensures interval { IfOk result (λ config. IsInterval config.expiry) }
+    ensures fault { IfErr result (λ fault. IsTextFault text.now fault) }
+{
+    match read_config(alloc, text) {
+        Ok(config) => Ok(config),
+        Err(ConfigFault::Refused { place, why }) => Err(FetchFault::Refused { place, why }),
+        Err(ConfigFault::Memory) => Err(FetchFault::Memory),
+    }
+}

@@ -1,0 +1,21 @@
+//! What the commands of the program share: how they end, the lines that they write on the error stream, and the files
+//! that they read.
+#![tactic(auto)]
+
+mod build;
+mod ending;
+mod fetch;
+mod limits;
+mod lines;
+mod read;
+mod status;
+mod write;
+
+pub use build::build_ready;
+pub use ending::{ConfigRefusal, Ending, Source};
+pub use fetch::{FetchFault, fetch_config};
+pub use limits::{CONFIG_LIMIT, FILE_LIMIT};
+pub use lines::{MEMORY_LINE, USAGE, put_line, report};
+pub use read::{FileFault, read_file};
+pub use status::Status;
+pub use write::put_all;

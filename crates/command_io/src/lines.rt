@@ -1,0 +1,167 @@
+ghost use Rattle.std.specs.Prelude.{◌≡◌, ℕ, ◌≤◌, List, OnOk, OnErr};
+ghost use Rattle.ports.specs.Counts.{Rose};
+ghost use Rattle.ports.specs.Writing.{Got, GotPrefix, GotLine, sink_state};
+ghost use Rattle.command_io.specs.Endings.{Says, limit_of, of_source, status_of};
+ghost use Rattle.command_io.specs.Lines.{joined, left_line, pattern_line, refusal_line, refused_line, script_line, too_long_line, unread_line};
+ghost use Rattle.command_io.specs.Reports.{sink_report};
+
+use crate::Status;
+use crate::ending::{ConfigRefusal, Ending, Source};
+use crate::limits::{CONFIG_LIMIT, FILE_LIMIT};
+use crate::write::put_all;
+use ev_types::Text;
+use itoa::Buffer;
+use ports::{Failed, Sink};
+use sexp_config::ConfigWhy;
+
+/// The line where no command matches the words.
+pub const USAGE: &str =
+    "riemann: usage: feed CONFIG FILE, check CONFIG, replay CONFIG SCRIPT, serve CONFIG [--turns N], load CONFIG N START\n";
+
+/// The line where memory ran out.
+pub const MEMORY_LINE: &str = "riemann: out of memory\n";
+
+const LINKS_LINE: &str = "riemann: links failed\n";
+
+/// Writes the line of an ending, with the names of the command's two files, and gives the status. It takes no memory.
+pub fn report<E: Sink>(ending: Ending, config: &Text, other: &Text, err: &mut E) -> Status
+    ensures status { result ≡ status_of ending }
+    ensures says { Says config.now other.now ending
+        (sink_report (E.text err.old) (E.puts err.old) (E.faults err.old))
+        (sink_report (E.text err.new) (E.puts err.new) (E.faults err.new)) }
+{
+    report_line(ending, config, other, err);
+    ending.status()
+}
+
+fn report_line<E: Sink>(ending: Ending, config: &Text, other: &Text, err: &mut E)
+    ensures { Says config.now other.now ending
+        (sink_report (E.text err.old) (E.puts err.old) (E.faults err.old))
+        (sink_report (E.text err.new) (E.puts err.new) (E.faults err.new)) }
+{
+    match ending {
+        Ending::Finished | Ending::WriteFailed => {}
+        Ending::ConfigRefused(refusal) => report_refusal(refusal, err),
+        Ending::LinksFailed => put_line(err, &[LINKS_LINE]),
+        Ending::ScriptRefused { line } => report_script(line, err),
+        Ending::OutOfMemory => put_line(err, &[MEMORY_LINE]),
+        Ending::Unread(source) => report_unread(name_of(source, config, other), err),
+        Ending::OverLimit(source) => {
+            report_too_long(name_of(source, config, other), limit_of(source), err)
+        }
+        Ending::BytesLeft { count } => report_left(count, err),
+    }
+}
+
+fn report_refusal<E: Sink>(refusal: ConfigRefusal, err: &mut E)
+    ensures { GotLine (sink_state (E.text err.old) (E.faults err.old)) (refusal_line refusal)
+        (sink_state (E.text err.new) (E.faults err.new)) }
+{
+    match refusal {
+        ConfigRefusal::Refused { place, why } => report_refused(place, why, err),
+        ConfigRefusal::Pattern { number } => report_pattern(number, err),
+    }
+}
+
+fn report_refused<E: Sink>(place: usize, why: ConfigWhy, err: &mut E)
+    ensures { GotLine (sink_state (E.text err.old) (E.faults err.old)) (refused_line place why)
+        (sink_state (E.text err.new) (E.faults err.new)) }
+{
+    let mut digits = Buffer::new();
+    let place = digits.format(place);
+    put_line(
+        err,
+        &["riemann: config refused at ", place, ": ", why.name(), "\n"],
+    );
+}
+
+fn report_pattern<E: Sink>(number: u32, err: &mut E)
+    ensures { GotLine (sink_state (E.text err.old) (E.faults err.old)) (pattern_line number)
+        (sink_state (E.text err.new) (E.faults err.new)) }
+{
+    let mut digits = Buffer::new();
+    let number = digits.format(number);
+    put_line(err, &["riemann: config pattern ", number, " refused\n"]);
+}
+
+fn report_script<E: Sink>(line: u64, err: &mut E)
+    ensures { GotLine (sink_state (E.text err.old) (E.faults err.old)) (script_line line)
+        (sink_state (E.text err.new) (E.faults err.new)) }
+{
+    let mut digits = Buffer::new();
+    let line = digits.format(line);
+    put_line(err, &["riemann: script refused at line ", line, "\n"]);
+}
+
+fn report_unread<E: Sink>(name: &Text, err: &mut E)
+    ensures { GotLine (sink_state (E.text err.old) (E.faults err.old)) (unread_line name.now)
+        (sink_state (E.text err.new) (E.faults err.new)) }
+{
+    put_line(err, &["riemann: cannot read ", name.as_str(), "\n"]);
+}
+
+fn report_too_long<E: Sink>(name: &Text, limit: u64, err: &mut E)
+    ensures { GotLine (sink_state (E.text err.old) (E.faults err.old))
+        (too_long_line name.now limit)
+        (sink_state (E.text err.new) (E.faults err.new)) }
+{
+    let mut digits = Buffer::new();
+    let limit = digits.format(limit);
+    put_line(
+        err,
+        &[
+            "riemann: ",
+            name.as_str(),
+            " is longer than ",
+            limit,
+            " bytes\n",
+        ],
+    );
+}
+
+fn report_left<E: Sink>(left: usize, err: &mut E)
+    ensures { GotLine (sink_state (E.text err.old) (E.faults err.old)) (left_line left)
+        (sink_state (E.text err.new) (E.faults err.new)) }
+{
+    let mut digits = Buffer::new();
+    let left = digits.format(left);
+    put_line(err, &["riemann: ", left, " bytes left of no whole frame\n"]);
+}
+
+fn name_of<'a>(source: Source, config: &'a Text, other: &'a Text) -> &'a Text
+    ensures { result.now ≡ of_source config.now other.now source }
+{
+    match source {
+        Source::ConfigFile => config,
+        Source::OtherFile => other,
+    }
+}
+
+fn limit_of(source: Source) -> u64
+    ensures { result ≡ limit_of source }
+{
+    match source {
+        Source::ConfigFile => CONFIG_LIMIT,
+        Source::OtherFile => FILE_LIMIT,
+    }
+}
+
+/// Writes the pieces of a line. A write that fails ends the line, and is not reported.
+pub fn put_line<E: Sink>(err: &mut E, pieces: &[&str])
+    ensures { GotLine (sink_state (E.text err.old) (E.faults err.old)) (joined pieces.now)
+        (sink_state (E.text err.new) (E.faults err.new)) }
+{
+    let _ = put_pieces(err, pieces);
+}
+
+/// Writes the pieces one after another, up to the first write that fails.
+fn put_pieces<E: Sink>(err: &mut E, pieces: &[&str]) -> Result<(), Failed>
+    ensures all { OnOk result (Got (E.text err.old) (joined pieces.now) (E.text err.new)) }
+    ensures prefix { OnErr result (GotPrefix (E.text err.old) (joined pieces.now) (E.text err.new)) }
+    ensures fault { OnErr result (Rose (E.faults err.old) (E.faults err.new)) }
+{
+    for piece in pieces {
+        put_all(err, piece.as_bytes())?;
+    }
+    Ok(())
+}

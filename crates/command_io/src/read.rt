@@ -1,0 +1,57 @@
+ghost use Rattle.std.specs.Prelude.{◌≡◌, ◌^◌, ◌<◌, ◌≤◌, IfErr, IfOk, OnOk, length};
+ghost use Rattle.command_io.specs.Files.{ForHeld, IsFileFault, ReadMore, reads_of};
+ghost use Rattle.command_io.specs.Fetches.{ending_of_file};
+
+use crate::ending::{Ending, Source};
+use ev_types::{Blob, Text};
+use ports::{ReadAnswer, Store};
+use std::alloc::Global;
+
+/// Why a file was not read.
+#[derive(Clone, Copy)]
+pub enum FileFault {
+    /// It could not be read.
+    Unread,
+    /// It is longer than the limit.
+    TooLong,
+    Memory,
+}
+
+impl FileFault {
+    /// How the command ends whose file this is.
+    pub fn ending(self, source: Source) -> Ending
+        ensures { result ≡ ending_of_file source self }
+    {
+        match self {
+            FileFault::Unread => Ending::Unread(source),
+            FileFault::TooLong => Ending::OverLimit(source),
+            FileFault::Memory => Ending::OutOfMemory,
+        }
+    }
+}
+
+/// Reads the file of the name, which may have at most `limit` bytes.
+pub fn read_file<S: Store>(
+    alloc: Global,
+    name: &Text,
+    limit: u64,
+    store: &mut S,
+) -> Result<Blob, FileFault>
+    requires { limit < 2 ^ 63 }
+    ensures file { IfOk result (λ bytes. ForHeld (S.held store.old name.now)
+        (λ held. (held ≡ bytes) × (length bytes ≤ limit))) }
+    ensures within { IfOk result (λ bytes. length bytes ≤ limit) }
+    ensures fault { IfErr result (λ fault. IsFileFault (S.held store.old name.now) limit
+        (S.faults store.old) (S.faults store.new) (S.taken store.old) (S.taken store.new) fault) }
+    ensures reads { ReadMore (reads_of name.now result) (S.reads store.old) (S.reads store.new) }
+    ensures quiet { OnOk result (S.faults store.new ≡ S.faults store.old) }
+    ensures held { S.held store.new ≡ S.held store.old }
+    ensures taken { S.taken store.old ≤ S.taken store.new }
+{
+    match store.read(alloc, name, limit) {
+        ReadAnswer::Bytes(bytes) => Ok(bytes),
+        ReadAnswer::Failed => Err(FileFault::Unread),
+        ReadAnswer::TooLong => Err(FileFault::TooLong),
+        ReadAnswer::Memory => Err(FileFault::Memory),
+    }
+}

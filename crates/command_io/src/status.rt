@@ -1,0 +1,48 @@
+ghost use Rattle.std.specs.Prelude.{◌≡◌};
+
+/// How a call of `riemann` ended.
+#[derive(Clone, Copy, Debug, PartialEq, Eq)]
+pub enum Status {
+    /// The command was carried out.
+    Done,
+    /// No command matches the words.
+    Usage,
+    /// The configuration was refused.
+    Config,
+    /// A file could not be read.
+    ReadFault,
+    /// A write of what the command was to write failed.
+    SinkFault,
+    /// The links failed.
+    LinkFault,
+    /// Out of memory.
+    Memory,
+    /// The script was refused.
+    Script,
+    /// The file that was fed ends with an incomplete frame.
+    Truncated,
+    /// A file is longer than its limit.
+    TooLong,
+}
+
+impl Status {
+    ghost use Rattle.command_io.specs.Endings.{code_of};
+
+    /// The exit status of the program.
+    pub fn code(self) -> u8
+        ensures { result ≡ code_of self }
+    {
+        match self {
+            Status::Done => 0,
+            Status::Usage => 1,
+            Status::Config => 2,
+            Status::ReadFault => 3,
+            Status::SinkFault => 4,
+            Status::LinkFault => 5,
+            Status::Memory => 6,
+            Status::Script => 7,
+            Status::Truncated => 8,
+            Status::TooLong => 9,
+        }
+    }
+}

@@ -1,0 +1,51 @@
+-- What a configuration says that a server is run with, and why a command has no such configuration.
+use Rattle.std.specs.Prelude.{◌≡◌, ℕ, ◌+◌, List, ◌++◌, codes, Result, Ok, Err}
+use Rattle.std.specs.Fmt.{decimal}
+use Rattle.conn_core.specs.Turning.{sink_got}
+use Rattle.hub_meaning.specs.Verdicts.{PatternsState}
+use Rattle.hub_run.specs.Runs.{RunReport, run_report}
+use Rattle.hub_run.specs.declared.setup.Setup.{Setup}
+use Rattle.ports.specs.Counts.{Rose, RoseBy}
+use Rattle.ports.specs.Reading.{Content, IsOverLimit}
+use Rattle.sexp_config.specs.declared.config.Config.{Config}
+use Rattle.stream_plan.specs.Ready.{plan_patterns}
+use Rattle.command_io.specs.Building.{AreBuilt, IsRefusedPattern}
+use Rattle.command_io.specs.Configs.{ForConfig, RefusesConfig}
+use Rattle.command_io.specs.Reports.{Reports, SinkReport, StoreReport}
+use Rattle.command_io.specs.declared.ending.ConfigRefusal.TheVariants.{Pattern}
+use Rattle.command_io.specs.declared.ending.Ending.{Ending}
+use Rattle.command_io.specs.declared.ending.Ending.TheVariants.{ConfigRefused, Unread, OverLimit, OutOfMemory}
+use Rattle.command_io.specs.declared.ending.Source.TheVariants.{ConfigFile}
+use Rattle.command_io.specs.declared.limits.TheConstants.{CONFIG_LIMIT}
+
+-- where a server listens
+abbrev pub address_text : List ℕ → ℕ → List ℕ
+address_text host port = host ++ (codes ":" ++ decimal port)
+
+-- what a server of the configuration is run with
+abbrev pub setup_of : Config → Setup
+setup_of config = record { address = address_text config.host config.port; plan = config.plan; expiry = config.expiry }
+
+-- the file is a configuration whose patterns were built, and this is what its server is run with
+abbrev pub SetsUp : Content → Setup → Type 0
+SetsUp content setup = ForConfig content (λ config. AreBuilt config.plan × (setup ≡ setup_of config))
+
+-- Why a command has no such configuration, from what the store and the builder of patterns report before and after.
+abbrev pub RefusesSetup : Content → StoreReport → StoreReport → PatternsState → PatternsState → Ending → Type 0
+RefusesSetup content store store' patterns patterns' (ConfigRefused refusal) = RefusesConfig content patterns patterns' refusal
+RefusesSetup content store store' patterns patterns' (Unread ConfigFile) = Rose store.faults store'.faults × (patterns' ≡ patterns)
+RefusesSetup content store store' patterns patterns' (OverLimit ConfigFile) =
+    IsOverLimit content CONFIG_LIMIT × RoseBy (CONFIG_LIMIT + 1) store.taken store'.taken × (patterns' ≡ patterns)
+RefusesSetup content store store' patterns patterns' OutOfMemory = patterns' ≡ patterns
+RefusesSetup content store store' patterns patterns' _ = ⊥
+
+-- what changes in a run whose notice lines go to this sink
+abbrev pub run_report_of : Reports → SinkReport → RunReport
+run_report_of reports sink = run_report reports.patterns reports.forks (sink_got sink.text sink.puts)
+
+-- what a configuration that was read is run with, or why it is not
+abbrev pub MakesSetup : Config → PatternsState → PatternsState → Result Setup Ending → Type 0
+MakesSetup config patterns patterns' (Ok setup) = (setup ≡ setup_of config) × AreBuilt config.plan × (patterns' ≡ patterns)
+MakesSetup config patterns patterns' (Err (ConfigRefused (Pattern number))) = IsRefusedPattern (plan_patterns config.plan) number patterns patterns'
+MakesSetup config patterns patterns' (Err OutOfMemory) = patterns' ≡ patterns
+MakesSetup config patterns patterns' (Err _) = ⊥

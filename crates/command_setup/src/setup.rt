@@ -1,0 +1,80 @@
+ghost use Rattle.std.specs.Prelude.{◌≡◌, ◌≤◌, [], ◌∷◌, length, IfErr, IfOk, OnOk};
+ghost use Rattle.hub_meaning.specs.Verdicts.{patterns_state};
+ghost use Rattle.sexp_config.specs.Expiry.{IsInterval};
+ghost use Rattle.stream_plan.specs.Ready.{plan_patterns};
+ghost use Rattle.command_io.specs.Endings.{IsReadOnce, Reads};
+ghost use Rattle.command_io.specs.Files.{ReadMore, good_read};
+ghost use Rattle.command_io.specs.Reports.{store_report};
+ghost use Rattle.command_setup.specs.Setups.{MakesSetup, RefusesSetup, SetsUp, address_text};
+
+use command_io::{CONFIG_LIMIT, ConfigRefusal, Ending, build_ready, fetch_config};
+use ev_types::{Memory, Text};
+use hub_run::Setup;
+use ports::Store;
+use pred_eval::{BuildFault, Patterns};
+use sexp_config::Config;
+use std::alloc::Global;
+
+/// Reads the configuration in the file of the name, builds its patterns, and gives what a server is run with. An error
+/// is how the command ends.
+pub fn fetch_setup<S: Store, P: Patterns>(
+    alloc: Global,
+    name: &Text,
+    store: &mut S,
+    patterns: &mut P,
+) -> Result<Setup, Ending>
+    ensures setup { IfOk result (λ setup. SetsUp (S.held store.old name.now) setup) }
+    ensures interval { IfOk result (λ setup. IsInterval setup.expiry) }
+    ensures fault { IfErr result (λ ending. RefusesSetup (S.held store.old name.now)
+        (store_report (S.held store.old) (S.reads store.old) (S.taken store.old)
+        (S.faults store.old))
+        (store_report (S.held store.new) (S.reads store.new) (S.taken store.new)
+        (S.faults store.new))
+        (patterns_state (P.refusals patterns.old) (P.refused patterns.old))
+        (patterns_state (P.refusals patterns.new) (P.refused patterns.new)) ending) }
+    ensures read { OnOk result (ReadMore (good_read name.now ∷ []) (S.reads store.old)
+        (S.reads store.new)) }
+    ensures reads { IfErr result (λ ending. Reads (name.now ∷ []) (IsReadOnce ending)
+        (S.reads store.old) (S.reads store.new) ending) }
+    ensures quiet { OnOk result (S.faults store.new ≡ S.faults store.old) }
+    ensures same { OnOk result (patterns_state (P.refusals patterns.new) (P.refused patterns.new) ≡
+        patterns_state (P.refusals patterns.old) (P.refused patterns.old)) }
+    ensures held { S.held store.new ≡ S.held store.old }
+    ensures taken { S.taken store.old ≤ S.taken store.new }
+{
+    match fetch_config(alloc, name, store) {
+        Ok(config) => setup_of(alloc, config, patterns),
+        Err(fault) => Err(fault.ending()),
+    }
+}
+
+/// Builds the patterns of the configuration, and gives what a server is run with.
+fn setup_of<P: Patterns>(alloc: Global, config: Config, patterns: &mut P) -> Result<Setup, Ending>
+    requires few { length (plan_patterns config.plan) ≤ CONFIG_LIMIT }
+    ensures { MakesSetup config
+        (patterns_state (P.refusals patterns.old) (P.refused patterns.old))
+        (patterns_state (P.refusals patterns.new) (P.refused patterns.new)) result }
+{
+    let Ok(address) = address_text(alloc, &config.host, config.port) else {
+        return Err(Ending::OutOfMemory);
+    };
+    match build_ready(alloc, config.plan, patterns) {
+        Ok(plan) => Ok(Setup {
+            address,
+            plan,
+            expiry: config.expiry,
+        }),
+        Err(BuildFault::Pattern { number }) => {
+            Err(Ending::ConfigRefused(ConfigRefusal::Pattern { number }))
+        }
+        Err(BuildFault::Memory) => Err(Ending::OutOfMemory),
+    }
+}
+
+/// The text `HOST:PORT`.
+fn address_text(alloc: Global, host: &Text, port: u16) -> Result<Text, Memory>
+    ensures { IfOk result (λ text. text ≡ address_text host.now port) }
+{
+    let host = host.as_str();
+    Ok(Text::from_string(format!(in alloc; "{host}:{port}")?))
+}

@@ -1,0 +1,64 @@
+-- What is known once bytes were fed, from what the run and the replies say.
+use Rattle.std.proofs.Common.{◌≡◌, ℕ, List, [], ◌∷◌, length, refl, inr, subst, arith}
+use Rattle.command_io.specs.Reports.{Reports}
+use Rattle.command_io.specs.declared.ending.Ending.{Ending}
+use Rattle.command_io.specs.declared.ending.Ending.TheVariants.{Finished, ConfigRefused, Unread, OverLimit, BytesLeft, WriteFailed, LinksFailed, ScriptRefused, OutOfMemory}
+use Rattle.command_setup.specs.Setups.{run_report_of}
+use Rattle.file_run.specs.Runs.{RunsWhole}
+use Rattle.framing.specs.Frames.{partial}
+use Rattle.hub_meaning.specs.Runs.{state_after}
+use Rattle.hub_run.specs.Runs.{config_at}
+use Rattle.hub_run.specs.Taken.{steps_of}
+use Rattle.hub_run.specs.declared.setup.Setup.{Setup}
+use Rattle.ports.specs.Pieces.{feed_script}
+use Rattle.ports.specs.Playing.{bytes_taken}
+use Rattle.ports.specs.Writing.{Got, GotPrefix}
+use Rattle.ports.specs.declared.entry.Entry.{Entry}
+use Rattle.ports.specs.declared.links.TheConstants.{PIECE_LIMIT}
+use Rattle.run_laws.specs.Laws.{FeedsAreAnswered}
+use Rattle.run_laws.specs.Taking.{replies_on}
+use Rattle.feed_command.specs.Feeding.{WritesReplies}
+use Rattle.feed_command.specs.Feeds.{BytesEnd, FeedsAll}
+
+pub nothing_left : (rest : List ℕ) → 0 ≡ length rest → rest ≡ []
+nothing_left [] e = refl
+nothing_left (byte ∷ rest) e = absurd (omega arith)
+
+pub some_left : (rest : List ℕ) (left : ℕ) → left ≡ length rest → (left ≡ 0 → ⊥) → rest ≡ [] → ⊥
+some_left rest left e positive nothing = positive (let none : length rest ≡ 0 = rw nothing refl in omega arith)
+
+-- after a run to its last turn, in which all notice lines were written, this was written of the replies
+fed_all : FeedsAreAnswered → (setup : Setup) (bytes : List ℕ) (old new : Reports) (run : List Entry) (Wrote : List ℕ → Type 0)
+    → RunsWhole setup (feed_script PIECE_LIMIT bytes) (run_report_of old old.err) (run_report_of new new.err) run
+    → new.err.faults ≡ old.err.faults → Wrote (bytes_taken 0 run) → FeedsAll setup bytes old new Wrote
+fed_all answered setup bytes old new run Wrote whole quiet wrote =
+    let ran = whole.1 in
+    let config = config_at setup ran.ran.secs in
+    let all : bytes_taken 0 run ≡ replies_on 0 (state_after config (steps_of ran.ran.turns)).links
+    = rw ran.ran.are (answered config PIECE_LIMIT bytes setup.address ran.ran.secs ran.ran.turns
+    (rw ran.ran.are at ran.scripted) ran.ran.takes.legal ran.ran.takes.settled) in
+    record {
+      run = run;
+      scripted = ran.scripted;
+      hub = whole.0;
+      ran = ran.ran;
+      wrote = subst Wrote all wrote;
+      all_lines = quiet;
+    }
+
+-- after a whole run the replies were written, or a prefix of them
+pub bytes_ended : FeedsAreAnswered → (setup : Setup) (bytes : List ℕ) (old new : Reports) (run : List Entry) (ending : Ending)
+    → RunsWhole setup (feed_script PIECE_LIMIT bytes) (run_report_of old old.err) (run_report_of new new.err) run
+    → new.err.faults ≡ old.err.faults → WritesReplies (bytes_taken 0 run) (partial bytes) old.out new.out ending → BytesEnd setup bytes old new ending
+bytes_ended answered setup bytes old new run Finished whole quiet writes =
+    (fed_all answered setup bytes old new run (λ replies. Got old.out.text replies new.out.text) whole quiet writes.1, writes.0)
+bytes_ended answered setup bytes old new run (BytesLeft count) whole quiet writes =
+    (fed_all answered setup bytes old new run (λ replies. Got old.out.text replies new.out.text) whole quiet writes.2, writes.0, writes.1)
+bytes_ended answered setup bytes old new run WriteFailed whole quiet writes =
+    inr (fed_all answered setup bytes old new run (λ replies. GotPrefix old.out.text replies new.out.text) whole quiet writes.0, writes.1)
+bytes_ended answered setup bytes old new run OutOfMemory whole quiet writes = absurd writes
+bytes_ended answered setup bytes old new run (ConfigRefused refusal) whole quiet writes = absurd writes
+bytes_ended answered setup bytes old new run (Unread source) whole quiet writes = absurd writes
+bytes_ended answered setup bytes old new run (OverLimit source) whole quiet writes = absurd writes
+bytes_ended answered setup bytes old new run LinksFailed whole quiet writes = absurd writes
+bytes_ended answered setup bytes old new run (ScriptRefused line) whole quiet writes = absurd writes

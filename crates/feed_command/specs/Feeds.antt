@@ -1,0 +1,105 @@
+-- What `feed CONFIG FILE` promises.
+use Rattle.std.specs.Prelude.{◌≡◌, ◌≢◌, ℕ, ◌≤◌, ◌⊎◌, List, [], ◌∷◌, length, Err}
+use Rattle.command_io.specs.Endings.{IsComplete, Reads, Says, status_of}
+use Rattle.command_io.specs.Reports.{IsIdle, Reports, SinkReport}
+use Rattle.command_io.specs.declared.ending.Ending.{Ending}
+use Rattle.command_io.specs.declared.ending.Ending.TheVariants.{Finished, BytesLeft, WriteFailed, OutOfMemory}
+use Rattle.command_io.specs.declared.limits.TheConstants.{CONFIG_LIMIT, FILE_LIMIT}
+use Rattle.command_io.specs.declared.status.Status.{Status}
+use Rattle.command_io.specs.declared.status.Status.TheVariants.{Done, Memory, Truncated}
+use Rattle.command_setup.specs.Setups.{RefusesSetup, SetsUp, run_report_of}
+use Rattle.conn_core.specs.declared.hub.Hub.{Hub}
+use Rattle.file_run.specs.Files.{IsFile, ReadCounts, RefusesFile}
+use Rattle.file_run.specs.Runs.{RunsScript, most_turns}
+use Rattle.framing.specs.Frames.{partial}
+use Rattle.hub_meaning.specs.Runs.{state_after}
+use Rattle.hub_run.specs.Runs.{Finishes, config_at}
+use Rattle.hub_run.specs.Taken.{steps_of}
+use Rattle.hub_run.specs.declared.fault.RunFault.{RunFault}
+use Rattle.hub_run.specs.declared.fault.RunFault.TheVariants as cause
+use Rattle.hub_run.specs.declared.setup.Setup.{Setup}
+use Rattle.ports.specs.Counts.{IsStill, Rose}
+use Rattle.ports.specs.Pieces.{feed_script}
+use Rattle.ports.specs.Playing.{IsScriptedRun}
+use Rattle.ports.specs.Reading.{Content, IsHeld}
+use Rattle.ports.specs.Writing.{Got, GotPrefix}
+use Rattle.ports.specs.declared.entry.Entry.{Entry}
+use Rattle.ports.specs.declared.links.TheConstants.{PIECE_LIMIT}
+use Rattle.run_laws.specs.Taking.{replies_on}
+use Rattle.sexp_config.specs.declared.config.Config.{Config as Configuration}
+use Rattle.sexp_config.specs.Config.{IsConfigOf}
+
+-- ---- the run
+
+-- The bytes came on link 0 in a run to its last turn, and the notice lines of all turns were written to the error
+-- stream. Then of the replies on that link so much was written to the output.
+pub record FeedsAll (setup : Setup) (bytes : List ℕ) (old new : Reports) (Wrote : List ℕ → Type 0) : Type 0 where
+  pub run : List Entry
+  pub scripted : IsScriptedRun (feed_script PIECE_LIMIT bytes) run
+  pub hub : Hub
+  pub ran : Finishes setup most_turns (run_report_of old old.err) (run_report_of new new.err) hub run
+  pub wrote : Wrote (replies_on 0 (state_after (config_at setup ran.secs) (steps_of ran.turns)).links)
+  pub all_lines : new.err.faults ≡ old.err.faults
+
+-- the run was cut off, and nothing was written to the output
+pub record FeedsSome (setup : Setup) (bytes : List ℕ) (old new : Reports) (fault : RunFault) : Type 0 where
+  pub run : List Entry
+  pub ran : RunsScript setup (feed_script PIECE_LIMIT bytes) (run_report_of old old.err) (run_report_of new new.err) (Err fault) run
+  pub no_reply : new.out ≡ old.out
+
+abbrev pub BytesEnd : Setup → List ℕ → Reports → Reports → Ending → Type 0
+BytesEnd setup bytes old new Finished = FeedsAll setup bytes old new (λ replies. Got old.out.text replies new.out.text) × (partial bytes ≡ [])
+BytesEnd setup bytes old new (BytesLeft count) = FeedsAll setup bytes old new (λ replies. Got old.out.text replies new.out.text)
+    × (partial bytes ≢ []) × (count ≡ length (partial bytes))
+BytesEnd setup bytes old new WriteFailed = (FeedsSome setup bytes old new cause.Sink × Rose old.err.faults new.err.faults)
+    ⊎ (FeedsAll setup bytes old new (λ replies. GotPrefix old.out.text replies new.out.text) × Rose old.out.faults new.out.faults)
+BytesEnd setup bytes old new OutOfMemory = (IsIdle old new × (new.err ≡ old.err) × (new.patterns ≡ old.patterns)) ⊎ FeedsSome setup bytes old new cause.Memory
+BytesEnd setup bytes old new _ = ⊥
+
+-- ---- the command
+
+-- the file was refused and nothing was run, or it was fed
+abbrev pub FileEnds : Setup → Content → Reports → Reports → Ending → Type 0
+FileEnds setup content old new ending =
+    (RefusesFile content old.store new.store ending × (new.patterns ≡ old.patterns) × (new.err ≡ old.err) × IsIdle old new)
+    ⊎ ((bytes : List ℕ) × IsFile content bytes × BytesEnd setup bytes old new ending)
+
+-- The configuration was refused and nothing was run, or it was accepted. The error stream is as it was before the line
+-- of the ending.
+abbrev pub FeedEnds : Content → Content → Reports → Reports → Ending → Type 0
+FeedEnds config file old new ending =
+    (RefusesSetup config old.store new.store old.patterns new.patterns ending × (new.err ≡ old.err) × IsIdle old new)
+    ⊎ ((setup : Setup) × SetsUp config setup × FileEnds setup file old new ending)
+
+-- the status of a call that met no fault and no refusal, by the bytes after the last whole frame
+abbrev pub HasFed : List ℕ → Status → Type 0
+HasFed rest Done = rest ≡ []
+HasFed rest Truncated = rest ≢ []
+HasFed rest Memory = Unit {0}
+HasFed rest _ = ⊥
+
+-- With files within their limits, a configuration, no fault and no pattern refused, the file is fed to its end and all
+-- is written, or memory runs out.
+abbrev pub FeedCompletes : List ℕ → List ℕ → Reports → Reports → Status → Type 0
+FeedCompletes config file old new status = (text bytes : List ℕ) (read : Configuration)
+    → IsHeld (old.store.held config) text → IsConfigOf text read → length text ≤ CONFIG_LIMIT
+    → IsHeld (old.store.held file) bytes → length bytes ≤ FILE_LIMIT
+    → IsStill old.store.faults new.store.faults → IsStill old.out.faults new.out.faults → IsStill old.err.faults new.err.faults
+    → IsStill old.patterns.refusals new.patterns.refusals → HasFed (partial bytes) status
+
+pub record Feeds (config file : List ℕ) (old new : Reports) (status : Status) : Type 0 where
+  -- how it ended, as the status and the line on the error stream say
+  pub ending : Ending
+  pub ended : status ≡ status_of ending
+  -- the error stream before that line
+  pub before : SinkReport
+  pub says : Says config file ending before new.err
+  -- why it ended so, and what was run and written
+  pub ends : FeedEnds (old.store.held config) (old.store.held file) old (record new { err = before }) ending
+  -- the links that were handed in were not called
+  pub untouched : new.links ≡ old.links
+  pub reads : Reads (config ∷ (file ∷ [])) (ReadCounts (old.store.held config) ending) old.store.reads new.store.reads ending
+  -- where it did all that it had to, no read failed, and no write of a notice line or of the replies
+  pub quiet : IsComplete ending
+      → (new.store.faults ≡ old.store.faults) × (new.out.faults ≡ old.out.faults) × (before.faults ≡ old.err.faults)
+  pub complete : FeedCompletes config file old new status

@@ -1,0 +1,110 @@
+ghost use Rattle.std.specs.Prelude.{◌≡◌, ℕ, ◌≤◌, List, [], length};
+ghost use Rattle.std.specs.Option.{ForSome};
+ghost use Rattle.command_io.specs.Endings.{IsComplete};
+ghost use Rattle.command_io.specs.Reports.{LinksReport, StoreReport, reports, sink_report};
+ghost use Rattle.feed_command.specs.Feeding.{WritesReplies};
+ghost use Rattle.feed_command.specs.Feeds.{BytesEnd};
+ghost use Rattle.file_run.specs.Files.{IsAfterRun};
+ghost use Rattle.framing.specs.Frames.{partial};
+ghost use Rattle.hub_meaning.specs.Verdicts.{patterns_state};
+ghost use Rattle.ports.specs.Pieces.{feed_script};
+
+use crate::left::bytes_left;
+use command_io::{Ending, put_all};
+use ev_types::Blob;
+use file_run::run_script;
+use hub_run::{RunFault, Setup};
+use ports::{PIECE_LIMIT, ScriptLinks, Sink, feed_links};
+use pred_eval::Patterns;
+use run_laws::feeds_are_answered;
+use std::alloc::Global;
+use step_count::{Ledger, Steps};
+
+/// Runs a server to which the bytes come on link 0. The notices are written to `err`, and then the
+/// replies to `out`.
+pub(crate) fn serve_bytes<O: Sink, E: Sink, P: Patterns, G: Ledger>(
+    alloc: Global,
+    setup: Setup,
+    bytes: Blob,
+    out: &mut O,
+    err: &mut E,
+    patterns: &mut P,
+    steps: &mut Steps<G>,
+) -> Ending
+    requires interval { ForSome setup.expiry (λ set. (1 ≤ set.interval) ×
+        (set.interval ≤ 604800)) }
+    ensures ends { (store store' : StoreReport) (links : LinksReport) → BytesEnd setup bytes
+        (reports store links (sink_report (O.text out.old) (O.puts out.old) (O.faults out.old))
+        (sink_report (E.text err.old) (E.puts err.old) (E.faults err.old))
+        (patterns_state (P.refusals patterns.old) (P.refused patterns.old)) steps.old.forks)
+        (reports store' links (sink_report (O.text out.new) (O.puts out.new) (O.faults out.new))
+        (sink_report (E.text err.new) (E.puts err.new) (E.faults err.new))
+        (patterns_state (P.refusals patterns.new) (P.refused patterns.new)) steps.new.forks)
+        result }
+    ensures quiet { IsComplete result → (O.faults out.new ≡ O.faults out.old) ×
+        (E.faults err.new ≡ E.faults err.old) }
+    ensures after { IsAfterRun result }
+{
+    let left = bytes_left(bytes.as_slice());
+    match feed_links(alloc, bytes) {
+        Ok(links) => serve_links(alloc, setup, left, links, out, err, patterns, steps),
+        Err(_) => Ending::OutOfMemory,
+    }
+}
+
+/// Runs a server over links that hand out bytes, of which `left` come after the last whole frame.
+fn serve_links<O: Sink, E: Sink, P: Patterns, G: Ledger>(
+    alloc: Global,
+    setup: Setup,
+    left: usize,
+    mut links: ScriptLinks,
+    out: &mut O,
+    err: &mut E,
+    patterns: &mut P,
+    steps: &mut Steps<G>,
+) -> Ending
+    requires interval { ForSome setup.expiry (λ set. (1 ≤ set.interval) ×
+        (set.interval ≤ 604800)) }
+    requires begins { links.log ≡ [] }
+    ensures ends { (bytes : List ℕ) (store store' : StoreReport) (handed : LinksReport) →
+        links.script ≡ feed_script PIECE_LIMIT bytes → left ≡ length (partial bytes) →
+        BytesEnd setup bytes
+        (reports store handed (sink_report (O.text out.old) (O.puts out.old) (O.faults out.old))
+        (sink_report (E.text err.old) (E.puts err.old) (E.faults err.old))
+        (patterns_state (P.refusals patterns.old) (P.refused patterns.old)) steps.old.forks)
+        (reports store' handed (sink_report (O.text out.new) (O.puts out.new) (O.faults out.new))
+        (sink_report (E.text err.new) (E.puts err.new) (E.faults err.new))
+        (patterns_state (P.refusals patterns.new) (P.refused patterns.new)) steps.new.forks)
+        result }
+    ensures quiet { IsComplete result → (O.faults out.new ≡ O.faults out.old) ×
+        (E.faults err.new ≡ E.faults err.old) }
+    ensures after { IsAfterRun result }
+{
+    match run_script(alloc, setup, &mut links, err, patterns, steps) {
+        Ok(()) => {
+            feeds_are_answered();
+            write_replies(links.taken(0).as_slice(), left, out)
+        }
+        Err(RunFault::Sink) => Ending::WriteFailed,
+        Err(RunFault::Memory) => Ending::OutOfMemory,
+        Err(RunFault::Links) => Ending::LinksFailed,
+    }
+}
+
+/// Writes the replies to a file, of which `left` bytes come after the last whole frame.
+fn write_replies<O: Sink>(replies: &[u8], left: usize, out: &mut O) -> Ending
+    ensures after { IsAfterRun result }
+    ensures writes { (rest : List ℕ) → left ≡ length rest → WritesReplies replies.now rest
+        (sink_report (O.text out.old) (O.puts out.old) (O.faults out.old))
+        (sink_report (O.text out.new) (O.puts out.new) (O.faults out.new)) result }
+    ensures quiet { IsComplete result → O.faults out.new ≡ O.faults out.old }
+{
+    let Ok(()) = put_all(out, replies) else {
+        return Ending::WriteFailed;
+    };
+    if left == 0 {
+        Ending::Finished
+    } else {
+        Ending::BytesLeft { count: left }
+    }
+}

@@ -1,0 +1,8 @@
+//! What the commands share that run a server over a file: the file, and a run over links that play a script.
+#![tactic(auto)]
+
+mod read;
+mod run;
+
+pub use read::read_other;
+pub use run::run_script;

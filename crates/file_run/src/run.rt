@@ -1,0 +1,48 @@
+ghost use Rattle.std.specs.Prelude.{◌≡◌, ◌≢◌, ◌≤◌, [], Err, IfErr, OnOk};
+ghost use Rattle.std.specs.Option.{ForSome};
+ghost use Rattle.conn_core.specs.Turning.{sink_got};
+ghost use Rattle.hub_meaning.specs.Verdicts.{patterns_state};
+ghost use Rattle.hub_run.specs.Runs.{run_report};
+ghost use Rattle.ports.specs.Counts.{Rose};
+ghost use Rattle.file_run.specs.Runs.{RunsScript, RunsWhole};
+
+use hub_run::{RunFault, Setup, run};
+use ports::{ScriptLinks, Sink};
+use pred_eval::Patterns;
+use std::alloc::Global;
+use step_count::{Ledger, Steps};
+
+/// Runs a server over the links from the first turn of their script to its last, with at most `u64::MAX` turns.
+/// Notices are written to `sink`, a line in each put.
+#[tactic(auto, using(crate::proofs::PlayLaws::plays_at_first, crate::proofs::PlayLaws::run_of_all, crate::proofs::PlayLaws::scripted))]
+pub fn run_script<O: Sink, P: Patterns, G: Ledger>(
+    alloc: Global,
+    setup: Setup,
+    links: &mut ScriptLinks,
+    sink: &mut O,
+    patterns: &mut P,
+    steps: &mut Steps<G>,
+) -> Result<(), RunFault>
+    requires interval { ForSome setup.expiry (λ set. (1 ≤ set.interval) ×
+        (set.interval ≤ 604800)) }
+    requires begins { links.old.log ≡ [] }
+    ensures whole { OnOk result (RunsWhole setup links.old.script
+        (run_report (patterns_state (P.refusals patterns.old) (P.refused patterns.old))
+        steps.old.forks (sink_got (O.text sink.old) (O.puts sink.old)))
+        (run_report (patterns_state (P.refusals patterns.new) (P.refused patterns.new))
+        steps.new.forks (sink_got (O.text sink.new) (O.puts sink.new))) links.new.log) }
+    ensures cut { IfErr result (λ fault. RunsScript setup links.old.script
+        (run_report (patterns_state (P.refusals patterns.old) (P.refused patterns.old))
+        steps.old.forks (sink_got (O.text sink.old) (O.puts sink.old)))
+        (run_report (patterns_state (P.refusals patterns.new) (P.refused patterns.new))
+        steps.new.forks (sink_got (O.text sink.new) (O.puts sink.new))) (Err fault)
+        links.new.log) }
+    ensures script { links.new.script ≡ links.old.script }
+    ensures links_work { result ≢ Err RunFault.Links }
+    ensures sink_fault { result ≡ Err RunFault.Sink →
+        Rose (O.faults sink.old) (O.faults sink.new) }
+    ensures sink_quiet { result ≢ Err RunFault.Sink → O.faults sink.new ≡ O.faults sink.old }
+{
+    let _hub = run(alloc, setup, u64::MAX, links, sink, patterns, steps)?;
+    Ok(())
+}

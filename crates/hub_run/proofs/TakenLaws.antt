@@ -1,0 +1,154 @@
+-- What one more turn adds to those that were taken.
+use Rattle.std.proofs.Common.{◌≡◌, ℕ, zero, suc, ◌+◌, ◌<◌, ◌≤◌, ◌||◌, Bool, true, false, List, [], ◌∷◌, ◌++◌, length, take, Ok, Err, refl, ap, sym, ◌∙◌, subst, arith, append-nil, length-append}
+use Rattle.std.specs.Prelude.{IsTrue, Option, Some, None, option_map, option_to_list}
+use Rattle.std.specs.List.{AllByRecursion, list_any}
+use Rattle.std.proofs.lemmas.Grind.{flat_map-append}
+use Rattle.std.proofs.lemmas.List.Folds.{list_any-append}
+use Rattle.ev_types.specs.declared.item.Notice.{Notice}
+use Rattle.event_core.specs.Core.{CoreConfig, forks_by}
+use Rattle.hub_link.specs.Added.{IsSendOrClose}
+use Rattle.hub_meaning.specs.Legal.{IsLegal}
+use Rattle.hub_meaning.specs.Runs.{Step, notices_after, state_after}
+use Rattle.hub_meaning.specs.Verdicts.{AfterVerdicts, PatternsState, Refusal, is_refused, refused_text, texts_refused}
+use Rattle.list_laws.specs.Counts.{Rose}
+use Rattle.msg_replies.proofs.VerdictLaws.{appended_twice, no_verdicts}
+use Rattle.notice_sink.specs.Lines.{lines_of, notice_line}
+use Rattle.ports.specs.declared.entry.Entry.{Entry}
+use Rattle.ports.specs.declared.links.Turn.{Turn}
+use Rattle.ports.specs.declared.links.Want.{Want}
+use Rattle.ports.specs.Counts.{count_after}
+use Rattle.ports.specs.Writing.{Got}
+use Rattle.conn_core.specs.Hub.{Follows, wants_in}
+use Rattle.conn_core.specs.Turning.{CountedPuts, GotLines, SinkGot, Turns, longer, puts_after, turn_step}
+use Rattle.conn_core.specs.declared.hub.Hub.{Hub}
+use Rattle.conn_core.specs.declared.stop.Stop.{Stop}
+use Rattle.conn_core.proofs.LineLaws.{counted_nothing, got_nothing, got_then}
+use Rattle.hub_run.specs.Runs.{RunReport, StopsIn, TakesTurns}
+use Rattle.hub_run.specs.Taken.{AsksOnce, TakenTurn, entries_of, entries_of_turn, steps_of, steps_of_turn, verdicts_of, verdicts_of_turn}
+
+-- ---- lists
+
+pub all_more : {X : Type 0} (P : X → Type 0) (xs : List X) (last : X) → AllByRecursion P xs → P last → AllByRecursion P (xs ++ last ∷ [])
+all_more P [] last all one = (one, tt)
+all_more P (x ∷ xs) last all one = (all.0, all_more P xs last all.1 one)
+
+steps_more : (turns : List TakenTurn) (last : TakenTurn)
+    → steps_of (turns ++ last ∷ []) ≡ longer (steps_of turns) (turn_step last.wants last.turn last.piece last.verdicts) last.calls
+steps_more turns last = flat_map-append steps_of_turn turns (last ∷ []) ∙ ap (λ (steps : List Step). steps_of turns ++ steps) (append-nil (steps_of_turn last))
+
+pub entries_more : (turns : List TakenTurn) (last : TakenTurn) → entries_of (turns ++ last ∷ []) ≡ entries_of turns ++ entries_of_turn last
+entries_more turns last = flat_map-append entries_of_turn turns (last ∷ []) ∙ ap (λ (run : List Entry). entries_of turns ++ run) (append-nil (entries_of_turn last))
+
+verdicts_more : (turns : List TakenTurn) (last : TakenTurn) → verdicts_of (turns ++ last ∷ []) ≡ verdicts_of turns ++ last.verdicts
+verdicts_more turns last =
+    flat_map-append verdicts_of_turn turns (last ∷ []) ∙ ap (λ (verdicts : List (Option Refusal)). verdicts_of turns ++ verdicts) (append-nil last.verdicts)
+
+-- ---- verdicts
+
+rose_either : (t u : Bool) (a b c : ℕ) → (IsTrue t → Rose a b) → (IsTrue u → Rose b c) → a ≤ b → b ≤ c → IsTrue (t || u) → Rose a c
+rose_either true u a b c first last below above either = λ small. omega (arith, first refl (omega arith))
+rose_either false u a b c first last below above either = λ small. omega (arith, last either small)
+
+still_both : (t u : Bool) (a b c : ℕ) → (t ≡ false → b ≡ a) → (u ≡ false → c ≡ b) → t || u ≡ false → c ≡ a
+still_both true u a b c first last neither = absurd (cc neither)
+still_both false u a b c first last neither = last neither ∙ first refl
+
+pub verdicts_then : (a b c : PatternsState) (first second : List (Option Refusal)) → AfterVerdicts a b first → AfterVerdicts b c second → AfterVerdicts a c (first ++ second)
+verdicts_then a b c first second one two = record {
+  told = two.told
+      ∙ ap (option_map (λ (texts : List (List ℕ)). texts ++ texts_refused second)) one.told
+      ∙ appended_twice a.refused (texts_refused first) (texts_refused second)
+      ∙ ap (λ (more : List (List ℕ)). option_map (λ (texts : List (List ℕ)). texts ++ more) a.refused)
+      (sym (flat_map-append (λ (verdict : Option Refusal). option_to_list (option_map refused_text verdict)) first second));
+  never_falls = omega (arith, one.never_falls, two.never_falls);
+  rose = λ refused. rose_either (list_any is_refused first) (list_any is_refused second) a.refusals b.refusals c.refusals one.rose two.rose one.never_falls two.never_falls
+      (sym (list_any-append is_refused first second) ∙ refused);
+  still = λ none. still_both (list_any is_refused first) (list_any is_refused second) a.refusals b.refusals c.refusals one.still two.still
+      (sym (list_any-append is_refused first second) ∙ none);
+}
+
+-- ---- lines
+
+puts_more : (i j count : ℕ) → puts_after j (puts_after i count) ≡ puts_after (i + j) count
+puts_more i zero count = let is : i ≡ i + zero = omega arith in ap (λ (n : ℕ). puts_after n count) is
+puts_more i (suc j) count =
+    let is : suc (i + j) ≡ i + suc j = omega arith in
+    ap (λ (n : ℕ). count_after n 1) (puts_more i j count) ∙ ap (λ (n : ℕ). puts_after n count) is
+
+puts_both : (puts : Option ℕ) (i j : ℕ) → option_map (puts_after j) (option_map (puts_after i) puts) ≡ option_map (puts_after (i + j)) puts
+puts_both None i j = refl
+puts_both (Some count) i j = ap Some (puts_more i j count)
+
+puts_then : (a b c : Option ℕ) (i j : ℕ) → CountedPuts a i b → CountedPuts b j c → CountedPuts a (i + j) c
+puts_then a b c i j one two = two ∙ ap (option_map (puts_after j)) one ∙ puts_both a i j
+
+lines_then : (a b c : SinkGot) (first second : List Notice) → GotLines a first b → GotLines b second c → GotLines a (first ++ second) c
+lines_then a b c first second one two = record {
+  text = subst (λ (bytes : List ℕ). Got a.text bytes c.text) (sym (flat_map-append notice_line first second))
+      (got_then a.text b.text c.text (lines_of first) (lines_of second) one.text two.text);
+  puts = subst (λ (n : ℕ). CountedPuts a.puts n c.puts) (sym (length-append first second))
+      (puts_then a.puts b.puts c.puts (length first) (length second) one.puts two.puts);
+}
+
+-- ---- turns
+
+pub takes_nothing : (config : CoreConfig) (report : RunReport) → TakesTurns config report report []
+takes_nothing config report =
+    let none : forks_by config (state_after config []).arrivals ≡ 0 = refl in
+    record {
+      legal = tt;
+      settled = tt;
+      once = tt;
+      verdicts = no_verdicts report.patterns;
+      lines = record { text = got_nothing report.sink.text; puts = counted_nothing report.sink.puts };
+      forks = omega (arith, none);
+    }
+
+abbrev pub taken_turn : List Want → Turn → List ℕ → List (Option Refusal) → List Entry → TakenTurn
+taken_turn wants turn piece verdicts calls = record { wants = wants; turn = turn; piece = piece; verdicts = verdicts; calls = calls }
+
+module _ (config : CoreConfig) (old mid new : RunReport) (hub hub' : Hub) (turns : List TakenTurn) (turn : Turn) (piece : List ℕ) (calls : List Entry)
+    (takes : TakesTurns config old mid turns) (once : AllByRecursion IsSendOrClose calls) where
+  -- the turn was done
+  pub follows_more : (does : Turns turn piece hub hub' mid.patterns new.patterns mid.forks new.forks mid.sink new.sink (Ok tt) config (steps_of turns) calls)
+      → Follows hub' config (steps_of (turns ++ taken_turn (wants_in hub) turn piece does.verdicts calls ∷ []))
+  follows_more does = subst (Follows hub' config) (sym (steps_more turns (taken_turn (wants_in hub) turn piece does.verdicts calls))) does.follows
+
+  pub takes_more : (does : Turns turn piece hub hub' mid.patterns new.patterns mid.forks new.forks mid.sink new.sink (Ok tt) config (steps_of turns) calls)
+      → TakesTurns config old new (turns ++ taken_turn (wants_in hub) turn piece does.verdicts calls ∷ [])
+  takes_more does =
+      let last : TakenTurn = taken_turn (wants_in hub) turn piece does.verdicts calls in
+      let is = steps_more turns last in
+      let follows = follows_more does in
+      let before : List Notice = notices_after config (steps_of turns) in
+      let notices : notices_after config (steps_of (turns ++ last ∷ [])) ≡ before ++ does.made = ap (notices_after config) is ∙ does.notices in
+      record {
+        legal = follows.legal;
+        settled = follows.settled;
+        once = all_more AsksOnce turns last takes.once once;
+        verdicts = subst (AfterVerdicts old.patterns new.patterns) (sym (verdicts_more turns last))
+            (verdicts_then old.patterns mid.patterns new.patterns (verdicts_of turns) does.verdicts takes.verdicts does.reported);
+        lines = subst (λ (ns : List Notice). GotLines old.sink ns new.sink) (sym notices)
+            (lines_then old.sink mid.sink new.sink before does.made takes.lines does.lines);
+        forks = subst (λ (steps : List Step). new.forks ≡ old.forks + forks_by config (state_after config steps).arrivals) (sym is)
+            (omega (arith, takes.forks, does.counted));
+      }
+
+  -- the hub stopped in the middle of it
+  pub stops_more : (stop : Stop) → (does : Turns turn piece hub hub' mid.patterns new.patterns mid.forks new.forks mid.sink new.sink (Err stop) config (steps_of turns) calls)
+      → StopsIn config old new turns (taken_turn (wants_in hub) turn piece does.verdicts calls)
+  stops_more stop does =
+      let last : TakenTurn = taken_turn (wants_in hub) turn piece does.verdicts calls in
+      let is = steps_more turns last in
+      record {
+        legal = subst (IsLegal config) (sym is) does.legal;
+        settled = takes.settled;
+        once = all_more AsksOnce turns last takes.once once;
+        verdicts = subst (AfterVerdicts old.patterns new.patterns) (sym (verdicts_more turns last))
+            (verdicts_then old.patterns mid.patterns new.patterns (verdicts_of turns) does.verdicts takes.verdicts does.reported);
+        made = does.made;
+        notices = ap (notices_after config) is ∙ does.notices;
+        count = does.prefix.0;
+        lines = got_then old.sink.text mid.sink.text new.sink.text (lines_of (notices_after config (steps_of turns))) (take does.prefix.0 (lines_of does.made))
+            takes.lines.text does.prefix.1;
+      }

@@ -1,0 +1,12 @@
+//! One run of a server: it listens, and then takes turn after turn.
+#![tactic(auto)]
+
+mod fault;
+mod server;
+mod setup;
+mod start;
+mod turn;
+
+pub use fault::RunFault;
+pub use server::run;
+pub use setup::Setup;

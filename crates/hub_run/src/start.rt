@@ -1,0 +1,61 @@
+ghost use Rattle.std.specs.Prelude.{◌≡◌, ◌≢◌, ◌≤◌, [], vec_len, Err, IfOk};
+ghost use Rattle.std.specs.Option.{ForSome};
+ghost use Rattle.conn_core.specs.Hub.{Follows, wants_in};
+ghost use Rattle.hub_run.specs.Runs.{AddsRun, config_at};
+ghost use Rattle.hub_run.specs.Taking.{ListensOn};
+ghost use Rattle.ports.specs.Counts.{Rose};
+ghost use Rattle.ports.specs.Playing.{Plays};
+
+use crate::{RunFault, Setup};
+use conn_core::Hub;
+use ev_types::{Memory, Text};
+use event_core::Core;
+use ports::{Links, ListenAnswer, PIECE_LIMIT};
+use std::alloc::Global;
+
+/// The last moment of the clock, in seconds since 1970.
+const LATEST_MOMENT: u64 = 1 << 40;
+
+/// A buffer for the bytes that a turn reads.
+pub(crate) fn buffer(alloc: Global) -> Result<Vec<u8>, Memory>
+    ensures { IfOk result (λ buf. vec_len buf ≡ PIECE_LIMIT) }
+{
+    Ok(vec![in alloc; 0; PIECE_LIMIT]?)
+}
+
+/// Starts to listen, and gives the first reading of the clock, in seconds since 1970.
+pub(crate) fn listen<L: Links>(
+    alloc: Global,
+    address: &Text,
+    links: &mut L,
+) -> Result<u64, RunFault>
+    ensures listens { AddsRun (L.log links.old) (L.log links.new)
+        (ListensOn address.now result) }
+    ensures links_fault { result ≡ Err RunFault.Links →
+        Rose (L.faults links.old) (L.faults links.new) }
+    ensures links_quiet { result ≢ Err RunFault.Links →
+        L.faults links.new ≡ L.faults links.old }
+    ensures no_sink { result ≢ Err RunFault.Sink }
+    ensures script { L.script links.new ≡ L.script links.old }
+    ensures plays { Plays (L.script links.old) (L.log links.old)
+        → Plays (L.script links.new) (L.log links.new) }
+{
+    match links.listen(alloc, address) {
+        ListenAnswer::Ready { secs } => Ok(secs),
+        ListenAnswer::Failed => Err(RunFault::Links),
+        ListenAnswer::Memory => Err(RunFault::Memory),
+    }
+}
+
+/// A hub over a new core, whose clock is first read as `secs`.
+pub(crate) fn open_hub(alloc: Global, setup: Setup, secs: u64) -> Result<Hub, Memory>
+    requires interval { ForSome setup.expiry (λ set. (1 ≤ set.interval) ×
+        (set.interval ≤ 604800)) }
+    ensures follows { IfOk result (λ hub. Follows hub (config_at setup secs) []) }
+    ensures wants { IfOk result (λ hub. wants_in hub ≡ []) }
+{
+    let moment = secs.min(LATEST_MOMENT);
+    let core = Core::fresh(alloc, setup.plan, setup.expiry, moment)?;
+    let hub = Hub::fresh(alloc, core)?;
+    Ok(hub)
+}

@@ -1,0 +1,11 @@
+use Rattle.std.proofs.Common.{◌≡◌, take}
+use Rattle.std.specs.List.{flat_map}
+use Rattle.ports.specs.Writing.{Got}
+use Rattle.link_lines.specs.LinkLines.{line_after}
+use Rattle.link_lines.proofs.write.write_lines.Given as goal
+
+abbrev pub invariant-loop-number : goal.invariant-loop-number
+invariant-loop-number g l = record {
+  got : Got (g.O.Sink.text l.fn.out) (flat_map (line_after l.links.log) (take l.number-index l.numbers)) (g.O.Sink.text l.out);
+  faults : g.O.Sink.faults l.out ≡ g.O.Sink.faults l.fn.out;
+}

@@ -1,0 +1,115 @@
+-- What a run over a load comes to, from what its parts say.
+use Rattle.std.proofs.Common.{◌≡◌, ℕ, zero, suc, ◌+◌, ◌<◌, List, [], ◌∷◌, ◌++◌, length, refl, sym, ap, ◌∙◌, subst, inl, arith}
+use Rattle.std.specs.Prelude.{min, None, Option, Some, Result, Ok, Err}
+use Rattle.conn_core.specs.Hub.{core_of}
+use Rattle.conn_core.specs.Turning.{CountedPuts, puts_after}
+use Rattle.conn_core.specs.declared.hub.Hub.{Hub}
+use Rattle.event_core.specs.Core.{Represents, config_of, state_by}
+use Rattle.event_core.specs.declared.arrivals.Core.{Core}
+use Rattle.framing.specs.Frames.{frames_of}
+use Rattle.hub_meaning.specs.Runs.{state_after}
+use Rattle.hub_meaning.specs.Verdicts.{PatternsState}
+use Rattle.hub_run.specs.Runs.{AddsRun, Finishes, RunsTo, config_at}
+use Rattle.hub_run.specs.Taken.{steps_of}
+use Rattle.hub_run.specs.declared.fault.RunFault.{RunFault}
+use Rattle.hub_run.specs.declared.fault.RunFault.TheVariants.{Memory}
+use Rattle.hub_run.specs.declared.setup.Setup.{Setup}
+use Rattle.index_log.specs.Live.{live_events}
+use Rattle.load_links.specs.Load.{load_script}
+use Rattle.ports.specs.Counts.{greatest}
+use Rattle.ports.specs.Playing.{IsScriptedRun, Plays, bytes_taken}
+use Rattle.ports.specs.declared.entry.Entry.{Entry}
+use Rattle.ports.specs.declared.script.Script.{Script}
+use Rattle.stream_meaning.specs.Arrivals.{Arrival}
+use Rattle.load_command.specs.Summaries.{IsCutOff, IsPlayed, counted, summary_of}
+use Rattle.load_command.specs.declared.summary.Summary.{Summary}
+
+-- ---- the lines that were counted
+
+pub puts_from_none : (n : ℕ) → puts_after n 0 ≡ min n greatest
+puts_from_none zero = omega arith
+puts_from_none (suc n) =
+    let step : min (min n greatest + 1) greatest ≡ min (suc n) greatest = omega arith in
+    ap (λ count. min (count + 1) greatest) (puts_from_none n) ∙ step
+
+lines_counted : (n lines : ℕ) → CountedPuts (Some 0) n (Some lines) → lines ≡ min n greatest
+lines_counted n lines puts = let e : lines ≡ puts_after n 0 = cc in e ∙ puts_from_none n
+
+-- ---- the calls that were made of the links
+
+begun_plays : (script : Script) (log : List Entry) → log ≡ [] → Plays (Some script) (Some log)
+begun_plays script log begins = λ played p calls q.
+    let none : [] ≡ calls = cc in
+    subst (λ entries. IsScriptedRun played entries) none tt
+
+grown_from_none : (log log' run : List Entry) → log ≡ [] → Some log' ≡ Some (log ++ run) → log' ≡ run
+grown_from_none log log' run begins grew = let e : log' ≡ log ++ run = cc in e ∙ ap (λ entries. entries ++ run) begins
+
+scripted : (wanted script script' : Script) (log log' run : List Entry) → log ≡ [] → script ≡ wanted → Some script' ≡ Some script
+    → (Plays (Some script) (Some log) → Plays (Some script') (Some log')) → Some log' ≡ Some (log ++ run) → IsScriptedRun wanted run
+scripted wanted script script' log log' run begins is same plays grew =
+    let played = plays (begun_plays script log begins) script' refl log' refl in
+    let script_is : script' ≡ wanted = cc in
+    let run_is = grown_from_none log log' run begins grew in
+    subst (λ entries. IsScriptedRun wanted entries) run_is (subst (λ s. IsScriptedRun s log') script_is played)
+
+-- ---- the run
+
+abbrev pub IsLive : Core → ℕ → Type 0
+IsLive core live = (arrivals : List Arrival) → Represents core arrivals → live ≡ length (live_events (state_by (config_of core) arrivals).log)
+
+abbrev summary_with : ℕ → ℕ → ℕ → ℕ → Summary
+summary_with events notices replies live = record { events = events; notices = notices; replies = replies; live = live }
+
+same_summary : (events notices notices' replies replies' live live' : ℕ) → notices ≡ notices' → replies ≡ replies' → live ≡ live'
+    → summary_with events notices replies live ≡ summary_with events notices' replies' live'
+same_summary events notices notices' replies replies' live live' a b c = rw a (rw b (rw c refl))
+
+finished : (setup : Setup) (count : ℕ) (patterns patterns' : PatternsState) (forks forks' lines replies live : ℕ) (hub : Hub) (run : List Entry)
+    → (finishes : Finishes setup greatest (counted patterns forks 0) (counted patterns' forks' lines) hub run)
+    → replies ≡ length (frames_of (bytes_taken 0 run)) → IsLive (core_of hub) live
+    → summary_with count lines replies live ≡ summary_of count (config_at setup finishes.secs) (steps_of finishes.turns) run
+finished setup count patterns patterns' forks forks' lines replies live hub run finishes replied lives =
+    let config = config_at setup finishes.secs in
+    let arrivals = (state_after config (steps_of finishes.turns)).arrivals in
+    let at = finishes.follows.state in
+    let noticed = lines_counted _ lines finishes.takes.lines.puts in
+    let living = lives arrivals at.arrivals ∙ ap (λ c. length (live_events (state_by c arrivals).log)) at.config_is in
+    same_summary count lines _ replies _ live _ noticed replied living
+
+pub is_played : (setup : Setup) (count start : ℕ) (patterns patterns' : PatternsState) (forks forks' lines replies live : ℕ) (hub : Hub) (core : Core)
+    (script script' : Script) (log log' : List Entry) → log ≡ [] → script ≡ load_script count start → Some script' ≡ Some script
+    → (Plays (Some script) (Some log) → Plays (Some script') (Some log'))
+    → AddsRun (Some log) (Some log') (RunsTo setup greatest (counted patterns forks 0) (counted patterns' forks' lines) (Ok hub))
+    → replies ≡ length (frames_of (bytes_taken 0 log')) → core ≡ core_of hub → IsLive core live
+    → IsPlayed setup count start patterns patterns' forks forks' (summary_with count lines replies live)
+is_played setup count start patterns patterns' forks forks' lines replies live hub core script script' log log' begins is same plays adds replied of_hub lives = record {
+  run = adds.run;
+  hub = hub;
+  scripted = scripted (load_script count start) script script' log log' adds.run begins is same plays adds.grew;
+  finishes = adds.holds;
+  sums = finished setup count patterns patterns' forks forks' lines replies live hub adds.run adds.holds
+      (replied ∙ ap (λ entries. length (frames_of (bytes_taken 0 entries))) (grown_from_none log log' adds.run begins adds.grew))
+      (subst (λ c. IsLive c live) of_hub lives);
+}
+
+pub is_cut_off : (setup : Setup) (count start : ℕ) (patterns patterns' : PatternsState) (forks forks' lines : ℕ) (fault : RunFault)
+    (script script' : Script) (log log' : List Entry) → fault ≡ Memory → log ≡ [] → script ≡ load_script count start → Some script' ≡ Some script
+    → (Plays (Some script) (Some log) → Plays (Some script') (Some log'))
+    → AddsRun (Some log) (Some log') (RunsTo setup greatest (counted patterns forks 0) (counted patterns' forks' lines) (Err fault))
+    → IsCutOff setup count start patterns patterns' forks forks'
+is_cut_off setup count start patterns patterns' forks forks' lines fault script script' log log' memory begins is same plays adds = record {
+  run = adds.run;
+  lines = lines;
+  scripted = scripted (load_script count start) script script' log log' adds.run begins is same plays adds.grew;
+  ran = subst (λ f. RunsTo setup greatest (counted patterns forks 0) (counted patterns' forks' lines) (Err f) adds.run) memory adds.holds;
+}
+
+-- nothing was done
+pub not_begun : (setup : Setup) (count start : ℕ) (patterns : PatternsState) (forks : ℕ) → IsCutOff setup count start patterns patterns forks forks
+not_begun setup count start patterns forks = record {
+  run = [];
+  lines = 0;
+  scripted = tt;
+  ran = inl (record { is = refl; same = refl });
+}

@@ -1,0 +1,62 @@
+-- What `load CONFIG N START` promises.
+use Rattle.std.specs.Prelude.{◌≡◌, ℕ, ◌≤◌, ◌⊎◌, List, [], ◌∷◌, length}
+use Rattle.hub_meaning.specs.Verdicts.{PatternsState}
+use Rattle.hub_run.specs.declared.setup.Setup.{Setup}
+use Rattle.ports.specs.Counts.{IsStill, Rose}
+use Rattle.ports.specs.Reading.{Content, IsHeld}
+use Rattle.ports.specs.Writing.{Got, GotPrefix}
+use Rattle.sexp_config.specs.declared.config.Config.{Config}
+use Rattle.sexp_config.specs.Config.{IsConfigOf}
+use Rattle.command_io.specs.declared.ending.Ending.{Ending}
+use Rattle.command_io.specs.declared.ending.Ending.TheVariants.{Finished, WriteFailed, OutOfMemory}
+use Rattle.command_io.specs.declared.limits.TheConstants.{CONFIG_LIMIT}
+use Rattle.command_io.specs.declared.status.Status.{Status}
+use Rattle.command_io.specs.Endings.{IsComplete, IsDoneOrMemory, IsReadOnce, Reads, Says, status_of}
+use Rattle.command_io.specs.Reports.{IsIdle, Reports, SinkReport}
+use Rattle.command_setup.specs.Setups.{RefusesSetup, SetsUp}
+use Rattle.load_command.specs.Summaries.{IsCutOff, IsPlayed, summary_line}
+use Rattle.load_command.specs.declared.summary.Summary.{Summary}
+
+-- the summary was written as a line, or a prefix of it, or memory ran out first
+abbrev pub WritesSummary : Summary → SinkReport → SinkReport → Ending → Type 0
+WritesSummary summary out out' Finished = Got out.text (summary_line summary) out'.text × (out'.faults ≡ out.faults)
+WritesSummary summary out out' WriteFailed = GotPrefix out.text (summary_line summary) out'.text × Rose out.faults out'.faults
+WritesSummary summary out out' OutOfMemory = out' ≡ out
+WritesSummary summary out out' _ = ⊥
+
+-- the run was cut off and nothing was written, or the load was played to its end
+abbrev pub RunEnds : Setup → ℕ → ℕ → PatternsState → PatternsState → ℕ → ℕ → SinkReport → SinkReport → Ending → Type 0
+RunEnds setup count start patterns patterns' forks forks' out out' ending =
+    ((ending ≡ OutOfMemory) × IsCutOff setup count start patterns patterns' forks forks' × (out' ≡ out))
+    ⊎ ((summary : Summary) × IsPlayed setup count start patterns patterns' forks forks' summary × WritesSummary summary out out' ending)
+
+-- The configuration was refused and nothing was run, or its server was run over the load. The content is that of the
+-- configuration's file.
+abbrev pub LoadEnds : Content → ℕ → ℕ → Reports → Reports → Ending → Type 0
+LoadEnds content count start old new ending =
+    (RefusesSetup content old.store new.store old.patterns new.patterns ending × IsIdle old new)
+    ⊎ ((setup : Setup) × SetsUp content setup
+    × RunEnds setup count start old.patterns new.patterns old.forks new.forks old.out new.out ending)
+
+-- with a configuration within its limit, no fault and no pattern refused, the load is played and its summary written, or
+-- memory runs out
+abbrev pub LoadCompletes : List ℕ → Reports → Reports → Status → Type 0
+LoadCompletes config old new status = (text : List ℕ) (read : Config)
+    → IsHeld (old.store.held config) text → IsConfigOf text read → length text ≤ CONFIG_LIMIT
+    → IsStill old.store.faults new.store.faults → IsStill old.out.faults new.out.faults
+    → IsStill old.patterns.refusals new.patterns.refusals → IsDoneOrMemory status
+
+pub record Loads (config : List ℕ) (count start : ℕ) (old new : Reports) (status : Status) : Type 0 where
+  -- how it ended, as the status and the line on the error stream say
+  pub ending : Ending
+  pub ended : status ≡ status_of ending
+  pub says : Says config config ending old.err new.err
+  -- the run and what was written of it, or why there was none
+  pub ends : LoadEnds (old.store.held config) count start old new ending
+  -- the links that were handed in were not called
+  pub untouched : new.links ≡ old.links
+  -- what it read
+  pub reads : Reads (config ∷ []) (IsReadOnce ending) old.store.reads new.store.reads ending
+  -- where it did all that it had to, nothing failed
+  pub quiet : IsComplete ending → (new.store.faults ≡ old.store.faults) × (new.out.faults ≡ old.out.faults)
+  pub complete : LoadCompletes config old new status

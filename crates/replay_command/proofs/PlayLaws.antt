@@ -1,0 +1,41 @@
+-- What is known once a script was played, from what its run and the lines of the links say.
+use Rattle.std.proofs.Common.{◌≡◌, ℕ, List, inr}
+use Rattle.command_io.specs.Endings.{IsComplete}
+use Rattle.command_io.specs.Reports.{Reports, SinkReport}
+use Rattle.command_io.specs.declared.ending.Ending.{Ending}
+use Rattle.command_io.specs.declared.ending.Ending.TheVariants.{Finished, ConfigRefused, Unread, OverLimit, BytesLeft, WriteFailed, LinksFailed, ScriptRefused, OutOfMemory}
+use Rattle.command_setup.specs.Setups.{run_report_of}
+use Rattle.file_run.specs.Runs.{RunsWhole}
+use Rattle.hub_run.specs.declared.setup.Setup.{Setup}
+use Rattle.link_lines.specs.LinkLines.{link_lines}
+use Rattle.ports.specs.declared.entry.Entry.{Entry}
+use Rattle.ports.specs.declared.script.Script.{Script}
+use Rattle.replay_command.specs.Playing.{WritesLines}
+use Rattle.replay_command.specs.Replays.{PlayEnds}
+
+-- after a whole run the lines were written, or a prefix of them
+pub play_ended : (setup : Setup) (script : Script) (old new : Reports) (before : SinkReport) (run : List Entry) (ending : Ending)
+    → RunsWhole setup script (run_report_of old old.out) (run_report_of new before) run → before.faults ≡ old.out.faults
+    → WritesLines (link_lines script run) before new.out ending → PlayEnds setup script old new ending
+play_ended setup script old new before run Finished ran same writes = record { run = run; before = before; ran = ran; wrote = writes.0 }
+play_ended setup script old new before run WriteFailed ran same writes =
+    (rw same at writes.1, inr (record { run = run; before = before; ran = ran; wrote = writes.0 }))
+play_ended setup script old new before run OutOfMemory ran same writes =
+    inr (record { run = run; before = before; ran = ran; wrote = writes })
+play_ended setup script old new before run (ConfigRefused refusal) ran same writes = absurd writes
+play_ended setup script old new before run (Unread source) ran same writes = absurd writes
+play_ended setup script old new before run (OverLimit source) ran same writes = absurd writes
+play_ended setup script old new before run (BytesLeft count) ran same writes = absurd writes
+play_ended setup script old new before run LinksFailed ran same writes = absurd writes
+play_ended setup script old new before run (ScriptRefused line) ran same writes = absurd writes
+
+pub lines_quiet : (lines : List ℕ) (old new : SinkReport) (ending : Ending) → WritesLines lines old new ending → IsComplete ending → new.faults ≡ old.faults
+lines_quiet lines old new Finished writes complete = writes.1
+lines_quiet lines old new WriteFailed writes complete = absurd complete
+lines_quiet lines old new OutOfMemory writes complete = absurd complete
+lines_quiet lines old new (ConfigRefused refusal) writes complete = absurd complete
+lines_quiet lines old new (Unread source) writes complete = absurd complete
+lines_quiet lines old new (OverLimit source) writes complete = absurd complete
+lines_quiet lines old new (BytesLeft count) writes complete = absurd writes
+lines_quiet lines old new LinksFailed writes complete = absurd complete
+lines_quiet lines old new (ScriptRefused line) writes complete = absurd complete

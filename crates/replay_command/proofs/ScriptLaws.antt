@@ -1,0 +1,121 @@
+-- What is known of a script, from what its file and its text say.
+use Rattle.std.proofs.Common.{◌≡◌, ℕ, ◌≤◌, List, [], ◌∷◌, length, refl, subst, sym}
+use Rattle.std.specs.Prelude.{Option, Result, Ok, Err, IfErr}
+use Rattle.command_io.proofs.EndingLaws.{told_of}
+use Rattle.command_io.specs.Endings.{IsComplete, status_of}
+use Rattle.command_io.specs.Files.{ForHeld, ReadMore, good_read}
+use Rattle.command_io.specs.Reports.{StoreReport}
+use Rattle.command_io.specs.declared.ending.Ending.{Ending}
+use Rattle.command_io.specs.declared.ending.Ending.TheVariants.{Finished, ConfigRefused, Unread, OverLimit, BytesLeft, WriteFailed, LinksFailed, ScriptRefused, OutOfMemory}
+use Rattle.command_io.specs.declared.limits.TheConstants.{FILE_LIMIT}
+use Rattle.command_io.specs.declared.status.Status.TheVariants.{ReadFault}
+use Rattle.file_run.proofs.OtherLaws.{file_refused_for_memory, file_refused_since, file_rose}
+use Rattle.file_run.specs.Files.{IsFile, OtherReads, ReadsOther, RefusesFile}
+use Rattle.ports.specs.Counts.{IsStill, Rose}
+use Rattle.ports.specs.Reading.{Content, IsHeld}
+use Rattle.ports.specs.declared.script.Script.{Script}
+use Rattle.ports.specs.declared.store.StoreRead.{StoreRead}
+use Rattle.script_text.specs.Scripts.{script_of}
+use Rattle.replay_command.specs.Scripts.{RefusesScript, RefusesText}
+
+-- a fact of the bytes that were read, as one of the file
+pub for_file : (content : Content) (bytes : List ℕ) (P : List ℕ → Type 0) → IsFile content bytes → P bytes
+    → ForHeld content (λ held. (length held ≤ FILE_LIMIT) × P held)
+for_file content bytes P is fact = λ held told. let file = is held told in
+    (file.0, file.1, (rw file.2.0 file.2.1, subst P (sym file.2.0) fact))
+
+pub text_refused : (content : Content) (bytes : List ℕ) (old new : StoreReport) (ending : Ending) → IsFile content bytes → RefusesText bytes ending
+    → RefusesScript content old new ending
+text_refused content bytes old new Finished is refuses = absurd refuses
+text_refused content bytes old new (ConfigRefused refusal) is refuses = absurd refuses
+text_refused content bytes old new (Unread source) is refuses = absurd refuses
+text_refused content bytes old new (OverLimit source) is refuses = absurd refuses
+text_refused content bytes old new (BytesLeft count) is refuses = absurd refuses
+text_refused content bytes old new WriteFailed is refuses = absurd refuses
+text_refused content bytes old new LinksFailed is refuses = absurd refuses
+text_refused content bytes old new (ScriptRefused line) is refuses = for_file content bytes (λ text. script_of text ≡ Err line) is refuses
+text_refused content bytes old new OutOfMemory is refuses = tt
+
+pub file_refused : (content : Content) (old new : StoreReport) (ending : Ending) → RefusesFile content old new ending → RefusesScript content old new ending
+file_refused content old new Finished refuses = refuses
+file_refused content old new (ConfigRefused refusal) refuses = refuses
+file_refused content old new (Unread source) refuses = refuses
+file_refused content old new (OverLimit source) refuses = refuses
+file_refused content old new (BytesLeft count) refuses = refuses
+file_refused content old new WriteFailed refuses = refuses
+file_refused content old new LinksFailed refuses = refuses
+file_refused content old new (ScriptRefused line) refuses = absurd refuses
+file_refused content old new OutOfMemory refuses = refuses
+
+refused_read : (old new : Option (List StoreRead)) (name text : List ℕ) (ending : Ending) → RefusesText text ending → ReadMore (good_read name ∷ []) old new
+    → OtherReads name old new ending
+refused_read old new name text Finished refuses grew = absurd refuses
+refused_read old new name text (ConfigRefused refusal) refuses grew = absurd refuses
+refused_read old new name text (Unread source) refuses grew = absurd refuses
+refused_read old new name text (OverLimit source) refuses grew = absurd refuses
+refused_read old new name text (BytesLeft count) refuses grew = absurd refuses
+refused_read old new name text WriteFailed refuses grew = absurd refuses
+refused_read old new name text LinksFailed refuses grew = absurd refuses
+refused_read old new name text (ScriptRefused line) refuses grew =
+    record { made = good_read name ∷ []; grew = grew; named = refl; counted = refl; failed = (refl, tt) }
+refused_read old new name text OutOfMemory refuses grew =
+    record { made = good_read name ∷ []; grew = grew; named = refl; counted = tt; failed = (refl, tt) }
+
+-- the file was read, whatever its text says
+pub text_read : {T : Type 0} (old new : Option (List StoreRead)) (name text : List ℕ) (result : Result T Ending) → IfErr result (RefusesText text)
+    → ReadMore (good_read name ∷ []) old new → ReadsOther name old new result
+text_read old new name text (Ok links) refuses grew = grew
+text_read old new name text (Err ending) refuses grew = refused_read old new name text ending refuses grew
+
+-- ---- there is no script
+
+pub script_not_complete : (content : Content) (old new : StoreReport) (ending : Ending) → RefusesScript content old new ending → IsComplete ending → ⊥
+script_not_complete content old new Finished refuses complete = refuses
+script_not_complete content old new (ConfigRefused refusal) refuses complete = complete
+script_not_complete content old new (Unread source) refuses complete = complete
+script_not_complete content old new (OverLimit source) refuses complete = complete
+script_not_complete content old new (BytesLeft count) refuses complete = refuses
+script_not_complete content old new WriteFailed refuses complete = complete
+script_not_complete content old new LinksFailed refuses complete = complete
+script_not_complete content old new (ScriptRefused line) refuses complete = complete
+script_not_complete content old new OutOfMemory refuses complete = complete
+
+pub script_refused_since : (content : Content) (old mid new : StoreReport) (ending : Ending) → mid.faults ≡ old.faults → old.taken ≤ mid.taken
+    → RefusesScript content mid new ending → RefusesScript content old new ending
+script_refused_since content old mid new Finished same rises refuses = absurd refuses
+script_refused_since content old mid new (ConfigRefused refusal) same rises refuses = absurd refuses
+script_refused_since content old mid new (Unread source) same rises refuses = file_refused_since content old mid new (Unread source) same rises refuses
+script_refused_since content old mid new (OverLimit source) same rises refuses = file_refused_since content old mid new (OverLimit source) same rises refuses
+script_refused_since content old mid new (BytesLeft count) same rises refuses = absurd refuses
+script_refused_since content old mid new WriteFailed same rises refuses = absurd refuses
+script_refused_since content old mid new LinksFailed same rises refuses = absurd refuses
+script_refused_since content old mid new (ScriptRefused line) same rises refuses = refuses
+script_refused_since content old mid new OutOfMemory same rises refuses = tt
+
+pub script_rose : (content : Content) (old new : StoreReport) (ending : Ending) → RefusesScript content old new ending → status_of ending ≡ ReadFault
+    → Rose old.faults new.faults
+script_rose content old new Finished refuses e = cc
+script_rose content old new (ConfigRefused refusal) refuses e = cc
+script_rose content old new (Unread source) refuses e = file_rose content old new (Unread source) refuses e
+script_rose content old new (OverLimit source) refuses e = cc
+script_rose content old new (BytesLeft count) refuses e = cc
+script_rose content old new WriteFailed refuses e = cc
+script_rose content old new LinksFailed refuses e = cc
+script_rose content old new (ScriptRefused line) refuses e = cc
+script_rose content old new OutOfMemory refuses e = cc
+
+-- a script within its limit is refused only for lack of memory, where no fault is counted
+pub script_refused_for_memory : (content : Content) (text : List ℕ) (script : Script) (old new : StoreReport) (ending : Ending) → IsHeld content text
+    → script_of text ≡ Ok script → length text ≤ FILE_LIMIT → IsStill old.faults new.faults → RefusesScript content old new ending → ending ≡ OutOfMemory
+script_refused_for_memory content text script old new Finished holds is fits still refuses = absurd refuses
+script_refused_for_memory content text script old new (ConfigRefused refusal) holds is fits still refuses = absurd refuses
+script_refused_for_memory content text script old new (Unread source) holds is fits still refuses =
+    file_refused_for_memory content text old new (Unread source) holds fits still refuses
+script_refused_for_memory content text script old new (OverLimit source) holds is fits still refuses =
+    file_refused_for_memory content text old new (OverLimit source) holds fits still refuses
+script_refused_for_memory content text script old new (BytesLeft count) holds is fits still refuses = absurd refuses
+script_refused_for_memory content text script old new WriteFailed holds is fits still refuses = absurd refuses
+script_refused_for_memory content text script old new LinksFailed holds is fits still refuses = absurd refuses
+script_refused_for_memory content text script old new (ScriptRefused line) holds is fits still refuses =
+    let refused : script_of text ≡ Err line = (told_of content text _ holds refuses).1 in cc
+script_refused_for_memory content text script old new OutOfMemory holds is fits still refuses = refl

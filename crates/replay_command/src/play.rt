@@ -1,0 +1,101 @@
+ghost use Rattle.std.specs.Prelude.{◌≡◌, ◌≤◌, [], Ok, IfErr, IfOk, OnOk};
+ghost use Rattle.std.specs.Option.{ForSome};
+ghost use Rattle.command_io.specs.Endings.{IsComplete};
+ghost use Rattle.command_io.specs.Reports.{LinksReport, SinkReport, StoreReport, reports, sink_report, store_report};
+ghost use Rattle.file_run.specs.Files.{IsAfterRun, ReadsOther};
+ghost use Rattle.hub_meaning.specs.Verdicts.{patterns_state};
+ghost use Rattle.link_lines.specs.LinkLines.{link_lines};
+ghost use Rattle.replay_command.specs.Playing.{WritesLines};
+ghost use Rattle.replay_command.specs.Replays.{PlayEnds};
+ghost use Rattle.replay_command.specs.Scripts.{IsScript, RefusesScript, RefusesText};
+ghost use Rattle.script_text.specs.Scripts.{script_of};
+
+use command_io::Ending;
+use ev_types::Text;
+use file_run::{read_other, run_script};
+use hub_run::{RunFault, Setup};
+use link_lines::{LineFault, write_link_lines};
+use ports::{ScriptLinks, Sink, Store};
+use pred_eval::Patterns;
+use script_text::{ScriptFault, read_script};
+use std::alloc::Global;
+use step_count::{Ledger, Steps};
+
+/// Reads the script in the file of the name, and gives links that play it.
+pub(crate) fn fetch_script<S: Store>(
+    alloc: Global,
+    name: &Text,
+    store: &mut S,
+) -> Result<ScriptLinks, Ending>
+    ensures script { IfOk result (λ links. IsScript (S.held store.old name.now) links.script) }
+    ensures begins { IfOk result (λ links. links.log ≡ []) }
+    ensures refused { IfErr result (λ ending. RefusesScript (S.held store.old name.now)
+        (store_report (S.held store.old) (S.reads store.old) (S.taken store.old)
+        (S.faults store.old))
+        (store_report (S.held store.new) (S.reads store.new) (S.taken store.new)
+        (S.faults store.new)) ending) }
+    ensures reads { ReadsOther name.now (S.reads store.old) (S.reads store.new) result }
+    ensures quiet { OnOk result (S.faults store.new ≡ S.faults store.old) }
+{
+    match read_other(alloc, name, store) {
+        Ok(text) => read_text(alloc, text.as_slice()),
+        Err(ending) => Err(ending),
+    }
+}
+
+/// Links that play the script that the text is.
+fn read_text(alloc: Global, text: &[u8]) -> Result<ScriptLinks, Ending>
+    ensures script { IfOk result (λ links. script_of text.now ≡ Ok links.script) }
+    ensures begins { IfOk result (λ links. links.log ≡ []) }
+    ensures refused { IfErr result (RefusesText text.now) }
+{
+    match read_script(alloc, text) {
+        Ok(links) => Ok(links),
+        Err(ScriptFault::Refused { line }) => Err(Ending::ScriptRefused { line }),
+        Err(ScriptFault::Memory) => Err(Ending::OutOfMemory),
+    }
+}
+
+/// Plays the script of the links to a server, and writes what each link was sent.
+pub(crate) fn play<O: Sink, P: Patterns, G: Ledger>(
+    alloc: Global,
+    setup: Setup,
+    mut links: ScriptLinks,
+    out: &mut O,
+    patterns: &mut P,
+    steps: &mut Steps<G>,
+) -> Ending
+    requires interval { ForSome setup.expiry (λ set. (1 ≤ set.interval) ×
+        (set.interval ≤ 604800)) }
+    requires begins { links.log ≡ [] }
+    ensures ends { (store store' : StoreReport) (handed : LinksReport) (err err' : SinkReport) →
+        PlayEnds setup links.script
+        (reports store handed (sink_report (O.text out.old) (O.puts out.old) (O.faults out.old))
+        err (patterns_state (P.refusals patterns.old) (P.refused patterns.old)) steps.old.forks)
+        (reports store' handed (sink_report (O.text out.new) (O.puts out.new) (O.faults out.new))
+        err' (patterns_state (P.refusals patterns.new) (P.refused patterns.new)) steps.new.forks)
+        result }
+    ensures quiet { IsComplete result → O.faults out.new ≡ O.faults out.old }
+    ensures after { IsAfterRun result }
+{
+    match run_script(alloc, setup, &mut links, out, patterns, steps) {
+        Ok(()) => write_links(alloc, &links, out),
+        Err(RunFault::Sink) => Ending::WriteFailed,
+        Err(RunFault::Memory) => Ending::OutOfMemory,
+        Err(RunFault::Links) => Ending::LinksFailed,
+    }
+}
+
+/// Writes what each link was sent.
+fn write_links<O: Sink>(alloc: Global, links: &ScriptLinks, out: &mut O) -> Ending
+    ensures after { IsAfterRun result }
+    ensures writes { WritesLines (link_lines links.now.script links.now.log)
+        (sink_report (O.text out.old) (O.puts out.old) (O.faults out.old))
+        (sink_report (O.text out.new) (O.puts out.new) (O.faults out.new)) result }
+{
+    match write_link_lines(alloc, links, out) {
+        Ok(()) => Ending::Finished,
+        Err(LineFault::Sink) => Ending::WriteFailed,
+        Err(LineFault::Memory) => Ending::OutOfMemory,
+    }
+}

@@ -1,0 +1,32 @@
+-- A command that ran was named by the words, and its status says so.
+use Rattle.std.proofs.Common.{◌≡◌, ℕ, List}
+use Rattle.command_io.specs.declared.ending.Ending.{Ending}
+use Rattle.command_io.specs.declared.ending.Ending.TheVariants.{Finished, ConfigRefused, Unread, OverLimit, BytesLeft, WriteFailed, LinksFailed, ScriptRefused, OutOfMemory}
+use Rattle.command_io.specs.declared.status.Status.{Status}
+use Rattle.command_io.specs.declared.status.Status.TheVariants.{Usage}
+use Rattle.command_io.specs.Endings.{status_of}
+use Rattle.riemann_server.specs.declared.command.Command.{Command}
+use Rattle.riemann_server.specs.declared.command.Command.TheVariants.{Feed, Check, Replay, Serve, Load}
+use Rattle.riemann_server.specs.Commands.{IsCommandOf}
+use Rattle.riemann_server.specs.Words.{IsUsage}
+
+no_ending : (ending : Ending) → status_of ending ≡ Usage → ⊥
+no_ending Finished e = cc
+no_ending (ConfigRefused refusal) e = cc
+no_ending (Unread source) e = cc
+no_ending (OverLimit source) e = cc
+no_ending (BytesLeft count) e = cc
+no_ending WriteFailed e = cc
+no_ending LinksFailed e = cc
+no_ending (ScriptRefused line) e = cc
+no_ending OutOfMemory e = cc
+
+pub not_usage : (status : Status) (ending : Ending) → status ≡ status_of ending → status ≡ Usage → ⊥
+not_usage status ending ended e = no_ending ending (rw ended at e)
+
+pub named : (words : List (List ℕ)) (command : Command) → IsCommandOf words command → IsUsage words → ⊥
+named words (Feed config file) is usage = usage.0 config.now file.now is
+named words (Check config) is usage = usage.1 config.now is
+named words (Replay config script) is usage = usage.2 config.now script.now is
+named words (Serve config turns) is usage = usage.3 config.now turns is
+named words (Load config count start) is usage = usage.4 config.now count start is

@@ -1,0 +1,19 @@
+-- Lists of two and of four words are their words.
+use Rattle.std.proofs.Common.{◌≡◌, ◌<◌, ◌≤◌, List, [], ◌∷◌, length, arith}
+use Rattle.std.specs.Prelude.{slice_index_or}
+
+pub two_words : {A : Type 0} (words : List A) (a b : A) → 2 ≤ length words → length words < 3 → a ≡ slice_index_or words 0 a → b ≡ slice_index_or words 1 b
+    → words ≡ a ∷ (b ∷ [])
+two_words [] a b least most first second = absurd (omega arith)
+two_words (x ∷ []) a b least most first second = absurd (omega arith)
+two_words (x ∷ (y ∷ [])) a b least most first second = cc
+two_words (x ∷ (y ∷ (z ∷ more))) a b least most first second = absurd (omega arith)
+
+pub four_words : {A : Type 0} (words : List A) (a b c d : A) → 4 ≤ length words → length words < 5 → a ≡ slice_index_or words 0 a → b ≡ slice_index_or words 1 b
+    → c ≡ slice_index_or words 2 c → d ≡ slice_index_or words 3 d → words ≡ a ∷ (b ∷ (c ∷ (d ∷ [])))
+four_words [] a b c d least most first second third fourth = absurd (omega arith)
+four_words (v ∷ []) a b c d least most first second third fourth = absurd (omega arith)
+four_words (v ∷ (w ∷ [])) a b c d least most first second third fourth = absurd (omega arith)
+four_words (v ∷ (w ∷ (x ∷ []))) a b c d least most first second third fourth = absurd (omega arith)
+four_words (v ∷ (w ∷ (x ∷ (y ∷ [])))) a b c d least most first second third fourth = cc
+four_words (v ∷ (w ∷ (x ∷ (y ∷ (z ∷ more))))) a b c d least most first second third fourth = absurd (omega arith)

@@ -1,4 +1,0 @@
-use Rattle.riemann_server.proofs.lines.report_too_long.Goals as goal
-
-pub returns : goal.returns
-returns g c = rw (c.as_str.ensures, c.format-limit.ensures.text) at c.put_line.ensures

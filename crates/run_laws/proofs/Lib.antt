@@ -1,0 +1,4 @@
+pub mod EntryLaws
+pub mod TakenLaws
+pub mod FreeLaws
+pub mod FeedLaws

@@ -1,0 +1,65 @@
+-- What `serve CONFIG --turns N` promises.
+use Rattle.std.specs.Prelude.{◌≡◌, ℕ, ◌≤◌, ◌⊎◌, List, [], ◌∷◌, length, Result, Ok, Err}
+use Rattle.conn_core.specs.declared.hub.Hub.{Hub}
+use Rattle.hub_run.specs.Runs.{AddsRun, RunsTo}
+use Rattle.hub_run.specs.declared.fault.RunFault.{RunFault}
+use Rattle.hub_run.specs.declared.fault.RunFault.TheVariants.{Links, Sink, Memory}
+use Rattle.hub_run.specs.declared.setup.Setup.{Setup}
+use Rattle.ports.specs.Counts.{IsStill, Rose}
+use Rattle.ports.specs.Reading.{Content, IsHeld}
+use Rattle.sexp_config.specs.declared.config.Config.{Config}
+use Rattle.sexp_config.specs.Config.{IsConfigOf}
+use Rattle.command_io.specs.declared.ending.Ending.{Ending}
+use Rattle.command_io.specs.declared.ending.Ending.TheVariants.{Finished, WriteFailed, LinksFailed, OutOfMemory}
+use Rattle.command_io.specs.declared.limits.TheConstants.{CONFIG_LIMIT}
+use Rattle.command_io.specs.declared.status.Status.{Status}
+use Rattle.command_io.specs.Endings.{IsComplete, IsDoneOrMemory, IsReadOnce, Reads, Says, status_of}
+use Rattle.command_io.specs.Reports.{IsIdle, Reports}
+use Rattle.command_setup.specs.Setups.{RefusesSetup, SetsUp, run_report_of}
+
+-- how it ends after such a run
+abbrev pub ending_of_run : Result Hub RunFault → Ending
+ending_of_run (Ok hub) = Finished
+ending_of_run (Err Links) = LinksFailed
+ending_of_run (Err Sink) = WriteFailed
+ending_of_run (Err Memory) = OutOfMemory
+
+-- the links were run on to this result, with notices written to the output
+abbrev pub RanOn : Setup → ℕ → Reports → Reports → Result Hub RunFault → Type 0
+RanOn setup turns old new result =
+    AddsRun old.links.log new.links.log (RunsTo setup turns (run_report_of old old.out) (run_report_of new new.out) result)
+
+-- What happened before it ended so. The content is that of the configuration's file. Where nothing was run, no link was
+-- called.
+abbrev pub ServeEnds : Content → ℕ → Reports → Reports → Ending → Type 0
+ServeEnds content turns old new Finished =
+    (setup : Setup) × SetsUp content setup × ((hub : Hub) × RanOn setup turns old new (Ok hub))
+ServeEnds content turns old new LinksFailed =
+    (setup : Setup) × SetsUp content setup × RanOn setup turns old new (Err Links) × Rose old.links.faults new.links.faults
+ServeEnds content turns old new WriteFailed =
+    (setup : Setup) × SetsUp content setup × RanOn setup turns old new (Err Sink) × Rose old.out.faults new.out.faults
+ServeEnds content turns old new OutOfMemory =
+    (RefusesSetup content old.store new.store old.patterns new.patterns OutOfMemory × IsIdle old new)
+    ⊎ ((setup : Setup) × SetsUp content setup × RanOn setup turns old new (Err Memory))
+ServeEnds content turns old new ending = RefusesSetup content old.store new.store old.patterns new.patterns ending × IsIdle old new
+
+-- with a configuration within its limit, no fault and no pattern refused, all turns are taken, or memory runs out
+abbrev pub ServeCompletes : List ℕ → Reports → Reports → Status → Type 0
+ServeCompletes config old new status = (text : List ℕ) (read : Config)
+    → IsHeld (old.store.held config) text → IsConfigOf text read → length text ≤ CONFIG_LIMIT
+    → IsStill old.store.faults new.store.faults → IsStill old.links.faults new.links.faults
+    → IsStill old.out.faults new.out.faults → IsStill old.patterns.refusals new.patterns.refusals → IsDoneOrMemory status
+
+pub record Serves (config : List ℕ) (turns : ℕ) (old new : Reports) (status : Status) : Type 0 where
+  -- how it ended, as the status and the line on the error stream say
+  pub ending : Ending
+  pub ended : status ≡ status_of ending
+  pub says : Says config config ending old.err new.err
+  -- the run, or why there was none
+  pub ends : ServeEnds (old.store.held config) turns old new ending
+  -- what it read
+  pub reads : Reads (config ∷ []) (IsReadOnce ending) old.store.reads new.store.reads ending
+  -- where it did all that it had to, nothing failed
+  pub quiet : IsComplete ending
+      → (new.store.faults ≡ old.store.faults) × (new.links.faults ≡ old.links.faults) × (new.out.faults ≡ old.out.faults)
+  pub complete : ServeCompletes config old new status

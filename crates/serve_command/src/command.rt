@@ -1,0 +1,98 @@
+ghost use Rattle.std.specs.Prelude.{◌≡◌, [], ◌∷◌};
+ghost use Rattle.hub_meaning.specs.Verdicts.{patterns_state};
+ghost use Rattle.ports.specs.Counts.{Rose};
+ghost use Rattle.command_io.specs.Endings.{IsComplete, IsReadOnce, IsRefusal, Reads, status_of};
+ghost use Rattle.command_io.specs.Reports.{SinkReport, links_report, reports, sink_report, store_report};
+ghost use Rattle.serve_command.specs.Serves.{ServeEnds, Serves, ending_of_run};
+
+use command_io::{Ending, Status, report};
+use command_setup::fetch_setup;
+use conn_core::Hub;
+use ev_types::Text;
+use hub_run::{RunFault, run};
+use ports::{Links, Sink, Store};
+use pred_eval::Patterns;
+use std::alloc::Global;
+use step_count::{Ledger, Steps};
+
+/// Carries out `serve CONFIG --turns N`, with `turns` for N: it runs a server over the links, for at most so many turns.
+/// Notice lines go to `out`, and the line of the ending to `err`.
+pub fn serve<S: Store, L: Links, O: Sink, E: Sink, P: Patterns, G: Ledger>(
+    alloc: Global,
+    config: &Text,
+    turns: u64,
+    store: &mut S,
+    links: &mut L,
+    out: &mut O,
+    err: &mut E,
+    patterns: &mut P,
+    steps: &mut Steps<G>,
+) -> Status
+    ensures promise { Serves config.now turns
+        (reports (store_report (S.held store.old) (S.reads store.old) (S.taken store.old)
+        (S.faults store.old)) (links_report (L.log links.old) (L.faults links.old))
+        (sink_report (O.text out.old) (O.puts out.old) (O.faults out.old))
+        (sink_report (E.text err.old) (E.puts err.old) (E.faults err.old))
+        (patterns_state (P.refusals patterns.old) (P.refused patterns.old)) steps.old.forks)
+        (reports (store_report (S.held store.new) (S.reads store.new) (S.taken store.new)
+        (S.faults store.new)) (links_report (L.log links.new) (L.faults links.new))
+        (sink_report (O.text out.new) (O.puts out.new) (O.faults out.new))
+        (sink_report (E.text err.new) (E.puts err.new) (E.faults err.new))
+        (patterns_state (P.refusals patterns.new) (P.refused patterns.new)) steps.new.forks)
+        result }
+    ensures read_fault { result ≡ Status.ReadFault →
+        Rose (S.faults store.old) (S.faults store.new) }
+    ensures sink_fault { result ≡ Status.SinkFault → Rose (O.faults out.old) (O.faults out.new) }
+    ensures link_fault { result ≡ Status.LinkFault →
+        Rose (L.faults links.old) (L.faults links.new) }
+    ensures untouched { IsRefusal result → (out.new ≡ out.old) × (links.new ≡ links.old) }
+{
+    let ending = serve_links(alloc, config, turns, store, links, out, patterns, steps);
+    report(ending, config, config, err)
+}
+
+/// Reads the configuration, and runs its server.
+fn serve_links<S: Store, L: Links, O: Sink, P: Patterns, G: Ledger>(
+    alloc: Global,
+    config: &Text,
+    turns: u64,
+    store: &mut S,
+    links: &mut L,
+    out: &mut O,
+    patterns: &mut P,
+    steps: &mut Steps<G>,
+) -> Ending
+    ensures ends { (err err' : SinkReport) → ServeEnds (S.held store.old config.now) turns
+        (reports (store_report (S.held store.old) (S.reads store.old) (S.taken store.old)
+        (S.faults store.old)) (links_report (L.log links.old) (L.faults links.old))
+        (sink_report (O.text out.old) (O.puts out.old) (O.faults out.old)) err
+        (patterns_state (P.refusals patterns.old) (P.refused patterns.old)) steps.old.forks)
+        (reports (store_report (S.held store.new) (S.reads store.new) (S.taken store.new)
+        (S.faults store.new)) (links_report (L.log links.new) (L.faults links.new))
+        (sink_report (O.text out.new) (O.puts out.new) (O.faults out.new)) err'
+        (patterns_state (P.refusals patterns.new) (P.refused patterns.new)) steps.new.forks)
+        result }
+    ensures reads { Reads (config.now ∷ []) (IsReadOnce result) (S.reads store.old)
+        (S.reads store.new) result }
+    ensures quiet { IsComplete result → (S.faults store.new ≡ S.faults store.old) ×
+        (L.faults links.new ≡ L.faults links.old) × (O.faults out.new ≡ O.faults out.old) }
+    ensures untouched { IsRefusal (status_of result) → (out.new ≡ out.old) ×
+        (links.new ≡ links.old) }
+{
+    match fetch_setup(alloc, config, store, patterns) {
+        Ok(setup) => ending_of_run(run(alloc, setup, turns, links, out, patterns, steps)),
+        Err(ending) => ending,
+    }
+}
+
+/// How the command ends after such a run.
+fn ending_of_run(ran: Result<Hub, RunFault>) -> Ending
+    ensures { result ≡ ending_of_run ran }
+{
+    match ran {
+        Ok(_) => Ending::Finished,
+        Err(RunFault::Links) => Ending::LinksFailed,
+        Err(RunFault::Sink) => Ending::WriteFailed,
+        Err(RunFault::Memory) => Ending::OutOfMemory,
+    }
+}

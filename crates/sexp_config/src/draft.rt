@@ -1,0 +1,14 @@
+ghost use Rattle.sexp_config.specs.Expiry.{IsInterval};
+
+use crate::server::Server;
+use crate::streams::Below;
+use ev_types::Expiry;
+
+/// What was read of a configuration so far.
+#[derive(Drop)]
+pub(crate) struct Draft {
+    pub(crate) server: Option<Server>,
+    pub(crate) expiry: Option<Expiry>,
+    pub(crate) below: Below,
+    ghost interval: { IsInterval expiry },
+}
