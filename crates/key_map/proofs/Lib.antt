@@ -1,0 +1,3 @@
+pub mod ServiceLaws
+pub mod SectionLaws
+pub mod RisingLaws

@@ -1,0 +1,153 @@
+ghost use Rattle.std.specs.Prelude.{◌≡◌, ◌+◌, ◌*◌, ◌^◌, ◌≤◌, [], ◌∷◌, ◌++◌, filter, length, option_copied, List, IsErr, IsTrue, OnErr, OnOk};
+ghost use Rattle.list_laws.specs.Prefix.{IsPrefix};
+ghost use Rattle.ev_types.specs.declared.event.Event.{Event as StoredEvent};
+ghost use Rattle.ev_types.specs.Expiry.{is_expired};
+ghost use Rattle.index_log.specs.Live.{IndexLog, Reap, Write};
+ghost use Rattle.std.specs.Borrow.{sem};
+ghost use Rattle.ordered_index.specs.Index.{Represents, event_at};
+ghost use Rattle.pred_eval.specs.Truth.{holds};
+
+use crate::store::Store;
+use ev_types::{Event, Events, Memory, Text};
+use pred_eval::Pred;
+use std::alloc::Global;
+use std::marker::Model;
+use step_count::{Ledger, Steps};
+
+/// An index of events, one for each host and service. Contracts see its live events, by host and then by service,
+/// absent before present, and whether a change ran out of memory: then it is poisoned, and each later call
+/// that can answer `Memory` does.
+#[derive(Drop)]
+pub struct OrderedIndex {
+    store: Store,
+    poisoned: bool,
+}
+
+impl Model for OrderedIndex {
+    ghost use Rattle.std.specs.Prelude.{◌≡◌, false};
+    ghost use Rattle.ordered_index.specs.Index.{Index};
+    ghost use Rattle.ordered_index.specs.Store.{IsStored, events_unless};
+
+    ghost Value = { Index };
+
+    ghost view = { λ index. record {
+      events = events_unless index.poisoned index.store.numbers index.store.events;
+      poisoned = index.poisoned;
+    } };
+
+    ghost invariant = { λ index. index.poisoned ≡ false →
+        IsStored index.store.numbers index.store.events index.store.due index.store.count };
+}
+
+impl OrderedIndex {
+    ghost use Rattle.ordered_index.specs.Lending.{StaysTheSame};
+
+    /// An index in which nothing was written. It takes no memory.
+    pub fn fresh(alloc: Global) -> OrderedIndex
+        ensures { Represents result [] }
+    {
+        OrderedIndex {
+            store: Store::fresh(alloc),
+            poisoned: false,
+        }
+    }
+
+    /// Writes an event in the place of the live one of its host and service. One whose state is "expired" only
+    /// ends that one. After `Memory` the index is poisoned.
+    pub fn write(&mut self, alloc: Global, event: Event) -> Result<(), Memory>
+        ensures ok { OnOk result ((log : IndexLog) → Represents self.old log →
+            Represents self.new (log ++ Write event ∷ [])) }
+        ensures err { OnErr result (IsTrue self.new.poisoned) }
+        ensures poisoned { IsTrue self.old.poisoned → IsErr result }
+    {
+        if self.poisoned {
+            return Err(Memory);
+        }
+        self.poisoned = true;
+        self.store.write(alloc, event)?;
+        self.poisoned = false;
+        Ok(())
+    }
+
+    /// Removes the live events that are expired at the moment `now`, in seconds since 1970, at most 2^40, and
+    /// appends them to `out` in the order of the index. After `Memory` the index is poisoned, and `out`
+    /// begins with what it had.
+    pub fn reap<G: Ledger>(
+        &mut self,
+        alloc: Global,
+        now: u64,
+        out: &mut Events,
+        steps: &mut Steps<G>,
+    ) -> Result<(), Memory>
+        requires { now ≤ 2 ^ 40 }
+        ensures ok { OnOk result ((log : IndexLog) → Represents self.old log →
+            Represents self.new (log ++ Reap now ∷ [])) }
+        ensures expired { OnOk result (out.new ≡ out.old
+            ++ filter (is_expired now) self.old.events) }
+        ensures err { OnErr result (IsTrue self.new.poisoned) }
+        ensures prefix { OnErr result (IsPrefix out.old out.new) }
+        ensures poisoned { IsTrue self.old.poisoned → IsErr result }
+        ensures forks { steps.new.forks ≡ steps.old.forks }
+        ensures entries { steps.new.entries ≤ steps.old.entries
+            + 2 * length (filter (is_expired now) self.old.events) }
+    {
+        if self.poisoned {
+            return Err(Memory);
+        }
+        self.poisoned = true;
+        self.store.take_expired(alloc, now, out, steps)?;
+        self.poisoned = false;
+        Ok(())
+    }
+
+    /// Appends copies of the live events that meet the predicate, in the order of the index. After `Memory`
+    /// the index is as it was, and `out` begins with what it had.
+    pub fn search<G: Ledger>(
+        &mut self,
+        alloc: Global,
+        pred: &mut Pred,
+        out: &mut Events,
+        steps: &mut Steps<G>,
+    ) -> Result<(), Memory>
+        ensures same { self.new ≡ self.old }
+        ensures pred { pred.new ≡ pred.old }
+        ensures ok { OnOk result (out.new ≡ out.old ++ filter (holds pred.old) self.old.events) }
+        ensures prefix { OnErr result (IsPrefix out.old out.new) }
+        ensures poisoned { IsTrue self.old.poisoned → IsErr result }
+        ensures forks { steps.new.forks ≡ steps.old.forks }
+        ensures entries { steps.new.entries ≤ steps.old.entries + length self.old.events }
+    {
+        if self.poisoned {
+            return Err(Memory);
+        }
+        self.store.copy_matching(alloc, pred, out, steps)?;
+        Ok(())
+    }
+
+    /// The live event of this host and this service, each of which may be absent. It takes no memory, and the index
+    /// stays as it is. A poisoned one has no events.
+    pub fn get<G: Ledger>(
+        &mut self,
+        host: Option<&Text>,
+        service: Option<&Text>,
+        steps: &mut Steps<G>,
+    ) -> Option<&Event>
+        ensures* same { sem 𝓛 (StaysTheSame self.entry) }
+        ensures event { option_copied result
+            ≡ event_at (option_copied host.entry) (option_copied service.entry) self.old.events }
+        ensures forks { steps.new.forks ≡ steps.old.forks }
+        ensures entries { steps.new.entries ≤ steps.old.entries + 1 }
+    {
+        if self.poisoned {
+            return None;
+        }
+        self.store.get(host, service, steps)
+    }
+
+    /// How many events are live.
+    pub fn len(&self) -> usize
+        ensures { result ≡ length self.now.events }
+    {
+        if self.poisoned { 0 } else { self.store.len() }
+    }
+}

@@ -1,0 +1,8 @@
+//! The events that are live, by host and service.
+#![tactic(auto)]
+
+mod index;
+mod keyed;
+mod store;
+
+pub use index::OrderedIndex;
