@@ -28,6 +28,19 @@ streamed-append plan (first ∷ es) event state = streamed-append plan es event 
 pub streamed-moment : (plan : StreamTrees) (es : List Event) (state : CoreState) (now : ℕ) → moment_of state.history ≡ now → moment_of (streamed plan es state).history ≡ now
 streamed-moment plan es state now at = (streamed-moments plan es state).ends ∙ at
 
+-- the copy of one more event comes to the streams
+pub streamed-one : (plan : StreamTrees) (keep : List KeepKey) (now : ℕ) (es : List Event) (event copy : Event) (state : CoreState) → copy ≡ expired_copy keep event now →
+    entered plan (In (One copy)) (streamed plan (map (λ e. expired_copy keep e now) es) state) ≡ streamed plan (map (λ e. expired_copy keep e now) (es ++ event ∷ [])) state
+streamed-one plan keep now es event copy state is =
+    let copies = map (λ e. expired_copy keep e now) es in
+    ap (λ (e : Event). entered plan (In (One e)) (streamed plan copies state)) is
+    ∙ sym (streamed-append plan copies (expired_copy keep event now) state)
+    ∙ ap (λ (all : List Event). streamed plan all state) (sym (map-append (λ e. expired_copy keep e now) es (event ∷ [])))
+
+pub streamed-all : (plan : StreamTrees) (es fs : List Event) (state : CoreState) → streamed plan fs (streamed plan es state) ≡ streamed plan (es ++ fs) state
+streamed-all plan [] fs state = refl
+streamed-all plan (event ∷ es) fs state = streamed-all plan es fs (entered plan (In (One event)) state)
+
 pub streamed-more : (plan later : StreamTrees) (between streams : IndexedStreams) (keep : List KeepKey) (now : ℕ) (es : List Event) (event copy : Event) (state : CoreState)
     (out_a : List Notice) (forks_a : ℕ) (out_b : List Notice) (forks_b : ℕ) (out_c : List Notice) (forks_c : ℕ) →
     later ≡ plan → copy ≡ expired_copy keep event now →
@@ -39,11 +52,7 @@ streamed-more plan later between streams keep now es event copy state out_a fork
     let before = streamed plan copies state in
     let there = subst (λ (p : StreamTrees). Moved p streams before (entered p (In (One copy)) before) out_b forks_b out_c forks_c) same second in
     let all = moved-then plan between streams state before (entered plan (In (One copy)) before) out_a forks_a out_b forks_b out_c forks_c first there in
-    let ends : entered plan (In (One copy)) before ≡ streamed plan (map (λ e. expired_copy keep e now) (es ++ event ∷ [])) state =
-    ap (λ (e : Event). entered plan (In (One e)) before) is
-    ∙ sym (streamed-append plan copies (expired_copy keep event now) state)
-    ∙ ap (λ (all : List Event). streamed plan all state) (sym (map-append (λ e. expired_copy keep e now) es (event ∷ []))) in
-    subst (λ (after : CoreState). Moved plan streams state after out_a forks_a out_c forks_c) ends all
+    subst (λ (after : CoreState). Moved plan streams state after out_a forks_a out_c forks_c) (streamed-one plan keep now es event copy state is) all
 
 -- ---- one more second
 
@@ -88,15 +97,20 @@ pass-more plan later expiry between streams from now state out_a forks_a out_b f
 
 -- ---- the events that have expired come again
 
+-- the copies of the events that were reaped are those that come again
+pub copies-are : (keep : List KeepKey) (now : ℕ) (state : CoreState) (held expired : List Event) →
+    moment_of state.history ≡ now → held ≡ live_events state.log → expired ≡ filter (is_expired now) held → map (λ e. expired_copy keep e now) expired ≡ expired_copies keep state
+copies-are keep now state held expired at holds are =
+    ap (map (λ e. expired_copy keep e now)) (are ∙ ap (filter (is_expired now)) holds)
+    ∙ subst (λ (t : ℕ). map (λ e. expired_copy keep e t) (filter (is_expired t) (live_events state.log)) ≡ expired_copies keep state) at refl
+
 pub fed_back-moved : (plan : StreamTrees) (streams : IndexedStreams) (keep : List KeepKey) (now : ℕ) (state : CoreState) (held expired : List Event)
     (out_a : List Notice) (forks_a : ℕ) (forks_b : ℕ) (out_c : List Notice) (forks_c : ℕ) →
     moment_of state.history ≡ now → held ≡ live_events state.log → expired ≡ filter (is_expired now) held → forks_b ≡ forks_a →
     Moved plan streams (with_reap state) (streamed plan (map (λ e. expired_copy keep e now) expired) (with_reap state)) out_a forks_b out_c forks_c →
     Moved plan streams state (fed_back plan keep state) out_a forks_a out_c forks_c
 fed_back-moved plan streams keep now state held expired out_a forks_a forks_b out_c forks_c at holds are same moved =
-    let copies : map (λ e. expired_copy keep e now) expired ≡ expired_copies keep state =
-    ap (map (λ e. expired_copy keep e now)) (are ∙ ap (filter (is_expired now)) holds)
-    ∙ subst (λ (t : ℕ). map (λ e. expired_copy keep e t) (filter (is_expired t) (live_events state.log)) ≡ expired_copies keep state) at refl in
+    let copies = copies-are keep now state held expired at holds are in
     let all = subst (λ (es : List Event). Moved plan streams (with_reap state) (streamed plan es (with_reap state)) out_a forks_b out_c forks_c) copies moved in
     record {
       holds = all.holds;

@@ -1,3 +1,4 @@
 pub mod Moves
 pub mod Arriving
 pub mod Longer
+pub mod Visits

@@ -14,7 +14,7 @@ use Rattle.event_core.specs.Streams.{Holds, Moved}
 abbrev pub later : CoreConfig → List Arrival → List Arrival → CoreState
 later config arrivals more = state_from config.plan config.expiry more (state_by config arrivals)
 
-in_order : (config : CoreConfig) (arrivals more : List Arrival) → state_by config (arrivals ++ more) ≡ later config arrivals more
+pub in_order : (config : CoreConfig) (arrivals more : List Arrival) → state_by config (arrivals ++ more) ≡ later config arrivals more
 in_order config arrivals more = arrivals_in_order config.plan config.expiry config.start arrivals more
 
 pub begins : (config : CoreConfig) (arrivals : List Arrival) → begun (state_by config arrivals).history ≡ config.start

@@ -1,12 +1,12 @@
 -- What a core represents, and what it gives for what arrives.
-use Rattle.std.specs.Prelude.{◌≡◌, ℕ, ◌+◌, Bool, false, List, ◌++◌, Option}
+use Rattle.std.specs.Prelude.{◌≡◌, ℕ, ◌+◌, ◌≤◌, Bool, false, List, ◌++◌, Option}
 use Rattle.ev_types.specs.declared.item.Notice.{Notice}
 use Rattle.ev_types.specs.declared.settings.Expiry.{Expiry}
 use Rattle.stream_plan.specs.Tree.{StreamTrees}
 use Rattle.stream_meaning.specs.History.{moment_of}
 use Rattle.stream_meaning.specs.Arrivals.{Arrival, CoreState, state_after, notices_of}
 use Rattle.event_core.specs.declared.arrivals.Core.{Core}
-use Rattle.event_core.specs.Counts.{forks_in}
+use Rattle.event_core.specs.Counts.{forks_in, visits_to}
 use Rattle.event_core.specs.Streams.{plan_of, Holds}
 
 -- what a core is made with, and keeps
@@ -50,3 +50,12 @@ pub record Heard (config : CoreConfig) (first more : List Arrival) (old : List N
   pub told : new ≡ old ++ made
   pub notices : notices_by config (first ++ more) ≡ notices_by config first ++ made
   pub forks : forks_before + forks_by config (first ++ more) ≡ forks_after + forks_by config first
+
+-- how many entries are visited over the arrivals, at most: one for each fork that is due, and two for each event that is
+-- reaped
+abbrev pub visits_by : CoreConfig → List Arrival → ℕ
+visits_by config arrivals = visits_to config.plan (state_by config arrivals)
+
+-- after the first arrivals came more, and no more entries were visited than those need
+abbrev pub VisitedFor : CoreConfig → List Arrival → List Arrival → ℕ → ℕ → Type 0
+VisitedFor config first more entries_before entries_after = entries_after + visits_by config first ≤ entries_before + visits_by config (first ++ more)

@@ -5,7 +5,8 @@ ghost use Rattle.ev_types.specs.declared.event.Event.{Event as StoredEvent};
 ghost use Rattle.ev_types.specs.declared.item.Notice.{Notice as StoredNotice};
 ghost use Rattle.index_log.specs.Live.{live_events};
 ghost use Rattle.stream_meaning.specs.Arrivals.{Arrival, Elapsed, Post, matching_events};
-ghost use Rattle.event_core.specs.Core.{config_of, now_of, is_poisoned, state_by, Represents, Heard};
+ghost use Rattle.live_index.specs.Index.{visited};
+ghost use Rattle.event_core.specs.Core.{config_of, now_of, is_poisoned, state_by, Represents, Heard, VisitedFor};
 
 use crate::clock::Clock;
 use crate::streams::IndexedStreams;
@@ -90,6 +91,9 @@ impl Core {
         ensures heard { OnOk result ((arrivals : List Arrival) → Represents self.old arrivals
             → Heard (config_of self.old) arrivals (replicate (to - now_of self.old) Elapsed)
             out.old steps.old.forks out.new steps.new.forks) }
+        ensures entries { (arrivals : List Arrival) → Represents self.old arrivals
+            → VisitedFor (config_of self.old) arrivals (replicate (to - now_of self.old) Elapsed)
+            steps.old.entries steps.new.entries }
         ensures poisoned { IsTrue (is_poisoned self.old) → IsErr result }
         ensures sound { OnOk result (is_poisoned self.new ≡ false) }
         ensures err { OnErr result (IsTrue (is_poisoned self.new)) }
@@ -121,6 +125,9 @@ impl Core {
         ensures heard { OnOk result ((arrivals : List Arrival) → Represents self.old arrivals
             → Heard (config_of self.old) arrivals (Post event ∷ [])
             out.old steps.old.forks out.new steps.new.forks) }
+        ensures entries { (arrivals : List Arrival) → Represents self.old arrivals
+            → VisitedFor (config_of self.old) arrivals (Post event ∷ [])
+            steps.old.entries steps.new.entries }
         ensures poisoned { IsTrue (is_poisoned self.old) → IsErr result }
         ensures sound { OnOk result (is_poisoned self.new ≡ false) }
         ensures err { OnErr result (IsTrue (is_poisoned self.new)) }
@@ -153,6 +160,9 @@ impl Core {
             → out.new ≡ out.old ++ matching_events pred.old
             (state_by (config_of self.old) arrivals).log) }
         ensures forks { steps.new.forks ≡ steps.old.forks }
+        ensures entries { (arrivals : List Arrival) → Represents self.old arrivals
+            → steps.new.entries ≤ steps.old.entries + length (visited pred.old
+            (live_events (state_by (config_of self.old) arrivals).log)) }
         ensures poisoned { IsTrue (is_poisoned self.old) → IsErr result }
         ensures sound { OnOk result (is_poisoned self.new ≡ false) }
         ensures err { OnErr result (IsTrue (is_poisoned self.new)) }

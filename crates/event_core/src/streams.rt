@@ -8,7 +8,8 @@ ghost use Rattle.stream_meaning.specs.History.{since, begun, moment_of};
 ghost use Rattle.stream_meaning.specs.declared.entry.Entry.TheVariants.{Tick, Item as In};
 ghost use Rattle.stream_meaning.specs.Arrivals.{CoreState, Elapsed, entered, streamed, fed_back, swept, arrived, state_from, matching_events};
 ghost use Rattle.index_log.specs.Live.{live_events};
-ghost use Rattle.event_core.specs.Streams.{plan_of, Holds, Moved};
+ghost use Rattle.live_index.specs.Index.{visited};
+ghost use Rattle.event_core.specs.Streams.{plan_of, Holds, Moved, Visited};
 
 use crate::clock::Clock;
 use crate::outputs::handle;
@@ -61,6 +62,11 @@ impl IndexedStreams {
             → Moved (plan_of self.old) self.new state
             (entered (plan_of self.old) (In (One event)) state)
             out.old steps.old.forks out.new steps.new.forks) }
+        ensures visited { (state : CoreState) → Holds self.old state →
+            moment_of state.history ≡ now
+            → Visited (plan_of self.old) state
+            (entered (plan_of self.old) (In (One event)) state)
+            steps.old.entries steps.new.entries }
         ensures prefix { IsPrefix out.old out.new }
     {
         let mut outputs = Outputs::fresh(alloc);
@@ -83,6 +89,10 @@ impl IndexedStreams {
             moment_of state.history + 1 ≡ now
             → Moved (plan_of self.old) self.new state (entered (plan_of self.old) Tick state)
             out.old steps.old.forks out.new steps.new.forks) }
+        ensures visited { (state : CoreState) → Holds self.old state →
+            moment_of state.history + 1 ≡ now
+            → Visited (plan_of self.old) state (entered (plan_of self.old) Tick state)
+            steps.old.entries steps.new.entries }
         ensures prefix { IsPrefix out.old out.new }
     {
         let mut outputs = Outputs::fresh(alloc);
@@ -109,6 +119,12 @@ impl IndexedStreams {
             (streamed (plan_of self.old) (map (λ event. expired_copy keep.now event now) expired)
             state)
             out.old steps.old.forks out.new steps.new.forks) }
+        ensures visited { (state : CoreState) → Holds self.old state →
+            moment_of state.history ≡ now
+            → Visited (plan_of self.old) state
+            (streamed (plan_of self.old) (map (λ event. expired_copy keep.now event now) expired)
+            state)
+            steps.old.entries steps.new.entries }
         ensures prefix { IsPrefix out.old out.new }
     {
         for event in expired.into_vec() {
@@ -134,6 +150,10 @@ impl IndexedStreams {
             moment_of state.history ≡ now
             → Moved (plan_of self.old) self.new state (fed_back (plan_of self.old) keep.now state)
             out.old steps.old.forks out.new steps.new.forks) }
+        ensures visited { (state : CoreState) → Holds self.old state →
+            moment_of state.history ≡ now
+            → Visited (plan_of self.old) state (fed_back (plan_of self.old) keep.now state)
+            steps.old.entries steps.new.entries }
         ensures prefix { IsPrefix out.old out.new }
     {
         let mut expired = Events::fresh(alloc);
@@ -159,6 +179,11 @@ impl IndexedStreams {
             → Moved (plan_of self.old) self.new state
             (swept (plan_of self.old) clock.now.expiry state)
             out.old steps.old.forks out.new steps.new.forks) }
+        ensures visited { (state : CoreState) → Holds self.old state →
+            moment_of state.history ≡ now
+            → begun state.history ≡ clock.now.start
+            → Visited (plan_of self.old) state (swept (plan_of self.old) clock.now.expiry state)
+            steps.old.entries steps.new.entries }
         ensures prefix { IsPrefix out.old out.new }
     {
         let Some(expiry) = &clock.expiry else {
@@ -188,6 +213,12 @@ impl IndexedStreams {
             → Moved (plan_of self.old) self.new state
             (arrived (plan_of self.old) clock.now.expiry Elapsed state)
             out.old steps.old.forks out.new steps.new.forks) }
+        ensures visited { (state : CoreState) → Holds self.old state →
+            moment_of state.history + 1 ≡ now
+            → begun state.history ≡ clock.now.start
+            → Visited (plan_of self.old) state
+            (arrived (plan_of self.old) clock.now.expiry Elapsed state)
+            steps.old.entries steps.new.entries }
         ensures prefix { IsPrefix out.old out.new }
     {
         self.tick(alloc, now, out, steps)?;
@@ -214,6 +245,13 @@ impl IndexedStreams {
             (state_from (plan_of self.old) clock.now.expiry
             (replicate (to - clock.now.moment) Elapsed) state)
             out.old steps.old.forks out.new steps.new.forks) }
+        ensures visited { (state : CoreState) → Holds self.old state →
+            moment_of state.history ≡ clock.now.moment
+            → begun state.history ≡ clock.now.start
+            → Visited (plan_of self.old) state
+            (state_from (plan_of self.old) clock.now.expiry
+            (replicate (to - clock.now.moment) Elapsed) state)
+            steps.old.entries steps.new.entries }
         ensures prefix { IsPrefix out.old out.new }
     {
         for now in clock.moment..to {
@@ -236,6 +274,9 @@ impl IndexedStreams {
             → out.new ≡ out.old ++ matching_events pred.old state.log) }
         ensures prefix { OnErr result (IsPrefix out.old out.new) }
         ensures forks { steps.new.forks ≡ steps.old.forks }
+        ensures visited { (state : CoreState) → Holds self.old state →
+            steps.new.entries ≤ steps.old.entries
+            + length (visited pred.old (live_events state.log)) }
     {
         self.index.search(alloc, pred, out, steps)?;
         Ok(())

@@ -134,7 +134,8 @@ fn insert_at(
     service: Option<Text>,
     number: usize,
 ) -> Result<(), Memory>
-    ensures ok { OnOk result (SetsIn hosts.old.entries hosts.new.entries host service (Some number)) }
+    ensures ok { OnOk result
+        (SetsIn hosts.old.entries hosts.new.entries host service (Some number)) }
     ensures err { OnErr result (hosts.new.entries ≡ hosts.old.entries) }
     ensures rising { SectionsRise hosts.old.entries → SectionsRise hosts.new.entries }
 {

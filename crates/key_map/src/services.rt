@@ -27,7 +27,8 @@ impl Model for Services {
 
     ghost view = { λ services. services_of services.absent services.present.entries };
 
-    ghost invariant = { λ services. IsStrictlySortedBy (slice_cmp nat_cmp) (keys_of services.present.entries) };
+    ghost invariant = { λ services. IsStrictlySortedBy (slice_cmp nat_cmp)
+        (keys_of services.present.entries) };
 }
 
 impl Services {

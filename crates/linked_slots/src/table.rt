@@ -7,6 +7,7 @@ use list_laws::Memory;
 use slab::Slab;
 use std::alloc::Global;
 use std::marker::Model;
+use std::mem;
 use step_count::{Ledger, Steps};
 
 /// Values under numbers that the table picks. The number of a removed value is used again.
@@ -76,6 +77,15 @@ impl<T: Drop> StepTable<T> {
     {
         steps.visit_entry();
         &mut self.values[number]
+    }
+
+    /// Puts a value in place of the one at the number, and gives that one. It takes no memory and counts nothing.
+    pub fn replace(&mut self, number: usize, value: T) -> T
+        requires { IsLive self.old number }
+        ensures value { value_at self.old number ≡ Some result }
+        ensures replaced { Changes self.old self.new number (Some value) }
+    {
+        mem::replace(&mut self.values[number], value)
     }
 
     /// Takes the value at the number out.

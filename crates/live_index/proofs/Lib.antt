@@ -1,1 +1,14 @@
-pub mod Writes
+pub mod CopyLaws
+pub mod CountLaws
+pub mod FindLaws
+pub mod HostLaws
+pub mod LinkLaws
+pub mod PairLaws
+pub mod ReapLaws
+pub mod ReplaceLaws
+pub mod RowLaws
+pub mod StoreLaws
+pub mod StoredLaws
+pub mod TakeLaws
+pub mod TimedLaws
+pub mod WriteLaws

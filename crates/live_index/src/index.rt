@@ -1,13 +1,13 @@
-ghost use Rattle.std.specs.Prelude.{◌≡◌, ◌^◌, ◌≤◌, [], ◌∷◌, ◌++◌, filter, length, option_copied, List, IsErr, IsTrue, OnErr, OnOk};
+ghost use Rattle.std.specs.Prelude.{◌≡◌, ◌+◌, ◌*◌, ◌^◌, ◌≤◌, [], ◌∷◌, ◌++◌, filter, length, option_copied, List, IsErr, IsTrue, OnErr, OnOk};
 ghost use Rattle.list_laws.specs.Prefix.{IsPrefix};
 ghost use Rattle.ev_types.specs.declared.event.Event.{Event as StoredEvent};
 ghost use Rattle.ev_types.specs.Expiry.{is_expired};
 ghost use Rattle.index_log.specs.Live.{IndexLog, Reap, Write};
 ghost use Rattle.std.specs.Borrow.{sem};
-ghost use Rattle.live_index.specs.Index.{Represents, event_at};
+ghost use Rattle.live_index.specs.Index.{Represents, event_at, visited};
 ghost use Rattle.pred_eval.specs.Truth.{holds};
 
-use crate::sorted::SortedEvents;
+use crate::store::Store;
 use ev_types::{Event, Events, Memory, Text};
 use pred_eval::Pred;
 use std::alloc::Global;
@@ -19,16 +19,24 @@ use step_count::{Ledger, Steps};
 /// that can answer `Memory` does.
 #[derive(Drop)]
 pub struct LiveIndex {
-    events: SortedEvents,
+    store: Store,
     poisoned: bool,
 }
 
 impl Model for LiveIndex {
+    ghost use Rattle.std.specs.Prelude.{◌≡◌, false};
     ghost use Rattle.live_index.specs.Index.{Index};
+    ghost use Rattle.live_index.specs.Store.{IsStored, events_unless};
 
     ghost Value = { Index };
 
-    ghost view = { λ index. record { events = index.events; poisoned = index.poisoned } };
+    ghost view = { λ index. record {
+      events = events_unless index.poisoned index.store.numbers index.store.events;
+      poisoned = index.poisoned;
+    } };
+
+    ghost invariant = { λ index. index.poisoned ≡ false →
+        IsStored index.store.numbers index.store.events index.store.due index.store.count };
 }
 
 impl LiveIndex {
@@ -39,14 +47,14 @@ impl LiveIndex {
         ensures { Represents result [] }
     {
         LiveIndex {
-            events: SortedEvents::fresh(alloc),
+            store: Store::fresh(alloc),
             poisoned: false,
         }
     }
 
     /// Writes an event in the place of the live one of its host and service. One whose state is "expired" only
     /// ends that one. After `Memory` the index is poisoned.
-    pub fn write(&mut self, _alloc: Global, event: Event) -> Result<(), Memory>
+    pub fn write(&mut self, alloc: Global, event: Event) -> Result<(), Memory>
         ensures ok { OnOk result ((log : IndexLog) → Represents self.old log →
             Represents self.new (log ++ Write event ∷ [])) }
         ensures err { OnErr result (IsTrue self.new.poisoned) }
@@ -56,7 +64,7 @@ impl LiveIndex {
             return Err(Memory);
         }
         self.poisoned = true;
-        self.events.write(event)?;
+        self.store.write(alloc, event)?;
         self.poisoned = false;
         Ok(())
     }
@@ -80,18 +88,21 @@ impl LiveIndex {
         ensures prefix { OnErr result (IsPrefix out.old out.new) }
         ensures poisoned { IsTrue self.old.poisoned → IsErr result }
         ensures forks { steps.new.forks ≡ steps.old.forks }
+        ensures entries { steps.new.entries ≤ steps.old.entries
+            + 2 * length (filter (is_expired now) self.old.events) }
     {
         if self.poisoned {
             return Err(Memory);
         }
         self.poisoned = true;
-        self.events.take_expired(alloc, now, out)?;
+        self.store.take_expired(alloc, now, out, steps)?;
         self.poisoned = false;
         Ok(())
     }
 
-    /// Appends copies of the live events that meet the predicate, in the order of the index. After `Memory`
-    /// the index is as it was, and `out` begins with what it had.
+    /// Appends copies of the live events that meet the predicate, in the order of the index. Where the predicate asks for
+    /// a host it looks at the events of that host alone. After `Memory` the index is as it was, and `out` begins with what
+    /// it had.
     pub fn search<G: Ledger>(
         &mut self,
         alloc: Global,
@@ -105,34 +116,40 @@ impl LiveIndex {
         ensures prefix { OnErr result (IsPrefix out.old out.new) }
         ensures poisoned { IsTrue self.old.poisoned → IsErr result }
         ensures forks { steps.new.forks ≡ steps.old.forks }
+        ensures entries { steps.new.entries ≤ steps.old.entries
+            + length (visited pred.old self.old.events) }
     {
         if self.poisoned {
             return Err(Memory);
         }
-        self.events.copy_matching(alloc, pred, out)?;
+        self.store.copy_matching(alloc, pred, out, steps)?;
         Ok(())
     }
 
     /// The live event of this host and this service, each of which may be absent. It takes no memory, and the index
-    /// stays as it is. A poisoned one has no answer for that: it answers by the events that it is left with.
+    /// stays as it is. A poisoned one has no events.
     pub fn get<G: Ledger>(
         &mut self,
         host: Option<&Text>,
         service: Option<&Text>,
-        _steps: &mut Steps<G>,
+        steps: &mut Steps<G>,
     ) -> Option<&Event>
         ensures* same { sem 𝓛 (StaysTheSame self.entry) }
         ensures event { option_copied result
             ≡ event_at (option_copied host.entry) (option_copied service.entry) self.old.events }
-        ensures steps { _steps.new ≡ _steps.old }
+        ensures forks { steps.new.forks ≡ steps.old.forks }
+        ensures entries { steps.new.entries ≤ steps.old.entries + 1 }
     {
-        self.events.get(host, service)
+        if self.poisoned {
+            return None;
+        }
+        self.store.get(host, service, steps)
     }
 
     /// How many events are live.
     pub fn len(&self) -> usize
         ensures { result ≡ length self.now.events }
     {
-        self.events.len()
+        if self.poisoned { 0 } else { self.store.len() }
     }
 }

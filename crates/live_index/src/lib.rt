@@ -2,6 +2,7 @@
 #![tactic(auto)]
 
 mod index;
-mod sorted;
+mod keyed;
+mod store;
 
 pub use index::LiveIndex;

@@ -1,10 +1,9 @@
 -- What a built regular expression finds, and parts of a list of them.
-use Rattle.std.proofs.Common.{◌≡◌, ℕ, suc, ◌+◌, ◌<◌, ◌≤◌, true, List, [], ◌∷◌, ◌++◌, take, drop, length, get_or, Option, Some, None, IsSomeAnd, is_some, refl, sym, ap, ◌∙◌, subst, arith, chars, length-append}
-use Rattle.regex_syntax.specs.Brackets.{Nested}
-use Rattle.regex_syntax.specs.Grammar.{Names, read}
+use Rattle.std.proofs.Common.{◌≡◌, ℕ, suc, ◌<◌, ◌≤◌, true, List, [], ◌∷◌, ◌++◌, take, drop, length, get_or, Option, Some, None, IsSomeAnd, is_some, refl, ap, arith, chars, length-append}
+use Rattle.regex_syntax.specs.Grammar.{read}
 use Rattle.regex.specs.Names.{names_of}
-use Rattle.regex.specs.Patterns.{Re, find_str, default_config, Reads}
-use Rattle.regex.specs.Strings.{regex_pattern, regex_source}
+use Rattle.regex.specs.Patterns.{find_str, default_config, Reads}
+use Rattle.regex.specs.Strings.{regex_pattern}
 use Rattle.regex.specs.declared.string.regex.Regex.{Regex}
 use Rattle.regex.proofs.ForCallers.{is_match_alike}
 use Rattle.pred_eval.specs.Search.{is_found, finds, IsReadFrom, AreReadFrom}

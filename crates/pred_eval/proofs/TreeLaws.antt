@@ -10,7 +10,7 @@ use Rattle.pred_eval.specs.Search.{AreReadFrom}
 use Rattle.pred_eval.proofs.SearchLaws.{read_front, read_back, read_front_fits}
 use Rattle.list_laws.specs.Counts.{greatest}
 use Rattle.pred_eval.specs.Truth.{holds, all_hold, any_holds, searches, searches_of}
-use Rattle.pred_eval.specs.Tree.{Tree, Trees, none, also, All, Any, Not, tree_of, trees_of, trees_in}
+use Rattle.pred_eval.specs.Tree.{Trees, none, also, All, Any, tree_of, trees_of, trees_in}
 
 abbrev row_of : Rule → (n : Count) × Row_of-Rule n
 row_of (All' _ row) = (_, row)

@@ -1,6 +1,7 @@
 //! Rules about events, and whether an event meets one.
 #![tactic(auto)]
 
+mod host;
 mod patterns;
 mod pred;
 mod rule;

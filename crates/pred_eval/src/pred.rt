@@ -1,15 +1,17 @@
-ghost use Rattle.std.specs.Prelude.{◌≡◌, ◌<◌, ◌≤◌, ◌^◌, [], ◌++◌, length, OnOk, OnErr, IfOk, IsOk};
+ghost use Rattle.std.specs.Prelude.{◌≡◌, ◌<◌, ◌≤◌, ◌^◌, [], ◌++◌, length, option_copied, IfSome, OnOk, OnErr, IfOk, IsOk};
 ghost use Rattle.list_laws.specs.Prefix.{IsPrefix};
 ghost use Rattle.std.specs.Option.{option_map};
 ghost use Rattle.pred_eval.specs.Tree.{tree_of, trees_in};
 ghost use Rattle.pred_eval.specs.Truth.{holds, searches, searches_of};
 ghost use Rattle.pred_eval.specs.Search.{AreReadFrom};
+ghost use Rattle.pred_eval.specs.Host.{asked_host, NeedsHost};
 ghost use Rattle.pred_eval.specs.Building.{texts_of, HasCause, refused_of};
 
+use crate::host::asked_host;
 use crate::patterns::build_all;
 use crate::truth::rule_holds;
 use crate::{BuildFault, Patterns, Rule, Rules};
-use ev_types::{Event, Memory, Text};
+use ev_types::{Event, Memory, Text, Value};
 use regex::Regex;
 use std::alloc::Global;
 use std::marker::Model;
@@ -65,6 +67,15 @@ impl Pred {
         ensures same { self.new ≡ self.old }
     {
         rule_holds(alloc, &self.rule, self.patterns.as_slice(), event)
+    }
+
+    /// The host that an event needs to meet the rule: `v` of `host = v`, or of the first such part of an `and`. Another
+    /// rule tells none.
+    pub fn asked_host(&self) -> Option<&Value>
+        ensures asked { option_copied result ≡ asked_host self.now }
+        ensures needs { IfSome (option_copied result) (NeedsHost self.now) }
+    {
+        asked_host(&self.rule)
     }
 }
 

@@ -14,3 +14,5 @@ mod index;
 mod show;
 #[cfg(test)]
 mod tree;
+#[cfg(test)]
+mod visits;

@@ -1,4 +1,4 @@
-use Rattle.std.proofs.Common.{◌≡◌, ◌+◌, ap, ◌∙◌}
+use Rattle.std.proofs.Common.{◌+◌, ap, ◌∙◌}
 use Rattle.pred_eval.proofs.BuildLaws.{one_more_built, nothing_told}
 use Rattle.pred_eval.proofs.patterns.build_all.Goals as goal
 

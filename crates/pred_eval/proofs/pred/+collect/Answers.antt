@@ -1,7 +1,7 @@
 use Rattle.std.proofs.Common.{◌≡◌, ◌++◌, OnOk, sym, subst}
 use Rattle.pred_eval.specs.Building.{texts_of}
 use Rattle.pred_eval.proofs.BuildLaws.{prefix_more, on_error}
-use Rattle.pred_eval.proofs.TreeLaws.{searches_of_all, searches_of_any, one_more_appended}
+use Rattle.pred_eval.proofs.TreeLaws.{searches_of_all, searches_of_any}
 use Rattle.pred_eval.proofs.pred.+collect.Goals as goal
 
 pub append_texts-returns-in-All-clause-ok : goal.append_texts-returns-in-All-clause-ok

@@ -1,4 +1,4 @@
-use Rattle.std.proofs.Common.{◌≡◌, ◌<◌, ◌+◌, min, ℕ, List, length, arith, ap, sym, ◌∙◌}
+use Rattle.std.proofs.Common.{min, length, arith, ap, sym, ◌∙◌}
 use Rattle.list_laws.specs.Counts.{greatest}
 use Rattle.pred_eval.proofs.TreeLaws.{searches_of_all, searches_of_any, one_more_counted}
 use Rattle.pred_eval.proofs.truth.+count.Goals as goal

@@ -1,8 +1,5 @@
-use Rattle.std.proofs.Common.{◌≡◌, ◌<◌, ◌≤◌, ◌&&◌, ◌||◌, true, false, List, [], length, take, drop, get_or, IfOk, IsOk, ap, sym, subst, true≢false, ◌∙◌}
-use Rattle.pred_eval.specs.declared.rule.Rule.{Rule}
+use Rattle.std.proofs.Common.{◌≡◌, true, false, IfOk, sym, subst, true≢false, ◌∙◌}
 use Rattle.pred_eval.specs.Search.{AreReadFrom}
-use Rattle.pred_eval.specs.Tree.{tree_of, trees_in}
-use Rattle.pred_eval.specs.Truth.{holds, all_hold, any_holds, searches, searches_of}
 use Rattle.pred_eval.proofs.TreeLaws.{searches_of_all, searches_of_any, holds_of_all, holds_of_any, own_patterns, later_patterns, no_own, no_later, all_says, any_says}
 use Rattle.pred_eval.proofs.truth.+meets.Goals as goal
 

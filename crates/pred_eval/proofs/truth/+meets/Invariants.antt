@@ -1,4 +1,4 @@
-use Rattle.std.proofs.Common.{◌≡◌, List, [], drop}
+use Rattle.std.proofs.Common.{◌≡◌, [], drop}
 use Rattle.pred_eval.specs.Search.{AreReadFrom}
 use Rattle.pred_eval.specs.Tree.{trees_in}
 use Rattle.pred_eval.specs.Truth.{all_hold, any_holds, searches_of}

@@ -1,4 +1,4 @@
-use Rattle.std.proofs.Common.{◌≡◌, ap, is_some, ◌∙◌}
+use Rattle.std.proofs.Common.{ap, is_some, ◌∙◌}
 use Rattle.regex.specs.Patterns.{find_str}
 use Rattle.pred_eval.proofs.SearchLaws.{finds_what_is_read}
 use Rattle.pred_eval.proofs.truth.is_found.Goals as goal

@@ -4,6 +4,7 @@ use Rattle.stream_meaning.specs.History.{moment_of}
 use Rattle.event_core.specs.Core.{config_of, state_by}
 use Rattle.event_core.proofs.Arriving.{seconds-moments}
 use Rattle.event_core.proofs.Longer.{begins, later, longer-represents, longer-heard}
+use Rattle.event_core.proofs.Visits.{longer-visited}
 use Rattle.event_core.proofs.arrivals.Core.advance.Goals as goal
 
 pub returns-clause-represents : goal.returns-clause-represents
@@ -22,3 +23,15 @@ returns-clause-heard g c = λ arrivals before.
     let config = config_of c.args.self.now in
     longer-heard config c.pass.new.self arrivals (replicate (c.args.to - c.args.self.now.clock.moment) Elapsed) c.args.out.now c.args.steps.now.forks c.pass.new.out c.pass.new.steps.forks
     (c.in_ok-pass.ensures.moved (state_by config arrivals) before.holds (sym before.now) (begins config arrivals))
+
+pub returns-clause-entries : goal.returns-clause-entries
+returns-clause-entries g c = λ arrivals before.
+    let config = config_of c.args.self.now in
+    longer-visited config arrivals (replicate (c.args.to - c.args.self.now.clock.moment) Elapsed) c.args.steps.now.entries c.pass.new.steps.entries
+    (c.pass.ensures.visited (state_by config arrivals) before.holds (sym before.now) (begins config arrivals))
+
+pub returns-in_err-pass-clause-entries : goal.returns-in_err-pass-clause-entries
+returns-in_err-pass-clause-entries g c = λ arrivals before.
+    let config = config_of c.args.self.now in
+    longer-visited config arrivals (replicate (c.args.to - c.args.self.now.clock.moment) Elapsed) c.args.steps.now.entries c.pass.new.steps.entries
+    (c.pass.ensures.visited (state_by config arrivals) before.holds (sym before.now) (begins config arrivals))

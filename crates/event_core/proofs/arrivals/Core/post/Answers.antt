@@ -2,6 +2,7 @@ use Rattle.std.proofs.Common.{false, [], ◌∷◌, ap, refl, sym}
 use Rattle.stream_meaning.specs.Arrivals.{Post}
 use Rattle.event_core.specs.Core.{config_of, state_by}
 use Rattle.event_core.proofs.Longer.{longer-represents, longer-heard}
+use Rattle.event_core.proofs.Visits.{longer-visited}
 use Rattle.event_core.proofs.arrivals.Core.post.Goals as goal
 
 pub returns-clause-represents : goal.returns-clause-represents
@@ -17,3 +18,15 @@ returns-clause-heard g c = λ arrivals before.
     let config = config_of c.args.self.now in
     longer-heard config c.item.new.self arrivals (Post c.args.event ∷ []) c.args.out.now c.args.steps.now.forks c.item.new.out c.item.new.steps.forks
     (c.in_ok-item.ensures.moved (state_by config arrivals) before.holds (sym before.now))
+
+pub returns-clause-entries : goal.returns-clause-entries
+returns-clause-entries g c = λ arrivals before.
+    let config = config_of c.args.self.now in
+    longer-visited config arrivals (Post c.args.event ∷ []) c.args.steps.now.entries c.item.new.steps.entries
+    (c.item.ensures.visited (state_by config arrivals) before.holds (sym before.now))
+
+pub returns-in_err-item-clause-entries : goal.returns-in_err-item-clause-entries
+returns-in_err-item-clause-entries g c = λ arrivals before.
+    let config = config_of c.args.self.now in
+    longer-visited config arrivals (Post c.args.event ∷ []) c.args.steps.now.entries c.item.new.steps.entries
+    (c.item.ensures.visited (state_by config arrivals) before.holds (sym before.now))

@@ -3,4 +3,4 @@ use Rattle.index_log.proofs.LiveLaws.{live-nil}
 use Rattle.live_index.proofs.index.LiveIndex.fresh.Goals as goal
 
 pub returns : goal.returns
-returns c = record { sound = refl; live = c.fresh.ensures ∙ sym live-nil }
+returns c = record { sound = refl; live = c.fresh.ensures.events ∙ sym live-nil }

@@ -1,0 +1,25 @@
+use Rattle.std.proofs.Common.{refl, sym, ap, ◌∙◌}
+use Rattle.std.specs.Prelude.{option_copied}
+use Rattle.live_index.specs.Index.{event_at}
+use Rattle.live_index.specs.Store.{events_in}
+use Rattle.live_index.proofs.FindLaws.{find-at}
+use Rattle.live_index.proofs.RowLaws.{find-events}
+use Rattle.live_index.proofs.StoreLaws.{not_poisoned}
+use Rattle.live_index.proofs.index.LiveIndex.get.Goals as goal
+
+pub returns : goal.returns
+returns g c =
+    let numbers = c.self.inside.store.numbers in
+    let table = c.self.inside.store.events in
+    let host = option_copied c.args.host in
+    let service = option_copied c.args.service in (
+      (refl, λ _. tt, c.self.view_is),
+      record {
+        same = tt;
+        event = c.get.ensures.event
+            ∙ sym (find-at host service (events_in numbers table) ∙ find-events numbers table (c.self.invariant c.if-self.false).linked (host, service))
+            ∙ ap (event_at host service) (not_poisoned c.self.inside.poisoned numbers table c.if-self.false ∙ ap (λ index. index.events) c.self.view_is);
+        forks = c.get.ensures.forks;
+        entries = c.get.ensures.entries;
+      },
+    )

@@ -1,0 +1,10 @@
+use Rattle.std.proofs.Common.{ap, ◌∙◌, filter, ◌++◌}
+use Rattle.pred_eval.specs.Truth.{holds}
+use Rattle.live_index.proofs.StoreLaws.{not_poisoned}
+use Rattle.live_index.proofs.index.LiveIndex.search.Goals as goal
+
+pub returns-clause-ok : goal.returns-clause-ok
+returns-clause-ok g c =
+    c.in_ok-copy_matching.ensures.ok
+    ∙ ap (λ events. c.args.out.now ++ filter (holds c.args.pred.now) events)
+    (not_poisoned c.self.inside.poisoned c.self.inside.store.numbers c.self.inside.store.events c.if-self.false ∙ ap (λ index. index.events) c.self.view_is)

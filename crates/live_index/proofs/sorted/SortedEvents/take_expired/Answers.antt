@@ -1,8 +1,0 @@
-use Rattle.std.proofs.Common.{not, rules}
-use Rattle.std.proofs.lemmas.Fn.{filter_same}
-use Rattle.ev_types.specs.Expiry.{is_expired}
-use Rattle.live_index.proofs.sorted.SortedEvents.take_expired.Goals as goal
-
-pub returns-clause-kept : goal.returns-clause-kept
-returns-clause-kept c =
-    rw (← c.self.view_is) (filter_same _ (λ event. not (is_expired c.args.now event)) _ (λ x b f' k. search rules) _ _ c.retain.ensures.filtered)

@@ -1,0 +1,11 @@
+use Rattle.std.proofs.Common.{◌≡◌, length, take}
+use Rattle.live_index.specs.Store.{IsLinked, IsTaking}
+use Rattle.live_index.proofs.store.Store.take_all.Given as goal
+
+abbrev pub invariant-loop-number : goal.invariant-loop-number
+invariant-loop-number l = record {
+  linked : IsLinked l.self.numbers l.self.events;
+  counted : l.self.count ≡ length l.self.numbers;
+  due : l.self.due ≡ l.fn.self.due;
+  taking : IsTaking (take l.number-index l.numbers) l.fn.self.numbers l.fn.self.events l.self.numbers l.self.events l.events.keys;
+}

@@ -1,0 +1,413 @@
+ghost use Rattle.std.specs.Prelude.{◌≡◌, ℕ, ◌+◌, ◌^◌, ◌≤◌, eqb, false, List, [], ◌∷◌, ◌++◌, Option, filter, length, not, option_copied, IfSome, IfOk, OnErr, OnOk, true, Some, None, if◌then◌else◌};
+ghost use Rattle.std.specs.Map.{values_of};
+ghost use Rattle.list_laws.specs.Prefix.{IsPrefix};
+ghost use Rattle.ev_types.specs.Expiry.{is_expired, is_late, is_over};
+ghost use Rattle.ev_types.specs.declared.event.Event.{Event as StoredEvent};
+ghost use Rattle.key_map.specs.Keys.{number_at, Numbers};
+ghost use Rattle.linked_slots.specs.Table.{value_at};
+ghost use Rattle.tick_schedule.specs.Queue.{due_ids, IsRising, Sets};
+ghost use Rattle.pred_eval.specs.Host.{asked_host, NeedsHost};
+ghost use Rattle.pred_eval.specs.Truth.{holds};
+ghost use Rattle.live_index.specs.Index.{visited};
+ghost use Rattle.live_index.specs.Store.{key_of, events_in, events_at, event_of, slot_of, is_by, AreLive, IsLinked, IsStored, IsTaking, Puts, numbers_of_value};
+
+use crate::keyed::KeyedEvent;
+use ev_types::{Event, Events, Memory, Text, Value};
+use key_map::KeyMap;
+use linked_slots::StepTable;
+use list_laws::Ids;
+use pred_eval::Pred;
+use std::alloc::Global;
+use std::collections::BTreeSet;
+use step_count::{Ledger, Steps};
+use tick_schedule::DueQueue;
+
+// After how many seconds an event without a ttl expires, and the greatest moment.
+const DEFAULT_TTL: u32 = 60;
+
+const LAST_MOMENT: i128 = 1 << 40;
+
+/// The events of an index, by host and by service, absent before present.
+#[derive(Drop)]
+pub(crate) struct Store {
+    // The key of an event has its number. The queue has the moments at which events expire, by number.
+    numbers: KeyMap,
+    events: StepTable<Event>,
+    due: DueQueue,
+    count: usize,
+}
+
+impl Store {
+    pub(crate) fn fresh(alloc: Global) -> Store
+        ensures stored { IsStored result.numbers result.events result.due result.count }
+        ensures events { events_in result.numbers result.events ≡ [] }
+    {
+        Store {
+            numbers: KeyMap::fresh(alloc),
+            events: StepTable::fresh(alloc),
+            due: DueQueue::fresh(alloc),
+            count: 0,
+        }
+    }
+
+    /// Puts an event in place of the one of its host and service. One whose state is "expired" only ends that one.
+    pub(crate) fn write(&mut self, alloc: Global, event: Event) -> Result<(), Memory>
+        requires { IsStored self.old.numbers self.old.events self.old.due self.old.count }
+        ensures stored { OnOk result
+            (IsStored self.new.numbers self.new.events self.new.due self.new.count) }
+        ensures puts { OnOk result (Puts (key_of event) (slot_of event)
+            self.old.numbers self.old.events self.new.numbers self.new.events) }
+    {
+        if event.is_over() {
+            self.end(event.host.as_ref(), event.service.as_ref());
+            return Ok(());
+        }
+        self.enter(alloc, event)?;
+        Ok(())
+    }
+
+    /// Puts an event, which is not over, in place of the one of its host and service.
+    fn enter(&mut self, alloc: Global, event: Event) -> Result<(), Memory>
+        requires stored { IsStored self.old.numbers self.old.events self.old.due self.old.count }
+        requires current { is_over event ≡ false }
+        ensures stored { OnOk result
+            (IsStored self.new.numbers self.new.events self.new.due self.new.count) }
+        ensures puts { OnOk result (Puts (key_of event) (Some event)
+            self.old.numbers self.old.events self.new.numbers self.new.events) }
+    {
+        match self.number_of(&event) {
+            Some(number) => self.replace(alloc, number, event),
+            None => self.put(alloc, event),
+        }
+    }
+
+    /// The number of the event's host and service.
+    fn number_of(&self, event: &Event) -> Option<usize>
+        ensures { result ≡ number_at (key_of event.now) self.now.numbers }
+    {
+        self.numbers
+            .get(event.host.as_ref(), event.service.as_ref())
+    }
+
+    /// Puts an event in place of the one with this number, which is of the same host and service. Where both expire at the
+    /// same moment it takes no memory.
+    fn replace(&mut self, alloc: Global, number: usize, event: Event) -> Result<(), Memory>
+        requires stored { IsStored self.old.numbers self.old.events self.old.due self.old.count }
+        requires known { number_at (key_of event) self.old.numbers ≡ Some number }
+        requires current { is_over event ≡ false }
+        ensures stored { OnOk result
+            (IsStored self.new.numbers self.new.events self.new.due self.new.count) }
+        ensures puts { OnOk result (Puts (key_of event) (Some event)
+            self.old.numbers self.old.events self.new.numbers self.new.events) }
+    {
+        let due = due_moment(&event);
+        let previous = self.events.replace(number, event);
+        if is_late_from(&previous, due) {
+            return Ok(());
+        }
+        set_due(alloc, &mut self.due, number, due)?;
+        Ok(())
+    }
+
+    /// Removes the event of this host and this service, if there is one.
+    fn end(&mut self, host: Option<&Text>, service: Option<&Text>)
+        requires { IsStored self.old.numbers self.old.events self.old.due self.old.count }
+        ensures stored { IsStored self.new.numbers self.new.events self.new.due self.new.count }
+        ensures absent { number_at (option_copied host.entry, option_copied service.entry)
+            self.new.numbers ≡ None }
+        ensures puts { Puts (option_copied host.entry, option_copied service.entry) None
+            self.old.numbers self.old.events self.new.numbers self.new.events }
+    {
+        let Some(number) = self.numbers.remove(host, service) else {
+            return;
+        };
+        self.events.remove(number);
+        self.due.clear(number);
+        self.count -= 1;
+    }
+
+    /// Adds an event whose host and service have none.
+    fn put(&mut self, alloc: Global, event: Event) -> Result<(), Memory>
+        requires stored { IsStored self.old.numbers self.old.events self.old.due self.old.count }
+        requires absent { number_at (key_of event) self.old.numbers ≡ None }
+        requires current { is_over event ≡ false }
+        ensures stored { OnOk result
+            (IsStored self.new.numbers self.new.events self.new.due self.new.count) }
+        ensures puts { OnOk result (Puts (key_of event) (Some event)
+            self.old.numbers self.old.events self.new.numbers self.new.events) }
+    {
+        let Some(count) = self.count.checked_add(1) else {
+            return Err(Memory);
+        };
+        let host = copy_text(alloc, event.host.as_ref())?;
+        let service = copy_text(alloc, event.service.as_ref())?;
+        let due = due_moment(&event);
+        let number = self.events.add(alloc, event)?;
+        self.numbers.insert(alloc, host, service, number)?;
+        self.count = count;
+        set_due(alloc, &mut self.due, number, due)?;
+        Ok(())
+    }
+
+    /// The event of this host and this service. It counts an entry where there is one, and takes no memory.
+    pub(crate) fn get<G: Ledger>(
+        &self,
+        host: Option<&Text>,
+        service: Option<&Text>,
+        steps: &mut Steps<G>,
+    ) -> Option<&Event>
+        requires { IsStored self.now.numbers self.now.events self.now.due self.now.count }
+        ensures event { option_copied result ≡ event_of
+            (option_copied host.entry, option_copied service.entry)
+            self.now.numbers self.now.events }
+        ensures forks { steps.new.forks ≡ steps.old.forks }
+        ensures entries { steps.new.entries ≤ steps.old.entries + 1 }
+    {
+        let number = self.numbers.get(host, service)?;
+        Some(self.events.read(number, steps))
+    }
+
+    /// How many events there are.
+    pub(crate) fn len(&self) -> usize
+        requires { IsStored self.now.numbers self.now.events self.now.due self.now.count }
+        ensures { result ≡ length (events_in self.now.numbers self.now.events) }
+    {
+        self.count
+    }
+
+    /// Removes the events that are expired at the moment `now`, at most 2^40, and appends them to `out` in order. It counts
+    /// an entry for each.
+    pub(crate) fn take_expired<G: Ledger>(
+        &mut self,
+        alloc: Global,
+        now: u64,
+        out: &mut Events,
+        steps: &mut Steps<G>,
+    ) -> Result<(), Memory>
+        requires stored { IsStored self.old.numbers self.old.events self.old.due self.old.count }
+        requires now { now ≤ 2 ^ 40 }
+        ensures stored { OnOk result
+            (IsStored self.new.numbers self.new.events self.new.due self.new.count) }
+        ensures kept { OnOk result (events_in self.new.numbers self.new.events
+            ≡ filter (λ event. not (is_expired now event))
+            (events_in self.old.numbers self.old.events)) }
+        ensures gone { OnOk result (out.new ≡ out.old
+            ++ filter (is_expired now) (events_in self.old.numbers self.old.events)) }
+        ensures prefix { OnErr result (IsPrefix out.old out.new) }
+        ensures forks { steps.new.forks ≡ steps.old.forks }
+        ensures entries { steps.new.entries ≤ steps.old.entries
+            + length (filter (is_expired now) (events_in self.old.numbers self.old.events)) }
+    {
+        let mut numbers = Ids::fresh(alloc);
+        self.due.take_due(alloc, now, &mut numbers, steps)?;
+        let expired = self.take_all(alloc, numbers.as_slice())?;
+        push_all(alloc, expired, out)?;
+        Ok(())
+    }
+
+    /// Appends copies of the events that meet the predicate, in order. It counts an entry for each event of the host that
+    /// the predicate asks for, or for each event where it asks for none.
+    pub(crate) fn copy_matching<G: Ledger>(
+        &self,
+        alloc: Global,
+        pred: &mut Pred,
+        out: &mut Events,
+        steps: &mut Steps<G>,
+    ) -> Result<(), Memory>
+        requires { IsStored self.now.numbers self.now.events self.now.due self.now.count }
+        ensures same { pred.new ≡ pred.old }
+        ensures ok { OnOk result (out.new ≡ out.old
+            ++ filter (holds pred.old) (events_in self.now.numbers self.now.events)) }
+        ensures prefix { OnErr result (IsPrefix out.old out.new) }
+        ensures forks { steps.new.forks ≡ steps.old.forks }
+        ensures entries { steps.new.entries ≤ steps.old.entries
+            + length (visited pred.old (events_in self.now.numbers self.now.events)) }
+    {
+        let numbers = self.numbers_for(alloc, pred)?;
+        copy_at(alloc, &self.events, numbers.as_slice(), pred, out, steps)?;
+        Ok(())
+    }
+
+    /// The numbers of the events that may meet the predicate, in order.
+    fn numbers_for(&self, alloc: Global, pred: &Pred) -> Result<Ids, Memory>
+        ensures numbers { IfOk result (λ numbers. numbers
+            ≡ values_of (numbers_of_value (asked_host pred.now) self.now.numbers)) }
+        ensures needs { IfSome (asked_host pred.now) (NeedsHost pred.now) }
+    {
+        match pred.asked_host() {
+            Some(host) => self.numbers_of(alloc, host),
+            None => self.numbers.numbers(alloc),
+        }
+    }
+
+    /// The numbers of the events whose host is the value, in order. No host is a number.
+    fn numbers_of(&self, alloc: Global, host: &Value) -> Result<Ids, Memory>
+        ensures { IfOk result (λ numbers. numbers
+            ≡ values_of (numbers_of_value (Some host.now) self.now.numbers)) }
+    {
+        match host {
+            Value::Text(host) => self.numbers.host_numbers(alloc, Some(host)),
+            Value::Nil => self.numbers.host_numbers(alloc, None),
+            Value::Number(_) => Ok(Ids::fresh(alloc)),
+        }
+    }
+
+    /// Takes the events with these numbers out, in the order of the index.
+    fn take_all(&mut self, alloc: Global, numbers: &[usize]) -> Result<BTreeSet<KeyedEvent>, Memory>
+        requires linked { IsLinked self.old.numbers self.old.events }
+        requires counted { self.old.count ≡ length self.old.numbers }
+        ensures linked { OnOk result (IsLinked self.new.numbers self.new.events) }
+        ensures counted { OnOk result (self.new.count ≡ length self.new.numbers) }
+        ensures due { self.new.due ≡ self.old.due }
+        ensures taken { IfOk result (λ events. IsTaking numbers.now
+            self.old.numbers self.old.events self.new.numbers self.new.events events.keys) }
+    {
+        let mut events = BTreeSet::new(alloc);
+        for number in numbers {
+            self.take_into(*number, &mut events)?;
+        }
+        Ok(events)
+    }
+
+    /// Takes the event with this number out, and puts it among the events.
+    fn take_into(&mut self, number: usize, events: &mut BTreeSet<KeyedEvent>) -> Result<(), Memory>
+        requires linked { IsLinked self.old.numbers self.old.events }
+        requires counted { self.old.count ≡ length self.old.numbers }
+        ensures linked { OnOk result (IsLinked self.new.numbers self.new.events) }
+        ensures counted { OnOk result (self.new.count ≡ length self.new.numbers) }
+        ensures due { self.new.due ≡ self.old.due }
+        ensures step { OnOk result ((gone : List ℕ) (numbers : Numbers)
+            (table : List (Option StoredEvent)) →
+            IsTaking gone numbers table self.old.numbers self.old.events events.old.keys →
+            IsTaking (gone ++ number ∷ []) numbers table self.new.numbers self.new.events
+            events.new.keys) }
+    {
+        let Some(event) = self.take(number) else {
+            return Ok(());
+        };
+        events.replace(KeyedEvent { event })?;
+        Ok(())
+    }
+
+    /// Takes the event with this number out.
+    fn take(&mut self, number: usize) -> Option<Event>
+        requires linked { IsLinked self.old.numbers self.old.events }
+        requires counted { self.old.count ≡ length self.old.numbers }
+        ensures linked { IsLinked self.new.numbers self.new.events }
+        ensures counted { self.new.count ≡ length self.new.numbers }
+        ensures due { self.new.due ≡ self.old.due }
+        ensures taken { result ≡ value_at self.old.events number }
+        ensures slots { (other : ℕ) → value_at self.new.events other
+            ≡ (if eqb other number then None else value_at self.old.events other) }
+        ensures puts { IfSome result (λ event. Puts (key_of event) None
+            self.old.numbers self.old.events self.new.numbers self.new.events) }
+        ensures same { result ≡ None → (self.new.numbers ≡ self.old.numbers)
+            × (self.new.events ≡ self.old.events) }
+    {
+        if !self.events.contains(number) {
+            return None;
+        }
+        let event = self.events.remove(number);
+        self.numbers
+            .remove(event.host.as_ref(), event.service.as_ref());
+        self.count -= 1;
+        Some(event)
+    }
+}
+
+/// Appends copies of the events with these numbers that meet the predicate. It counts an entry for each number.
+fn copy_at<G: Ledger>(
+    alloc: Global,
+    events: &StepTable<Event>,
+    numbers: &[usize],
+    pred: &mut Pred,
+    out: &mut Events,
+    steps: &mut Steps<G>,
+) -> Result<(), Memory>
+    requires { AreLive events.now numbers.now }
+    ensures same { pred.new ≡ pred.old }
+    ensures ok { OnOk result (out.new ≡ out.old
+        ++ filter (holds pred.old) (events_at events.now numbers.now)) }
+    ensures prefix { OnErr result (IsPrefix out.old out.new) }
+    ensures forks { steps.new.forks ≡ steps.old.forks }
+    ensures entries { steps.new.entries ≤ steps.old.entries + length numbers.now }
+{
+    for number in numbers {
+        let event = events.read(*number, steps);
+        copy_one(alloc, event, pred, out)?;
+    }
+    Ok(())
+}
+
+/// Appends a copy of the event, where it meets the predicate.
+fn copy_one(alloc: Global, event: &Event, pred: &mut Pred, out: &mut Events) -> Result<(), Memory>
+    ensures same { pred.new ≡ pred.old }
+    ensures ok { OnOk result (out.new ≡ out.old ++ filter (holds pred.old) (event.now ∷ [])) }
+    ensures err { OnErr result (out.new ≡ out.old) }
+{
+    if pred.holds(alloc, event)? {
+        out.push(alloc, event.copy(alloc)?)?;
+    }
+    Ok(())
+}
+
+/// Appends the events, in order.
+fn push_all(alloc: Global, events: BTreeSet<KeyedEvent>, out: &mut Events) -> Result<(), Memory>
+    ensures ok { OnOk result (out.new ≡ out.old ++ events.keys) }
+    ensures prefix { OnErr result (IsPrefix out.old out.new) }
+{
+    for keyed in events {
+        out.push(alloc, keyed.event)?;
+    }
+    Ok(())
+}
+
+/// Sets the moment of the number, or clears it where there is none.
+fn set_due(
+    alloc: Global,
+    queue: &mut DueQueue,
+    number: usize,
+    due: Option<u64>,
+) -> Result<(), Memory>
+    ensures ok { OnOk result (Sets queue.old queue.new number due) }
+    ensures rising { IsRising queue.new }
+{
+    match due {
+        Some(due) => queue.set(alloc, number, due),
+        None => {
+            queue.clear(number);
+            Ok(())
+        }
+    }
+}
+
+/// The moment from which on the event is late. One after the greatest moment is left out, and one before 1970 is 0.
+fn due_moment(event: &Event) -> Option<u64>
+    ensures { (now : ℕ) → now ≤ 2 ^ 40 → is_by now result ≡ is_late now event.now }
+{
+    let ttl = event.ttl.unwrap_or(DEFAULT_TTL);
+    let due = i128::from(event.time) + i128::from(ttl) + 1;
+    if due > LAST_MOMENT {
+        return None;
+    }
+    if due < 0 {
+        return Some(0);
+    }
+    Some(due as u64)
+}
+
+/// Whether the event is late from this moment on, or never where there is none.
+fn is_late_from(event: &Event, due: Option<u64>) -> bool
+    ensures { result ≡ true → (now : ℕ) → now ≤ 2 ^ 40 → is_by now due ≡ is_late now event.now }
+{
+    due_moment(event) == due
+}
+
+fn copy_text(alloc: Global, text: Option<&Text>) -> Result<Option<Text>, Memory>
+    ensures { IfOk result (λ copied. copied ≡ option_copied text.entry) }
+{
+    match text {
+        Some(text) => Ok(Some(text.copy(alloc)?)),
+        None => Ok(None),
+    }
+}

@@ -1,8 +1,0 @@
-//! The events that are live, by host and service.
-#![tactic(auto)]
-
-mod index;
-mod keyed;
-mod store;
-
-pub use index::OrderedIndex;
