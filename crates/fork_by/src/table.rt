@@ -127,6 +127,7 @@ impl<F: Drop> ForkTable<F> {
         ensures prefix { OnErr result (IsPrefix out.old out.new) }
         ensures at_most { steps.new.entries ≤ steps.old.entries + length
             (due_ids now (fork_dues self.old)) }
+        ensures at_least { steps.old.entries ≤ steps.new.entries }
         ensures forks { steps.new.forks ≡ steps.old.forks }
         ensures forks_told { G.forks steps.new.ledger ≡ G.forks steps.old.ledger }
         ensures same { SameForks self.old self.new }

@@ -47,8 +47,9 @@ impl State {
             (kind_tree kind.now) state h) }
         ensures forks { IfOk result (λ state. (fields : List Field) →
             kind_tree kind.now ≡ By fields → state ≡ State.Forks next.old) }
-        ensures next { OnOk result (next.old + length (kind_patterns (kind_tree kind.now)) ≤ greatest
-            → next.new ≡ next.old + length (kind_patterns (kind_tree kind.now))) }
+        ensures next { OnOk result
+            (next.old + length (kind_patterns (kind_tree kind.now)) ≤ greatest →
+            next.new ≡ next.old + length (kind_patterns (kind_tree kind.now))) }
     {
         match KeptState::fresh(alloc, kind, start)? {
             Some(kept) => Ok(State::Kept(kept)),

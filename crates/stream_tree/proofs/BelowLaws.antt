@@ -57,36 +57,37 @@ otherwise_of-opened s = refl
 module _ (texts : List (List ℕ)) (plan : StreamTrees) (first : ℕ) (Means Beside : Meaning) where
   children_stand : (shape : Option (List Field)) (keys : List (List Value)) (received : Received) (below : Below) → FitsBranch shape Children →
       BelowRepresents texts plan first Means Beside shape keys received below → Means below.children (received Children)
-  children_stand None keys received below fits stands = stands.0
+  children_stand None keys received below fits stands = stands.children
   children_stand (Some fields) keys received below fits stands = absurd fits
 
   otherwise_stand : (shape : Option (List Field)) (keys : List (List Value)) (received : Received) (below : Below) → FitsBranch shape Otherwise →
       BelowRepresents texts plan first Means Beside shape keys received below → Beside below.otherwise (received Otherwise)
-  otherwise_stand None keys received below fits stands = stands.1
+  otherwise_stand None keys received below fits stands = stands.otherwise
   otherwise_stand (Some fields) keys received below fits stands = absurd fits
 
   children_put : (shape : Option (List Field)) (keys : List (List Value)) (received : Received) (x : Entry) (children otherwise : List Node) (forks : ForkTable Forest) (children' : List Node) → FitsBranch shape Children →
       BelowRepresents texts plan first Means Beside shape keys received (record { children = children; otherwise = otherwise; forks = forks }) → Means children' (received Children ▸ x) →
       BelowRepresents texts plan first Means Beside shape keys (extended Children x received) (record { children = children'; otherwise = otherwise; forks = forks })
-  children_put None keys received x children otherwise forks children' fits stands now = (now, stands.1)
+  children_put None keys received x children otherwise forks children' fits stands now = record { children = now; otherwise = stands.otherwise; is_table = stands.is_table; no_forks = stands.no_forks }
   children_put (Some fields) keys received x children otherwise forks children' fits stands now = absurd fits
 
   otherwise_put : (shape : Option (List Field)) (keys : List (List Value)) (received : Received) (x : Entry) (children otherwise : List Node) (forks : ForkTable Forest) (otherwise' : List Node) → FitsBranch shape Otherwise →
       BelowRepresents texts plan first Means Beside shape keys received (record { children = children; otherwise = otherwise; forks = forks }) → Beside otherwise' (received Otherwise ▸ x) →
       BelowRepresents texts plan first Means Beside shape keys (extended Otherwise x received) (record { children = children; otherwise = otherwise'; forks = forks })
-  otherwise_put None keys received x children otherwise forks otherwise' fits stands now = (stands.0, now)
+  otherwise_put None keys received x children otherwise forks otherwise' fits stands now = record { children = stands.children; otherwise = now; is_table = stands.is_table; no_forks = stands.no_forks }
   otherwise_put (Some fields) keys received x children otherwise forks otherwise' fits stands now = absurd fits
 
   forks_stand : (shape : Option (List Field)) (keys : List (List Value)) (received : Received) (key : List Value) (below : Below) → FitsBranch shape (Fork key) →
       BelowRepresents texts plan first Means Beside shape keys received below → CanFork texts plan first × ForksRepresent Means (plan_deadline plan) keys (λ k. received (Fork k)) below.forks
   forks_stand None keys received key below fits stands = absurd fits
-  forks_stand (Some fields) keys received key below fits stands = (stands.0, stands.1)
+  forks_stand (Some fields) keys received key below fits stands = (stands.can_fork, stands.forks)
 
   forks_put : (shape : Option (List Field)) (keys keys' : List (List Value)) (received received' : Received) (key : List Value) (children otherwise : List Node) (forks forks' : ForkTable Forest) → FitsBranch shape (Fork key) →
       BelowRepresents texts plan first Means Beside shape keys received (record { children = children; otherwise = otherwise; forks = forks }) → ForksRepresent Means (plan_deadline plan) keys' (λ k. received' (Fork k)) forks' →
       BelowRepresents texts plan first Means Beside shape keys' received' (record { children = children; otherwise = otherwise; forks = forks' })
   forks_put None keys keys' received received' key children otherwise forks forks' fits stands now = absurd fits
-  forks_put (Some fields) keys keys' received received' key children otherwise forks forks' fits stands now = (stands.0, now)
+  forks_put (Some fields) keys keys' received received' key children otherwise forks forks' fits stands now =
+      record { can_fork = stands.can_fork; forks = now; no_children = stands.no_children; no_otherwise = stands.no_otherwise }
 
 fit_front : (shape : Option (List Field)) (es more : List Emission) → FitAll shape (es ++ more) → FitAll shape es
 fit_front shape [] more fit = tt
@@ -227,11 +228,11 @@ module _ {G : Type 0} (patterns : List Regex) (start moment : ℕ) where
       BelowRepresents texts plan first (ForestRepresents texts plan) (ForestRepresents texts beside) shape keys (λ branch. received branch ▸ Tick) (record { children = children'; otherwise = otherwise'; forks = forks })
       × Performs a t c v (at_tick Tick (branch_effects (plan_effects plan) (plan_effects beside)) received (branches_by shape keys))
   both_case texts plan beside first None keys received a b c t u v children otherwise children' otherwise' forks plain stands one two =
-      let ran = one stands.0 in
-      let ran' = two stands.1 in
+      let ran = one stands.children in
+      let ran' = two stands.otherwise in
       let told = plan_effects plan (received Children ▸ Tick) in
       let told' = plan_effects beside (received Otherwise ▸ Tick) in (
-        (ran.0, ran'.0),
+        record { children = ran.0; otherwise = ran'.0; is_table = stands.is_table; no_forks = stands.no_forks },
         subst (λ (hs : List Effect). Performs a t c v (told ++ hs)) (sym (append-nil told')) (grew_then a b c t u v told told' ran.1 ran'.1),
       )
   both_case texts plan beside first (Some fields) keys received a b c t u v children otherwise children' otherwise' forks plain stands one two = absurd (cc)
@@ -261,7 +262,7 @@ module _ {G : Type 0} (patterns : List Regex) (start moment : ℕ) where
       (ForestRepresents texts plan below.children (received Children) → Stops a t b u Tick (plan_effects plan (received Children ▸ Tick))) →
       Stops a t b u Tick (at_tick Tick (branch_effects (plan_effects plan) (plan_effects beside)) received (branches_by shape keys))
   one_stops_case texts plan beside first None keys received a b t u below plain stands one =
-      stops_more a b t u Tick (plan_effects plan (received Children ▸ Tick)) (plan_effects beside (received Otherwise ▸ Tick) ++ []) (one stands.0)
+      stops_more a b t u Tick (plan_effects plan (received Children ▸ Tick)) (plan_effects beside (received Otherwise ▸ Tick) ++ []) (one stands.children)
   one_stops_case texts plan beside first (Some fields) keys received a b t u below plain stands one = absurd (cc)
 
   pub one_stops : (s : Stream) (streams : List Stream) (x : Entry) (a b : List Output) (t u : StepCount G) (children otherwise : Forest) (forks : ForkTable Forest) →
@@ -286,7 +287,7 @@ module _ {G : Type 0} (patterns : List Regex) (start moment : ℕ) where
   two_stops_case texts plan beside first None keys received a b c t u v below children' plain stands one two =
       let told = plan_effects plan (received Children ▸ Tick) in
       let told' = plan_effects beside (received Otherwise ▸ Tick) in
-      subst (λ (hs : List Effect). Stops a t c v Tick (told ++ hs)) (sym (append-nil told')) (stops_then a b c t u v Tick told told' (one stands.0).1 (two stands.1))
+      subst (λ (hs : List Effect). Stops a t c v Tick (told ++ hs)) (sym (append-nil told')) (stops_then a b c t u v Tick told told' (one stands.children).1 (two stands.otherwise))
   two_stops_case texts plan beside first (Some fields) keys received a b c t u v below children' plain stands one two = absurd (cc)
 
   pub two_stops : (s : Stream) (children_streams otherwise_streams : List Stream) (x : Entry) (a b c : List Output) (t u v : StepCount G) (children otherwise children' : Forest) (forks : ForkTable Forest) →
@@ -317,8 +318,8 @@ module _ {G : Type 0} (patterns : List Regex) (start moment : ℕ) where
       × Performs a t b u (at_tick Tick (branch_effects (plan_effects plan) (plan_effects beside)) received (branches_by shape keys))
   due_case texts plan beside first None keys received a b t u children otherwise forks forks' forked from stands comes runs = absurd (cc)
   due_case texts plan beside first (Some fields) keys received a b t u children otherwise forks forks' forked from stands comes runs =
-      let ran = runs texts keys (λ key. received (Fork key)) from stands.0.in_range stands.1 (λ key. comes (Fork key)) in (
-        (stands.0, ran.0),
+      let ran = runs texts keys (λ key. received (Fork key)) from stands.can_fork.in_range stands.forks (λ key. comes (Fork key)) in (
+        record { can_fork = stands.can_fork; forks = ran.0; no_children = stands.no_children; no_otherwise = stands.no_otherwise },
         subst (λ (hs : List Effect). Performs a t b u hs) (sym (forks_tick (plan_effects plan) (plan_effects beside) received keys)) ran.1,
       )
 
@@ -339,7 +340,7 @@ module _ {G : Type 0} (patterns : List Regex) (start moment : ℕ) where
   due_stops_case texts plan beside first None keys received a b t u below forked from stands comes stops = absurd (cc)
   due_stops_case texts plan beside first (Some fields) keys received a b t u below forked from stands comes stops =
       subst (λ (hs : List Effect). Stops a t b u Tick hs) (sym (forks_tick (plan_effects plan) (plan_effects beside) received keys))
-      (stops texts keys (λ key. received (Fork key)) from stands.0.in_range stands.1 (λ key. comes (Fork key)))
+      (stops texts keys (λ key. received (Fork key)) from stands.can_fork.in_range stands.forks (λ key. comes (Fork key)))
 
   pub due_stops : (s : Stream) (x : Entry) (a b : List Output) (t u : StepCount G) (children otherwise : Forest) (forks : ForkTable Forest) →
       is_some (forked_by (kind_tree (out-Stream s).kind)) ≡ true → x ≡ Tick → DueStops patterns start moment a t b u (children_of (opened s)) forks →

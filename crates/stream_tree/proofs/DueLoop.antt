@@ -139,6 +139,8 @@ module _ {G : Type 0} (patterns : List Regex) (start moment : ℕ) (a : List Out
         within = (p.within.0, ap (λ (l : List Output). a ++ l) counts.0 ∙ p.within.1);
         forks = omega (arith, p.forks, taken.forks, counts.2);
         entries = omega (arith, p.entries, taken.entries, counts.1);
+        no_fewer_forks = omega (arith, p.no_fewer_forks, taken.forks);
+        no_fewer_entries = omega (arith, p.no_fewer_entries, taken.entries);
       }
 
   pub loop_ends : (i : ℕ) (forks : ForkTable Forest) (b : List Output) (u : StepCount G) → length numbers ≤ i → Taken → LoopRan i forks b u → DueRuns patterns start moment a t b u streams first forks
@@ -172,8 +174,8 @@ module _ {G : Type 0} (patterns : List Regex) (start moment : ℕ) (a : List Out
       }
 
   -- the numbers were not taken
-  pub due_stop : (steps : StepCount G) → steps.forks ≡ t.forks → steps.entries ≤ t.entries + length numbers → (numbers ≡ [] → ⊥) → DueStops patterns start moment a t a steps streams first
-  due_stop steps forks_same at_most some texts keys received from ranges stands comes =
+  pub due_stop : (steps : StepCount G) → steps.forks ≡ t.forks → steps.entries ≤ t.entries + length numbers → t.entries ≤ steps.entries → (numbers ≡ [] → ⊥) → DueStops patterns start moment a t a steps streams first
+  due_stop steps forks_same at_most at_least some texts keys received from ranges stands comes =
       let Means : Meaning = ForestRepresents texts streams in
       let counts = entered_as_given (λ n. plan_effects streams (received (get_or keys n []) ▸ Tick)) numbers in
       let due = flat_map (λ n. Due ∷ plan_effects streams (received (get_or keys n []) ▸ Tick)) numbers in record {
@@ -182,6 +184,8 @@ module _ {G : Type 0} (patterns : List Regex) (start moment : ℕ) (a : List Out
           within = (outputs_among due, refl);
           forks = omega (arith, forks_same);
           entries = omega (arith, at_most, counts.1);
+          no_fewer_forks = omega (arith, forks_same);
+          no_fewer_entries = at_least;
         });
         busy = λ tick none. some (none_due streams Means keys received moment ranges (now received comes) first stands none);
       }

@@ -103,6 +103,8 @@ module _ {G : Type 0} (patterns : List Regex) (start moment : ℕ) (s : Stream) 
         within = part.within;
         forks = omega (arith, part.forks, entered);
         entries = omega (arith, part.entries, visited);
+        no_fewer_forks = omega (arith, part.no_fewer_forks, entered);
+        no_fewer_entries = omega (arith, part.no_fewer_entries, visited);
       })
 
 -- there is no such fork

@@ -4,31 +4,23 @@ use Rattle.std.proofs.Math.ListN.{set}
 use Rattle.std.proofs.lemmas.List.{append-nil, append_assoc, take_more, take_all, take-append-drop}
 use Rattle.ev_types.specs.declared.item.Output.{Output}
 use Rattle.step_count.specs.Count.{StepCount}
-use Rattle.pred_eval.specs.Search.{AreReadFrom}
 use Rattle.regex.specs.declared.string.regex.Regex.{Regex}
 use Rattle.stream_plan.specs.declared.plan.Stream.{Stream}
 use Rattle.stream_plan.specs.Search.{opened}
-use Rattle.stream_plan.specs.Tree.{StreamTree, StreamTrees, stream, none, also, stream_tree, list_trees}
+use Rattle.stream_plan.specs.Tree.{StreamTree, stream_tree, list_trees}
 use Rattle.stream_plan.proofs.Trees.{stream_tree-opened}
 use Rattle.stream_meaning.specs.declared.entry.Entry.{Entry}
-use Rattle.stream_meaning.specs.History.{History, ◌▸◌, moment_of}
+use Rattle.stream_meaning.specs.History.{History, ◌▸◌}
 use Rattle.stream_meaning.specs.Outputs.{Effect, stream_effects, plan_effects}
 use Rattle.stream_tree.specs.declared.forest.Node.{Node, out-Node}
 use Rattle.stream_tree.specs.Forest.{node_below, NodeRepresents, ForestRepresents}
-use Rattle.stream_tree.specs.Running.{ComesAt, Stops, ForestRuns, ForestStops, StreamRuns, StreamStops}
+use Rattle.stream_tree.specs.Running.{Stops, FirstRepresent, FirstRun, ForestRuns, ForestStops, StreamRuns, StreamStops}
 use Rattle.stream_tree.specs.Tree.{Performs}
 use Rattle.stream_tree.proofs.PerformLaws.{grew_none, grew_then, stops_more, stops_then}
 
--- the first i nodes represent one entry more
-abbrev pub Halfway : List (List ℕ) → ℕ → StreamTrees → List Node → History → Entry → Type 0
-Halfway texts zero streams nodes h x = ForestRepresents texts streams nodes h
-Halfway texts (suc i) none nodes h x = ForestRepresents texts none nodes h
-Halfway texts (suc i) (also first more) [] h x = ⊥
-Halfway texts (suc i) (also first more) (node ∷ nodes) h x = NodeRepresents texts first node (h ▸ x) × Halfway texts i more nodes h x
-
 module _ (texts : List (List ℕ)) (h : History) (x : Entry) where
   half_here : (streams : List Stream) (nodes : List Node) (i : ℕ) (s : Stream) (node : Node) → i < length streams → i < length nodes →
-      Halfway texts i (list_trees streams) nodes h x → NodeRepresents texts (opened (get_or streams i s)) (get_or nodes i node) h
+      FirstRepresent texts i (list_trees streams) nodes h x → NodeRepresents texts (opened (get_or streams i s)) (get_or nodes i node) h
   half_here [] nodes i s node within within' half = absurd (omega (arith, within))
   half_here (first ∷ streams) [] i s node within within' half = absurd (omega (arith, within'))
   half_here (first ∷ streams) (other ∷ nodes) zero s node within within' half =
@@ -37,7 +29,7 @@ module _ (texts : List (List ℕ)) (h : History) (x : Entry) where
       half_here streams nodes i s node (omega (arith, within)) (omega (arith, within')) half.1
 
   half_more : (streams : List Stream) (nodes : List Node) (i : ℕ) (s : Stream) (node : Node) → i < length streams → i < length nodes →
-      Halfway texts i (list_trees streams) nodes h x → NodeRepresents texts (opened (get_or streams i s)) node (h ▸ x) → Halfway texts (suc i) (list_trees streams) (set nodes i node) h x
+      FirstRepresent texts i (list_trees streams) nodes h x → NodeRepresents texts (opened (get_or streams i s)) node (h ▸ x) → FirstRepresent texts (suc i) (list_trees streams) (set nodes i node) h x
   half_more [] nodes i s node within within' half now = absurd (omega (arith, within))
   half_more (first ∷ streams) [] i s node within within' half now = absurd (omega (arith, within'))
   half_more (first ∷ streams) (other ∷ nodes) zero s node within within' half now =
@@ -46,7 +38,7 @@ module _ (texts : List (List ℕ)) (h : History) (x : Entry) where
       (half.0, half_more streams nodes i s node (omega (arith, within)) (omega (arith, within')) half.1 now)
 
   half_all : (streams : List Stream) (nodes : List Node) (i : ℕ) → min (length streams) (length nodes) ≤ i →
-      Halfway texts i (list_trees streams) nodes h x → ForestRepresents texts (list_trees streams) nodes (h ▸ x)
+      FirstRepresent texts i (list_trees streams) nodes h x → ForestRepresents texts (list_trees streams) nodes (h ▸ x)
   half_all [] [] i past half = tt
   half_all [] (node ∷ nodes) zero past half = half
   half_all [] (node ∷ nodes) (suc i) past half = half
@@ -88,15 +80,14 @@ plan_effects-split streams i s h within =
 module _ {G : Type 0} (patterns : List Regex) (start moment : ℕ) (x : Entry) (a : List Output) (t : StepCount G) (streams : List Stream) (first : List Node) where
   -- the first i streams have got the entry
   abbrev pub ForestRan : ℕ → List Node → List Output → StepCount G → Type 0
-  ForestRan i nodes b u = (texts : List (List ℕ)) (h : History) → AreReadFrom texts patterns → ForestRepresents texts (list_trees streams) first h → ComesAt start moment h x →
-      Halfway texts i (list_trees streams) nodes h x × Performs a t b u (plan_effects (list_trees (take i streams)) (h ▸ x))
+  ForestRan i nodes b u = FirstRun patterns start moment a t b u x streams first i nodes
 
   pub forest_begins : ForestRan 0 first a t
   forest_begins texts h from stands comes = (stands, grew_none a t)
 
   -- the node of the next stream
   node_here : (texts : List (List ℕ)) (h : History) (i : ℕ) (nodes : List Node) (s : Stream) (node other : Node) → i < length streams → i < length nodes → s ≡ get_or streams i s → node ≡ get_or nodes i other →
-      Halfway texts i (list_trees streams) nodes h x → NodeRepresents texts (opened s) node h
+      FirstRepresent texts i (list_trees streams) nodes h x → NodeRepresents texts (opened s) node h
   node_here texts h i nodes s node other within within' is is' half =
       let at_place : NodeRepresents texts (opened (get_or streams i s)) (get_or nodes i other) h = half_here texts h x streams nodes i s other within within' half in
       subst (λ (n : Node). NodeRepresents texts (opened s) n h) (sym is') (subst (λ (r : Stream). NodeRepresents texts (opened r) (get_or nodes i other) h) (sym is) at_place)
@@ -109,11 +100,11 @@ module _ {G : Type 0} (patterns : List Regex) (start moment : ℕ) (x : Entry) (
       let before = so_far texts h from stands comes in
       let ran = runs texts h from (node_here texts h i nodes s node other within within' is is' before.0) comes in
       let done : NodeRepresents texts (opened (get_or streams i s)) node' (h ▸ x) = subst (λ (r : Stream). NodeRepresents texts (opened r) node' (h ▸ x)) is ran.0 in
-      let half : Halfway texts (suc i) (list_trees streams) (set nodes i node') h x = half_more texts h x streams nodes i s node' within within' before.0 done in
+      let half : FirstRepresent texts (suc i) (list_trees streams) (set nodes i node') h x = half_more texts h x streams nodes i s node' within within' before.0 done in
       let number : suc i ≡ i + 1 = omega arith in
       let effects : plan_effects (list_trees (take i streams)) (h ▸ x) ++ stream_effects (opened s) (h ▸ x) ≡ plan_effects (list_trees (take (i + 1) streams)) (h ▸ x) =
       ap (λ (r : Stream). plan_effects (list_trees (take i streams)) (h ▸ x) ++ stream_effects (opened r) (h ▸ x)) is ∙ sym (plan_effects-take streams i s (h ▸ x) within) in (
-        subst (λ (n : ℕ). Halfway texts n (list_trees streams) (set nodes i node') h x) number half,
+        subst (λ (n : ℕ). FirstRepresent texts n (list_trees streams) (set nodes i node') h x) number half,
         subst (λ (hs : List Effect). Performs a t c v hs) effects
             (grew_then a b c t u v (plan_effects (list_trees (take i streams)) (h ▸ x)) (stream_effects (opened s) (h ▸ x)) before.1 ran.1),
       )

@@ -70,14 +70,15 @@ state_part kind children otherwise state start first own before after h alone be
 
 -- a stream without forks
 plain_below : (texts : Texts) (plan : StreamTrees) (first : ℕ) (Means Beside : Meaning) (shape : Option (List Field)) (keys : List (List Value)) (received : Branch → History) (below : Below) → is_some shape ≡ false →
-    Means below.children (received Children) → Beside below.otherwise (received Otherwise) → BelowRepresents texts plan first Means Beside shape keys received below
-plain_below texts plan first Means Beside None keys received below plain one two = (one, two)
-plain_below texts plan first Means Beside (Some fields) keys received below plain one two = absurd (cc)
+    Means below.children (received Children) → Beside below.otherwise (received Otherwise) → IsTable below.forks → table_keys below.forks ≡ [] → BelowRepresents texts plan first Means Beside shape keys received below
+plain_below texts plan first Means Beside None keys received below plain one two is_table empty = record { children = one; otherwise = two; is_table = is_table; no_forks = empty }
+plain_below texts plan first Means Beside (Some fields) keys received below plain one two is_table empty = absurd (cc)
 
 plain_fresh : (kind : KindTree) (children otherwise : StreamTrees) (state : State) (below : Below) (start first second third fourth : ℕ) → is_some (forked_by kind) ≡ false → StateStands kind state start first →
     (first + length (kind_patterns kind) ≤ greatest → second ≡ first + length (kind_patterns kind)) →
-    ForestIsFresh children start second third below.children → ForestIsFresh otherwise start third fourth below.otherwise → PartsFresh kind children otherwise state below start first
-plain_fresh kind children otherwise state below start first second third fourth plain own next children_fresh otherwise_fresh before after h alone begins ranges at small =
+    ForestIsFresh children start second third below.children → ForestIsFresh otherwise start third fourth below.otherwise → IsTable below.forks → table_keys below.forks ≡ [] →
+    PartsFresh kind children otherwise state below start first
+plain_fresh kind children otherwise state below start first second third fourth plain own next children_fresh otherwise_fresh is_table empty before after h alone begins ranges at small =
     let mine = kind_patterns kind in
     let c = plan_patterns children in
     let o = plan_patterns otherwise in
@@ -96,7 +97,7 @@ plain_fresh kind children otherwise state below start first second third fourth 
       state_part kind children otherwise state start first own before after h alone begins ranges.0 at small,
       plain_below texts children (first_of state) (ForestRepresents texts children) (ForestRepresents texts otherwise) (forked_by kind) (keys_by (forked_by kind) h) (λ branch. child_history kind branch h) below plain
           (subst (λ (g : History). ForestRepresents texts children below.children g) (sym (ticks_handed_on kind Children h alone)) one)
-          (subst (λ (g : History). ForestRepresents texts otherwise below.otherwise g) (sym (ticks_handed_on kind Otherwise h alone)) two),
+          (subst (λ (g : History). ForestRepresents texts otherwise below.otherwise g) (sym (ticks_handed_on kind Otherwise h alone)) two) is_table empty,
     )
 
 -- a `by` without forks
@@ -110,25 +111,29 @@ no_forks Means deadline keys received forks is_table empty are = record {
 }
 
 by_fresh : (kind : KindTree) (children otherwise : StreamTrees) (state : State) (below : Below) (start first : ℕ) → is_some (forked_by kind) ≡ true → StateStands kind state start first →
-    ((fields : List Field) → kind ≡ By fields → state ≡ Forks first) → IsTable below.forks → table_keys below.forks ≡ [] → PartsFresh kind children otherwise state below start first
-by_fresh (By fields) children otherwise state below start first forked own keeps is_table empty before after h alone begins ranges at small =
+    ((fields : List Field) → kind ≡ By fields → state ≡ Forks first) → IsTable below.forks → table_keys below.forks ≡ [] → below.children ≡ [] → below.otherwise ≡ [] →
+    PartsFresh kind children otherwise state below start first
+by_fresh (By fields) children otherwise state below start first forked own keeps is_table empty no_children no_otherwise before after h alone begins ranges at small =
     let c = plan_patterns children in
     let o = plan_patterns otherwise in
     let texts : Texts = before ++ ((c ++ o) ++ after) in (
       state_part (By fields) children otherwise state start first own before after h alone begins ranges.0 at small,
-      (
-        record {
+      record {
+        can_fork = record {
           in_range = ranges.1;
           before = before;
           after = o ++ after;
           begins = at ∙ ap first_of (sym (keeps fields refl));
           among = ap (λ (l : Texts). before ++ l) (append_assoc c o after);
           few = small;
-        },
-        no_forks (ForestRepresents texts children) (plan_deadline children) (fork_keys fields h) (λ key. child_history (By fields) (Fork key) h) below.forks is_table empty (ticks_make_no_fork fields h alone),
-      ),
+        };
+        forks = no_forks (ForestRepresents texts children) (plan_deadline children) (fork_keys fields h) (λ key. child_history (By fields) (Fork key) h) below.forks is_table empty
+            (ticks_make_no_fork fields h alone);
+        no_children = no_children;
+        no_otherwise = no_otherwise;
+      },
     )
-by_fresh kind children otherwise state below start first forked own keeps is_table empty before after h alone begins ranges at small = absurd (cc)
+by_fresh kind children otherwise state below start first forked own keeps is_table empty no_children no_otherwise before after h alone begins ranges at small = absurd (cc)
 
 -- ---- the node of a stream
 
@@ -139,18 +144,20 @@ OpenedFresh s state below start first = (before after : Texts) (h : History) →
 pub node_stands : (s : Stream) (children otherwise : List Stream) (state : State) (below : Below) (start first second third fourth : ℕ) →
     children ≡ (out-Stream s).children.items → otherwise ≡ (out-Stream s).otherwise.items → is_some (forked_by (kind_tree (out-Stream s).kind)) ≡ false → StateStands (kind_tree (out-Stream s).kind) state start first →
     (first + length (kind_patterns (kind_tree (out-Stream s).kind)) ≤ greatest → second ≡ first + length (kind_patterns (kind_tree (out-Stream s).kind))) →
-    ForestIsFresh (list_trees children) start second third below.children → ForestIsFresh (list_trees otherwise) start third fourth below.otherwise → OpenedFresh s state below start first
+    ForestIsFresh (list_trees children) start second third below.children → ForestIsFresh (list_trees otherwise) start third fourth below.otherwise → IsTable below.forks → table_keys below.forks ≡ [] →
+    OpenedFresh s state below start first
 unfolding opened stream_patterns
-node_stands s children otherwise state below start first second third fourth children_is otherwise_is plain own next children_fresh otherwise_fresh =
+node_stands s children otherwise state below start first second third fourth children_is otherwise_is plain own next children_fresh otherwise_fresh is_table empty =
     plain_fresh (kind_tree (out-Stream s).kind) (list_trees (out-Stream s).children.items) (list_trees (out-Stream s).otherwise.items) state below start first second third fourth plain own next
     (subst (λ (l : List Stream). ForestIsFresh (list_trees l) start second third below.children) children_is children_fresh)
-    (subst (λ (l : List Stream). ForestIsFresh (list_trees l) start third fourth below.otherwise) otherwise_is otherwise_fresh)
+    (subst (λ (l : List Stream). ForestIsFresh (list_trees l) start third fourth below.otherwise) otherwise_is otherwise_fresh) is_table empty
 
 pub unforked_stands : (s : Stream) (state : State) (below : Below) (start first : ℕ) → is_some (forked_by (kind_tree (out-Stream s).kind)) ≡ true → StateStands (kind_tree (out-Stream s).kind) state start first →
-    ((fields : List Field) → kind_tree (out-Stream s).kind ≡ By fields → state ≡ Forks first) → IsTable below.forks → table_keys below.forks ≡ [] → OpenedFresh s state below start first
+    ((fields : List Field) → kind_tree (out-Stream s).kind ≡ By fields → state ≡ Forks first) → IsTable below.forks → table_keys below.forks ≡ [] → below.children ≡ [] → below.otherwise ≡ [] →
+    OpenedFresh s state below start first
 unfolding opened stream_patterns
-unforked_stands s state below start first forked own keeps is_table empty =
-    by_fresh (kind_tree (out-Stream s).kind) (list_trees (out-Stream s).children.items) (list_trees (out-Stream s).otherwise.items) state below start first forked own keeps is_table empty
+unforked_stands s state below start first forked own keeps is_table empty no_children no_otherwise =
+    by_fresh (kind_tree (out-Stream s).kind) (list_trees (out-Stream s).children.items) (list_trees (out-Stream s).otherwise.items) state below start first forked own keeps is_table empty no_children no_otherwise
 
 abbrev OpenedSize : Stream → ℕ
 OpenedSize s = length (kind_patterns (kind_tree (out-Stream s).kind)) + (length (plan_patterns (list_trees (out-Stream s).children.items)) + length (plan_patterns (list_trees (out-Stream s).otherwise.items)))

@@ -4,6 +4,7 @@ pub mod StillLaws
 pub mod DueLaws
 pub mod DueLoop
 pub mod ForkLaws
+pub mod GiveLaws
 pub mod BelowLaws
 pub mod EnterLaws
 pub mod StreamLaws

@@ -112,8 +112,8 @@ plain_below : (texts : List (List ℕ)) (plan beside : StreamTrees) (first : ℕ
     (ForestRepresents texts beside below.otherwise (received Otherwise) → two ≡ plan_deadline beside (received Otherwise)) →
     earlier one two ≡ earliest (map (λ branch. deadline_of (plan_deadline plan) (plan_deadline beside) branch (received branch)) (branches_by shape keys))
 plain_below texts plan beside first None keys received below one two plain stands first_is second_is =
-    ap (λ (d : Option ℕ). earlier d two) (first_is stands.0)
-    ∙ ap (earlier (plan_deadline plan (received Children))) (second_is stands.1 ∙ sym (earlier-none (plan_deadline beside (received Otherwise))))
+    ap (λ (d : Option ℕ). earlier d two) (first_is stands.children)
+    ∙ ap (earlier (plan_deadline plan (received Children))) (second_is stands.otherwise ∙ sym (earlier-none (plan_deadline beside (received Otherwise))))
 plain_below texts plan beside first (Some fields) keys received below one two plain stands first_is second_is = absurd (cc)
 
 forked_below : (texts : List (List ℕ)) (plan beside : StreamTrees) (first : ℕ) (shape : Option (List Field)) (keys : List (List Value)) (received : Branch → History) (below : Below) (next : Option ℕ) → is_some shape ≡ true →
@@ -121,7 +121,7 @@ forked_below : (texts : List (List ℕ)) (plan beside : StreamTrees) (first : �
     next ≡ earliest (map (λ branch. deadline_of (plan_deadline plan) (plan_deadline beside) branch (received branch)) (branches_by shape keys))
 forked_below texts plan beside first None keys received below next forked stands least = absurd (cc)
 forked_below texts plan beside first (Some fields) keys received below next forked stands least =
-    next_is (ForestRepresents texts plan) (plan_deadline plan) keys (λ key. received (Fork key)) below.forks next stands.1 least
+    next_is (ForestRepresents texts plan) (plan_deadline plan) keys (λ key. received (Fork key)) below.forks next stands.forks least
     ∙ ap earliest (sym (map_twice (λ branch. deadline_of (plan_deadline plan) (plan_deadline beside) branch (received branch)) keys))
 
 -- ---- one stream

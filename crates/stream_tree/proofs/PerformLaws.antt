@@ -95,7 +95,14 @@ module _ {G : Type 0} where
   -- ---- where the call stopped
 
   pub part_none : (out : List Output) (steps : StepCount G) (es : List Effect) → PerformsPart out steps out steps es
-  part_none out steps es = record { begins = extends_none out; within = (outputs_among es, refl); forks = omega arith; entries = omega arith }
+  part_none out steps es = record {
+    begins = extends_none out;
+    within = (outputs_among es, refl);
+    forks = omega arith;
+    entries = omega arith;
+    no_fewer_forks = omega arith;
+    no_fewer_entries = omega arith;
+  }
 
   pub part_more : (a b : List Output) (s t : StepCount G) (xs ys : List Effect) → PerformsPart a s b t xs → PerformsPart a s b t (xs ++ ys)
   part_more a b s t xs ys p = record {
@@ -104,6 +111,8 @@ module _ {G : Type 0} where
         (outputs_among ys, ap (λ (l : List Output). a ++ l) (outputs_among-append xs ys) ∙ sym (append_assoc a (outputs_among xs) (outputs_among ys)));
     forks = omega (arith, p.forks, due-append xs ys, given-append xs ys);
     entries = omega (arith, p.entries, due-append xs ys);
+    no_fewer_forks = p.no_fewer_forks;
+    no_fewer_entries = p.no_fewer_entries;
   }
 
   pub part_then : (a b c : List Output) (s t u : StepCount G) (xs ys : List Effect) → Performs a s b t xs → PerformsPart b t c u ys → PerformsPart a s c u (xs ++ ys)
@@ -114,6 +123,8 @@ module _ {G : Type 0} where
         (q.within.0, all ∙ q.within.1);
     forks = omega (arith, p.forks, q.forks, due-append xs ys, given-append xs ys);
     entries = omega (arith, p.entries, q.entries, due-append xs ys);
+    no_fewer_forks = omega (arith, p.forks, q.no_fewer_forks);
+    no_fewer_entries = omega (arith, p.entries, q.no_fewer_entries);
   }
 
   pub stops_more : (a b : List Output) (s t : StepCount G) (x : Entry) (xs ys : List Effect) → Stops a s b t x xs → Stops a s b t x (xs ++ ys)
@@ -151,4 +162,6 @@ module _ {G : Type 0} where
     within = subst (λ (l : List Output). IsPrefix b (a ++ l)) (sym (own_said kind h x)) within;
     forks = omega arith;
     entries = omega arith;
+    no_fewer_forks = omega arith;
+    no_fewer_entries = omega arith;
   }

@@ -63,18 +63,24 @@ module _ (texts : List (List ℕ)) (plan : StreamTrees) (first : ℕ) (Means Bes
   -- the same histories in another form
   pub below_same : (shape : Option (List Field)) (keys : List (List Value)) (received received' : Branch → History) (below : Below) → ((branch : Branch) → received branch ≡ received' branch) →
       BelowRepresents texts plan first Means Beside shape keys received below → BelowRepresents texts plan first Means Beside shape keys received' below
-  below_same None keys received received' below same stands =
-      (subst (λ (h : History). Means below.children h) (same Children) stands.0, subst (λ (h : History). Beside below.otherwise h) (same Otherwise) stands.1)
-  below_same (Some fields) keys received received' below same stands = (
-    stands.0,
-    record {
-      is_table = stands.1.is_table;
-      keys_are = stands.1.keys_are;
+  below_same None keys received received' below same stands = record {
+    children = subst (λ (h : History). Means below.children h) (same Children) stands.children;
+    otherwise = subst (λ (h : History). Beside below.otherwise h) (same Otherwise) stands.otherwise;
+    is_table = stands.is_table;
+    no_forks = stands.no_forks;
+  }
+  below_same (Some fields) keys received received' below same stands = record {
+    can_fork = stands.can_fork;
+    forks = record {
+      is_table = stands.forks.is_table;
+      keys_are = stands.forks.keys_are;
       each = λ number other within.
-          subst (λ (h : History). Means (nodes_of (get_or (fork_list below.forks) number other)) h) (same (Fork (get_or keys number []))) (stands.1.each number other within);
-      dues = λ number within. stands.1.dues number within ∙ ap (plan_deadline plan) (same (Fork (get_or keys number [])));
-    },
-  )
+          subst (λ (h : History). Means (nodes_of (get_or (fork_list below.forks) number other)) h) (same (Fork (get_or keys number []))) (stands.forks.each number other within);
+      dues = λ number within. stands.forks.dues number within ∙ ap (plan_deadline plan) (same (Fork (get_or keys number [])));
+    };
+    no_children = stands.no_children;
+    no_otherwise = stands.no_otherwise;
+  }
 
 -- the effects of a tick in the forks
 pub forks_tick : (below beside : History → List Effect) (received : Branch → History) (keys : List (List Value)) →
@@ -102,15 +108,19 @@ below_still : (texts : List (List ℕ)) (plan beside : StreamTrees) (first : ℕ
     BelowRepresents texts plan first Means Beside shape keys received below → BelowRepresents texts plan first Means Beside shape keys (λ branch. received branch ▸ Tick) below
 below_still texts plan beside first Means Beside None keys received below still still' empty stands =
     let c = plan_effects plan (received Children ▸ Tick) in
-    let o = plan_effects beside (received Otherwise ▸ Tick) in (
-      still below.children (received Children) stands.0 (nil_left c (o ++ []) empty),
-      still' below.otherwise (received Otherwise) stands.1 (nil_left o [] (nil_right c (o ++ []) empty)),
-    )
-below_still texts plan beside first Means Beside (Some fields) keys received below still still' empty stands = (
-  stands.0,
-  forks_still plan Means keys (λ key. received (Fork key)) below.forks stands.0.in_range still
-      (sym (forks_tick (plan_effects plan) (plan_effects beside) received keys) ∙ empty) stands.1,
-)
+    let o = plan_effects beside (received Otherwise ▸ Tick) in record {
+      children = still below.children (received Children) stands.children (nil_left c (o ++ []) empty);
+      otherwise = still' below.otherwise (received Otherwise) stands.otherwise (nil_left o [] (nil_right c (o ++ []) empty));
+      is_table = stands.is_table;
+      no_forks = stands.no_forks;
+    }
+below_still texts plan beside first Means Beside (Some fields) keys received below still still' empty stands = record {
+  can_fork = stands.can_fork;
+  forks = forks_still plan Means keys (λ key. received (Fork key)) below.forks stands.can_fork.in_range still
+      (sym (forks_tick (plan_effects plan) (plan_effects beside) received keys) ∙ empty) stands.forks;
+  no_children = stands.no_children;
+  no_otherwise = stands.no_otherwise;
+}
 
 -- ---- whole forests
 

@@ -1,5 +1,5 @@
 -- One entry at one stream: the stream acts, a tick goes on, and then each emission does.
-use Rattle.std.proofs.Common.{◌≡◌, ℕ, ◌+◌, ◌<◌, ◌≤◌, ◌^◌, Bool, true, false, cond, List, [], ◌∷◌, ◌++◌, Option, Some, None, is_some, refl, sym, ap, ◌∙◌, subst, arith}
+use Rattle.std.proofs.Common.{◌≡◌, ℕ, ◌+◌, ◌≤◌, ◌^◌, true, false, List, [], ◌++◌, Some, refl, sym, ap, ◌∙◌, subst}
 use mathlib.Core.Bool.{true≢false}
 use Rattle.ev_types.specs.declared.field.Field.{Field}
 use Rattle.ev_types.specs.declared.item.Output.{Output}
@@ -10,11 +10,11 @@ use Rattle.pred_eval.specs.Search.{AreReadFrom}
 use Rattle.regex.specs.declared.string.regex.Regex.{Regex}
 use Rattle.stream_plan.specs.declared.plan.Stream.{Stream, out-Stream}
 use Rattle.stream_plan.specs.Search.{opened}
-use Rattle.stream_plan.specs.Tree.{KindTree, Index, By, StreamTrees, stream, kind_tree, list_trees}
-use Rattle.stream_meaning.specs.Branches.{after_emissions, ticked, child_history, branches, fork_keys}
+use Rattle.stream_plan.specs.Tree.{KindTree, By, StreamTrees, stream, kind_tree, list_trees}
+use Rattle.stream_meaning.specs.Branches.{ticked, child_history, branches}
 use Rattle.stream_meaning.specs.declared.entry.Entry.{Entry}
 use Rattle.stream_meaning.specs.declared.entry.Entry.TheVariants.{Tick, Item as In}
-use Rattle.stream_meaning.specs.Emission.{Branch, Children, Otherwise, Fork, Emission, emissions}
+use Rattle.stream_meaning.specs.Emission.{Branch, Fork, Emission, emissions}
 use Rattle.stream_meaning.specs.History.{History, ◌▸◌, begun, moment_of, TicksAlone}
 use Rattle.stream_meaning.specs.Laws.{own_outputs}
 use Rattle.stream_meaning.specs.Outputs.{Effect, branch_effects, own_effects, at_tick, at_emissions, stream_effects, plan_effects}
@@ -27,13 +27,11 @@ use Rattle.stream_states.specs.declared.kept.KeptState.TheVariants as kept
 use Rattle.stream_states.specs.Kept.{keeps, kept_kind}
 use Rattle.stream_step.specs.declared.state.State.TheVariants as variant
 use Rattle.stream_step.specs.Step.{emissions_meant, is_kept, StateRepresents, Acts}
-use Rattle.stream_tree.specs.declared.forest.Node.{Node}
 use Rattle.stream_tree.specs.Forest.{Meaning, Below, first_of, forked_by, keys_by, BelowRepresents, PartsRepresent, ForestRepresents}
-use Rattle.stream_tree.specs.Running.{ComesAt, Stops, StreamRuns, StreamStops, kind_of, effects_below, branches_by, with_branches, UnseenHaveTicks, entering, AllCome, AllStand, TickRuns, TickStops, EmissionsRun, EmissionsStop}
+use Rattle.stream_tree.specs.Running.{ComesAt, Stops, StreamRuns, StreamStops, UnseenHaveTicks, entering, AllCome, AllStand, TickRuns, TickStops, EmissionsRun, EmissionsStop}
 use Rattle.stream_tree.specs.Tree.{Performs, PerformsPart}
 use Rattle.stream_tree.proofs.KindLaws.{branches_are, emissions_fit, keys_go_on, all_effects, no_emission}
 use Rattle.stream_tree.proofs.PerformLaws.{acted, grew_then, part_then, part_more, stops_more, stops_then, own_grew, own_part}
-use Rattle.stream_tree.proofs.StillLaws.{below_same}
 
 same_moment : (a b : History) (x : Entry) → moment_of a ≡ moment_of b → moment_of (a ▸ x) ≡ moment_of (b ▸ x)
 same_moment a b Tick same = ap (λ (m : ℕ). m + 1) same
@@ -56,7 +54,7 @@ unseen_ticked : (kind : KindTree) (h : History) (x : Entry) → UnseenHaveTicks 
 unseen_ticked (By fields) h x = λ key absent. still_alone (child_history (By fields) (Fork key) h) x (unseen_fork fields key h absent)
 unseen_ticked kind h x = tt
 
-kept_keeps : (state : KeptState) → keeps (kept_kind state) ≡ true
+pub kept_keeps : (state : KeptState) → keeps (kept_kind state) ≡ true
 kept_keeps (kept.Changed state) = refl
 kept_keeps (kept.Runs state) = refl
 kept_keeps (kept.Throttle state) = refl

@@ -82,11 +82,24 @@ pub record CanFork (texts : List (List ℕ)) (streams : StreamTrees) (first : �
   pub among : texts ≡ before ++ (plan_patterns streams ++ after)
   pub few : length texts ≤ greatest
 
+-- what is below a stream without forks: the nodes of its two branches represent what these have received
+pub record PlainRepresents (Means Beside : Meaning) (received : Branch → History) (below : Below) : Type 0 where
+  pub children : Means below.children (received Children)
+  pub otherwise : Beside below.otherwise (received Otherwise)
+  pub is_table : IsTable below.forks
+  pub no_forks : table_keys below.forks ≡ []
+
+-- what is below a `by`: its forks represent what they have received, and stand in the table and nowhere beside it
+pub record ForkedRepresents (texts : List (List ℕ)) (children : StreamTrees) (first : ℕ) (Means : Meaning) (keys : List (List Value)) (received : Branch → History) (below : Below) : Type 0 where
+  pub can_fork : CanFork texts children first
+  pub forks : ForksRepresent Means (plan_deadline children) keys (λ key. received (Fork key)) below.forks
+  pub no_children : below.children ≡ []
+  pub no_otherwise : below.otherwise ≡ []
+
 -- what is below a stream represents what its branches have received
 abbrev pub BelowRepresents : List (List ℕ) → StreamTrees → ℕ → Meaning → Meaning → Option (List Field) → List (List Value) → (Branch → History) → Below → Type 0
-BelowRepresents texts children first Means Beside None keys received below = Means below.children (received Children) × Beside below.otherwise (received Otherwise)
-BelowRepresents texts children first Means Beside (Some fields) keys received below =
-    CanFork texts children first × ForksRepresent Means (plan_deadline children) keys (λ key. received (Fork key)) below.forks
+BelowRepresents texts children first Means Beside None keys received below = PlainRepresents Means Beside received below
+BelowRepresents texts children first Means Beside (Some fields) keys received below = ForkedRepresents texts children first Means keys received below
 
 -- The nodes have come to where they would be if all of this history had come to their streams, one node for each. The
 -- texts are those of the regular expressions of the whole plan.

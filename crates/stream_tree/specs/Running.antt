@@ -1,7 +1,8 @@
 -- What one entry does to streams, to one stream, and to what is below a stream.
-use Rattle.std.specs.Prelude.{◌≡◌, ◌≢◌, ℕ, ◌≤◌, ◌<◌, ◌^◌, false, if◌then◌else◌, List, [], ◌∷◌, ◌++◌, map, length, slice_index_or, Option, Some, None}
+use Rattle.std.specs.Prelude.{◌≡◌, ◌≢◌, ℕ, zero, suc, ◌≤◌, ◌<◌, ◌^◌, false, if◌then◌else◌, List, [], ◌∷◌, ◌++◌, map, length, take, slice_index_or, Option, Some, None}
 use Rattle.std.specs.List.{flat_map}
 use Rattle.ev_types.specs.declared.field.Field.{Field}
+use Rattle.ev_types.specs.declared.item.Item.TheVariants.{One}
 use Rattle.ev_types.specs.declared.item.Output.{Output}
 use Rattle.ev_types.specs.declared.value.Value.{Value}
 use Rattle.fork_by.specs.declared.table.ForkTable.{ForkTable}
@@ -10,10 +11,11 @@ use Rattle.step_count.specs.Count.{StepCount}
 use Rattle.tick_schedule.specs.Queue.{Sets}
 use Rattle.pred_eval.specs.Search.{AreReadFrom}
 use Rattle.regex.specs.declared.string.regex.Regex.{Regex}
-use Rattle.stream_plan.specs.Tree.{KindTree, StreamTree, StreamTrees, stream}
+use Rattle.stream_plan.specs.declared.plan.Stream.{Stream}
+use Rattle.stream_plan.specs.Tree.{KindTree, Index, StreamTree, StreamTrees, stream, none, also, list_trees}
 use Rattle.stream_meaning.specs.Branches.{same_branch, after_emissions, ticked, with_key}
 use Rattle.stream_meaning.specs.declared.entry.Entry.{Entry}
-use Rattle.stream_meaning.specs.declared.entry.Entry.TheVariants.{Tick}
+use Rattle.stream_meaning.specs.declared.entry.Entry.TheVariants.{Tick, Item as In}
 use Rattle.stream_meaning.specs.Deadlines.{plan_deadline}
 use Rattle.stream_meaning.specs.Emission.{Branch, Children, Otherwise, Fork, Emission}
 use Rattle.stream_meaning.specs.History.{History, ◌▸◌, begun, moment_of, TicksAlone}
@@ -22,7 +24,7 @@ use Rattle.stream_meaning.specs.Outputs.{Effect, Given, BranchEffects, branch_ef
 use Rattle.stream_step.specs.declared.state.State.{State}
 use Rattle.stream_tree.specs.declared.forest.Forest.{Forest}
 use Rattle.stream_tree.specs.declared.forest.Node.{Node}
-use Rattle.stream_tree.specs.Forest.{nodes_of, Below, forked_by, AreInRange, CanFork, ForksRepresent, BelowRepresents, PartsRepresent, ForestRepresents}
+use Rattle.stream_tree.specs.Forest.{nodes_of, Below, forked_by, AreInRange, ForksRepresent, BelowRepresents, PartsRepresent, NodeRepresents, ForestRepresents}
 use Rattle.stream_tree.specs.Tree.{Performs, PerformsPart}
 
 -- ---- an entry that comes
@@ -105,6 +107,18 @@ given_to (Fork key) = Given ∷ []
 abbrev pub entering : BranchEffects → BranchEffects
 entering effects_in branch h = given_to branch ++ effects_in branch h
 
+-- the first nodes, so many, represent one entry more
+abbrev pub FirstRepresent : List (List ℕ) → ℕ → StreamTrees → List Node → History → Entry → Type 0
+FirstRepresent texts zero streams nodes h x = ForestRepresents texts streams nodes h
+FirstRepresent texts (suc i) none nodes h x = ForestRepresents texts none nodes h
+FirstRepresent texts (suc i) (also first more) [] h x = ⊥
+FirstRepresent texts (suc i) (also first more) (node ∷ nodes) h x = NodeRepresents texts first node (h ▸ x) × FirstRepresent texts i more nodes h x
+
+-- the stream of the kind writes the entry and needs it no more: none that is below it gets it
+abbrev pub IsWritten : KindTree → Entry → Type 0
+IsWritten Index (In (One event)) = Unit {0}
+IsWritten kind x = ⊥
+
 -- the fork of the number represents this history, and all else is as it was
 pub record ForkRan (texts : List (List ℕ)) (streams : StreamTrees) (number : ℕ) (forks forks' : ForkTable Forest) (h : History) : Type 0 where
   pub is_table : IsTable forks'
@@ -145,6 +159,12 @@ module _ {G : Type 0} (patterns : List Regex) (start moment : ℕ) (old : List O
   ForestStops x streams nodes = (texts : List (List ℕ)) (h : History) → AreReadFrom texts patterns →
       ForestRepresents texts streams nodes h → ComesAt start moment h x →
       Stops old before new after x (plan_effects streams (h ▸ x))
+
+  -- wherever the streams represented a history, the first ones, so many, represent the longer one
+  abbrev pub FirstRun : Entry → List Stream → List Node → ℕ → List Node → Type 0
+  FirstRun x streams nodes count nodes' = (texts : List (List ℕ)) (h : History) → AreReadFrom texts patterns →
+      ForestRepresents texts (list_trees streams) nodes h → ComesAt start moment h x →
+      FirstRepresent texts count (list_trees streams) nodes' h x × Performs old before new after (plan_effects (list_trees (take count streams)) (h ▸ x))
 
   abbrev pub StreamRuns : Entry → StreamTree → State → Below → State → Below → Type 0
   StreamRuns x s state below state' below' = (texts : List (List ℕ)) (h : History) → AreReadFrom texts patterns →

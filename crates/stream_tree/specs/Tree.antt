@@ -31,9 +31,12 @@ pub record Performs {G : Type 0} (old : List Output) (before : StepCount G) (new
   pub forks : after.forks ≡ before.forks + (due_among effects + given_among effects)
   pub entries : after.entries ≡ before.entries + due_among effects
 
--- a part of the effects is performed: a prefix of the outputs is put, and no more is counted than for all of them
+-- A part of the effects is performed: a prefix of the outputs is put after what was there, no more is counted than for all
+-- of the effects, and no count falls.
 pub record PerformsPart {G : Type 0} (old : List Output) (before : StepCount G) (new : List Output) (after : StepCount G) (effects : List Effect) : Type 0 where
   pub begins : IsPrefix old new
   pub within : IsPrefix new (old ++ outputs_among effects)
   pub forks : after.forks ≤ before.forks + (due_among effects + given_among effects)
   pub entries : after.entries ≤ before.entries + due_among effects
+  pub no_fewer_forks : before.forks ≤ after.forks
+  pub no_fewer_entries : before.entries ≤ after.entries

@@ -83,6 +83,8 @@ fn unforked(alloc: Global, stream: &Stream, state: State, next: &mut usize) -> N
     ensures state { (out-Node result).state ≡ state }
     ensures table { IsTable (out-Node result).forks }
     ensures keys { fork_keys (out-Node result).forks ≡ [] }
+    ensures children { nodes_of (out-Node result).children ≡ [] }
+    ensures otherwise { nodes_of (out-Node result).otherwise ≡ [] }
     ensures next { next.old + length (plan_patterns
         (list_trees (out-Stream stream.now).children.items)) + length (plan_patterns
         (list_trees (out-Stream stream.now).otherwise.items)) ≤ greatest
@@ -102,7 +104,9 @@ fn unforked(alloc: Global, stream: &Stream, state: State, next: &mut usize) -> N
 }
 
 /// The nodes of no stream. It takes no memory.
-fn no_nodes(alloc: Global) -> Forest {
+fn no_nodes(alloc: Global) -> Forest
+    ensures { nodes_of result ≡ [] }
+{
     Forest {
         nodes: Vec::new(alloc),
     }

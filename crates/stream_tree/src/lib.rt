@@ -3,6 +3,7 @@
 
 mod forest;
 mod fork;
+mod give;
 mod next;
 mod run;
 mod tree;

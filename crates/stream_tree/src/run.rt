@@ -1,5 +1,5 @@
 //! One entry on its way down the streams.
-ghost use Rattle.std.specs.Prelude.{◌≡◌, ℕ, OnOk, OnErr, map};
+ghost use Rattle.std.specs.Prelude.{◌≡◌, ℕ, ◌≤◌, length, OnOk, OnErr, map};
 ghost use Rattle.fork_by.specs.declared.table.ForkTable.{ForkTable as Table};
 ghost use Rattle.list_laws.specs.Prefix.{IsPrefix};
 ghost use Rattle.stream_meaning.specs.Emission.{Fork};
@@ -9,7 +9,7 @@ ghost use Rattle.stream_step.specs.Step.{branch_meant, branch_numbered, emission
 ghost use Rattle.stream_tree.specs.declared.forest.Forest.{Forest as Nodes};
 ghost use Rattle.stream_tree.specs.declared.forest.Node.{out-Node};
 ghost use Rattle.stream_tree.specs.Forest.{nodes_of, below_of, node_below, first_of};
-ghost use Rattle.stream_tree.specs.Running.{children_of, ForestRuns, ForestStops, StreamRuns, StreamStops, ForkRuns, ForkStops, DueRuns, DueStops, TickRuns, TickStops, BranchRuns, BranchStops, EmissionsRun, EmissionsStop};
+ghost use Rattle.stream_tree.specs.Running.{children_of, FirstRun, ForestRuns, ForestStops, StreamRuns, StreamStops, ForkRuns, ForkStops, DueRuns, DueStops, TickRuns, TickStops, BranchRuns, BranchStops, EmissionsRun, EmissionsStop};
 
 use crate::forest::{Forest, Node, is_by};
 use crate::fork::find_fork;
@@ -43,6 +43,33 @@ pub(crate) fn run_forest<G: Ledger>(
     ensures prefix { IsPrefix out.old out.new }
 {
     let count = streams.len().min(forest.nodes.len());
+    run_first(alloc, streams, forest, count, entry, context, out, steps)?;
+    Ok(())
+}
+
+/// The entry comes to the first `count` of the streams, one after another.
+#[cycle(run)]
+pub(crate) fn run_first<G: Ledger>(
+    alloc: Global,
+    streams: &[Stream],
+    forest: &mut Forest,
+    count: usize,
+    entry: &Entry,
+    context: &Context,
+    out: &mut Outputs,
+    steps: &mut Steps<G>,
+) -> Result<(), Memory>
+    requires streams { count ≤ length streams.now }
+    requires nodes { count ≤ length (nodes_of forest.old) }
+    ensures runs { OnOk result (FirstRun context.now.patterns.now context.now.start
+        context.now.moment out.old steps.old out.new steps.new entry.now
+        streams.now (nodes_of forest.old) count (nodes_of forest.new)) }
+    ensures stops { OnErr result (ForestStops context.now.patterns.now context.now.start
+        context.now.moment out.old steps.old out.new steps.new entry.now
+        (list_trees streams.now) (nodes_of forest.old)) }
+    ensures many { length (nodes_of forest.new) ≡ length (nodes_of forest.old) }
+    ensures prefix { IsPrefix out.old out.new }
+{
     for i in 0..count {
         run_node(
             alloc,

@@ -9,8 +9,8 @@ ghost use Rattle.list_laws.specs.Prefix.{IsPrefix};
 ghost use Rattle.stream_tree.specs.Tree.{plan_of, is_poisoned, Represents, Performs, PerformsPart};
 
 use crate::forest::{Forest, fresh_forest};
+use crate::give::give_forest;
 use crate::next::forest_due;
-use crate::run::run_forest;
 use ev_types::{Event, Item, Memory, Outputs};
 use std::alloc::Global;
 use step_count::{Ledger, Steps};
@@ -75,7 +75,7 @@ impl Tree {
         ensures prefix { IsPrefix out.old out.new }
     {
         let entry = Entry::Item(Item::One(event));
-        self.enter(alloc, &entry, now, out, steps)?;
+        self.enter(alloc, entry, now, out, steps)?;
         Ok(())
     }
 
@@ -109,7 +109,7 @@ impl Tree {
         ensures sound { OnOk result (is_poisoned self.new ≡ false) }
         ensures prefix { IsPrefix out.old out.new }
     {
-        self.enter(alloc, &Entry::Tick, now, out, steps)?;
+        self.enter(alloc, Entry::Tick, now, out, steps)?;
         Ok(())
     }
 
@@ -126,7 +126,7 @@ impl Tree {
     fn enter<G: Ledger>(
         &mut self,
         alloc: Global,
-        entry: &Entry,
+        entry: Entry,
         now: u64,
         out: &mut Outputs,
         steps: &mut Steps<G>,
@@ -134,16 +134,16 @@ impl Tree {
         requires { now ≤ 2 ^ 40 }
         ensures plan { plan_of self.new ≡ plan_of self.old }
         ensures grew { OnOk result ((h : History) → Represents self.old h →
-            moment_of (h ▸ entry.now) ≡ now →
+            moment_of (h ▸ entry) ≡ now →
             Performs out.old steps.old out.new steps.new
-            (plan_effects (plan_of self.old) (h ▸ entry.now))) }
+            (plan_effects (plan_of self.old) (h ▸ entry))) }
         ensures stops { OnErr result ((h : History) → Represents self.old h →
-            moment_of (h ▸ entry.now) ≡ now →
-            Stops out.old steps.old out.new steps.new entry.now
-            (plan_effects (plan_of self.old) (h ▸ entry.now))) }
+            moment_of (h ▸ entry) ≡ now →
+            Stops out.old steps.old out.new steps.new entry
+            (plan_effects (plan_of self.old) (h ▸ entry))) }
         ensures represents { OnOk result ((h : History) → Represents self.old h →
-            moment_of (h ▸ entry.now) ≡ now →
-            Represents self.new (h ▸ entry.now)) }
+            moment_of (h ▸ entry) ≡ now →
+            Represents self.new (h ▸ entry)) }
         ensures poisoned { IsTrue (is_poisoned self.old) → IsErr result }
         ensures err { OnErr result (IsTrue (is_poisoned self.new)) }
         ensures sound { OnOk result (is_poisoned self.new ≡ false) }
@@ -159,7 +159,7 @@ impl Tree {
             start: self.start,
         };
         let streams = &self.plan.plan().streams;
-        run_forest(
+        give_forest(
             alloc,
             streams,
             &mut self.forest,

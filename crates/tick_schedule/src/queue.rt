@@ -101,6 +101,7 @@ impl DueQueue {
         ensures rising { IsRising self.new }
         ensures prefix { OnErr result (IsPrefix out.old out.new) }
         ensures at_most { steps.new.entries ≤ steps.old.entries + length (due_ids now self.old) }
+        ensures at_least { steps.old.entries ≤ steps.new.entries }
         ensures forks { steps.new.forks ≡ steps.old.forks }
         ensures forks_told { G.forks steps.new.ledger ≡ G.forks steps.old.ledger }
     {
@@ -156,6 +157,7 @@ fn push_all<G: Ledger>(
         ≡ more_by (length ids.now.keys) (G.entries steps.old.ledger)) }
     ensures prefix { OnErr result (IsPrefix out.old out.new) }
     ensures at_most { steps.new.entries ≤ steps.old.entries + length ids.now.keys }
+    ensures at_least { steps.old.entries ≤ steps.new.entries }
     ensures forks { steps.new.forks ≡ steps.old.forks }
     ensures forks_told { G.forks steps.new.ledger ≡ G.forks steps.old.ledger }
 {

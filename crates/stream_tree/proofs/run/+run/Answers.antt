@@ -47,7 +47,7 @@ run_branch-returns-in_err-run_forest-in-Otherwise-clause-stops g t c =
 
 pub run_due-returns-in_err-due_forks-clause-stops : goal.run_due-returns-in_err-due_forks-clause-stops
 run_due-returns-in_err-due_forks-clause-stops g t c =
-    on_error c.from_residual.result (due_stop c.args.context.now.patterns.now c.args.context.now.start c.args.context.now.moment c.args.out.now c.args.steps.now c.args.steps.now (children_of (opened c.args.stream.now)) c.args.forks.now c.due_forks.new.steps c.due_forks.ensures.forks c.due_forks.ensures.at_most
+    on_error c.from_residual.result (due_stop c.args.context.now.patterns.now c.args.context.now.start c.args.context.now.moment c.args.out.now c.args.steps.now c.args.steps.now (children_of (opened c.args.stream.now)) c.args.forks.now c.due_forks.new.steps c.due_forks.ensures.forks c.due_forks.ensures.at_most c.due_forks.ensures.at_least
     (λ none. let bad = c.in_err-due_forks.ensures.quiet none in cc))
 
 pub run_due-loop-number-init : goal.run_due-loop-number-init
@@ -108,25 +108,25 @@ run_emissions-returns-in_err-run_branch-clause-stops g t c =
     (branch_meant c.branch_of.result) c.branch_of.ensures (rest_more c.loop-emission.yielded (into_iter_items c.loop-emission.emission-iterator) (into_iter_items c.next.new.self) c.args.emissions c.in-Some.emission c.loop-emission.invariant.left c.in-Some.ensures.steps.0)
     (c.loop-emission.invariant.ran first forks) (c.in_err-run_branch.ensures.stops first forks))
 
-pub run_forest-returns-in_err-run_node-clause-stops : goal.run_forest-returns-in_err-run_node-clause-stops
-run_forest-returns-in_err-run_node-clause-stops g t c =
+pub run_first-returns-in_err-run_node-clause-stops : goal.run_first-returns-in_err-run_node-clause-stops
+run_first-returns-in_err-run_node-clause-stops g t c =
     on_error c.from_residual.result (forest_stops c.args.context.now.patterns.now c.args.context.now.start c.args.context.now.moment c.args.entry.now c.args.out.now c.args.steps.now c.args.streams.now (nodes_of c.args.forest.now) c.loop-i.i (nodes_of c.loop-i.forest) c.loop-i.out c.run_node.new.out c.loop-i.steps c.run_node.new.steps c.index-streams-i.result c.index_mut.result.now c.index_mut.result.now
-    (omega (arith, c.loop-i-test.true, c.min-count.ensures)) (omega (arith, c.loop-i-test.true, c.min-count.ensures, c.len.ensures, c.loop-i.invariant.same, (out-Forest c.args.forest.now).nodes.ok.0)) c.index-streams-i.is c.index_mut.ensures.value c.loop-i.invariant.ran c.in_err-run_node.ensures.stops)
+    (omega (arith, c.loop-i-test.true, c.requires.streams)) (omega (arith, c.loop-i-test.true, c.requires.nodes, c.loop-i.invariant.same)) c.index-streams-i.is c.index_mut.ensures.value c.loop-i.invariant.ran c.in_err-run_node.ensures.stops)
 
-pub run_forest-loop-i-preserved : goal.run_forest-loop-i-preserved
-run_forest-loop-i-preserved g t c =
+pub run_first-loop-i-preserved : goal.run_first-loop-i-preserved
+run_first-loop-i-preserved g t c =
     let is : (out-Forest (roll-Forest (record { nodes = with_item (out-Forest c.loop-i.forest).nodes c.loop-i.i c.run_node.new.node }))).nodes.items ≡ set (nodes_of c.loop-i.forest) c.loop-i.i c.run_node.new.node = rw out-roll-Forest refl in record {
       ran = subst (λ (l : List Node). ForestRan c.args.context.now.patterns.now c.args.context.now.start c.args.context.now.moment c.args.entry.now c.args.out.now c.args.steps.now c.args.streams.now (nodes_of c.args.forest.now) (c.loop-i.i + 1) l c.run_node.new.out c.run_node.new.steps) (sym is)
           (forest_more c.args.context.now.patterns.now c.args.context.now.start c.args.context.now.moment c.args.entry.now c.args.out.now c.args.steps.now c.args.streams.now (nodes_of c.args.forest.now) c.loop-i.i (nodes_of c.loop-i.forest) c.loop-i.out c.run_node.new.out c.loop-i.steps c.run_node.new.steps c.index-streams-i.result c.index_mut.result.now c.run_node.new.node c.index_mut.result.now
-          (omega (arith, c.loop-i-test.true, c.min-count.ensures)) (omega (arith, c.loop-i-test.true, c.min-count.ensures, c.len.ensures, c.loop-i.invariant.same, (out-Forest c.args.forest.now).nodes.ok.0)) c.index-streams-i.is c.index_mut.ensures.value c.loop-i.invariant.ran c.in_ok-run_node.ensures.runs);
+          (omega (arith, c.loop-i-test.true, c.requires.streams)) (omega (arith, c.loop-i-test.true, c.requires.nodes, c.loop-i.invariant.same)) c.index-streams-i.is c.index_mut.ensures.value c.loop-i.invariant.ran c.in_ok-run_node.ensures.runs);
       same = ap (λ (l : List Node). length l) is ∙ length-set (nodes_of c.loop-i.forest) c.loop-i.i c.run_node.new.node ∙ c.loop-i.invariant.same;
       prefix = extends_then c.args.out.now c.loop-i.out c.run_node.new.out c.loop-i.invariant.prefix c.run_node.ensures.prefix;
     }
 
 pub run_forest-returns-clause-runs : goal.run_forest-returns-clause-runs
 run_forest-returns-clause-runs g t c =
-    forest_ends c.args.context.now.patterns.now c.args.context.now.start c.args.context.now.moment c.args.entry.now c.args.out.now c.args.steps.now c.args.streams.now (nodes_of c.args.forest.now) c.loop-i.i (nodes_of c.loop-i.forest) c.loop-i.out c.loop-i.steps
-    (omega (arith, c.loop-i-test.false, c.min-count.ensures, c.len.ensures, c.loop-i.invariant.same, (out-Forest c.args.forest.now).nodes.ok.0)) c.loop-i.invariant.same c.loop-i.invariant.ran
+    forest_ends c.args.context.now.patterns.now c.args.context.now.start c.args.context.now.moment c.args.entry.now c.args.out.now c.args.steps.now c.args.streams.now (nodes_of c.args.forest.now) c.min-count.result (nodes_of c.run_first.new.forest) c.run_first.new.out c.run_first.new.steps
+    (omega (arith, c.min-count.ensures, c.len.ensures, c.run_first.ensures.many, (out-Forest c.args.forest.now).nodes.ok.0)) c.run_first.ensures.many c.in_ok-run_first.ensures.runs
 
 pub run_fork-returns-in_err-run_forest-clause-stops : goal.run_fork-returns-in_err-run_forest-clause-stops
 run_fork-returns-in_err-run_forest-clause-stops g t c =

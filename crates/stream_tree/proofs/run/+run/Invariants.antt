@@ -23,8 +23,8 @@ invariant-run_emissions-loop-emission g l = record {
 }
 
 -- the streams up to the index have got the entry
-abbrev pub invariant-run_forest-loop-i : goal.invariant-run_forest-loop-i
-invariant-run_forest-loop-i g l = record {
+abbrev pub invariant-run_first-loop-i : goal.invariant-run_first-loop-i
+invariant-run_first-loop-i g l = record {
   ran : ForestRan l.context.patterns.now l.context.start l.context.moment l.entry l.fn.out l.fn.steps l.streams (nodes_of l.fn.forest) l.i (nodes_of l.forest) l.out l.steps;
   same : length (nodes_of l.forest) ≡ length (nodes_of l.fn.forest);
   prefix : IsPrefix l.fn.out l.out;
