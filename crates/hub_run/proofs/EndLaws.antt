@@ -23,7 +23,7 @@ module _ (setup : Setup) (limit : ℕ) (report : RunReport) where
   ends_unheard Memory run is = inl (record { is = is; same = refl })
 
   pub ends_unopened : (secs : ℕ) (run : List Entry) → ListensOn setup.address (Ok secs) run → RunsTo setup limit report report (Err Memory) run
-  ends_unopened secs run is = inr (inl (record { secs = secs; turns = []; are = is; takes = takes_nothing (config_at setup secs) report }))
+  ends_unopened secs run is = inr (inl (record { secs = secs; turns = []; are = is; takes = takes_nothing (config_at setup secs) report; going = inl refl }))
 
 module _ (setup : Setup) (limit : ℕ) (old new : RunReport) (hub hub' : Hub) (secs : ℕ) (first second : List Entry) (listens : ListensOn setup.address (Ok secs) first)
     (follows : Follows hub (config_at setup secs) []) where
@@ -52,7 +52,7 @@ module _ (setup : Setup) (limit : ℕ) (old new : RunReport) (hub hub' : Hub) (s
   })
   ends_with Sink cut = stops_short cut
   ends_with Memory either = elim either [
-    | inl gone ↦ inr (inl (record { secs = secs; turns = gone.turns; are = opened_with _ gone.are; takes = gone.takes }))
+    | inl gone ↦ inr (inl (record { secs = secs; turns = gone.turns; are = opened_with _ gone.are; takes = gone.takes; going = inr gone.going }))
     | inr cut ↦ inr (inr (stops_short cut))
   ]
 

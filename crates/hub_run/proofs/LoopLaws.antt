@@ -58,8 +58,8 @@ module _ (config : CoreConfig) (hub hub' : Hub) (old mid new : RunReport) (count
       record {
         turns = took.turns ++ last ∷ [];
         are = entries_with last one.are;
-        takes = takes_more config old mid new hub hub' took.turns turn one.piece one.calls took.takes one.once does;
-        follows = follows_more config old mid new hub hub' took.turns turn one.piece one.calls took.takes one.once does;
+        takes = takes_more config old mid new hub hub' took.turns turn one.piece one.calls took.takes one.came one.once does;
+        follows = follows_more config old mid new hub hub' took.turns turn one.piece one.calls took.takes one.came one.once does;
         count_is = omega (arith, length-append took.turns (last ∷ []), took.count_is);
         going = all_more GoesOn took.turns last took.going goes_on;
       }
@@ -72,9 +72,9 @@ module _ (config : CoreConfig) (hub hub' : Hub) (old mid new : RunReport) (count
       record {
         turns = took.turns ++ last ∷ [];
         are = entries_with last one.are;
-        takes = takes_more config old mid new hub hub' took.turns turn one.piece one.calls took.takes one.once does;
+        takes = takes_more config old mid new hub hub' took.turns turn one.piece one.calls took.takes one.came one.once does;
         ended = inl (record { before = took.turns; last = last; are = refl; went_on = may_go_on limit fewer; stopped = stopped });
-        follows = follows_more config old mid new hub hub' took.turns turn one.piece one.calls took.takes one.once does;
+        follows = follows_more config old mid new hub hub' took.turns turn one.piece one.calls took.takes one.came one.once does;
       }
 
   ends_cut : (limit : ℕ) → count < limit → (stop : Stop) → StopsAt hub hub' mid new stop second → CutShort config limit old new (first ++ second)
@@ -86,7 +86,7 @@ module _ (config : CoreConfig) (hub hub' : Hub) (old mid new : RunReport) (count
         turns = took.turns;
         last = last;
         are = entries_with last one.are;
-        stops = stops_more config old mid new hub hub' took.turns at.turn one.piece one.calls took.takes one.once stop does;
+        stops = stops_more config old mid new hub hub' took.turns at.turn one.piece one.calls took.takes one.came one.once stop does;
         going = may_go_on limit fewer;
       }
 
@@ -102,24 +102,25 @@ module _ (config : CoreConfig) (hub hub' : Hub) (old mid new : RunReport) (count
     failed = none.asked.failed;
   }
 
-  ends_gone : NotBegun mid new second → MemoryGone config old new (first ++ second)
-  ends_gone none = record {
+  ends_gone : (limit : ℕ) → count < limit → NotBegun mid new second → MemoryGone config limit old new (first ++ second)
+  ends_gone limit fewer none = record {
     turns = took.turns;
     are = ap (λ (run : List Entry). first ++ run) none.is ∙ append-nil first ∙ took.are;
     takes = subst (λ (report : RunReport). TakesTurns config old report took.turns) (sym none.same) took.takes;
+    going = may_go_on limit fewer;
   }
 
   ends_failed : (limit : ℕ) → count < limit → (fault : RunFault) → TakesTurn hub hub' mid new (Err fault) second → TurnsTo config limit old new hub' (Err fault) (first ++ second)
   ends_failed limit fewer Links one = ends_lost limit fewer one
   ends_failed limit fewer Sink one = ends_cut limit fewer _ one
   ends_failed limit fewer Memory one = elim one [
-    | inl none ↦ inl (ends_gone none)
+    | inl none ↦ inl (ends_gone limit fewer none)
     | inr at ↦ inr (ends_cut limit fewer _ at)
   ]
 
 -- as many turns were taken as may be
-ends_spent : (config : CoreConfig) (hub : Hub) (old new : RunReport) (limit : ℕ) (run : List Entry) → Took config hub old new limit run → AllTaken config limit old new hub run
-ends_spent config hub old new limit run took = record {
+ends_at_limit : (config : CoreConfig) (hub : Hub) (old new : RunReport) (limit : ℕ) (run : List Entry) → Took config hub old new limit run → AllTaken config limit old new hub run
+ends_at_limit config hub old new limit run took = record {
   turns = took.turns;
   are = took.are;
   takes = took.takes;
@@ -162,11 +163,11 @@ module _ (a b c : Option (List Entry)) (hub one two : Hub) (old mid new : RunRep
       (λ first second took does config follows. ends_failed config one two old mid new count first second (took config follows) limit fewer fault does)
 
 -- no turn is left
-pub so_far_spent : (a b : Option (List Entry)) (hub one : Hub) (old new : RunReport) (count limit : ℕ) → count ≡ limit → SoFar a b hub one old new count
+pub so_far_at_limit : (a b : Option (List Entry)) (hub one : Hub) (old new : RunReport) (count limit : ℕ) → count ≡ limit → SoFar a b hub one old new count
     → AddsRun a b (TakesAll hub one limit old new (Ok tt))
-so_far_spent a b hub one old new count limit same so_far =
+so_far_at_limit a b hub one old new count limit same so_far =
     adds_weaken a b (TookFrom hub one old new count) (TakesAll hub one limit old new (Ok tt))
-    (λ run took config follows. ends_spent config one old new limit run (subst (λ (n : ℕ). Took config one old new n run) same (took config follows))) so_far.took
+    (λ run took config follows. ends_at_limit config one old new limit run (subst (λ (n : ℕ). Took config one old new n run) same (took config follows))) so_far.took
 
 pub not_last : (t : Bool) (turn : Turn) → (IsTrue t ↔ turn.what ≡ Stopped) → t ≡ false → turn.what ≢ Stopped
 not_last t turn tells is stopped = false≢true (sym is ∙ tells.1 stopped)

@@ -8,7 +8,7 @@ use Rattle.ev_types.specs.declared.item.Notice.{Notice}
 use Rattle.event_core.specs.Core.{CoreConfig, forks_by}
 use Rattle.hub_link.specs.Added.{IsSendOrClose}
 use Rattle.hub_meaning.specs.Legal.{IsLegal}
-use Rattle.hub_meaning.specs.Runs.{Step, notices_after, state_after}
+use Rattle.hub_meaning.specs.Runs.{Step, is_turn, notices_after, state_after}
 use Rattle.hub_meaning.specs.Verdicts.{AfterVerdicts, PatternsState, Refusal, is_refused, refused_text, texts_refused}
 use Rattle.list_laws.specs.Counts.{Rose}
 use Rattle.msg_replies.proofs.VerdictLaws.{appended_twice, no_verdicts}
@@ -24,7 +24,7 @@ use Rattle.conn_core.specs.declared.hub.Hub.{Hub}
 use Rattle.conn_core.specs.declared.stop.Stop.{Stop}
 use Rattle.conn_core.proofs.LineLaws.{counted_nothing, got_nothing, got_then}
 use Rattle.hub_run.specs.Runs.{RunReport, StopsIn, TakesTurns}
-use Rattle.hub_run.specs.Taken.{AsksOnce, TakenTurn, entries_of, entries_of_turn, steps_of, steps_of_turn, verdicts_of, verdicts_of_turn}
+use Rattle.hub_run.specs.Taken.{IsOneTurn, TakenTurn, entries_of, entries_of_turn, steps_of, steps_of_turn, verdicts_of, verdicts_of_turn}
 
 -- ---- lists
 
@@ -98,7 +98,7 @@ takes_nothing config report =
     record {
       legal = tt;
       settled = tt;
-      once = tt;
+      each = tt;
       verdicts = no_verdicts report.patterns;
       lines = record { text = got_nothing report.sink.text; puts = counted_nothing report.sink.puts };
       forks = omega (arith, none);
@@ -108,7 +108,7 @@ abbrev pub taken_turn : List Want → Turn → List ℕ → List (Option Refusal
 taken_turn wants turn piece verdicts calls = record { wants = wants; turn = turn; piece = piece; verdicts = verdicts; calls = calls }
 
 module _ (config : CoreConfig) (old mid new : RunReport) (hub hub' : Hub) (turns : List TakenTurn) (turn : Turn) (piece : List ℕ) (calls : List Entry)
-    (takes : TakesTurns config old mid turns) (once : AllByRecursion IsSendOrClose calls) where
+    (takes : TakesTurns config old mid turns) (came : is_turn turn.what ≡ true) (once : AllByRecursion IsSendOrClose calls) where
   -- the turn was done
   pub follows_more : (does : Turns turn piece hub hub' mid.patterns new.patterns mid.forks new.forks mid.sink new.sink (Ok tt) config (steps_of turns) calls)
       → Follows hub' config (steps_of (turns ++ taken_turn (wants_in hub) turn piece does.verdicts calls ∷ []))
@@ -125,7 +125,7 @@ module _ (config : CoreConfig) (old mid new : RunReport) (hub hub' : Hub) (turns
       record {
         legal = follows.legal;
         settled = follows.settled;
-        once = all_more AsksOnce turns last takes.once once;
+        each = all_more IsOneTurn turns last takes.each (record { came = came; once = once });
         verdicts = subst (AfterVerdicts old.patterns new.patterns) (sym (verdicts_more turns last))
             (verdicts_then old.patterns mid.patterns new.patterns (verdicts_of turns) does.verdicts takes.verdicts does.reported);
         lines = subst (λ (ns : List Notice). GotLines old.sink ns new.sink) (sym notices)
@@ -143,7 +143,7 @@ module _ (config : CoreConfig) (old mid new : RunReport) (hub hub' : Hub) (turns
       record {
         legal = subst (IsLegal config) (sym is) does.legal;
         settled = takes.settled;
-        once = all_more AsksOnce turns last takes.once once;
+        each = all_more IsOneTurn turns last takes.each (record { came = came; once = once });
         verdicts = subst (AfterVerdicts old.patterns new.patterns) (sym (verdicts_more turns last))
             (verdicts_then old.patterns mid.patterns new.patterns (verdicts_of turns) does.verdicts takes.verdicts does.reported);
         made = does.made;

@@ -1,7 +1,8 @@
 -- How a turn is asked for, and then taken.
-use Rattle.std.proofs.Common.{◌≡◌, ◌≢◌, ℕ, ◌⊎◌, inl, inr, List, [], ◌∷◌, ◌++◌, Result, Ok, Err, refl, ap, sym, ◌∙◌, subst}
+use Rattle.std.proofs.Common.{◌≡◌, ◌≢◌, ℕ, ◌⊎◌, inl, inr, true, List, [], ◌∷◌, ◌++◌, Result, Ok, Err, refl, ap, sym, ◌∙◌, subst}
 use Rattle.std.specs.Prelude.{Option, Some, None}
 use Rattle.hub_link.specs.Added.{Added}
+use Rattle.hub_meaning.specs.Runs.{is_turn}
 use Rattle.ports.specs.declared.entry.Entry.{Entry}
 use Rattle.ports.specs.declared.entry.Entry.TheVariants.{Next}
 use Rattle.ports.specs.declared.links.Turn.{Turn}
@@ -17,6 +18,7 @@ use Rattle.conn_core.specs.declared.hub.Hub.{Hub}
 use Rattle.conn_core.specs.declared.stop.Stop.{Stop}
 use Rattle.conn_core.specs.declared.stop.Stop.TheVariants.{Memory as StopMemory}
 use Rattle.conn_core.proofs.KnownLaws.{known_next}
+use Rattle.conn_core.proofs.TurnLaws.{turn_is}
 use Rattle.hub_run.specs.Runs.{AddsRun, RunReport}
 use Rattle.hub_run.specs.Taking.{AskFails, AsksFor, DoesTurn, StopsAt, TakesTurn}
 use Rattle.hub_run.specs.declared.fault.RunFault.{RunFault}
@@ -83,16 +85,17 @@ ask_failed Memory hub report buf run asks = inl (record { is = asks; same = refl
 -- ---- the turn that came
 
 module _ (a b c : Option (List Entry)) (hub hub' : Hub) (old new : RunReport) (buf piece : List ℕ) (turn : Turn) (result : Result (Unit {0}) Stop) where
-  pub turn_done : AddsRun a b (AsksFor (wants_in hub) buf (Ok turn)) → piece ≡ piece_of turn.what buf
+  pub turn_done : AddsRun a b (AsksFor (wants_in hub) buf (Ok turn)) → turn.what ≢ Failed → turn.what ≢ NoMemory → piece ≡ piece_of turn.what buf
       → Added b c (TurnsFrom turn piece hub hub' old.patterns new.patterns old.forks new.forks old.sink new.sink result)
       → AddsRun a c (DoesTurn hub hub' old new result turn)
-  turn_done asks is does = record {
+  turn_done asks not_failed not_memory is does = record {
     run = asks.run ++ does.run;
     grew = does.grew ∙ ap (λ (log : Option (List Entry)). grown log does.run) asks.grew ∙ grown_twice a asks.run does.run;
     holds = record {
       piece = piece;
       calls = does.run;
       are = ap (λ (run : List Entry). run ++ does.run) asks.holds ∙ ap (λ (bytes : List ℕ). Next (wants_in hub) turn bytes ∷ does.run) (sym is);
+      came = turn_is turn.what not_failed not_memory;
       once = does.calls;
       does = does.holds;
     };

@@ -20,7 +20,7 @@ use Rattle.ports.specs.declared.links.ListenAnswer.TheVariants as listen
 use Rattle.ports.specs.declared.links.Turn.{Turn}
 use Rattle.ports.specs.declared.links.Want.{Want}
 use Rattle.ports.specs.declared.links.What.TheVariants.{Failed}
-use Rattle.hub_run.specs.Taken.{AsksOnce, HasEnded, MayGoOn, TakenTurn, entries_of, steps_of, verdicts_of}
+use Rattle.hub_run.specs.Taken.{HasEnded, IsOneTurn, MayGoOn, TakenTurn, entries_of, steps_of, verdicts_of}
 use Rattle.hub_run.specs.declared.fault.RunFault.{RunFault}
 use Rattle.hub_run.specs.declared.fault.RunFault.TheVariants.{Links, Sink, Memory}
 use Rattle.hub_run.specs.declared.setup.Setup.{Setup}
@@ -54,7 +54,7 @@ config_at setup secs = record { plan = setup.plan; expiry = setup.expiry; start 
 pub record TakesTurns (config : CoreConfig) (old new : RunReport) (turns : List TakenTurn) : Type 0 where
   pub legal : IsLegal config (steps_of turns)
   pub settled : AreSettled (state_after config (steps_of turns)).links
-  pub once : AllByRecursion AsksOnce turns
+  pub each : AllByRecursion IsOneTurn turns
   pub verdicts : AfterVerdicts old.patterns new.patterns (verdicts_of turns)
   pub lines : GotLines old.sink (notices_after config (steps_of turns)) new.sink
   pub forks : new.forks ≡ old.forks + forks_by config (state_after config (steps_of turns)).arrivals
@@ -64,7 +64,7 @@ pub record TakesTurns (config : CoreConfig) (old new : RunReport) (turns : List 
 pub record StopsIn (config : CoreConfig) (old new : RunReport) (turns : List TakenTurn) (last : TakenTurn) : Type 0 where
   pub legal : IsLegal config (steps_of (turns ++ last ∷ []))
   pub settled : AreSettled (state_after config (steps_of turns)).links
-  pub once : AllByRecursion AsksOnce (turns ++ last ∷ [])
+  pub each : AllByRecursion IsOneTurn (turns ++ last ∷ [])
   pub verdicts : AfterVerdicts old.patterns new.patterns (verdicts_of (turns ++ last ∷ []))
   pub made : List Notice
   pub notices : notices_after config (steps_of (turns ++ last ∷ [])) ≡ notices_after config (steps_of turns) ++ made
@@ -111,12 +111,13 @@ pub record StopsShort (setup : Setup) (limit : ℕ) (old new : RunReport) (run :
   pub stops : StopsIn (config_at setup secs) old new turns last
   pub going : MayGoOn limit turns
 
--- memory ran out between turns
+-- memory ran out before the first turn was asked for, or when a turn was
 pub record RunsOut (setup : Setup) (limit : ℕ) (old new : RunReport) (run : List Entry) : Type 0 where
   pub secs : ℕ
   pub turns : List TakenTurn
   pub are : run ≡ opening setup secs ∷ entries_of turns
   pub takes : TakesTurns (config_at setup secs) old new turns
+  pub going : turns ≡ [] ⊎ MayGoOn limit turns
 
 -- nothing was done
 pub record NotBegun (old new : RunReport) (run : List Entry) : Type 0 where

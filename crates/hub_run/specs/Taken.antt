@@ -1,9 +1,9 @@
 -- The turns that a server took, one after another.
-use Rattle.std.specs.Prelude.{◌≡◌, ◌≢◌, ℕ, ◌<◌, ◌⊎◌, List, [], ◌∷◌, ◌++◌, length, Option}
+use Rattle.std.specs.Prelude.{◌≡◌, ◌≢◌, ℕ, ◌<◌, ◌⊎◌, true, List, [], ◌∷◌, ◌++◌, length, Option}
 use Rattle.std.specs.List.{AllByRecursion, flat_map}
 use Rattle.conn_core.specs.Turning.{turn_step}
 use Rattle.hub_link.specs.Added.{IsSendOrClose}
-use Rattle.hub_meaning.specs.Runs.{Step, plain}
+use Rattle.hub_meaning.specs.Runs.{Step, is_turn, plain}
 use Rattle.hub_meaning.specs.Verdicts.{Refusal}
 use Rattle.ports.specs.declared.entry.Entry.{Entry}
 use Rattle.ports.specs.declared.entry.Entry.TheVariants.{Next}
@@ -40,9 +40,10 @@ verdicts_of_turn taken = taken.verdicts
 abbrev pub verdicts_of : List TakenTurn → List (Option Refusal)
 verdicts_of turns = flat_map verdicts_of_turn turns
 
--- within the turn no other was asked for
-abbrev pub AsksOnce : TakenTurn → Type 0
-AsksOnce taken = AllByRecursion IsSendOrClose taken.calls
+-- What came is a turn, and neither that the links failed nor that memory ran out. Within it no other was asked for.
+pub record IsOneTurn (taken : TakenTurn) : Type 0 where
+  pub came : is_turn taken.turn.what ≡ true
+  pub once : AllByRecursion IsSendOrClose taken.calls
 
 -- ---- when a run is over
 
@@ -63,9 +64,9 @@ pub record IsStopped (limit : ℕ) (turns : List TakenTurn) : Type 0 where
   pub stopped : last.turn.what ≡ Stopped
 
 -- as many turns were taken as may be
-pub record IsSpent (limit : ℕ) (turns : List TakenTurn) : Type 0 where
+pub record IsAtLimit (limit : ℕ) (turns : List TakenTurn) : Type 0 where
   pub all : length turns ≡ limit
   pub going : AllByRecursion GoesOn turns
 
 abbrev pub HasEnded : ℕ → List TakenTurn → Type 0
-HasEnded limit turns = IsStopped limit turns ⊎ IsSpent limit turns
+HasEnded limit turns = IsStopped limit turns ⊎ IsAtLimit limit turns

@@ -3,7 +3,7 @@ use Rattle.std.proofs.lemmas.Result.{err_from_is_err_and}
 use Rattle.conn_core.specs.Turning.{sink_got}
 use Rattle.hub_meaning.specs.Verdicts.{patterns_state}
 use Rattle.hub_run.specs.Runs.{run_report}
-use Rattle.hub_run.proofs.LoopLaws.{is_stopped, not_last, so_far_failed, so_far_more, so_far_nothing, so_far_spent, so_far_stopped}
+use Rattle.hub_run.proofs.LoopLaws.{is_stopped, not_last, so_far_at_limit, so_far_failed, so_far_more, so_far_nothing, so_far_stopped}
 use Rattle.hub_run.proofs.server.take_turns.Goals as goal
 
 pub loop-taken-init : goal.loop-taken-init
@@ -67,4 +67,4 @@ returns-clause-takes g c =
     let log' = g.L.Links.log c.loop-taken.links in
     let old = run_report (patterns_state (g.P.Patterns.refusals c.args.patterns.now) (g.P.Patterns.refused c.args.patterns.now)) c.args.steps.now.forks (sink_got (g.O.Sink.text c.args.sink.now) (g.O.Sink.puts c.args.sink.now)) in
     let mid = run_report (patterns_state (g.P.Patterns.refusals c.loop-taken.patterns) (g.P.Patterns.refused c.loop-taken.patterns)) c.loop-taken.steps.forks (sink_got (g.O.Sink.text c.loop-taken.sink) (g.O.Sink.puts c.loop-taken.sink)) in
-    so_far_spent log log' c.args.hub.now c.loop-taken.hub old mid c.loop-taken._taken c.args.turns (omega arith) c.loop-taken.invariant.so_far
+    so_far_at_limit log log' c.args.hub.now c.loop-taken.hub old mid c.loop-taken._taken c.args.turns (omega arith) c.loop-taken.invariant.so_far
