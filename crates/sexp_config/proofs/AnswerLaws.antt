@@ -13,7 +13,7 @@ use Rattle.sexp_read.proofs.FrontLaws.{closed_forms}
 use Rattle.sexp_read.proofs.Spellings.{no_bracket_fault, none_open, one_reading}
 use Rattle.sexp_read.proofs.Whole.{are_forms, fault_of_forms}
 use Rattle.sexp_config.specs.declared.config.Config.{Config}
-use Rattle.sexp_config.specs.Steps.{Fault}
+use Rattle.config_terms.specs.Steps.{Fault}
 use Rattle.sexp_config.specs.Config.{config_of, why_of}
 use Rattle.sexp_config.specs.Answer.{IsConfig, IsRefused, TextsAreAnswered, ConfigsAreNotRefused, ConfigsAreOne, RefusalsAreOne}
 use Rattle.sexp_config.proofs.ReadLaws.{place_in, why_in, none_some, same_places}

@@ -19,9 +19,9 @@ use Rattle.stream_plan.specs.declared.plan.Stream.{Stream, out-Stream}
 use Rattle.stream_plan.specs.Search.{opened}
 use Rattle.stream_plan.specs.Tree.{kind_tree, stream_tree, list_trees}
 use Rattle.stream_plan.proofs.Trees.{stream_tree-opened}
-use Rattle.sexp_config.specs.declared.word.RuleWord.TheVariants as rule
-use Rattle.sexp_config.specs.declared.word.StreamWord.TheVariants as word
-use Rattle.sexp_config.specs.Words.{rule_text, stream_text}
+use Rattle.config_terms.specs.declared.word.RuleWord.TheVariants as rule
+use Rattle.config_terms.specs.declared.word.StreamWord.TheVariants as word
+use Rattle.config_terms.specs.Words.{rule_text, stream_text}
 use Rattle.sexp_config.specs.Canonical.{bare_form, bare_forms, text_form, field_form, value_form, keep_form, symbol_form, list_form, worded_form, rule_form, rule_forms, set_forms, kind_forms, kind_form, else_forms, stream_form, stream_forms}
 
 pub bare_listed : (forms : List Form) → bare_trees (form_trees forms) ≡ listed (bare_forms forms)

@@ -21,7 +21,7 @@ use Rattle.stream_plan.specs.Kinds.{is_count, is_secs, is_in_range}
 use Rattle.stream_plan.specs.Tree.{KindTree, StreamTree, stream, StreamTrees}
 use Rattle.stream_plan.specs.Tree as plan
 use Rattle.sexp_config.specs.declared.config.Config.{Config}
-use Rattle.sexp_config.specs.Words.{fold_text}
+use Rattle.config_terms.specs.Words.{fold_text}
 use Rattle.sexp_config.specs.Canonical.{symbol_form, text_form, field_form, value_form, rule_field_form, rule_form, rule_forms, set_forms, kind_forms, kind_form, else_forms, stream_form, stream_forms, keep_form, server_form, expiry_forms, streams_form, config_forms}
 use Rattle.sexp_config.proofs.RulesRead.{GoodField, GoodValue, GoodRule, GoodRules}
 use Rattle.sexp_config.proofs.KindsRead.{AllGood, within, GoodSet, GoodKind}

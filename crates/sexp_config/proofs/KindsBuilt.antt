@@ -12,12 +12,12 @@ use Rattle.sexp_read.specs.Tree.{FormTree, FormTrees, Single, Group, none, also}
 use Rattle.stream_plan.specs.Kinds.{may_have_otherwise, is_count, is_secs, is_in_range}
 use Rattle.stream_plan.specs.Tree.{KindTree}
 use Rattle.stream_plan.specs.Tree as plan
-use Rattle.sexp_config.specs.declared.word.StreamWord.{StreamWord}
-use Rattle.sexp_config.specs.declared.word.StreamWord.TheVariants as word
-use Rattle.sexp_config.specs.Steps.{Fault, ◌>>=◌, start_of, argument}
-use Rattle.sexp_config.specs.Arguments.{Env, field_at, value_at, text_at, number_at, texts_at, fields_at, some_of, is_number, is_ttl_field, fitted, set_at, new_field_at, sets_from, count_at, secs_at}
-use Rattle.sexp_config.specs.Rules.{rule_at}
-use Rattle.sexp_config.specs.Kinds.{count_of, secs_of, field_of, one_set, sets_by, sets_of, init_of, fold_at, has_secs, coalesce_secs, all_tagged, tagged_kind, order_kind, notice_kind, where_kind, tag_kind, by_kind, smap_kind, count_and_secs, changed_kind, runs_kind, stable_kind, window_kind, counting_kind, kind_of}
+use Rattle.config_terms.specs.declared.word.StreamWord.{StreamWord}
+use Rattle.config_terms.specs.declared.word.StreamWord.TheVariants as word
+use Rattle.config_terms.specs.Steps.{Fault, ◌>>=◌, start_of, argument}
+use Rattle.config_terms.specs.Arguments.{Env, field_at, value_at, text_at, number_at, texts_at, fields_at, some_of, is_number, is_ttl_field, fitted, set_at, new_field_at, sets_from}
+use Rattle.config_streams.specs.Kinds.{count_at, secs_at, count_of, secs_of, field_of, one_set, sets_by, sets_of, init_of, fold_at, has_secs, coalesce_secs, all_tagged, tagged_kind, order_kind, notice_kind, where_kind, tag_kind, by_kind, smap_kind, count_and_secs, changed_kind, runs_kind, stable_kind, window_kind, counting_kind, kind_of}
+use Rattle.config_terms.specs.Rules.{rule_at}
 use Rattle.sexp_config.proofs.ReadGood.{OkGood, Any_, bind_good, any_good, ok_if, ranged_good}
 
 -- ---- sets

@@ -19,18 +19,17 @@ use Rattle.ev_types.specs.Set.{fits}
 use Rattle.stream_plan.specs.Kinds.{may_have_children}
 use Rattle.stream_plan.specs.Tree.{KindTree, StreamTree, stream, StreamTrees}
 use Rattle.stream_plan.specs.Tree as plan
-use Rattle.sexp_config.specs.declared.binding.Bound.{Bound}
-use Rattle.sexp_config.specs.declared.binding.Bound.TheVariants as bound
-use Rattle.sexp_config.specs.declared.word.StreamWord.{StreamWord}
-use Rattle.sexp_config.specs.declared.word.StreamWord.TheVariants as word
-use Rattle.sexp_config.specs.Steps.{Fault, ◌>>=◌, start_of, nth, argument, at_most, each}
+use Rattle.config_terms.specs.declared.binding.Bound.{Bound}
+use Rattle.config_terms.specs.declared.binding.Bound.TheVariants as bound
+use Rattle.config_terms.specs.declared.word.StreamWord.{StreamWord}
+use Rattle.config_terms.specs.declared.word.StreamWord.TheVariants as word
+use Rattle.config_terms.specs.Steps.{Fault, ◌>>=◌, start_of, nth, argument, at_most, each}
 use Rattle.ev_types.specs.Names.{named_field, protocol_field}
-use Rattle.sexp_config.specs.Words.{stream_text, stream_word, init_text}
-use Rattle.sexp_config.specs.Words as words
-use Rattle.sexp_config.specs.Arguments.{Env, bound_value, Argument, Text, Pattern, Number, Keyword, Index, Unbound, Forms, argument_of, text_at, field_at, number_at, value_at, some_of, with_text, texts_by, texts_at, with_field, fields_by, fields_at, fitted, set_at, has_field, new_field, new_field_at, sets_from, is_number, is_ttl_field}
-use Rattle.sexp_config.specs.Rules.{rule_at}
-use Rattle.sexp_config.specs.Kinds.{count_of, secs_of, field_of, one_set, sets_by, sets_of, only_key_at, held, one_entry, init_by, init_of, fold_at, coalesce_secs, expired_rule, tag_rules, all_tagged, tagged_kind, order_kind, notice_kind, where_kind, tag_kind, by_kind, smap_kind, count_and_secs, changed_kind, runs_kind, stable_kind, window_kind, counting_kind, kind_of, leads}
-use Rattle.sexp_config.specs.Streams.{Below, nothing, Part, One, Rest, with_stream, stream_of, Readings, ended, next_place, with_part, all_read, is_where_in, is_else, symbol_by, followed, worded, part_at, parts_in}
+use Rattle.config_terms.specs.Words.{stream_text, stream_word, init_text}
+use Rattle.config_terms.specs.Arguments.{Env, bound_value, Argument, Text, Pattern, Number, Keyword, Index, Unbound, Forms, argument_of, text_at, field_at, number_at, value_at, some_of, with_text, texts_by, texts_at, with_field, fields_by, fields_at, fitted, set_at, has_field, new_field, new_field_at, sets_from, is_number, is_ttl_field, only_key_at, held, one_entry}
+use Rattle.config_terms.specs.Rules.{rule_at}
+use Rattle.config_streams.specs.Kinds.{count_of, secs_of, field_of, one_set, sets_by, sets_of, init_by, init_of, fold_at, coalesce_secs, expired_rule, tag_rules, all_tagged, tagged_kind, order_kind, notice_kind, where_kind, tag_kind, by_kind, smap_kind, count_and_secs, changed_kind, runs_kind, stable_kind, window_kind, counting_kind, kind_of, leads}
+use Rattle.config_streams.specs.Streams.{Below, nothing, Part, One, Rest, with_stream, stream_of, Readings, ended, next_place, with_part, all_read, is_where_in, is_else, symbol_by, followed, worded, part_at, parts_in}
 use Rattle.sexp_config.proofs.RulesRead.{GoodField, GoodValue, GoodRule, GoodRules}
 use Rattle.sexp_config.proofs.KindsRead.{AllGood, Some_, GoodSet, Distinct, GoodKind}
 use Rattle.sexp_config.proofs.ReadGood.{OkGood, SomeGood, Any_, bind_good, any_good, ok_if, all_snoc, IsText, GoodEnv, GoodArgument, argument_good, Writable, text_good, field_good, number_good, value_good, argument_at_good, nth_good, each_good, rule_good}

@@ -16,13 +16,13 @@ use Rattle.ev_types.specs.Set.{fits, all_fit}
 use Rattle.stream_plan.specs.Kinds.{is_count, is_secs, is_in_range}
 use Rattle.stream_plan.specs.Tree.{KindTree}
 use Rattle.stream_plan.specs.Tree as plan
-use Rattle.sexp_config.specs.declared.word.StreamWord.{StreamWord}
-use Rattle.sexp_config.specs.declared.word.StreamWord.TheVariants as word
-use Rattle.sexp_config.specs.Steps.{Fault, ◌>>=◌, start_of, nth, argument, each}
-use Rattle.sexp_config.specs.Words.{fold_text, fold_word, init_text}
-use Rattle.sexp_config.specs.Arguments.{argument_of, value_at, keyword_at, ranged, ranged_at, texts_at, with_text, fields_at, with_field, some_of, set_at, has_field, new_field_at, sets_from}
-use Rattle.sexp_config.specs.Kinds.{count_of, secs_of, sets_of, only_key_at, one_entry, init_by, init_of, fold_by, fold_at, has_secs, coalesce_secs, notice_kind, where_kind, tag_kind, by_kind, smap_kind, count_and_secs, changed_kind, runs_kind, stable_kind, window_kind, counting_kind, kind_of, is_map, is_map_in, leads}
-use Rattle.sexp_config.specs.Streams.{parts_in, part_at}
+use Rattle.config_terms.specs.declared.word.StreamWord.{StreamWord}
+use Rattle.config_terms.specs.declared.word.StreamWord.TheVariants as word
+use Rattle.config_terms.specs.Steps.{Fault, ◌>>=◌, start_of, nth, argument, each}
+use Rattle.config_terms.specs.Words.{fold_text, fold_word, init_text}
+use Rattle.config_terms.specs.Arguments.{argument_of, value_at, keyword_at, ranged, ranged_at, texts_at, with_text, fields_at, with_field, some_of, set_at, has_field, new_field_at, sets_from, only_key_at, one_entry}
+use Rattle.config_streams.specs.Kinds.{count_of, secs_of, sets_of, init_by, init_of, fold_by, fold_at, has_secs, coalesce_secs, notice_kind, where_kind, tag_kind, by_kind, smap_kind, count_and_secs, changed_kind, runs_kind, stable_kind, window_kind, counting_kind, kind_of, is_map, is_map_in, leads}
+use Rattle.config_streams.specs.Streams.{parts_in, part_at}
 use Rattle.sexp_config.specs.Canonical.{symbol_form, keyword_form, text_form, number_form, vector_form, map_form, value_form, field_form, set_forms, init_forms, rule_form, kind_forms}
 use Rattle.sexp_config.proofs.BareForms.{single_of, group_of, also_of, none_of}
 use Rattle.sexp_config.proofs.RulesRead.{GoodField, GoodValue, GoodRule, text_read, number_read, field_read, value_read, rule_read}

@@ -1,5 +1,4 @@
 pub mod CanonicalLaws
-pub mod FormLaws
 pub mod BareForms
 pub mod RulesRead
 pub mod KindsRead
@@ -13,10 +12,6 @@ pub mod StreamsBuilt
 pub mod PlansBuilt
 pub mod CanonicalRead
 pub mod CanonicalWritable
-pub mod EntryLaws
-pub mod RuleLaws
-pub mod KindLaws
-pub mod StreamLaws
 pub mod TopLaws
 pub mod ReadLaws
 pub mod SourceLaws

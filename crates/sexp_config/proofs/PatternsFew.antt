@@ -14,25 +14,25 @@ use Rattle.stream_plan.specs.Kinds.{may_have_children}
 use Rattle.stream_plan.specs.Ready.{kind_patterns, stream_patterns, plan_patterns}
 use Rattle.stream_plan.specs.Tree.{KindTree, StreamTree, stream, StreamTrees}
 use Rattle.stream_plan.specs.Tree as plan
-use Rattle.sexp_config.specs.declared.binding.Bound.{Bound}
-use Rattle.sexp_config.specs.declared.binding.Bound.TheVariants as bound
+use Rattle.config_terms.specs.declared.binding.Bound.{Bound}
+use Rattle.config_terms.specs.declared.binding.Bound.TheVariants as bound
 use Rattle.sexp_config.specs.declared.config.Config.{Config}
-use Rattle.sexp_config.specs.declared.word.StreamWord.{StreamWord}
-use Rattle.sexp_config.specs.declared.word.StreamWord.TheVariants as word
-use Rattle.sexp_config.specs.declared.word.TopWord.{TopWord}
-use Rattle.sexp_config.specs.declared.word.TopWord.TheVariants as top
-use Rattle.sexp_config.specs.Steps.{Fault, ◌>>=◌, start_of, argument, at_most}
-use Rattle.sexp_config.specs.Words.{stream_text, stream_word, top_word}
-use Rattle.sexp_config.specs.Arguments.{Env, bound_value, text_at, number_at, texts_at, fields_at, some_of}
-use Rattle.sexp_config.specs.Rules.{rule_at}
-use Rattle.sexp_config.specs.Code.{later}
-use Rattle.sexp_config.specs.Kinds.{count_of, secs_of, field_of, sets_of, init_of, fold_at, coalesce_secs, tag_rules, all_tagged, tagged_kind, order_kind, notice_kind, where_kind, tag_kind, by_kind, smap_kind, count_and_secs, changed_kind, runs_kind, stable_kind, window_kind, counting_kind, kind_of, leads}
-use Rattle.sexp_config.specs.Streams.{Below, nothing, Part, One, Rest, with_stream, stream_of, Readings, ended, next_place, with_part, all_read, is_where, is_where_in, is_else, symbol_by, followed, worded, part_at, parts_in}
+use Rattle.config_terms.specs.declared.word.StreamWord.{StreamWord}
+use Rattle.config_terms.specs.declared.word.StreamWord.TheVariants as word
+use Rattle.config_terms.specs.declared.word.TopWord.{TopWord}
+use Rattle.config_terms.specs.declared.word.TopWord.TheVariants as top
+use Rattle.config_terms.specs.Steps.{Fault, ◌>>=◌, start_of, argument, at_most}
+use Rattle.config_terms.specs.Words.{stream_text, stream_word, top_word}
+use Rattle.config_terms.specs.Arguments.{Env, bound_value, text_at, number_at, texts_at, fields_at, some_of}
+use Rattle.config_terms.specs.Rules.{rule_at}
+use Rattle.config_terms.specs.Code.{later}
+use Rattle.config_streams.specs.Kinds.{count_of, secs_of, field_of, sets_of, init_of, fold_at, coalesce_secs, tag_rules, all_tagged, tagged_kind, order_kind, notice_kind, where_kind, tag_kind, by_kind, smap_kind, count_and_secs, changed_kind, runs_kind, stable_kind, window_kind, counting_kind, kind_of, leads}
+use Rattle.config_streams.specs.Streams.{Below, nothing, Part, One, Rest, with_stream, stream_of, Readings, ended, next_place, with_part, all_read, is_where, is_where_in, is_else, symbol_by, followed, worded, part_at, parts_in}
 use Rattle.sexp_config.specs.Tops.{Draft, fresh_draft, default_server, or_default, once, server_in, expiry_in, names_in, Step, run, top_by, top_at, tops_in}
 use Rattle.sexp_config.specs.Config.{plan_fault, faultless, checked, config_from, finished, config_of, IsConfigOf}
 use Rattle.sexp_config.proofs.ReadGood.{OkGood, Any_, bind_good, any_good, weaker, ok_if}
 use Rattle.sexp_config.proofs.RulesFew.{form_brackets, brackets, few_brackets, FewRule, rule_few}
-use Rattle.sexp_config.proofs.StreamLaws.{parts_later}
+use Rattle.config_streams.proofs.StreamLaws.{parts_later}
 
 -- ---- kinds
 

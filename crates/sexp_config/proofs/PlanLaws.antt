@@ -5,14 +5,13 @@ use Rattle.stream_plan.specs.declared.fault.PlanWhy.{PlanWhy}
 use Rattle.stream_plan.specs.declared.fault.PlanWhy.TheVariants.{Many, Deep, Children, Range, Kind}
 use Rattle.stream_plan.specs.Faults as plan
 use Rattle.stream_plan.specs.Tree.{StreamTrees}
-use Rattle.sexp_config.specs.declared.fault.ConfigFault.{ConfigFault}
-use Rattle.sexp_config.specs.declared.fault.ConfigWhy.{ConfigWhy}
-use Rattle.sexp_config.specs.declared.fault.ConfigWhy.TheVariants as why
-use Rattle.sexp_config.specs.Steps.{Fault, Fails}
-use Rattle.sexp_config.specs.Sources.{SourceTrees, place_along}
-use Rattle.sexp_config.specs.Streams.{Located}
-use Rattle.sexp_config.specs.Config.{plan_fault, faultless, checked}
-use Rattle.sexp_config.specs.Code.{fault_by}
+use Rattle.config_terms.specs.declared.fault.ConfigFault.{ConfigFault}
+use Rattle.config_terms.specs.declared.fault.ConfigWhy.{ConfigWhy}
+use Rattle.config_terms.specs.declared.fault.ConfigWhy.TheVariants as why
+use Rattle.config_terms.specs.Steps.{Fault, Fails}
+use Rattle.config_streams.specs.Sources.{SourceTrees, place_along}
+use Rattle.config_streams.specs.Streams.{Located}
+use Rattle.sexp_config.specs.Config.{plan_fault, faultless, checked, fault_by}
 
 abbrev pub At : Type 0
 At = Option plan.Placed

@@ -17,14 +17,14 @@ use Rattle.stream_plan.specs.Sound.{StandsShallow, HasStreamsThatMayFollow, IsIn
 use Rattle.stream_plan.specs.Tree.{StreamTree, stream, StreamTrees}
 use Rattle.stream_plan.specs.Tree as plan
 use Rattle.sexp_config.specs.declared.config.Config.{Config}
-use Rattle.sexp_config.specs.declared.fault.ConfigWhy.TheVariants as why
-use Rattle.sexp_config.specs.declared.word.TopWord.{TopWord}
-use Rattle.sexp_config.specs.declared.word.TopWord.TheVariants as top
-use Rattle.sexp_config.specs.Steps.{Fault}
-use Rattle.sexp_config.specs.Words.{top_word}
-use Rattle.sexp_config.specs.Arguments.{Env}
-use Rattle.sexp_config.specs.Sources.{place_along}
-use Rattle.sexp_config.specs.Streams.{Located, all_read, parts_in}
+use Rattle.config_terms.specs.declared.fault.ConfigWhy.TheVariants as why
+use Rattle.config_terms.specs.declared.word.TopWord.{TopWord}
+use Rattle.config_terms.specs.declared.word.TopWord.TheVariants as top
+use Rattle.config_terms.specs.Steps.{Fault}
+use Rattle.config_terms.specs.Words.{top_word}
+use Rattle.config_terms.specs.Arguments.{Env}
+use Rattle.config_streams.specs.Sources.{place_along}
+use Rattle.config_streams.specs.Streams.{Located, all_read, parts_in}
 use Rattle.sexp_config.specs.Tops.{default_server, Draft, fresh_draft, or_default, once, server_in, expiry_in, names_in, Step, run, top_by, top_at, tops_in}
 use Rattle.sexp_config.specs.Config.{plan_fault, faultless, checked, config_from, finished, config_of}
 use Rattle.sexp_config.specs.Built.{IsWellBuilt, IsLeft, ReadPlansHaveNoFault}

@@ -15,16 +15,16 @@ use Rattle.sexp_read.specs.declared.piece.Bracket.TheVariants.{Round, Square, Cu
 use Rattle.sexp_read.specs.Tree.{FormTree, FormTrees, Single, Group, none, also}
 use Rattle.sexp_read.specs.Bytes.{is_name}
 use Rattle.sexp_read.specs.Written.{bare_tree, bare_trees, is_pattern, IsWithin64, IsWritableTree, AreWritable}
-use Rattle.sexp_config.specs.declared.binding.Binding.{Binding}
-use Rattle.sexp_config.specs.declared.binding.Bound.{Bound}
-use Rattle.sexp_config.specs.declared.binding.Bound.TheVariants as bound
-use Rattle.sexp_config.specs.declared.word.RuleWord.{RuleWord}
-use Rattle.sexp_config.specs.declared.word.RuleWord.TheVariants as rule
-use Rattle.sexp_config.specs.Steps.{Fault, ◌>>=◌, start_of, nth, present, argument, at_most, each}
+use Rattle.config_terms.specs.declared.binding.Binding.{Binding}
+use Rattle.config_terms.specs.declared.binding.Bound.{Bound}
+use Rattle.config_terms.specs.declared.binding.Bound.TheVariants as bound
+use Rattle.config_terms.specs.declared.word.RuleWord.{RuleWord}
+use Rattle.config_terms.specs.declared.word.RuleWord.TheVariants as rule
+use Rattle.config_terms.specs.Steps.{Fault, ◌>>=◌, start_of, nth, present, argument, at_most, each}
 use Rattle.ev_types.specs.Names.{is_hidden, named_field, protocol_field}
-use Rattle.sexp_config.specs.Words.{rule_word, nil_text, true_text, false_text}
-use Rattle.sexp_config.specs.Arguments.{Env, bound_value, Argument, Text, Pattern, Number, Keyword, Index, Unbound, Forms, bound_argument, argument_of, fitting, taken, text_in, keyword_in, field_in, number_in, value_in, text_at, keyword_at, field_at, number_at, value_at, ranged, ranged_at, vector_in, map_in, vector_at, map_at}
-use Rattle.sexp_config.specs.Rules.{symbol_rule, known_field, rule_field_at, Head, Word, Field_, Unknown, field_head, symbol_head, rule_head, Readings, with_rule, all_read, joined, first_read, equal_rule, order_rule, like_rule, tagged_rule, sought, field_rule, word_rule, headed_rule, rule_at, rules_in}
+use Rattle.config_terms.specs.Words.{rule_word, nil_text, true_text, false_text}
+use Rattle.config_terms.specs.Arguments.{Env, bound_value, Argument, Text, Pattern, Number, Keyword, Index, Unbound, Forms, bound_argument, argument_of, fitting, taken, text_in, keyword_in, field_in, number_in, value_in, text_at, keyword_at, field_at, number_at, value_at, ranged, ranged_at, vector_in, map_in, vector_at, map_at}
+use Rattle.config_terms.specs.Rules.{symbol_rule, known_field, rule_field_at, Head, Word, Field_, Unknown, field_head, symbol_head, rule_head, Readings, with_rule, all_read, joined, first_read, equal_rule, order_rule, like_rule, tagged_rule, sought, field_rule, word_rule, headed_rule, rule_at, rules_in}
 use Rattle.sexp_config.proofs.RulesRead.{GoodField, GoodValue, GoodRule, GoodRules}
 use Rattle.sexp_config.proofs.KindsRead.{AllGood, within}
 

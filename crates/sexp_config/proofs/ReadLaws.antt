@@ -6,14 +6,14 @@ use Rattle.sexp_read.specs.declared.fault.SexpWhy.{SexpWhy}
 use Rattle.sexp_read.specs.Gives.{IsFault}
 use Rattle.sexp_read.specs.Tokens as forms
 use Rattle.sexp_read.specs.declared.fault.SexpWhy.TheVariants as told
-use Rattle.sexp_config.specs.declared.fault.ConfigWhy.TheVariants as cause
+use Rattle.config_terms.specs.declared.fault.ConfigWhy.TheVariants as cause
 use Rattle.sexp_read.specs.Grammar.{IsForms, text_fault}
 use Rattle.sexp_read.specs.Tree.{FormTrees}
 use Rattle.sexp_config.specs.declared.config.Config.{Config}
-use Rattle.sexp_config.specs.declared.fault.ConfigFault.{ConfigFault}
-use Rattle.sexp_config.specs.declared.fault.ConfigFault.TheVariants.{Refused, Memory}
-use Rattle.sexp_config.specs.declared.fault.ConfigWhy.{ConfigWhy}
-use Rattle.sexp_config.specs.Steps.{Fault, Gives}
+use Rattle.config_terms.specs.declared.fault.ConfigFault.{ConfigFault}
+use Rattle.config_terms.specs.declared.fault.ConfigFault.TheVariants.{Refused, Memory}
+use Rattle.config_terms.specs.declared.fault.ConfigWhy.{ConfigWhy}
+use Rattle.config_terms.specs.Steps.{Fault, Gives}
 use Rattle.sexp_config.specs.Config.{config_of, IsConfigOf, IsConfigFault, IsRefusedFor, IsReadAs, IsRefusedAs, why_of, fault_in}
 
 -- ---- the text is forms

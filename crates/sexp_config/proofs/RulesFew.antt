@@ -11,12 +11,12 @@ use Rattle.sexp_read.specs.Grammar.{IsForms, form_spelling, spelling, longest}
 use Rattle.sexp_read.specs.Tokens.{Closed}
 use Rattle.sexp_read.specs.Tree.{FormTree, FormTrees, Single, Group, none, also}
 use Rattle.ev_types.specs.declared.field.Field.{Field}
-use Rattle.sexp_config.specs.declared.word.RuleWord.{RuleWord}
-use Rattle.sexp_config.specs.declared.word.RuleWord.TheVariants as rule
-use Rattle.sexp_config.specs.Steps.{Fault, ◌>>=◌, argument, at_most}
-use Rattle.sexp_config.specs.Words.{true_text, false_text, nil_text}
-use Rattle.sexp_config.specs.Arguments.{Env, Argument, Text, Pattern, Number, Keyword, Index, Unbound, Forms, argument_of, value_at, number_at, text_at}
-use Rattle.sexp_config.specs.Rules.{symbol_rule, rule_field_at, Head, Word, Field_, Unknown, rule_head, Readings, with_rule, all_read, joined, first_read, equal_rule, order_rule, like_rule, tagged_rule, sought, field_rule, word_rule, headed_rule, rule_at, rules_in}
+use Rattle.config_terms.specs.declared.word.RuleWord.{RuleWord}
+use Rattle.config_terms.specs.declared.word.RuleWord.TheVariants as rule
+use Rattle.config_terms.specs.Steps.{Fault, ◌>>=◌, argument, at_most}
+use Rattle.config_terms.specs.Words.{true_text, false_text, nil_text}
+use Rattle.config_terms.specs.Arguments.{Env, Argument, Text, Pattern, Number, Keyword, Index, Unbound, Forms, argument_of, value_at, number_at, text_at}
+use Rattle.config_terms.specs.Rules.{symbol_rule, rule_field_at, Head, Word, Field_, Unknown, rule_head, Readings, with_rule, all_read, joined, first_read, equal_rule, order_rule, like_rule, tagged_rule, sought, field_rule, word_rule, headed_rule, rule_at, rules_in}
 use Rattle.sexp_read.proofs.TokensFew.{tokens_few}
 use Rattle.sexp_config.proofs.ReadGood.{OkGood, Any_, bind_good, any_good, weaker, ok_if}
 

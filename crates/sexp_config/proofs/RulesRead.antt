@@ -15,13 +15,13 @@ use Rattle.sexp_read.specs.declared.piece.Bracket.TheVariants.{Round}
 use Rattle.sexp_read.specs.Tree.{FormTree, FormTrees, Single, Group, none, also}
 use Rattle.sexp_read.specs.Bytes.{is_name}
 use Rattle.sexp_read.specs.Written.{BareTree, BareTrees, Leaf, Branch, no_trees, and_trees, bare_tree, bare_trees, listed, is_pattern, IsWithin64}
-use Rattle.sexp_config.specs.declared.word.RuleWord.{RuleWord}
-use Rattle.sexp_config.specs.declared.word.RuleWord.TheVariants as rule
-use Rattle.sexp_config.specs.Steps.{Fault, argument, at_most}
+use Rattle.config_terms.specs.declared.word.RuleWord.{RuleWord}
+use Rattle.config_terms.specs.declared.word.RuleWord.TheVariants as rule
+use Rattle.config_terms.specs.Steps.{Fault, argument, at_most}
 use Rattle.ev_types.specs.Names.{field_name, named_field, protocol_field}
-use Rattle.sexp_config.specs.Words.{rule_text, rule_word, joining_word, comparing_word}
-use Rattle.sexp_config.specs.Arguments.{argument_of, text_at, field_at, number_at, value_at}
-use Rattle.sexp_config.specs.Rules.{Head, Word, Field_, rule_field_at, rule_head, Readings, with_rule, all_read, joined, equal_rule, order_rule, like_rule, tagged_rule, field_rule, word_rule, headed_rule, rule_at, rules_in}
+use Rattle.config_terms.specs.Words.{rule_text, rule_word, joining_word, comparing_word}
+use Rattle.config_terms.specs.Arguments.{argument_of, text_at, field_at, number_at, value_at}
+use Rattle.config_terms.specs.Rules.{Head, Word, Field_, rule_field_at, rule_head, Readings, with_rule, all_read, joined, equal_rule, order_rule, like_rule, tagged_rule, field_rule, word_rule, headed_rule, rule_at, rules_in}
 use Rattle.sexp_config.specs.Canonical.{symbol_form, keyword_form, text_form, number_form, pattern_form, worded_form, value_form, rule_field_form, rule_form, rule_forms}
 use Rattle.sexp_config.proofs.BareForms.{single_of, also_of, none_of, call_of}
 

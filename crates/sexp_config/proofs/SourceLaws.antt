@@ -1,10 +1,10 @@
 -- Where paths lead.
 use Rattle.std.proofs.Common.{◌≡◌, ℕ, zero, suc, ◌+◌, ◌-◌, ◌<◌, ◌≤◌, List, [], ◌∷◌, drop, length, get_or, Option, Some, None, refl, ap, sym, ◌∙◌, subst, arith, add-one}
 use Rattle.std.proofs.Math.Seq.{drop-cons}
-use Rattle.sexp_config.specs.declared.source.Source.{Source, out-Source}
-use Rattle.sexp_config.specs.Sources.{SourceTree, SourceTrees, source, none, also, with_sources, nth_source, place_of, sources_of, place_along}
-use Rattle.sexp_config.specs.Made.{source_tree, source_list}
-use Rattle.sexp_config.proofs.StreamLaws.{source_tree-opened}
+use Rattle.config_streams.specs.declared.source.Source.{Source, out-Source}
+use Rattle.config_streams.specs.Sources.{SourceTree, SourceTrees, source, none, also, with_sources, nth_source, place_of, sources_of, place_along}
+use Rattle.config_streams.specs.Made.{source_tree, source_list}
+use Rattle.config_streams.proofs.StreamLaws.{source_tree-opened}
 
 nth_within : (sources : List Source) (n : ℕ) (s : Source) → n < length sources → s ≡ get_or sources n s → nth_source n (source_list sources) ≡ Some (source_tree s)
 nth_within [] n s within is = absurd (omega arith)

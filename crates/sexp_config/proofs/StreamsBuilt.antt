@@ -9,15 +9,15 @@ use Rattle.stream_plan.specs.Faults.{has_streams, has_wrong_streams}
 use Rattle.stream_plan.specs.Kinds.{may_have_children, may_have_otherwise, is_in_range}
 use Rattle.stream_plan.specs.Tree.{KindTree, StreamTree, stream, StreamTrees}
 use Rattle.stream_plan.specs.Tree as plan
-use Rattle.sexp_config.specs.declared.binding.Bound.{Bound}
-use Rattle.sexp_config.specs.declared.binding.Bound.TheVariants as bound
-use Rattle.sexp_config.specs.declared.word.StreamWord.{StreamWord}
-use Rattle.sexp_config.specs.declared.word.StreamWord.TheVariants as word
-use Rattle.sexp_config.specs.Steps.{Fault, ◌>>=◌, at_most}
-use Rattle.sexp_config.specs.Words.{stream_text, stream_word}
-use Rattle.sexp_config.specs.Arguments.{Env, bound_value}
-use Rattle.sexp_config.specs.Kinds.{kind_of, leads}
-use Rattle.sexp_config.specs.Streams.{Below, nothing, Part, One, Rest, with_stream, stream_of, Readings, ended, next_place, with_part, all_read, is_where, is_where_in, is_else, symbol_by, followed, worded, part_at, parts_in}
+use Rattle.config_terms.specs.declared.binding.Bound.{Bound}
+use Rattle.config_terms.specs.declared.binding.Bound.TheVariants as bound
+use Rattle.config_terms.specs.declared.word.StreamWord.{StreamWord}
+use Rattle.config_terms.specs.declared.word.StreamWord.TheVariants as word
+use Rattle.config_terms.specs.Steps.{Fault, ◌>>=◌, at_most}
+use Rattle.config_terms.specs.Words.{stream_text, stream_word}
+use Rattle.config_terms.specs.Arguments.{Env, bound_value}
+use Rattle.config_streams.specs.Kinds.{kind_of, leads}
+use Rattle.config_streams.specs.Streams.{Below, nothing, Part, One, Rest, with_stream, stream_of, Readings, ended, next_place, with_part, all_read, is_where, is_where_in, is_else, symbol_by, followed, worded, part_at, parts_in}
 use Rattle.sexp_config.proofs.ReadGood.{OkGood, Any_, bind_good, any_good, weaker, ok_if}
 use Rattle.sexp_config.proofs.KindsBuilt.{InRange, kind_range, MayHaveRest, where_rest}
 

@@ -10,14 +10,14 @@ use Rattle.stream_plan.specs.Faults.{has_wrong_streams}
 use Rattle.stream_plan.specs.Kinds.{may_have_children, is_in_range}
 use Rattle.stream_plan.specs.Tree.{KindTree, StreamTree, stream, StreamTrees, none, also}
 use Rattle.stream_plan.specs.Tree as plan
-use Rattle.sexp_config.specs.declared.word.StreamWord.{StreamWord}
-use Rattle.sexp_config.specs.declared.word.StreamWord.TheVariants as word
-use Rattle.sexp_config.specs.Steps.{Fault, ◌>>=◌, start_of, at_most}
-use Rattle.sexp_config.specs.Words.{stream_text, stream_word, passing_word, counting_word, window_word}
-use Rattle.sexp_config.specs.Kinds.{kind_of, leads}
-use Rattle.sexp_config.specs.Sources.{SourceTree, SourceTrees, source}
-use Rattle.sexp_config.specs.Sources as sources
-use Rattle.sexp_config.specs.Streams.{Located, nowhere, Below, nothing, Part, One, Rest, with_stream, with_one, stream_of, Readings, all_read, is_where, is_where_in, followed, worded, part_at, parts_in}
+use Rattle.config_terms.specs.declared.word.StreamWord.{StreamWord}
+use Rattle.config_terms.specs.declared.word.StreamWord.TheVariants as word
+use Rattle.config_terms.specs.Steps.{Fault, ◌>>=◌, start_of, at_most}
+use Rattle.config_terms.specs.Words.{stream_text, stream_word, passing_word, counting_word, window_word}
+use Rattle.config_streams.specs.Kinds.{kind_of, leads}
+use Rattle.config_streams.specs.Sources.{SourceTree, SourceTrees, source}
+use Rattle.config_streams.specs.Sources as sources
+use Rattle.config_streams.specs.Streams.{Located, nowhere, Below, nothing, Part, One, Rest, with_stream, with_one, stream_of, Readings, all_read, is_where, is_where_in, followed, worded, part_at, parts_in}
 use Rattle.sexp_config.specs.Canonical.{symbol_form, text_form, list_form, worded_form, kind_forms, else_forms, stream_form, stream_forms}
 use Rattle.sexp_config.proofs.BareForms.{single_of, also_of, none_of, call_of}
 use Rattle.sexp_config.proofs.KindsRead.{NoMap, GoodKind, word_of, kind_led}

@@ -4,15 +4,15 @@ use Rattle.std.proofs.lemmas.List.{take-append-le}
 use Rattle.sexp_read.specs.declared.piece.Atom.TheVariants as atom
 use Rattle.sexp_read.specs.declared.piece.Bracket.TheVariants.{Round, Square, Curly}
 use Rattle.sexp_read.specs.Tree.{FormTree, FormTrees, Single, Group, none, also}
-use Rattle.sexp_config.specs.declared.binding.Bound.{Bound}
-use Rattle.sexp_config.specs.declared.binding.Bound.TheVariants as bound
-use Rattle.sexp_config.specs.declared.fault.ConfigWhy.TheVariants as why
-use Rattle.sexp_config.specs.Steps.{Fault, ◌>>=◌, start_of, argument}
-use Rattle.sexp_config.specs.Words.{top_word}
-use Rattle.sexp_config.specs.Arguments.{Env, bound_value, argument_of, misfit, vector_at}
-use Rattle.sexp_config.specs.Rules.{no_form}
+use Rattle.config_terms.specs.declared.binding.Bound.{Bound}
+use Rattle.config_terms.specs.declared.binding.Bound.TheVariants as bound
+use Rattle.config_terms.specs.declared.fault.ConfigWhy.TheVariants as why
+use Rattle.config_terms.specs.Steps.{Fault, ◌>>=◌, start_of, argument}
+use Rattle.config_terms.specs.Words.{top_word}
+use Rattle.config_terms.specs.Arguments.{Env, bound_value, argument_of, misfit, vector_at}
+use Rattle.config_terms.specs.Rules.{no_form}
 use Rattle.sexp_config.specs.Tops.{Draft, Listens, listen_key_at, with_entry, listens_from, name_at, bound_by, index_by, bound_at, names_from, names_at, let_by, run, top_by, top_at, tops_in}
-use Rattle.sexp_config.specs.Code.{Look, Symbol, Call, Lookup, Other, look_of, later, vector_in_form}
+use Rattle.config_terms.specs.Code.{Look, Symbol, Call, Lookup, Other, look_of, later, vector_in_form}
 
 -- ---- by what a form looks like
 

@@ -22,18 +22,17 @@ use Rattle.stream_plan.specs.Sound.{HasStreamsThatMayFollow, IsInRange}
 use Rattle.stream_plan.specs.Tree.{KindTree, StreamTree, stream, StreamTrees}
 use Rattle.stream_plan.specs.Tree as plan
 use Rattle.stream_plan.proofs.SoundLaws.{faultless_is_sound}
-use Rattle.sexp_config.specs.declared.binding.Bound.TheVariants as bound
+use Rattle.config_terms.specs.declared.binding.Bound.TheVariants as bound
 use Rattle.sexp_config.specs.declared.config.Config.{Config}
-use Rattle.sexp_config.specs.declared.word.StreamWord.TheVariants as word
-use Rattle.sexp_config.specs.declared.word.TopWord.{TopWord}
-use Rattle.sexp_config.specs.declared.word.TopWord.TheVariants as top
-use Rattle.sexp_config.specs.Steps.{Fault, start_of, nth, argument, at_most, each}
+use Rattle.config_terms.specs.declared.word.StreamWord.TheVariants as word
+use Rattle.config_terms.specs.declared.word.TopWord.{TopWord}
+use Rattle.config_terms.specs.declared.word.TopWord.TheVariants as top
+use Rattle.config_terms.specs.Steps.{Fault, start_of, nth, argument, at_most, each}
 use Rattle.ev_types.specs.Names.{named_field, protocol_field}
-use Rattle.sexp_config.specs.Words.{stream_text, top_word, tags_text, keep_text}
-use Rattle.sexp_config.specs.Arguments.{Env, Argument, Text, Pattern, Number, Keyword, Index, Unbound, Forms, argument_of, text_at, port_at, vector_at, map_at}
-use Rattle.sexp_config.specs.Kinds.{one_entry}
-use Rattle.sexp_config.specs.Streams.{all_read, parts_in}
-use Rattle.sexp_config.specs.Tops.{Server, default_server, Draft, fresh_draft, once, Listens, or_default, server_of, listen_key_at, with_entry, listens_from, no_listens, server_by, server_in, keep_field, keep_in, keep_at, with_keep, keys_at, default_keys, interval_by, keys_by, expiry_in, name_at, bound_by, index_by, bound_at, names_from, names_in, Step, run, top_by, top_at, tops_in}
+use Rattle.config_terms.specs.Words.{stream_text, top_word, tags_text, keep_text}
+use Rattle.config_terms.specs.Arguments.{Env, Argument, Text, Pattern, Number, Keyword, Index, Unbound, Forms, argument_of, text_at, vector_at, map_at, one_entry}
+use Rattle.sexp_config.specs.Tops.{port_at, Server, default_server, Draft, fresh_draft, once, Listens, or_default, server_of, listen_key_at, with_entry, listens_from, no_listens, server_by, server_in, keep_field, keep_in, keep_at, with_keep, keys_at, default_keys, interval_by, keys_by, expiry_in, name_at, bound_by, index_by, bound_at, names_from, names_in, Step, run, top_by, top_at, tops_in}
+use Rattle.config_streams.specs.Streams.{all_read, parts_in}
 use Rattle.sexp_config.specs.Config.{plan_fault, faultless, checked, config_from, finished, config_of}
 use Rattle.sexp_config.proofs.KindsRead.{AllGood, within}
 use Rattle.sexp_config.proofs.StreamsRead.{GoodStream, GoodStreams}

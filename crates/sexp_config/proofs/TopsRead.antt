@@ -14,17 +14,16 @@ use Rattle.stream_plan.specs.declared.fault.PlanWhy.TheVariants as plan_why
 use Rattle.stream_plan.specs.Faults as plan
 use Rattle.stream_plan.specs.Tree.{StreamTrees}
 use Rattle.sexp_config.specs.declared.config.Config.{Config}
-use Rattle.sexp_config.specs.declared.fault.ConfigWhy.{ConfigWhy}
-use Rattle.sexp_config.specs.declared.fault.ConfigWhy.TheVariants as why
-use Rattle.sexp_config.specs.declared.word.TopWord.{TopWord}
-use Rattle.sexp_config.specs.declared.word.TopWord.TheVariants as top
-use Rattle.sexp_config.specs.Steps.{at_most, each}
+use Rattle.config_terms.specs.declared.fault.ConfigWhy.{ConfigWhy}
+use Rattle.config_terms.specs.declared.fault.ConfigWhy.TheVariants as why
+use Rattle.config_terms.specs.declared.word.TopWord.{TopWord}
+use Rattle.config_terms.specs.declared.word.TopWord.TheVariants as top
+use Rattle.config_terms.specs.Steps.{at_most, each}
 use Rattle.ev_types.specs.Names.{field_name}
-use Rattle.sexp_config.specs.Words.{top_text, top_word, tags_text, keep_text, host_text, port_text}
-use Rattle.sexp_config.specs.Arguments.{argument_of, text_at, keyword_at, port_at, ranged_at, vector_at, map_at}
-use Rattle.sexp_config.specs.Kinds.{only_key_at, one_entry}
-use Rattle.sexp_config.specs.Streams.{Located, Below, nothing, all_read, parts_in}
-use Rattle.sexp_config.specs.Tops.{Server, default_server, or_default, Draft, fresh_draft, listen_key_at, with_entry, listens_from, server_in, keep_at, with_keep, keys_at, expiry_in, Step, run, top_by, top_at, tops_in}
+use Rattle.config_terms.specs.Words.{top_text, top_word, tags_text, keep_text, host_text, port_text}
+use Rattle.config_terms.specs.Arguments.{argument_of, text_at, keyword_at, ranged_at, vector_at, map_at, only_key_at, one_entry}
+use Rattle.sexp_config.specs.Tops.{port_at, Server, default_server, or_default, Draft, fresh_draft, listen_key_at, with_entry, listens_from, server_in, keep_at, with_keep, keys_at, expiry_in, Step, run, top_by, top_at, tops_in}
+use Rattle.config_streams.specs.Streams.{Located, Below, nothing, all_read, parts_in}
 use Rattle.sexp_config.specs.Config.{fault_for, plan_fault, config_from, config_of}
 use Rattle.sexp_config.specs.Canonical.{keyword_form, text_form, number_form, vector_form, map_form, worded_form, stream_forms, keep_form, server_form, expiry_form, expiry_forms, streams_form, config_forms}
 use Rattle.sexp_config.proofs.BareForms.{single_of, group_of, also_of, none_of, call_of}

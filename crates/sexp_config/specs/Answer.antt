@@ -1,7 +1,7 @@
 -- Each text has one answer.
 use Rattle.std.specs.Prelude.{◌≡◌, ℕ, ◌⊎◌, List}
 use Rattle.sexp_config.specs.declared.config.Config.{Config}
-use Rattle.sexp_config.specs.declared.fault.ConfigWhy.{ConfigWhy}
+use Rattle.config_terms.specs.declared.fault.ConfigWhy.{ConfigWhy}
 use Rattle.sexp_config.specs.Config.{IsConfigOf, IsConfigFault}
 
 -- the text is a configuration, or is refused for a cause at a place

@@ -18,11 +18,11 @@ use Rattle.sexp_read.specs.Written.{BareTree, Leaf, Branch, bare_tree, listed, l
 use Rattle.stream_plan.specs.Tree.{KindTree, StreamTree, stream, StreamTrees}
 use Rattle.stream_plan.specs.Tree as plan
 use Rattle.sexp_config.specs.declared.config.Config.{Config}
-use Rattle.sexp_config.specs.declared.word.RuleWord.TheVariants as rule
-use Rattle.sexp_config.specs.declared.word.StreamWord.TheVariants as word
-use Rattle.sexp_config.specs.declared.word.TopWord.TheVariants as top
+use Rattle.config_terms.specs.declared.word.RuleWord.TheVariants as rule
+use Rattle.config_terms.specs.declared.word.StreamWord.TheVariants as word
+use Rattle.config_terms.specs.declared.word.TopWord.TheVariants as top
 use Rattle.ev_types.specs.Names.{field_name}
-use Rattle.sexp_config.specs.Words.{top_text, stream_text, rule_text, true_text, false_text, nil_text, tags_text, fold_text, init_text, keep_text, host_text, port_text}
+use Rattle.config_terms.specs.Words.{top_text, stream_text, rule_text, true_text, false_text, nil_text, tags_text, fold_text, init_text, keep_text, host_text, port_text}
 
 -- ---- forms
 

@@ -12,13 +12,13 @@ use Rattle.stream_plan.specs.declared.fault.PlanWhy.TheVariants as plan_why
 use Rattle.stream_plan.specs.Faults as plan
 use Rattle.stream_plan.specs.Tree.{StreamTrees}
 use Rattle.sexp_config.specs.declared.config.Config.{Config}
-use Rattle.sexp_config.specs.declared.fault.ConfigFault.{ConfigFault}
-use Rattle.sexp_config.specs.declared.fault.ConfigFault.TheVariants.{Refused, Memory}
-use Rattle.sexp_config.specs.declared.fault.ConfigWhy.{ConfigWhy}
-use Rattle.sexp_config.specs.declared.fault.ConfigWhy.TheVariants as why
-use Rattle.sexp_config.specs.Steps.{Fault, ◌>>=◌}
-use Rattle.sexp_config.specs.Sources.{place_along}
-use Rattle.sexp_config.specs.Streams.{Located}
+use Rattle.config_terms.specs.declared.fault.ConfigFault.{ConfigFault}
+use Rattle.config_terms.specs.declared.fault.ConfigFault.TheVariants.{Refused, Memory}
+use Rattle.config_terms.specs.declared.fault.ConfigWhy.{ConfigWhy}
+use Rattle.config_terms.specs.declared.fault.ConfigWhy.TheVariants as why
+use Rattle.config_terms.specs.Steps.{Fault, ◌>>=◌}
+use Rattle.config_streams.specs.Sources.{place_along}
+use Rattle.config_streams.specs.Streams.{Located}
 use Rattle.sexp_config.specs.Tops.{Server, Draft, default_server, fresh_draft, or_default, run, tops_in}
 
 -- ---- the streams together
@@ -37,6 +37,12 @@ faultless a (Some fault) = Err fault
 
 abbrev pub checked : Located → Result StreamTrees Fault
 checked located = faultless located.streams (plan_fault located)
+
+-- the refusal of a stream for a cause; of streams that were read only Many and Kind can still come
+abbrev pub fault_by : PlanWhy → ℕ → ConfigFault
+fault_by plan_why.Many place = Refused place why.Many
+fault_by plan_why.Kind place = Refused place why.Kind
+fault_by _ place = Memory
 
 -- ---- a configuration
 

@@ -4,7 +4,7 @@ use Rattle.sexp_config.specs.declared.server.Server as code_server
 use Rattle.sexp_config.specs.declared.server.Listens as code_listens
 use Rattle.sexp_config.specs.declared.draft.Draft as code_draft
 use Rattle.sexp_config.specs.Tops.{Server, Listens, Draft}
-use Rattle.sexp_config.specs.Made.{below_in}
+use Rattle.config_streams.specs.Made.{below_in}
 
 abbrev pub server_made : code_server.Server → Server
 server_made server = record { host = server.host; port = server.port }

@@ -1,17 +1,7 @@
-pub mod Names
-pub mod Steps
-pub mod Words
-pub mod Arguments
-pub mod Rules
-pub mod Kinds
-pub mod Sources
-pub mod Streams
 pub mod Tops
 pub mod Config
 pub mod Canonical
-pub mod Code
 pub mod ReadBack
-pub mod Made
 pub mod Drafts
 pub mod Built
 pub mod Answer

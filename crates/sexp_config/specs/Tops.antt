@@ -10,21 +10,20 @@ use Rattle.sexp_read.specs.declared.piece.Bracket.TheVariants.{Round}
 use Rattle.sexp_read.specs.Tree.{FormTree, FormTrees, Single, Group, none, also}
 use Rattle.sexp_read.specs.declared.piece.Atom.TheVariants as form
 use Rattle.stream_plan.specs.declared.kinds.TheConstants.{MAX_SECS}
-use Rattle.sexp_config.specs.declared.server.TheConstants.{DEFAULT_PORT}
+use Rattle.sexp_config.specs.declared.server.TheConstants.{DEFAULT_PORT, MAX_PORT}
 use Rattle.sexp_config.specs.declared.expiry.TheConstants.{DEFAULT_INTERVAL}
-use Rattle.sexp_config.specs.declared.binding.Bound.{Bound}
-use Rattle.sexp_config.specs.declared.binding.Bound.TheVariants as bound
-use Rattle.sexp_config.specs.declared.fault.ConfigWhy.TheVariants as why
-use Rattle.sexp_config.specs.declared.word.StreamWord.TheVariants as word
-use Rattle.sexp_config.specs.declared.word.TopWord.{TopWord}
-use Rattle.sexp_config.specs.declared.word.TopWord.TheVariants as top
-use Rattle.sexp_config.specs.Steps.{Fault, ◌>>=◌, start_of, nth, argument, at_most, each}
+use Rattle.config_terms.specs.declared.binding.Bound.{Bound}
+use Rattle.config_terms.specs.declared.binding.Bound.TheVariants as bound
+use Rattle.config_terms.specs.declared.fault.ConfigWhy.TheVariants as why
+use Rattle.config_terms.specs.declared.word.StreamWord.TheVariants as word
+use Rattle.config_terms.specs.declared.word.TopWord.{TopWord}
+use Rattle.config_terms.specs.declared.word.TopWord.TheVariants as top
+use Rattle.config_terms.specs.Steps.{Fault, ◌>>=◌, start_of, nth, argument, at_most, each, name_in}
 use Rattle.ev_types.specs.Names.{named_field}
-use Rattle.sexp_config.specs.Words.{stream_text, top_word, tags_text, keep_text, host_text, port_text}
-use Rattle.sexp_config.specs.Arguments.{Env, bound_value, Argument, Text, Pattern, Number, Keyword, Index, argument_of, misfit, fitting, keyword_at, text_at, port_at, ranged_at, vector_at, map_at}
-use Rattle.sexp_config.specs.Kinds.{one_entry}
-use Rattle.sexp_config.specs.Rules.{no_form}
-use Rattle.sexp_config.specs.Streams.{Below, nothing, parts_in, all_read}
+use Rattle.config_terms.specs.Words.{stream_text, top_word, tags_text, keep_text, host_text, port_text}
+use Rattle.config_terms.specs.Arguments.{Env, bound_value, Argument, Text, Pattern, Number, Keyword, Index, argument_of, misfit, fitting, keyword_at, text_at, ranged_at, vector_at, map_at, one_entry}
+use Rattle.config_terms.specs.Rules.{no_form}
+use Rattle.config_streams.specs.Streams.{Below, nothing, parts_in, all_read}
 
 -- ---- what was read so far
 
@@ -49,6 +48,9 @@ once start None = Ok tt
 once start (Some a) = Err (start, why.Twice)
 
 -- ---- where the server listens
+
+abbrev pub port_at : Env → FormTree → Result ℕ Fault
+port_at = ranged_at 0 MAX_PORT
 
 -- a map whose keys are these two
 pub record Listens : Type 0 where
@@ -144,10 +146,6 @@ expiry_in env forms =
     Ok (record { interval = interval; keep = keys })
 
 -- ---- names
-
-abbrev pub name_in : FormTree → Option (List ℕ)
-name_in (Single (form.Symbol name) start last) = Some name
-name_in _ = None
 
 -- a name is any symbol, whatever it is bound to
 unfoldable pub name_at : FormTree → Result (List ℕ) Fault

@@ -1,7 +1,7 @@
 ghost use Rattle.sexp_config.specs.Expiry.{IsInterval};
 
 use crate::server::Server;
-use crate::streams::Below;
+use config_streams::Below;
 use ev_types::Expiry;
 
 /// What was read of a configuration so far.

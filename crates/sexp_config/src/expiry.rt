@@ -2,18 +2,17 @@
 
 ghost use Rattle.std.specs.Prelude.{◌≡◌, ◌≤◌, [], IfOk, None, Ok};
 ghost use Rattle.sexp_read.specs.Tree.{form_tree, form_trees};
-ghost use Rattle.sexp_config.specs.Words.{keep_text};
-ghost use Rattle.sexp_config.specs.Steps.{Gives, GivesAs, each, nth as nth_of};
-ghost use Rattle.sexp_config.specs.Kinds.{one_entry};
+ghost use Rattle.config_terms.specs.Words.{keep_text};
+ghost use Rattle.config_terms.specs.Steps.{Gives, GivesAs, each, nth as nth_of};
+ghost use Rattle.config_terms.specs.Arguments.{one_entry};
 ghost use Rattle.sexp_config.specs.Tops.{keep_in as keep_of, keep_field, keep_at as keep_from, with_keep, keys_at as keys_read, default_keys as default_keys_of, interval_by as interval_of, keys_of_map as keys_of_map_at, keys_by as keys_by_form, expiry_in as expiry_of};
 ghost use Rattle.ev_types.specs.Names.{named_field};
-ghost use Rattle.sexp_config.specs.Code.{argument_in};
+ghost use Rattle.config_terms.specs.Code.{argument_in};
 
-use crate::argument::{Argument, argument_of, map_at, ranged_at, unfit, vector_at};
-use crate::forms::{at_most, first, nth, refused};
-use crate::lists::only_key_at;
-use crate::word::{field_of, is};
-use crate::{Binding, ConfigFault, ConfigWhy};
+use config_terms::{
+    Argument, Binding, ConfigFault, ConfigWhy, argument_of, at_most, field_of, first, is, map_at,
+    nth, only_key_at, ranged_at, refused, unfit, vector_at,
+};
 use ev_types::{Expiry, Field, KeepKey, KeepKeys, Memory, Text};
 use sexp_read::Form;
 use std::alloc::Global;
@@ -51,7 +50,7 @@ fn keep_at(alloc: Global, env: &[Binding], form: &Form) -> Result<KeepKey, Confi
     }
 }
 
-#[tactic(auto, unfolding(crate::specs::Steps::each))]
+#[tactic(auto, unfolding(config_terms::specs::Steps::each))]
 fn keys_in(alloc: Global, env: &[Binding], forms: &[Form]) -> Result<KeepKeys, ConfigFault>
     ensures { Gives result (each (with_keep env.now) [] (form_trees forms.now)) }
 {
@@ -75,7 +74,7 @@ fn keys_at(alloc: Global, env: &[Binding], form: &Form) -> Result<KeepKeys, Conf
 }
 
 /// The keys that the map says that starts at `place`.
-#[tactic(auto, unfolding(crate::specs::Kinds::one_entry))]
+#[tactic(auto, unfolding(config_terms::specs::Arguments::one_entry))]
 fn keys_from(
     alloc: Global,
     place: usize,
@@ -120,7 +119,7 @@ fn interval_of(env: &[Binding], forms: &[Form]) -> Result<u32, ConfigFault>
     }
 }
 
-#[tactic(auto, using(crate::proofs::FormLaws::start_of_form))]
+#[tactic(auto, using(config_terms::proofs::FormLaws::start_of_form))]
 fn keys_of_map(alloc: Global, env: &[Binding], form: &Form) -> Result<KeepKeys, ConfigFault>
     ensures { Gives result (keys_of_map_at env.now (form_tree form.now)) }
 {

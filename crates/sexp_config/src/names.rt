@@ -3,15 +3,15 @@
 ghost use Rattle.std.specs.Prelude.{◌≡◌, [], ◌∷◌, ◌++◌, length, take, OnOk, IfErr, Ok};
 ghost use Rattle.std.specs.Option.{option_map};
 ghost use Rattle.sexp_read.specs.Tree.{form_tree, form_trees};
-ghost use Rattle.sexp_config.specs.Steps.{Gives, GivesAs, Fails};
-ghost use Rattle.sexp_config.specs.Arguments.{argument_of as argument_from};
+ghost use Rattle.config_terms.specs.Steps.{Gives, GivesAs, Fails};
+ghost use Rattle.config_terms.specs.Arguments.{argument_of as argument_from};
 ghost use Rattle.sexp_config.specs.Tops.{name_at as name_from, bound_by as bound_by_argument, index_by as index_read, bound_at as bound_from, names_from as names_of, names_at as names_read};
-ghost use Rattle.sexp_config.specs.Code.{argument_in, vector_in_form};
+ghost use Rattle.config_terms.specs.Code.{argument_in, vector_in_form};
 
-use crate::argument::{Argument, argument_of, unfit};
-use crate::forms::{View, at_most, first, refused, symbol_of, view_of};
-use crate::word::is;
-use crate::{Binding, Bound, ConfigFault, ConfigWhy};
+use config_terms::{
+    Argument, Binding, Bound, ConfigFault, ConfigWhy, View, argument_of, at_most, first, is,
+    refused, symbol_of, unfit, view_of,
+};
 use ev_types::Text;
 use sexp_read::{Form, Shape};
 use std::alloc::Global;
@@ -53,7 +53,7 @@ fn index_by(name: &Text, start: usize, forms: &[Form]) -> Result<Bound, ConfigFa
     Ok(Bound::Index)
 }
 
-#[tactic(auto, using(crate::proofs::FormLaws::start_of_form))]
+#[tactic(auto, using(config_terms::proofs::FormLaws::start_of_form))]
 fn bound_at(alloc: Global, env: &[Binding], form: &Form) -> Result<Bound, ConfigFault>
     ensures { Gives result (bound_from env.now (form_tree form.now)) }
 {

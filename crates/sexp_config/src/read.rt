@@ -6,8 +6,9 @@ ghost use Rattle.stream_plan.specs.Ready.{plan_patterns};
 ghost use Rattle.sexp_config.specs.Expiry.{IsInterval};
 ghost use Rattle.sexp_config.specs.Config.{IsConfigOf, IsConfigFault, IsRefusedFor, IsReadAs, IsRefusedAs, fault_in, why_of as why_of_forms};
 
+use crate::Config;
 use crate::finish::config_of;
-use crate::{Config, ConfigFault, ConfigWhy};
+use config_terms::{ConfigFault, ConfigWhy};
 use sexp_read::{SexpFault, SexpWhy, read_forms};
 use std::alloc::Global;
 

@@ -2,15 +2,14 @@
 
 ghost use Rattle.std.specs.Prelude.{◌≡◌, Ok};
 ghost use Rattle.sexp_read.specs.Tree.{form_tree, form_trees};
-ghost use Rattle.sexp_config.specs.Steps.{Gives, GivesAs, nth as nth_of};
-ghost use Rattle.sexp_config.specs.Arguments.{port_at as port_from};
-ghost use Rattle.sexp_config.specs.Tops.{default_server as default_server_of, or_default, server_by as server_by_form, server_of as server_from, no_listens, listen_key_at as listen_key_from, with_entry as entry_read, listens_from as listens_in, server_at as server_read, server_in as server_of_forms};
+ghost use Rattle.config_terms.specs.Steps.{Gives, GivesAs, nth as nth_of};
+ghost use Rattle.sexp_config.specs.Tops.{port_at as port_from, default_server as default_server_of, or_default, server_by as server_by_form, server_of as server_from, no_listens, listen_key_at as listen_key_from, with_entry as entry_read, listens_from as listens_in, server_at as server_read, server_in as server_of_forms};
 ghost use Rattle.sexp_config.specs.Drafts.{server_made, listens_made};
 
-use crate::argument::{keyword_at, map_at, ranged_at, text_at};
-use crate::forms::{at_most, first, nth, refused};
-use crate::word::is;
-use crate::{Binding, ConfigFault, ConfigWhy};
+use config_terms::{
+    Binding, ConfigFault, ConfigWhy, at_most, first, is, keyword_at, map_at, nth, ranged_at,
+    refused, text_at,
+};
 use ev_types::Text;
 use sexp_read::Form;
 use std::alloc::Global;
@@ -78,9 +77,10 @@ fn server_of(alloc: Global, listens: Listens) -> Result<Server, ConfigFault>
 }
 
 /// Whether the key is that of the host; else it is that of the port. It is refused where it is neither, or there already.
-#[tactic(auto, using(crate::proofs::FormLaws::start_of_form), unfolding(crate::specs::Tops::listen_key_at))]
+#[tactic(auto, using(config_terms::proofs::FormLaws::start_of_form), unfolding(crate::specs::Tops::listen_key_at))]
 fn listen_key_at(env: &[Binding], listens: &Listens, key: &Form) -> Result<bool, ConfigFault>
-    ensures { Gives result (listen_key_from env.now (listens_made listens.now) (form_tree key.now)) }
+    ensures { Gives result
+        (listen_key_from env.now (listens_made listens.now) (form_tree key.now)) }
 {
     let name = keyword_at(env, key)?;
     if is(name.as_bytes(), b"host") {
@@ -158,7 +158,7 @@ fn listens_from(
     Ok(listens)
 }
 
-#[tactic(auto, using(crate::proofs::FormLaws::start_of_form))]
+#[tactic(auto, using(config_terms::proofs::FormLaws::start_of_form))]
 fn server_at(alloc: Global, env: &[Binding], form: &Form) -> Result<Server, ConfigFault>
     ensures { GivesAs server_made result (server_read env.now (form_tree form.now)) }
 {
@@ -168,7 +168,8 @@ fn server_at(alloc: Global, env: &[Binding], form: &Form) -> Result<Server, Conf
 }
 
 fn server_by(alloc: Global, env: &[Binding], forms: &[Form]) -> Result<Server, ConfigFault>
-    ensures { GivesAs server_made result (server_by_form env.now (nth_of 0 (form_trees forms.now))) }
+    ensures { GivesAs server_made result
+        (server_by_form env.now (nth_of 0 (form_trees forms.now))) }
 {
     match nth(forms, 0) {
         None => default_server(alloc),

@@ -2,20 +2,20 @@
 
 ghost use Rattle.std.specs.Prelude.{◌≡◌, [], OnOk, Ok, false};
 ghost use Rattle.sexp_read.specs.Tree.{form_tree, form_trees};
-ghost use Rattle.sexp_config.specs.Steps.{Gives, GivesAs};
-ghost use Rattle.sexp_config.specs.Words.{top_word as top_word_of};
+ghost use Rattle.config_terms.specs.Steps.{Gives, GivesAs};
+ghost use Rattle.config_terms.specs.Words.{top_word as top_word_of};
 ghost use Rattle.sexp_config.specs.Tops.{fresh_draft, with_server, with_expiry, with_streams, top_by, let_by, top_at as top_from, tops_in as steps_of, run as run_of};
 ghost use Rattle.sexp_config.specs.Drafts.{draft_in};
 
 use crate::draft::Draft;
 use crate::expiry::expiry_in;
-use crate::forms::{View, argument, first, later, refused, view_of};
 use crate::names::names_at;
-use crate::rules::no_form;
 use crate::server::server_in;
-use crate::streams::{Below, parts_onto};
-use crate::word::top_word;
-use crate::{Binding, ConfigFault, ConfigWhy, TopWord};
+use config_streams::{Below, parts_onto};
+use config_terms::{
+    Binding, ConfigFault, ConfigWhy, TopWord, View, argument, first, later, no_form, refused,
+    top_word, view_of,
+};
 use ev_types::Text;
 use sexp_read::Form;
 use std::alloc::Global;
@@ -80,7 +80,8 @@ fn more_streams(
     forms: &[Form],
     draft: Draft,
 ) -> Result<Draft, ConfigFault>
-    ensures { GivesAs draft_in result (with_streams env.now (form_trees forms.now) (draft_in draft)) }
+    ensures { GivesAs draft_in result
+        (with_streams env.now (form_trees forms.now) (draft_in draft)) }
 {
     let below = parts_onto(alloc, env, forms, false, draft.below)?;
     Ok(Draft {

@@ -1,6 +1,6 @@
 use Rattle.std.proofs.Common.{sym, ◌∙◌}
-use Rattle.sexp_config.specs.Words.{keep_text}
-use Rattle.sexp_config.proofs.EntryLaws.{entry_more}
+use Rattle.config_terms.specs.Words.{keep_text}
+use Rattle.config_terms.proofs.EntryLaws.{entry_more}
 use Rattle.sexp_config.proofs.expiry.keys_from.Goals as goal
 
 pub entries-preserved : goal.entries-preserved

@@ -1,7 +1,7 @@
 use Rattle.std.proofs.Common.{◌≡◌, None, length}
 use Rattle.sexp_read.specs.Tree.{form_trees}
-use Rattle.sexp_config.specs.Words.{keep_text}
-use Rattle.sexp_config.specs.Kinds.{one_entry}
+use Rattle.config_terms.specs.Words.{keep_text}
+use Rattle.config_terms.specs.Arguments.{one_entry}
 use Rattle.sexp_config.specs.Tops.{keys_at}
 use Rattle.sexp_config.proofs.expiry.keys_from.Given as goal
 

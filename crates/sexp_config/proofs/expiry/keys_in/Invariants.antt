@@ -1,6 +1,6 @@
 use Rattle.std.proofs.Common.{◌≡◌, [], length}
 use Rattle.sexp_read.specs.Tree.{form_trees}
-use Rattle.sexp_config.specs.Steps.{each}
+use Rattle.config_terms.specs.Steps.{each}
 use Rattle.sexp_config.specs.Tops.{with_keep}
 use Rattle.sexp_config.proofs.expiry.keys_in.Given as goal
 

@@ -1,5 +1,5 @@
 use Rattle.std.proofs.Common.{sym, ap, ◌∙◌, Ok}
-use Rattle.sexp_config.specs.Made.{located_in}
+use Rattle.config_streams.specs.Made.{located_in}
 use Rattle.sexp_config.proofs.PlanLaws.{sound_plan, refused_plan}
 use Rattle.sexp_config.proofs.PlansBuilt.{is_left}
 use Rattle.sexp_config.proofs.finish.checked.Goals as goal

@@ -1,6 +1,6 @@
 use Rattle.std.proofs.Common.{sym, ap}
-use Rattle.sexp_config.specs.Sources.{SourceTrees, with_sources, place_along}
-use Rattle.sexp_config.specs.Made.{source_list}
+use Rattle.config_streams.specs.Sources.{SourceTrees, with_sources, place_along}
+use Rattle.config_streams.specs.Made.{source_list}
 use Rattle.sexp_config.proofs.SourceLaws.{with_none, path_ends, path_goes}
 use Rattle.sexp_config.proofs.finish.place_along.Goals as goal
 

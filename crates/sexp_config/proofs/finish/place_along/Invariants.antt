@@ -1,6 +1,6 @@
 use Rattle.std.proofs.Common.{◌≡◌, drop}
-use Rattle.sexp_config.specs.Sources.{place_along, with_sources}
-use Rattle.sexp_config.specs.Made.{source_list}
+use Rattle.config_streams.specs.Sources.{place_along, with_sources}
+use Rattle.config_streams.specs.Made.{source_list}
 use Rattle.sexp_config.proofs.finish.place_along.Given as goal
 
 abbrev pub invariant-path : goal.invariant-path

@@ -1,6 +1,6 @@
 use Rattle.sexp_read.specs.Tree.{form_tree, form_trees}
-use Rattle.sexp_config.specs.Code.{Symbol, Call, Lookup, Other}
-use Rattle.sexp_config.proofs.FormLaws.{start_of_form}
+use Rattle.config_terms.specs.Code.{Symbol, Call, Lookup, Other}
+use Rattle.config_terms.proofs.FormLaws.{start_of_form}
 use Rattle.sexp_config.proofs.TopLaws.{bound_by_look}
 use Rattle.sexp_config.proofs.names.bound_at.Goals as goal
 

@@ -1,6 +1,6 @@
 use Rattle.std.proofs.Common.{refl}
 use Rattle.sexp_read.specs.Tree.{form_tree, form_trees}
-use Rattle.sexp_config.proofs.FormLaws.{start_of_form}
+use Rattle.config_terms.proofs.FormLaws.{start_of_form}
 use Rattle.sexp_config.proofs.TopLaws.{vector_of_names, no_vector_of_names}
 use Rattle.sexp_config.proofs.names.names_at.Goals as goal
 

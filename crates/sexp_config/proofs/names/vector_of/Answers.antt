@@ -1,5 +1,5 @@
 use Rattle.std.proofs.Common.{refl}
-use Rattle.sexp_config.proofs.FormLaws.{vector_tree}
+use Rattle.config_terms.proofs.FormLaws.{vector_tree}
 use Rattle.sexp_config.proofs.names.vector_of.Goals as goal
 
 pub returns-in-Vector : goal.returns-in-Vector

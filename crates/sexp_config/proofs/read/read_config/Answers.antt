@@ -2,7 +2,7 @@ use Rattle.std.proofs.Common.{subst, List}
 use Rattle.std.proofs.lemmas.Result.{IfOk-weaker}
 use Rattle.sexp_read.specs.declared.form.Form.{Form}
 use Rattle.sexp_read.specs.Tree.{form_trees}
-use Rattle.sexp_config.specs.Steps.{Gives}
+use Rattle.config_terms.specs.Steps.{Gives}
 use Rattle.sexp_config.specs.Config.{config_of}
 use Rattle.sexp_config.proofs.PatternsFew.{patterns_few}
 use Rattle.sexp_config.proofs.ReadLaws.{config_read, refused_read, only_config, only_fault, refused_forms, no_config, same_refusal}

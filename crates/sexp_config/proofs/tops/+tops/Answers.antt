@@ -1,8 +1,8 @@
 use Rattle.std.proofs.Common.{refl}
 use Rattle.sexp_read.specs.Tree.{form_tree, form_trees}
 use Rattle.sexp_config.specs.Drafts.{draft_in}
-use Rattle.sexp_config.specs.Code.{Symbol, Call, Lookup, Other}
-use Rattle.sexp_config.proofs.FormLaws.{start_of_form}
+use Rattle.config_terms.specs.Code.{Symbol, Call, Lookup, Other}
+use Rattle.config_terms.proofs.FormLaws.{start_of_form}
 use Rattle.sexp_config.proofs.TopLaws.{top_by_look, let_is}
 use Rattle.sexp_config.proofs.tops.+tops.Goals as goal
 

@@ -1,7 +1,7 @@
 use Rattle.std.proofs.Common.{◌≡◌, ◌+◌, ◌*◌, ◌≤◌, length}
 use Rattle.sexp_read.specs.Tree.{form_tree, form_trees}
 use Rattle.sexp_config.specs.Tops.{run, tops_in}
-use Rattle.sexp_config.specs.Code.{weight, form_weight}
+use Rattle.config_terms.specs.Code.{weight, form_weight}
 use Rattle.sexp_config.specs.Drafts.{draft_in}
 use Rattle.sexp_config.proofs.tops.+tops.Given as goal
 

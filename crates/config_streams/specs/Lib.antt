@@ -1,0 +1,4 @@
+pub mod Kinds
+pub mod Sources
+pub mod Streams
+pub mod Made

@@ -1,0 +1,9 @@
+//! The streams of configurations: their kinds, the streams below them, and the places of their forms.
+#![tactic(auto)]
+
+mod kinds;
+mod source;
+mod streams;
+
+pub use source::{Source, Sources};
+pub use streams::{Below, Located, parts_onto};

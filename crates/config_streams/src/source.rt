@@ -1,0 +1,16 @@
+//! The places of the forms of streams.
+
+ghost use Rattle.std.specs.Prelude.{◌≡◌, ◌+◌};
+ghost use Rattle.config_streams.specs.Sources.{place_along};
+ghost use Rattle.config_streams.specs.Made.{source_list};
+
+/// The place of the form of a stream, and those of the streams that follow it.
+#[derive(Drop)]
+pub struct Source {
+    pub place: usize,
+    pub children: Sources,
+    pub otherwise: Sources,
+}
+
+/// Places of the forms of streams, in the order of the streams.
+pub type Sources = Vec<Source>;

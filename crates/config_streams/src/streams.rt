@@ -1,0 +1,259 @@
+//! Streams, and the streams below them.
+
+ghost use Rattle.std.specs.Prelude.{◌≡◌, false, OnOk, IfErr, Ok};
+ghost use Rattle.stream_plan.specs.Tree.{kind_tree, stream_tree};
+ghost use Rattle.stream_plan.specs.Kinds.{may_have_children as may_have_children_of};
+ghost use Rattle.sexp_read.specs.Tree.{form_tree, form_trees};
+ghost use Rattle.config_terms.specs.Steps.{GivesAs, Fails};
+ghost use Rattle.config_terms.specs.Words.{stream_word as stream_word_of};
+ghost use Rattle.config_terms.specs.Arguments.{bound_value};
+ghost use Rattle.config_streams.specs.Kinds.{kind_of as kind_from};
+ghost use Rattle.config_streams.specs.Streams.{nothing, nowhere, stream_of as stream_made, with_part, all_read, is_where as is_where_of, is_where_in, with_one, is_else as is_else_of, symbol_by, followed as followed_by, worded, else_part as else_part_of, part_at as part_from, parts_in as readings_of};
+ghost use Rattle.config_streams.specs.Made.{located_in, below_in, part_in, source_tree};
+
+use crate::kinds::{kind_of, leads};
+use crate::source::{Source, Sources};
+use config_terms::{
+    Binding, Bound, ConfigFault, ConfigWhy, StreamWord, View, at_most, first, is, later,
+    next_start, refused, stream_word, value_of, view_of,
+};
+use ev_types::{Memory, Text};
+use sexp_read::Form;
+use std::alloc::Global;
+use stream_plan::{Kind, Stream, Streams};
+
+/// Streams, and the places of their forms.
+#[derive(Drop)]
+pub struct Located {
+    pub streams: Streams,
+    pub places: Sources,
+}
+
+/// The streams of a stream.
+#[derive(Drop)]
+pub struct Below {
+    pub children: Located,
+    /// Those that get the rest.
+    pub otherwise: Located,
+}
+
+/// What a form is in the place of a stream.
+#[derive(Drop)]
+pub(crate) enum Part {
+    /// A stream with its place.
+    One(Stream, Source),
+    /// The streams that get the rest.
+    Rest(Located),
+}
+
+impl Located {
+    fn fresh(alloc: Global) -> Located
+        ensures { located_in result ≡ nowhere }
+    {
+        Located {
+            streams: Vec::new(alloc),
+            places: Vec::new(alloc),
+        }
+    }
+
+    #[tactic(auto, using(crate::proofs::StreamLaws::stream_pushed, crate::proofs::StreamLaws::source_pushed))]
+    fn push(&mut self, stream: Stream, source: Source) -> Result<(), ConfigFault>
+        ensures ok { OnOk result (located_in self.new
+            ≡ with_one (located_in self.old) (stream_tree stream) (source_tree source)) }
+        ensures err { IfErr result (λ fault. fault ≡ ConfigFault.Memory) }
+    {
+        self.streams.push(stream)?;
+        self.places.push(source)?;
+        Ok(())
+    }
+}
+
+impl Below {
+    /// No streams.
+    pub fn fresh(alloc: Global) -> Below
+        ensures { below_in result ≡ nothing }
+    {
+        Below {
+            children: Located::fresh(alloc),
+            otherwise: Located::fresh(alloc),
+        }
+    }
+}
+
+/// The streams with one more part; the next form after it starts at `next`.
+fn put(mut below: Below, part: Part, next: Option<usize>) -> Result<Below, ConfigFault>
+    ensures { GivesAs below_in result (with_part (below_in below) (part_in part) next) }
+{
+    match part {
+        Part::One(stream, source) => {
+            below.children.push(stream, source)?;
+            Ok(below)
+        }
+        Part::Rest(located) => match next {
+            Some(place) => Err(refused(place, ConfigWhy::Arguments)),
+            None => Ok(Below {
+                children: below.children,
+                otherwise: located,
+            }),
+        },
+    }
+}
+
+fn stream_of(kind: Kind, start: usize, below: Below) -> Part
+    ensures { part_in result ≡ stream_made (kind_tree kind) start (below_in below) }
+{
+    let children = below.children;
+    let otherwise = below.otherwise;
+    let stream = Stream {
+        kind,
+        children: children.streams,
+        otherwise: otherwise.streams,
+    };
+    let source = Source {
+        place: start,
+        children: children.places,
+        otherwise: otherwise.places,
+    };
+    Part::One(stream, source)
+}
+
+fn may_have_children(kind: &Kind) -> bool
+    ensures { result ≡ may_have_children_of (kind_tree kind.now) }
+{
+    !matches!(kind, Kind::Index | Kind::Notice(_))
+}
+
+fn is_where(word: StreamWord) -> bool
+    ensures { result ≡ is_where_of word }
+{
+    matches!(word, StreamWord::Where)
+}
+
+fn is_else(word: StreamWord) -> bool
+    ensures { result ≡ is_else_of word }
+{
+    matches!(word, StreamWord::Else)
+}
+
+/// The stream that a symbol is.
+fn symbol_part(
+    alloc: Global,
+    env: &[Binding],
+    name: &Text,
+    start: usize,
+) -> Result<Part, ConfigFault>
+    ensures { GivesAs part_in result (symbol_by (bound_value name.now env.now) name.now start) }
+{
+    match value_of(env, name) {
+        Some(Bound::Index) => Ok(stream_of(Kind::Index, start, Below::fresh(alloc))),
+        Some(_) => Err(refused(start, ConfigWhy::Form)),
+        None if is(name.as_bytes(), b"index") => {
+            Ok(stream_of(Kind::Index, start, Below::fresh(alloc)))
+        }
+        None => Err(refused(start, ConfigWhy::Name)),
+    }
+}
+
+/// What the form is in the place of a stream.
+#[cycle(parts)]
+fn part_at(alloc: Global, env: &[Binding], form: &Form, may_else: bool) -> Result<Part, ConfigFault>
+    ensures { GivesAs part_in result (part_from may_else env.now (form_tree form.now)) }
+{
+    match view_of(form) {
+        View::Symbol(name) => symbol_part(alloc, env, name, form.start),
+        View::Call(name, forms) => call_part(alloc, env, name, may_else, form.start, forms),
+        View::Lookup(_, _) => Err(refused(form.start, ConfigWhy::Form)),
+        View::Other => Err(refused(form.start, ConfigWhy::Form)),
+    }
+}
+
+/// What a list gives that a symbol begins.
+#[cycle(parts)]
+#[tactic(auto, unfolding(crate::specs::Streams::worded))]
+fn call_part(
+    alloc: Global,
+    env: &[Binding],
+    name: &Text,
+    may_else: bool,
+    start: usize,
+    forms: &[Form],
+) -> Result<Part, ConfigFault>
+    ensures { GivesAs part_in result (worded may_else env.now (stream_word_of name.now) start
+        (form_trees forms.now)
+        (readings_of (is_where_in (stream_word_of name.now)) env.now (form_trees forms.now))) }
+{
+    let Some(word) = stream_word(name) else {
+        return Err(refused(start, ConfigWhy::Form));
+    };
+    if is_else(word) {
+        return else_part(alloc, env, may_else, start, forms);
+    }
+    let kind = kind_of(alloc, env, word, start, forms)?;
+    let own = leads(env, word, forms);
+    followed(alloc, env, kind, is_where(word), start, own, forms)
+}
+
+/// The streams that get the rest.
+#[cycle(parts)]
+fn else_part(
+    alloc: Global,
+    env: &[Binding],
+    may_else: bool,
+    start: usize,
+    forms: &[Form],
+) -> Result<Part, ConfigFault>
+    ensures { GivesAs part_in result (else_part_of may_else start
+        (readings_of false env.now (form_trees forms.now))) }
+{
+    if !may_else {
+        return Err(refused(start, ConfigWhy::Form));
+    }
+    let below = parts_onto(alloc, env, forms, false, Below::fresh(alloc))?;
+    Ok(Part::Rest(below.children))
+}
+
+/// The stream of the kind, with the streams after its own arguments.
+#[cycle(parts)]
+#[tactic(auto, using(crate::proofs::StreamLaws::parts_later))]
+fn followed(
+    alloc: Global,
+    env: &[Binding],
+    kind: Kind,
+    may_else: bool,
+    start: usize,
+    own: usize,
+    forms: &[Form],
+) -> Result<Part, ConfigFault>
+    ensures { GivesAs part_in result (followed_by (kind_tree kind) start own (form_trees forms.now)
+        (readings_of may_else env.now (form_trees forms.now))) }
+{
+    if !may_have_children(&kind) {
+        at_most(own, forms)?;
+        return Ok(stream_of(kind, start, Below::fresh(alloc)));
+    }
+    let below = parts_onto(alloc, env, later(forms, own), may_else, Below::fresh(alloc))?;
+    Ok(stream_of(kind, start, below))
+}
+
+/// The streams that there were, and those that the forms give.
+#[cycle(parts)]
+#[tactic(auto, unfolding(crate::specs::Streams::part_at, crate::specs::Streams::all_read))]
+pub fn parts_onto(
+    alloc: Global,
+    env: &[Binding],
+    forms: &[Form],
+    may_else: bool,
+    before: Below,
+) -> Result<Below, ConfigFault>
+    ensures { GivesAs below_in result (all_read (below_in before)
+        (readings_of may_else env.now (form_trees forms.now))) }
+{
+    let mut below = before;
+    let mut left = forms;
+    'parts: while let Some((form, rest)) = first(left) {
+        let part = part_at(alloc, env, form, may_else)?;
+        below = put(below, part, next_start(rest))?;
+        left = rest;
+    }
+    Ok(below)
+}

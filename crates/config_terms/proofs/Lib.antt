@@ -1,0 +1,9 @@
+pub mod FormLaws
+pub mod EntryLaws
+pub mod RuleLaws
+pub mod BareForms
+pub mod Outcomes
+pub mod GrammarRead
+pub mod GrammarOnly
+pub mod GrammarLaws
+pub mod TermLaws

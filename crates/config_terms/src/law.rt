@@ -1,0 +1,18 @@
+//! What the readings of forms owe the grammar.
+
+ghost use Rattle.config_terms.specs.Grammar.{PredicatesAreRead};
+ghost use Rattle.config_terms.specs.Terms.{TextsAreRead, NumbersAreRead, ValuesAreRead, FieldsAreRead};
+
+/// The forms that are read as predicates are exactly those of the grammar, each as the rule that the grammar says. So a
+/// form represents one rule at most.
+pub fn predicates_are_read()
+    ensures { PredicatesAreRead }
+{}
+
+/// The forms that are read as texts, numbers, values and fields are exactly those of the grammar.
+pub fn terms_are_read()
+    ensures texts { TextsAreRead }
+    ensures numbers { NumbersAreRead }
+    ensures values { ValuesAreRead }
+    ensures fields { FieldsAreRead }
+{}

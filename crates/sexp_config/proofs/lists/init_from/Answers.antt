@@ -1,9 +1,0 @@
-use Rattle.std.proofs.Common.{sym, ◌∙◌}
-use Rattle.sexp_config.specs.Words.{init_text}
-use Rattle.sexp_config.proofs.EntryLaws.{entry_more}
-use Rattle.sexp_config.proofs.lists.init_from.Goals as goal
-
-pub entries-preserved : goal.entries-preserved
-entries-preserved c =
-    sym (entry_more init_text _ _ _ _ _ _ _ _ _ _ _ c.in-Some.ensures.split c.in-Some-first.ensures.split c.is_some.ensures c.in_ok-only_key_at.ensures c.in_ok-value_at.ensures)
-    ∙ c.entries.invariant
