@@ -80,7 +80,7 @@ config_refuses content config (refusals.Pattern number) patterns patterns' out o
 pub check_writes : (content : Content) (config : Config) (patterns patterns' : PatternsState) (out out' : SinkReport) (ending : Ending) → HoldsConfig content config
     → EndsCheck config patterns patterns' out out' ending → CheckWrites content patterns patterns' out out' ending
 check_writes content config patterns patterns' out out' Finished holds ends = (for_config content config _ holds (ends.0, ends.1), ends.3)
-check_writes content config patterns patterns' out out' WriteFailed holds ends = (for_config content config _ holds (ends.0, ends.1), ends.3)
+check_writes content config patterns patterns' out out' WriteFailed holds ends = (for_config content config _ holds (ends.0, ends.1), ends.2, ends.3)
 check_writes content config patterns patterns' out out' (ConfigRefused refusal) holds ends = config_refuses content config refusal patterns patterns' out out' holds ends
 check_writes content config patterns patterns' out out' OutOfMemory holds ends = ends
 check_writes content config patterns patterns' out out' (Unread source) holds ends = absurd ends

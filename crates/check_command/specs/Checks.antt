@@ -1,6 +1,6 @@
 -- What `check CONFIG` promises.
 use Rattle.std.specs.Prelude.{◌≡◌, ℕ, ◌≤◌, List, [], ◌∷◌, length}
-use Rattle.ports.specs.Counts.{IsStill}
+use Rattle.ports.specs.Counts.{IsStill, Rose}
 use Rattle.ports.specs.Reading.{Content, IsHeld, IsOverLimit}
 use Rattle.ports.specs.Writing.{Got, GotPrefix}
 use Rattle.sexp_config.specs.declared.config.Config.{Config as Configuration}
@@ -13,7 +13,7 @@ use Rattle.command_io.specs.declared.limits.TheConstants.{CONFIG_LIMIT}
 use Rattle.command_io.specs.declared.status.Status.{Status}
 use Rattle.command_io.specs.Building.{AreBuilt}
 use Rattle.command_io.specs.Configs.{ForConfig, RefusesConfig}
-use Rattle.command_io.specs.Endings.{IsComplete, IsDoneOrMemory, IsReadOnce, Reads, Says, TookMore, status_of}
+use Rattle.command_io.specs.Endings.{HasNoConfig, IsComplete, IsDoneOrMemory, IsReadOnce, Reads, Says, TookMore, status_of}
 use Rattle.command_io.specs.Reports.{Reports, SinkReport}
 use Rattle.hub_meaning.specs.Verdicts.{PatternsState}
 
@@ -35,7 +35,7 @@ WritesText content Wrote = ForConfig content (λ config. AreBuilt config.plan ×
 -- write failed.
 abbrev pub CheckWrites : Content → PatternsState → PatternsState → SinkReport → SinkReport → Ending → Type 0
 CheckWrites config patterns patterns' out out' Finished = WritesText config (λ text. Got out.text text out'.text) × (patterns' ≡ patterns)
-CheckWrites config patterns patterns' out out' WriteFailed = WritesText config (λ text. GotPrefix out.text text out'.text) × (patterns' ≡ patterns)
+CheckWrites config patterns patterns' out out' WriteFailed = WritesText config (λ text. GotPrefix out.text text out'.text) × Rose out.faults out'.faults × (patterns' ≡ patterns)
 CheckWrites config patterns patterns' out out' (ConfigRefused refusal) = RefusesConfig config patterns patterns' refusal × (out' ≡ out)
 CheckWrites config patterns patterns' out out' _ = (patterns' ≡ patterns) × (out' ≡ out)
 
@@ -46,7 +46,8 @@ CheckCompletes config old new status = (text : List ℕ) (read : Configuration)
     → IsStill old.store.faults new.store.faults → IsStill old.out.faults new.out.faults
     → IsStill old.patterns.refusals new.patterns.refusals → IsDoneOrMemory status
 
-pub record Checks (config : List ℕ) (old new : Reports) (status : Status) : Type 0 where
+-- `Unasked` is that no pattern was asked for.
+pub record Checks (config : List ℕ) (old new : Reports) (Unasked : Type 0) (status : Status) : Type 0 where
   -- how it ended, as the status and the line on the error stream say
   pub ending : Ending
   pub ended : status ≡ status_of ending
@@ -57,6 +58,8 @@ pub record Checks (config : List ℕ) (old new : Reports) (status : Status) : Ty
   pub reads : Reads (config ∷ []) (IsReadOnce ending) old.store.reads new.store.reads ending
   pub taken : TookMore ending old.store.taken new.store.taken
   pub writes : CheckWrites (old.store.held config) old.patterns new.patterns old.out new.out ending
+  -- patterns are asked for once there is a configuration
+  pub unasked : HasNoConfig ending → Unasked
   -- where it did all that it had to, no read and no write of the text failed
   pub quiet : IsComplete ending → (new.store.faults ≡ old.store.faults) × (new.out.faults ≡ old.out.faults)
   -- it calls no link, and enters no fork

@@ -3,7 +3,7 @@ ghost use Rattle.ports.specs.Counts.{Rose};
 ghost use Rattle.stream_plan.specs.Ready.{plan_patterns};
 ghost use Rattle.check_command.specs.Building.{BuildsText, EndsCheck};
 ghost use Rattle.check_command.specs.Checks.{CheckCause, CheckWrites, Checks};
-ghost use Rattle.command_io.specs.Endings.{IsComplete, IsReadOnce, IsRefusal, Reads, TookMore, status_of};
+ghost use Rattle.command_io.specs.Endings.{HasNoConfig, HasNoLine, IsComplete, IsReadOnce, IsRefusalOrMemory, Reads, TookMore, status_of};
 ghost use Rattle.command_io.specs.Reports.{LinksReport, reports, sink_report, store_report};
 ghost use Rattle.hub_meaning.specs.Verdicts.{patterns_state};
 
@@ -35,12 +35,14 @@ pub fn check<S: Store, O: Sink, E: Sink, P: Patterns>(
         (S.faults store.new)) links
         (sink_report (O.text out.new) (O.puts out.new) (O.faults out.new))
         (sink_report (E.text err.new) (E.puts err.new) (E.faults err.new))
-        (patterns_state (P.refusals patterns.new) (P.refused patterns.new)) forks) result }
+        (patterns_state (P.refusals patterns.new) (P.refused patterns.new)) forks)
+        (patterns.new ≡ patterns.old) result }
     ensures read_fault { result ≡ Status.ReadFault →
         Rose (S.faults store.old) (S.faults store.new) }
     ensures sink_fault { result ≡ Status.SinkFault → Rose (O.faults out.old) (O.faults out.new) }
     ensures links_work { result ≢ Status.LinkFault }
-    ensures untouched { IsRefusal result → out.new ≡ out.old }
+    ensures untouched { IsRefusalOrMemory result → out.new ≡ out.old }
+    ensures no_line { HasNoLine result → err.new ≡ err.old }
 {
     let ending = check_file(alloc, config, store, out, patterns);
     report(ending, config, config, err)
@@ -69,7 +71,8 @@ fn check_file<S: Store, O: Sink, P: Patterns>(
         Rose (S.faults store.old) (S.faults store.new) }
     ensures sink_fault { status_of result ≡ Status.SinkFault →
         Rose (O.faults out.old) (O.faults out.new) }
-    ensures untouched { IsRefusal (status_of result) → out.new ≡ out.old }
+    ensures untouched { IsRefusalOrMemory (status_of result) → out.new ≡ out.old }
+    ensures unasked { HasNoConfig result → patterns.new ≡ patterns.old }
 {
     match fetch_config(alloc, config, store) {
         Ok(config) => check_config(alloc, config, out, patterns),
@@ -90,7 +93,8 @@ fn check_config<O: Sink, P: Patterns>(
         (patterns_state (P.refusals patterns.new) (P.refused patterns.new))
         (sink_report (O.text out.old) (O.puts out.old) (O.faults out.old))
         (sink_report (O.text out.new) (O.puts out.new) (O.faults out.new)) result }
-    ensures untouched { IsRefusal (status_of result) → out.new ≡ out.old }
+    ensures untouched { IsRefusalOrMemory (status_of result) → out.new ≡ out.old }
+    ensures asked { HasNoConfig result → ⊥ }
 {
     match build_text(alloc, config, patterns) {
         Ok(text) => match put_all(out, text.as_slice()) {

@@ -5,7 +5,7 @@ use Rattle.hub_meaning.specs.Verdicts.{PatternsState}
 use Rattle.ports.specs.Counts.{Rose}
 use Rattle.ports.specs.Reading.{Content}
 use Rattle.sexp_config.specs.declared.config.Config.{Config}
-use Rattle.sexp_config.specs.declared.fault.ConfigWhy.{ConfigWhy}
+use Rattle.config_terms.specs.declared.fault.ConfigWhy.{ConfigWhy}
 use Rattle.sexp_config.specs.Config.{IsConfigFault, IsConfigOf}
 use Rattle.stream_plan.specs.Ready.{plan_patterns}
 use Rattle.command_io.specs.declared.limits.TheConstants.{CONFIG_LIMIT}

@@ -3,6 +3,7 @@ use Rattle.std.specs.Prelude.{◌≡◌, ℕ, ◌+◌, List, [], length, take, m
 use Rattle.ports.specs.Counts.{RoseBy}
 use Rattle.ports.specs.Writing.{GotLine, sink_state}
 use Rattle.ports.specs.declared.store.StoreRead.{StoreRead}
+use Rattle.command_io.specs.declared.ending.ConfigRefusal.TheVariants.{Refused}
 use Rattle.command_io.specs.declared.ending.Ending.{Ending}
 use Rattle.command_io.specs.declared.ending.Ending.TheVariants.{Finished, ConfigRefused, Unread, OverLimit, BytesLeft, WriteFailed, LinksFailed, ScriptRefused, OutOfMemory}
 use Rattle.command_io.specs.declared.ending.Source.{Source}
@@ -74,6 +75,24 @@ IsRefusal ReadFault = Unit {0}
 IsRefusal TooLong = Unit {0}
 IsRefusal Script = Unit {0}
 IsRefusal _ = ⊥
+
+-- the same, or memory ran out
+abbrev pub IsRefusalOrMemory : Status → Type 0
+IsRefusalOrMemory Memory = Unit {0}
+IsRefusalOrMemory status = IsRefusal status
+
+-- the statuses that have no line on the error stream
+abbrev pub HasNoLine : Status → Type 0
+HasNoLine Done = Unit {0}
+HasNoLine SinkFault = Unit {0}
+HasNoLine _ = ⊥
+
+-- the endings of a command that has no configuration: its file was not read, or its text is not one
+abbrev pub HasNoConfig : Ending → Type 0
+HasNoConfig (ConfigRefused (Refused place why)) = Unit {0}
+HasNoConfig (Unread ConfigFile) = Unit {0}
+HasNoConfig (OverLimit ConfigFile) = Unit {0}
+HasNoConfig _ = ⊥
 
 -- the endings of a command that did all that it had to
 abbrev pub IsComplete : Ending → Type 0

@@ -3,8 +3,8 @@ use Rattle.std.specs.Prelude.{ℕ, List, [], ◌∷◌, ◌++◌, codes}
 use Rattle.std.specs.Borrow.{Bor}
 use Rattle.std.specs.List.{flat_map}
 use Rattle.std.specs.Fmt.{decimal}
-use Rattle.sexp_config.specs.declared.fault.ConfigWhy.{ConfigWhy}
-use Rattle.sexp_config.specs.Names.{why_name}
+use Rattle.config_terms.specs.declared.fault.ConfigWhy.{ConfigWhy}
+use Rattle.config_terms.specs.Names.{why_name}
 use Rattle.command_io.specs.declared.ending.ConfigRefusal.{ConfigRefusal}
 use Rattle.command_io.specs.declared.ending.ConfigRefusal.TheVariants.{Refused, Pattern}
 

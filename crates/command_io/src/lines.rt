@@ -1,7 +1,7 @@
 ghost use Rattle.std.specs.Prelude.{◌≡◌, ℕ, ◌≤◌, List, OnOk, OnErr};
 ghost use Rattle.ports.specs.Counts.{Rose};
 ghost use Rattle.ports.specs.Writing.{Got, GotPrefix, GotLine, sink_state};
-ghost use Rattle.command_io.specs.Endings.{Says, limit_of, of_source, status_of};
+ghost use Rattle.command_io.specs.Endings.{HasNoLine, Says, limit_of, of_source, status_of};
 ghost use Rattle.command_io.specs.Lines.{joined, left_line, pattern_line, refusal_line, refused_line, script_line, too_long_line, unread_line};
 ghost use Rattle.command_io.specs.Reports.{sink_report};
 
@@ -29,15 +29,17 @@ pub fn report<E: Sink>(ending: Ending, config: &Text, other: &Text, err: &mut E)
     ensures says { Says config.now other.now ending
         (sink_report (E.text err.old) (E.puts err.old) (E.faults err.old))
         (sink_report (E.text err.new) (E.puts err.new) (E.faults err.new)) }
+    ensures no_line { HasNoLine result → err.new ≡ err.old }
 {
     report_line(ending, config, other, err);
     ending.status()
 }
 
 fn report_line<E: Sink>(ending: Ending, config: &Text, other: &Text, err: &mut E)
-    ensures { Says config.now other.now ending
+    ensures says { Says config.now other.now ending
         (sink_report (E.text err.old) (E.puts err.old) (E.faults err.old))
         (sink_report (E.text err.new) (E.puts err.new) (E.faults err.new)) }
+    ensures no_line { HasNoLine (status_of ending) → err.new ≡ err.old }
 {
     match ending {
         Ending::Finished | Ending::WriteFailed => {}
@@ -157,7 +159,8 @@ pub fn put_line<E: Sink>(err: &mut E, pieces: &[&str])
 /// Writes the pieces one after another, up to the first write that fails.
 fn put_pieces<E: Sink>(err: &mut E, pieces: &[&str]) -> Result<(), Failed>
     ensures all { OnOk result (Got (E.text err.old) (joined pieces.now) (E.text err.new)) }
-    ensures prefix { OnErr result (GotPrefix (E.text err.old) (joined pieces.now) (E.text err.new)) }
+    ensures prefix { OnErr result
+        (GotPrefix (E.text err.old) (joined pieces.now) (E.text err.new)) }
     ensures fault { OnErr result (Rose (E.faults err.old) (E.faults err.new)) }
 {
     for piece in pieces {

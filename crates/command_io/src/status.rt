@@ -19,7 +19,8 @@ pub enum Status {
     Memory,
     /// The script was refused.
     Script,
-    /// The file that was fed ends with an incomplete frame.
+    /// The file that was fed ends with bytes of no frame: an incomplete frame, or a length over the limit and what
+    /// comes after it.
     Truncated,
     /// A file is longer than its limit.
     TooLong,

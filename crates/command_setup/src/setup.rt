@@ -2,7 +2,7 @@ ghost use Rattle.std.specs.Prelude.{◌≡◌, ◌≤◌, [], ◌∷◌, length,
 ghost use Rattle.hub_meaning.specs.Verdicts.{patterns_state};
 ghost use Rattle.sexp_config.specs.Expiry.{IsInterval};
 ghost use Rattle.stream_plan.specs.Ready.{plan_patterns};
-ghost use Rattle.command_io.specs.Endings.{IsReadOnce, Reads};
+ghost use Rattle.command_io.specs.Endings.{HasNoConfig, IsReadOnce, Reads};
 ghost use Rattle.command_io.specs.Files.{ReadMore, good_read};
 ghost use Rattle.command_io.specs.Reports.{store_report};
 ghost use Rattle.command_setup.specs.Setups.{MakesSetup, RefusesSetup, SetsUp, address_text};
@@ -39,6 +39,7 @@ pub fn fetch_setup<S: Store, P: Patterns>(
     ensures quiet { OnOk result (S.faults store.new ≡ S.faults store.old) }
     ensures same { OnOk result (patterns_state (P.refusals patterns.new) (P.refused patterns.new) ≡
         patterns_state (P.refusals patterns.old) (P.refused patterns.old)) }
+    ensures unasked { IfErr result (λ ending. HasNoConfig ending → patterns.new ≡ patterns.old) }
     ensures held { S.held store.new ≡ S.held store.old }
     ensures taken { S.taken store.old ≤ S.taken store.new }
 {
@@ -51,9 +52,10 @@ pub fn fetch_setup<S: Store, P: Patterns>(
 /// Builds the patterns of the configuration, and gives what a server is run with.
 fn setup_of<P: Patterns>(alloc: Global, config: Config, patterns: &mut P) -> Result<Setup, Ending>
     requires few { length (plan_patterns config.plan) ≤ CONFIG_LIMIT }
-    ensures { MakesSetup config
+    ensures makes { MakesSetup config
         (patterns_state (P.refusals patterns.old) (P.refused patterns.old))
         (patterns_state (P.refusals patterns.new) (P.refused patterns.new)) result }
+    ensures asked { IfErr result (λ ending. HasNoConfig ending → ⊥) }
 {
     let Ok(address) = address_text(alloc, &config.host, config.port) else {
         return Err(Ending::OutOfMemory);

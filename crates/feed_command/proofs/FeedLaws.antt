@@ -44,7 +44,7 @@ bytes_since setup bytes store mid store' links out out' err err' patterns patter
 ]
 bytes_since setup bytes store mid store' links out out' err err' patterns patterns' forks forks' OutOfMemory ends = elim ends [
   | inl idle ↦ inl idle
-  | inr some ↦ inr (record { run = some.run; ran = some.ran; no_reply = some.no_reply })
+  | inr some ↦ inr (record { run = some.0.run; ran = some.0.ran; no_reply = some.0.no_reply }, some.1)
 ]
 bytes_since setup bytes store mid store' links out out' err err' patterns patterns' forks forks' (ConfigRefused refusal) ends = absurd ends
 bytes_since setup bytes store mid store' links out out' err err' patterns patterns' forks forks' (Unread source) ends = absurd ends

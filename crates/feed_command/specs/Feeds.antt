@@ -1,6 +1,6 @@
 -- What `feed CONFIG FILE` promises.
 use Rattle.std.specs.Prelude.{◌≡◌, ◌≢◌, ℕ, ◌≤◌, ◌⊎◌, List, [], ◌∷◌, length, Err}
-use Rattle.command_io.specs.Endings.{IsComplete, Reads, Says, status_of}
+use Rattle.command_io.specs.Endings.{HasNoConfig, IsComplete, Reads, Says, status_of}
 use Rattle.command_io.specs.Reports.{IsIdle, Reports, SinkReport}
 use Rattle.command_io.specs.declared.ending.Ending.{Ending}
 use Rattle.command_io.specs.declared.ending.Ending.TheVariants.{Finished, BytesLeft, WriteFailed, OutOfMemory}
@@ -53,7 +53,8 @@ BytesEnd setup bytes old new (BytesLeft count) = FeedsAll setup bytes old new (�
     × (partial bytes ≢ []) × (count ≡ length (partial bytes))
 BytesEnd setup bytes old new WriteFailed = (FeedsSome setup bytes old new cause.Sink × Rose old.err.faults new.err.faults)
     ⊎ (FeedsAll setup bytes old new (λ replies. GotPrefix old.out.text replies new.out.text) × Rose old.out.faults new.out.faults)
-BytesEnd setup bytes old new OutOfMemory = (IsIdle old new × (new.err ≡ old.err) × (new.patterns ≡ old.patterns)) ⊎ FeedsSome setup bytes old new cause.Memory
+BytesEnd setup bytes old new OutOfMemory = (IsIdle old new × (new.err ≡ old.err) × (new.patterns ≡ old.patterns))
+    ⊎ (FeedsSome setup bytes old new cause.Memory × (new.err.faults ≡ old.err.faults))
 BytesEnd setup bytes old new _ = ⊥
 
 -- ---- the command
@@ -87,7 +88,8 @@ FeedCompletes config file old new status = (text bytes : List ℕ) (read : Confi
     → IsStill old.store.faults new.store.faults → IsStill old.out.faults new.out.faults → IsStill old.err.faults new.err.faults
     → IsStill old.patterns.refusals new.patterns.refusals → HasFed (partial bytes) status
 
-pub record Feeds (config file : List ℕ) (old new : Reports) (status : Status) : Type 0 where
+-- `Unasked` is that no pattern was asked for.
+pub record Feeds (config file : List ℕ) (old new : Reports) (Unasked : Type 0) (status : Status) : Type 0 where
   -- how it ended, as the status and the line on the error stream say
   pub ending : Ending
   pub ended : status ≡ status_of ending
@@ -99,6 +101,8 @@ pub record Feeds (config file : List ℕ) (old new : Reports) (status : Status) 
   -- the links that were handed in were not called
   pub untouched : new.links ≡ old.links
   pub reads : Reads (config ∷ (file ∷ [])) (ReadCounts (old.store.held config) ending) old.store.reads new.store.reads ending
+  -- patterns are asked for once there is a configuration
+  pub unasked : HasNoConfig ending → Unasked
   -- where it did all that it had to, no read failed, and no write of a notice line or of the replies
   pub quiet : IsComplete ending
       → (new.store.faults ≡ old.store.faults) × (new.out.faults ≡ old.out.faults) × (before.faults ≡ old.err.faults)

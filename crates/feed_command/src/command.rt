@@ -1,6 +1,6 @@
 ghost use Rattle.std.specs.Prelude.{◌≡◌, ◌≢◌, ◌≤◌, ◌⊎◌, [], ◌∷◌};
 ghost use Rattle.std.specs.Option.{ForSome};
-ghost use Rattle.command_io.specs.Endings.{IsComplete, IsRefusal, Reads, status_of};
+ghost use Rattle.command_io.specs.Endings.{HasNoConfig, IsComplete, IsRefusalOrMemory, Reads, status_of};
 ghost use Rattle.command_io.specs.Reports.{LinksReport, reports, sink_report, store_report};
 ghost use Rattle.feed_command.specs.Feeds.{FeedEnds, Feeds, FileEnds};
 ghost use Rattle.file_run.specs.Files.{OtherReads, ReadCounts};
@@ -40,13 +40,13 @@ pub fn feed<S: Store, O: Sink, E: Sink, P: Patterns, G: Ledger>(
         (sink_report (O.text out.new) (O.puts out.new) (O.faults out.new))
         (sink_report (E.text err.new) (E.puts err.new) (E.faults err.new))
         (patterns_state (P.refusals patterns.new) (P.refused patterns.new)) steps.new.forks)
-        result }
+        (patterns.new ≡ patterns.old) result }
     ensures read_fault { result ≡ Status.ReadFault →
         Rose (S.faults store.old) (S.faults store.new) }
     ensures sink_fault { result ≡ Status.SinkFault →
         Rose (O.faults out.old) (O.faults out.new) ⊎ Rose (E.faults err.old) (E.faults err.new) }
     ensures links_work { result ≢ Status.LinkFault }
-    ensures untouched { IsRefusal result → out.new ≡ out.old }
+    ensures untouched { IsRefusalOrMemory result → out.new ≡ out.old }
 {
     let ending = feed_files(alloc, config, file, store, out, err, patterns, steps);
     report(ending, config, file, err)
@@ -81,7 +81,8 @@ fn feed_files<S: Store, O: Sink, E: Sink, P: Patterns, G: Ledger>(
         (S.reads store.new) result }
     ensures quiet { IsComplete result → (S.faults store.new ≡ S.faults store.old) ×
         (O.faults out.new ≡ O.faults out.old) × (E.faults err.new ≡ E.faults err.old) }
-    ensures untouched { IsRefusal (status_of result) → out.new ≡ out.old }
+    ensures untouched { IsRefusalOrMemory (status_of result) → out.new ≡ out.old }
+    ensures unasked { HasNoConfig result → patterns.new ≡ patterns.old }
 {
     match fetch_setup(alloc, config, store, patterns) {
         Ok(setup) => feed_file(alloc, setup, file, store, out, err, patterns, steps),
@@ -117,7 +118,8 @@ fn feed_file<S: Store, O: Sink, E: Sink, P: Patterns, G: Ledger>(
     ensures reads { OtherReads file.now (S.reads store.old) (S.reads store.new) result }
     ensures quiet { IsComplete result → (S.faults store.new ≡ S.faults store.old) ×
         (O.faults out.new ≡ O.faults out.old) × (E.faults err.new ≡ E.faults err.old) }
-    ensures untouched { IsRefusal (status_of result) → out.new ≡ out.old }
+    ensures untouched { IsRefusalOrMemory (status_of result) → out.new ≡ out.old }
+    ensures asked { HasNoConfig result → ⊥ }
 {
     match read_other(alloc, file, store) {
         Ok(bytes) => serve_bytes(alloc, setup, bytes, out, err, patterns, steps),

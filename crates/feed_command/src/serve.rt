@@ -1,6 +1,6 @@
 ghost use Rattle.std.specs.Prelude.{◌≡◌, ℕ, ◌≤◌, List, [], length};
 ghost use Rattle.std.specs.Option.{ForSome};
-ghost use Rattle.command_io.specs.Endings.{IsComplete};
+ghost use Rattle.command_io.specs.Endings.{IsComplete, IsRefusalOrMemory, status_of};
 ghost use Rattle.command_io.specs.Reports.{LinksReport, StoreReport, reports, sink_report};
 ghost use Rattle.feed_command.specs.Feeding.{WritesReplies};
 ghost use Rattle.feed_command.specs.Feeds.{BytesEnd};
@@ -44,6 +44,7 @@ pub(crate) fn serve_bytes<O: Sink, E: Sink, P: Patterns, G: Ledger>(
     ensures quiet { IsComplete result → (O.faults out.new ≡ O.faults out.old) ×
         (E.faults err.new ≡ E.faults err.old) }
     ensures after { IsAfterRun result }
+    ensures untouched { IsRefusalOrMemory (status_of result) → out.new ≡ out.old }
 {
     let left = bytes_left(bytes.as_slice());
     match feed_links(alloc, bytes) {
@@ -79,6 +80,7 @@ fn serve_links<O: Sink, E: Sink, P: Patterns, G: Ledger>(
     ensures quiet { IsComplete result → (O.faults out.new ≡ O.faults out.old) ×
         (E.faults err.new ≡ E.faults err.old) }
     ensures after { IsAfterRun result }
+    ensures untouched { IsRefusalOrMemory (status_of result) → out.new ≡ out.old }
 {
     match run_script(alloc, setup, &mut links, err, patterns, steps) {
         Ok(()) => {
@@ -98,6 +100,7 @@ fn write_replies<O: Sink>(replies: &[u8], left: usize, out: &mut O) -> Ending
         (sink_report (O.text out.old) (O.puts out.old) (O.faults out.old))
         (sink_report (O.text out.new) (O.puts out.new) (O.faults out.new)) result }
     ensures quiet { IsComplete result → O.faults out.new ≡ O.faults out.old }
+    ensures untouched { IsRefusalOrMemory (status_of result) → out.new ≡ out.old }
 {
     let Ok(()) = put_all(out, replies) else {
         return Ending::WriteFailed;

@@ -2,7 +2,7 @@
 use Rattle.std.proofs.Common.{◌≡◌, ℕ, suc, ◌≤◌, List, [], ◌∷◌, length, map, take, refl, ap, ◌∙◌, arith}
 use Rattle.std.specs.Prelude.{Option}
 use Rattle.command_io.proofs.Sinks.{appended_twice}
-use Rattle.command_io.specs.Endings.{HaveFailed, IsComplete, IsReadOnce, IsRefusal, Reads, status_of}
+use Rattle.command_io.specs.Endings.{HasNoConfig, HaveFailed, IsComplete, IsReadOnce, IsRefusal, Reads, status_of}
 use Rattle.command_io.specs.Files.{IsFileFault, LastFailed, ReadMore, bad_read, good_read, read_name, reads_of_fault}
 use Rattle.command_io.specs.Fetches.{ending_of_file}
 use Rattle.command_io.specs.Reports.{StoreReport}
@@ -29,6 +29,11 @@ pub other_refused : (content : Content) (old new : StoreReport) (fault : FileFau
 other_refused content old new file.Unread cause = cause
 other_refused content old new file.TooLong cause = cause
 other_refused content old new file.Memory cause = tt
+
+pub other_asked : (fault : FileFault) → HasNoConfig (ending_of_file OtherFile fault) → ⊥
+other_asked file.Unread refused = refused
+other_asked file.TooLong refused = refused
+other_asked file.Memory refused = refused
 
 pub other_unread : (old new : Option (List StoreRead)) (name : List ℕ) (fault : FileFault) → ReadMore (reads_of_fault name fault) old new
     → OtherReads name old new (ending_of_file OtherFile fault)
@@ -59,6 +64,17 @@ run_not_refused WriteFailed after refusal = refusal
 run_not_refused LinksFailed after refusal = after
 run_not_refused (ScriptRefused line) after refusal = after
 run_not_refused OutOfMemory after refusal = refusal
+
+pub run_asked : (ending : Ending) → IsAfterRun ending → HasNoConfig ending → ⊥
+run_asked Finished after refused = refused
+run_asked (ConfigRefused why) after refused = after
+run_asked (Unread source) after refused = after
+run_asked (OverLimit source) after refused = after
+run_asked (BytesLeft count) after refused = refused
+run_asked WriteFailed after refused = refused
+run_asked LinksFailed after refused = after
+run_asked (ScriptRefused line) after refused = after
+run_asked OutOfMemory after refused = refused
 
 -- ---- the file was refused
 

@@ -12,7 +12,7 @@ use Rattle.command_io.specs.declared.ending.Ending.{Ending}
 use Rattle.command_io.specs.declared.ending.Ending.TheVariants.{Finished, ConfigRefused, Unread, OverLimit, BytesLeft, WriteFailed, LinksFailed, ScriptRefused, OutOfMemory}
 use Rattle.command_io.specs.declared.limits.TheConstants.{CONFIG_LIMIT}
 use Rattle.command_io.specs.declared.status.Status.TheVariants.{ReadFault, SinkFault, LinkFault}
-use Rattle.command_io.specs.Endings.{IsComplete, IsDoneOrMemory, IsReadOnce, IsRefusal, Reads, status_of}
+use Rattle.command_io.specs.Endings.{IsComplete, IsDoneOrMemory, IsReadOnce, Reads, status_of}
 use Rattle.command_io.specs.Files.{ReadMore, good_read}
 use Rattle.command_io.specs.Reports.{Reports as Reporting, SinkReport}
 use Rattle.command_io.proofs.ReadLaws.{read_alone}
@@ -69,17 +69,6 @@ quiet_after_run out out' WriteFailed after complete = absurd complete
 quiet_after_run out out' LinksFailed after complete = absurd after
 quiet_after_run out out' (ScriptRefused line) after complete = absurd after
 quiet_after_run out out' OutOfMemory after complete = absurd complete
-
-pub not_refused_after_run : (out out' : SinkReport) (ending : Ending) → AfterRun out out' ending → IsRefusal (status_of ending) → ⊥
-not_refused_after_run out out' Finished after refused = refused
-not_refused_after_run out out' (ConfigRefused refusal) after refused = after
-not_refused_after_run out out' (Unread source) after refused = after
-not_refused_after_run out out' (OverLimit source) after refused = after
-not_refused_after_run out out' (BytesLeft count) after refused = after
-not_refused_after_run out out' WriteFailed after refused = refused
-not_refused_after_run out out' LinksFailed after refused = after
-not_refused_after_run out out' (ScriptRefused line) after refused = after
-not_refused_after_run out out' OutOfMemory after refused = refused
 
 not_read_after_run : (out out' : SinkReport) (ending : Ending) → AfterRun out out' ending → status_of ending ≡ ReadFault → ⊥
 not_read_after_run out out' Finished after e = cc

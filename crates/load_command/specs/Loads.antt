@@ -11,7 +11,7 @@ use Rattle.command_io.specs.declared.ending.Ending.{Ending}
 use Rattle.command_io.specs.declared.ending.Ending.TheVariants.{Finished, WriteFailed, OutOfMemory}
 use Rattle.command_io.specs.declared.limits.TheConstants.{CONFIG_LIMIT}
 use Rattle.command_io.specs.declared.status.Status.{Status}
-use Rattle.command_io.specs.Endings.{IsComplete, IsDoneOrMemory, IsReadOnce, Reads, Says, status_of}
+use Rattle.command_io.specs.Endings.{HasNoConfig, IsComplete, IsDoneOrMemory, IsReadOnce, Reads, Says, status_of}
 use Rattle.command_io.specs.Reports.{IsIdle, Reports, SinkReport}
 use Rattle.command_setup.specs.Setups.{RefusesSetup, SetsUp}
 use Rattle.load_command.specs.Summaries.{IsCutOff, IsPlayed, summary_line}
@@ -46,7 +46,8 @@ LoadCompletes config old new status = (text : List ℕ) (read : Config)
     → IsStill old.store.faults new.store.faults → IsStill old.out.faults new.out.faults
     → IsStill old.patterns.refusals new.patterns.refusals → IsDoneOrMemory status
 
-pub record Loads (config : List ℕ) (count start : ℕ) (old new : Reports) (status : Status) : Type 0 where
+-- `Unasked` is that no pattern was asked for.
+pub record Loads (config : List ℕ) (count start : ℕ) (old new : Reports) (Unasked : Type 0) (status : Status) : Type 0 where
   -- how it ended, as the status and the line on the error stream say
   pub ending : Ending
   pub ended : status ≡ status_of ending
@@ -57,6 +58,8 @@ pub record Loads (config : List ℕ) (count start : ℕ) (old new : Reports) (st
   pub untouched : new.links ≡ old.links
   -- what it read
   pub reads : Reads (config ∷ []) (IsReadOnce ending) old.store.reads new.store.reads ending
+  -- patterns are asked for once there is a configuration
+  pub unasked : HasNoConfig ending → Unasked
   -- where it did all that it had to, nothing failed
   pub quiet : IsComplete ending → (new.store.faults ≡ old.store.faults) × (new.out.faults ≡ old.out.faults)
   pub complete : LoadCompletes config old new status

@@ -2,7 +2,7 @@ ghost use Rattle.std.specs.Prelude.{◌≡◌, ◌≢◌, ◌≤◌, [], ◌∷�
 ghost use Rattle.std.specs.Option.{ForSome};
 ghost use Rattle.hub_meaning.specs.Verdicts.{patterns_state};
 ghost use Rattle.ports.specs.Counts.{Rose};
-ghost use Rattle.command_io.specs.Endings.{IsComplete, IsReadOnce, IsRefusal, Reads, status_of};
+ghost use Rattle.command_io.specs.Endings.{HasNoConfig, HasNoLine, IsComplete, IsReadOnce, IsRefusalOrMemory, Reads, status_of};
 ghost use Rattle.command_io.specs.Reports.{LinksReport, SinkReport, reports, sink_report, store_report};
 ghost use Rattle.load_command.specs.Loads.{LoadEnds, Loads, RunEnds, WritesSummary};
 
@@ -42,12 +42,13 @@ pub fn load<S: Store, O: Sink, E: Sink, P: Patterns, G: Ledger>(
         (sink_report (O.text out.new) (O.puts out.new) (O.faults out.new))
         (sink_report (E.text err.new) (E.puts err.new) (E.faults err.new))
         (patterns_state (P.refusals patterns.new) (P.refused patterns.new)) steps.new.forks)
-        result }
+        (patterns.new ≡ patterns.old) result }
     ensures read_fault { result ≡ Status.ReadFault →
         Rose (S.faults store.old) (S.faults store.new) }
     ensures sink_fault { result ≡ Status.SinkFault → Rose (O.faults out.old) (O.faults out.new) }
     ensures links_work { result ≢ Status.LinkFault }
-    ensures untouched { IsRefusal result → out.new ≡ out.old }
+    ensures untouched { IsRefusalOrMemory result → out.new ≡ out.old }
+    ensures no_line { HasNoLine result → err.new ≡ err.old }
 {
     let ending = load_config(alloc, config, count, start, store, out, patterns, steps);
     report(ending, config, config, err)
@@ -80,7 +81,8 @@ fn load_config<S: Store, O: Sink, P: Patterns, G: Ledger>(
         (S.reads store.new) result }
     ensures quiet { IsComplete result → (S.faults store.new ≡ S.faults store.old) ×
         (O.faults out.new ≡ O.faults out.old) }
-    ensures untouched { IsRefusal (status_of result) → out.new ≡ out.old }
+    ensures untouched { IsRefusalOrMemory (status_of result) → out.new ≡ out.old }
+    ensures unasked { HasNoConfig result → patterns.new ≡ patterns.old }
 {
     match fetch_setup(alloc, config, store, patterns) {
         Ok(setup) => run_load(alloc, setup, count, start, out, patterns, steps),
@@ -107,6 +109,8 @@ fn run_load<O: Sink, P: Patterns, G: Ledger>(
         steps.old.forks steps.new.forks
         (sink_report (O.text out.old) (O.puts out.old) (O.faults out.old))
         (sink_report (O.text out.new) (O.puts out.new) (O.faults out.new)) result }
+    ensures untouched { IsRefusalOrMemory (status_of result) → out.new ≡ out.old }
+    ensures asked { HasNoConfig result → ⊥ }
 {
     match play(alloc, setup, count, start, patterns, steps) {
         Ok(summary) => write_summary(alloc, &summary, out),
@@ -118,9 +122,11 @@ fn run_load<O: Sink, P: Patterns, G: Ledger>(
 
 /// Writes the summary as a line, in one put.
 fn write_summary<O: Sink>(alloc: Global, summary: &Summary, out: &mut O) -> Ending
-    ensures { WritesSummary summary.now
+    ensures writes { WritesSummary summary.now
         (sink_report (O.text out.old) (O.puts out.old) (O.faults out.old))
         (sink_report (O.text out.new) (O.puts out.new) (O.faults out.new)) result }
+    ensures untouched { IsRefusalOrMemory (status_of result) → out.new ≡ out.old }
+    ensures asked { HasNoConfig result → ⊥ }
 {
     let Ok(line) = summary.line(alloc) else {
         return Ending::OutOfMemory;

@@ -21,7 +21,7 @@ play_ended setup script old new before run Finished ran same writes = record { r
 play_ended setup script old new before run WriteFailed ran same writes =
     (rw same at writes.1, inr (record { run = run; before = before; ran = ran; wrote = writes.0 }))
 play_ended setup script old new before run OutOfMemory ran same writes =
-    inr (record { run = run; before = before; ran = ran; wrote = writes })
+    (rw same at writes.1, inr (record { run = run; before = before; ran = ran; wrote = writes.0 }))
 play_ended setup script old new before run (ConfigRefused refusal) ran same writes = absurd writes
 play_ended setup script old new before run (Unread source) ran same writes = absurd writes
 play_ended setup script old new before run (OverLimit source) ran same writes = absurd writes

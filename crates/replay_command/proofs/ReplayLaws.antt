@@ -37,10 +37,13 @@ play_since setup script store mid store' links out out' err err' patterns patter
     | inr all ↦ inr (record { run = all.run; before = all.before; ran = all.ran; wrote = all.wrote })
   ],
 )
-play_since setup script store mid store' links out out' err err' patterns patterns' forks forks' OutOfMemory ends = elim ends [
-  | inl some ↦ inl (record { run = some.run; ran = some.ran })
-  | inr all ↦ inr (record { run = all.run; before = all.before; ran = all.ran; wrote = all.wrote })
-]
+play_since setup script store mid store' links out out' err err' patterns patterns' forks forks' OutOfMemory ends = (
+  ends.0,
+  elim ends.1 [
+    | inl some ↦ inl (record { run = some.run; ran = some.ran })
+    | inr all ↦ inr (record { run = all.run; before = all.before; ran = all.ran; wrote = all.wrote })
+  ],
+)
 play_since setup script store mid store' links out out' err err' patterns patterns' forks forks' (ConfigRefused refusal) ends = absurd ends
 play_since setup script store mid store' links out out' err err' patterns patterns' forks forks' (Unread source) ends = absurd ends
 play_since setup script store mid store' links out out' err err' patterns patterns' forks forks' (OverLimit source) ends = absurd ends

@@ -10,5 +10,5 @@ use Rattle.ports.specs.Writing.{Got, GotPrefix}
 abbrev pub WritesLines : List ℕ → SinkReport → SinkReport → Ending → Type 0
 WritesLines lines old new Finished = Got old.text lines new.text × (new.faults ≡ old.faults)
 WritesLines lines old new WriteFailed = GotPrefix old.text lines new.text × Rose old.faults new.faults
-WritesLines lines old new OutOfMemory = GotPrefix old.text lines new.text
+WritesLines lines old new OutOfMemory = GotPrefix old.text lines new.text × (new.faults ≡ old.faults)
 WritesLines lines old new _ = ⊥

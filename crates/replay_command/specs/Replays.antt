@@ -1,6 +1,6 @@
 -- What `replay CONFIG SCRIPT` promises.
 use Rattle.std.specs.Prelude.{◌≡◌, ℕ, ◌≤◌, ◌⊎◌, List, [], ◌∷◌, length, Option, Ok, Err}
-use Rattle.command_io.specs.Endings.{IsComplete, IsDoneOrMemory, Reads, Says, status_of}
+use Rattle.command_io.specs.Endings.{HasNoConfig, IsComplete, IsDoneOrMemory, Reads, Says, status_of}
 use Rattle.command_io.specs.Reports.{IsIdle, Reports, SinkReport}
 use Rattle.command_io.specs.declared.ending.Ending.{Ending}
 use Rattle.command_io.specs.declared.ending.Ending.TheVariants.{Finished, WriteFailed, OutOfMemory}
@@ -47,7 +47,8 @@ abbrev pub PlayEnds : Setup → Script → Reports → Reports → Ending → Ty
 PlayEnds setup script old new Finished = PlaysAll setup script old new (λ text lines. Got text lines new.out.text)
 PlayEnds setup script old new WriteFailed = Rose old.out.faults new.out.faults
     × (PlaysSome setup script old new cause.Sink ⊎ PlaysPrefix setup script old new)
-PlayEnds setup script old new OutOfMemory = PlaysSome setup script old new cause.Memory ⊎ PlaysPrefix setup script old new
+PlayEnds setup script old new OutOfMemory = (new.out.faults ≡ old.out.faults)
+    × (PlaysSome setup script old new cause.Memory ⊎ PlaysPrefix setup script old new)
 PlayEnds setup script old new _ = ⊥
 
 -- ---- the command
@@ -73,7 +74,8 @@ ReplayCompletes config script old new status = (text lines : List ℕ) (read : C
     → IsStill old.store.faults new.store.faults → IsStill old.out.faults new.out.faults
     → IsStill old.patterns.refusals new.patterns.refusals → IsDoneOrMemory status
 
-pub record Replays (config script : List ℕ) (old new : Reports) (status : Status) : Type 0 where
+-- `Unasked` is that no pattern was asked for.
+pub record Replays (config script : List ℕ) (old new : Reports) (Unasked : Type 0) (status : Status) : Type 0 where
   -- how it ended, as the status and the line on the error stream say
   pub ending : Ending
   pub ended : status ≡ status_of ending
@@ -83,6 +85,8 @@ pub record Replays (config script : List ℕ) (old new : Reports) (status : Stat
   -- the links that were handed in were not called
   pub untouched : new.links ≡ old.links
   pub reads : Reads (config ∷ (script ∷ [])) (ReadCounts (old.store.held config) ending) old.store.reads new.store.reads ending
+  -- patterns are asked for once there is a configuration
+  pub unasked : HasNoConfig ending → Unasked
   -- where it did all that it had to, no read and no write of its lines failed
   pub quiet : IsComplete ending → (new.store.faults ≡ old.store.faults) × (new.out.faults ≡ old.out.faults)
   pub complete : ReplayCompletes config script old new status

@@ -1,6 +1,6 @@
 ghost use Rattle.std.specs.Prelude.{◌≡◌, ◌≢◌, ◌≤◌, [], ◌∷◌};
 ghost use Rattle.std.specs.Option.{ForSome};
-ghost use Rattle.command_io.specs.Endings.{IsComplete, IsRefusal, Reads, status_of};
+ghost use Rattle.command_io.specs.Endings.{HasNoConfig, HasNoLine, IsComplete, IsRefusal, Reads, status_of};
 ghost use Rattle.command_io.specs.Reports.{LinksReport, SinkReport, reports, sink_report, store_report};
 ghost use Rattle.file_run.specs.Files.{OtherReads, ReadCounts};
 ghost use Rattle.hub_meaning.specs.Verdicts.{patterns_state};
@@ -39,12 +39,13 @@ pub fn replay<S: Store, O: Sink, E: Sink, P: Patterns, G: Ledger>(
         (sink_report (O.text out.new) (O.puts out.new) (O.faults out.new))
         (sink_report (E.text err.new) (E.puts err.new) (E.faults err.new))
         (patterns_state (P.refusals patterns.new) (P.refused patterns.new)) steps.new.forks)
-        result }
+        (patterns.new ≡ patterns.old) result }
     ensures read_fault { result ≡ Status.ReadFault →
         Rose (S.faults store.old) (S.faults store.new) }
     ensures sink_fault { result ≡ Status.SinkFault → Rose (O.faults out.old) (O.faults out.new) }
     ensures links_work { result ≢ Status.LinkFault }
     ensures untouched { IsRefusal result → out.new ≡ out.old }
+    ensures no_line { HasNoLine result → err.new ≡ err.old }
 {
     let ending = replay_files(alloc, config, script, store, out, patterns, steps);
     report(ending, config, script, err)
@@ -77,6 +78,7 @@ fn replay_files<S: Store, O: Sink, P: Patterns, G: Ledger>(
     ensures quiet { IsComplete result → (S.faults store.new ≡ S.faults store.old) ×
         (O.faults out.new ≡ O.faults out.old) }
     ensures untouched { IsRefusal (status_of result) → out.new ≡ out.old }
+    ensures unasked { HasNoConfig result → patterns.new ≡ patterns.old }
 {
     match fetch_setup(alloc, config, store, patterns) {
         Ok(setup) => replay_script(alloc, setup, script, store, out, patterns, steps),
@@ -111,6 +113,7 @@ fn replay_script<S: Store, O: Sink, P: Patterns, G: Ledger>(
     ensures quiet { IsComplete result → (S.faults store.new ≡ S.faults store.old) ×
         (O.faults out.new ≡ O.faults out.old) }
     ensures untouched { IsRefusal (status_of result) → out.new ≡ out.old }
+    ensures asked { HasNoConfig result → ⊥ }
 {
     match fetch_script(alloc, script, store) {
         Ok(links) => play(alloc, setup, links, out, patterns, steps),

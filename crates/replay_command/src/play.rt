@@ -1,6 +1,6 @@
 ghost use Rattle.std.specs.Prelude.{◌≡◌, ◌≤◌, [], Ok, IfErr, IfOk, OnOk};
 ghost use Rattle.std.specs.Option.{ForSome};
-ghost use Rattle.command_io.specs.Endings.{IsComplete};
+ghost use Rattle.command_io.specs.Endings.{HasNoConfig, IsComplete};
 ghost use Rattle.command_io.specs.Reports.{LinksReport, SinkReport, StoreReport, reports, sink_report, store_report};
 ghost use Rattle.file_run.specs.Files.{IsAfterRun, ReadsOther};
 ghost use Rattle.hub_meaning.specs.Verdicts.{patterns_state};
@@ -35,6 +35,7 @@ pub(crate) fn fetch_script<S: Store>(
         (store_report (S.held store.new) (S.reads store.new) (S.taken store.new)
         (S.faults store.new)) ending) }
     ensures reads { ReadsOther name.now (S.reads store.old) (S.reads store.new) result }
+    ensures asked { IfErr result (λ ending. HasNoConfig ending → ⊥) }
     ensures quiet { OnOk result (S.faults store.new ≡ S.faults store.old) }
 {
     match read_other(alloc, name, store) {
@@ -48,6 +49,7 @@ fn read_text(alloc: Global, text: &[u8]) -> Result<ScriptLinks, Ending>
     ensures script { IfOk result (λ links. script_of text.now ≡ Ok links.script) }
     ensures begins { IfOk result (λ links. links.log ≡ []) }
     ensures refused { IfErr result (RefusesText text.now) }
+    ensures asked { IfErr result (λ ending. HasNoConfig ending → ⊥) }
 {
     match read_script(alloc, text) {
         Ok(links) => Ok(links),

@@ -3,8 +3,8 @@ use Rattle.std.proofs.Common.{◌≡◌, ℕ, List}
 use Rattle.command_io.specs.declared.ending.Ending.{Ending}
 use Rattle.command_io.specs.declared.ending.Ending.TheVariants.{Finished, ConfigRefused, Unread, OverLimit, BytesLeft, WriteFailed, LinksFailed, ScriptRefused, OutOfMemory}
 use Rattle.command_io.specs.declared.status.Status.{Status}
-use Rattle.command_io.specs.declared.status.Status.TheVariants.{Usage}
-use Rattle.command_io.specs.Endings.{status_of}
+use Rattle.command_io.specs.declared.status.Status.TheVariants.{Done, Usage, Config, ReadFault, SinkFault, LinkFault, Memory, Script, Truncated, TooLong}
+use Rattle.command_io.specs.Endings.{IsRefusal, IsRefusalOrMemory, status_of}
 use Rattle.riemann_server.specs.declared.command.Command.{Command}
 use Rattle.riemann_server.specs.declared.command.Command.TheVariants.{Feed, Check, Replay, Serve, Load}
 use Rattle.riemann_server.specs.Commands.{IsCommandOf}
@@ -30,3 +30,20 @@ named words (Check config) is usage = usage.1 config.now is
 named words (Replay config script) is usage = usage.2 config.now script.now is
 named words (Serve config turns) is usage = usage.3 config.now turns is
 named words (Load config count start) is usage = usage.4 config.now count start is
+
+-- ---- what was not written
+
+pub refusal_or_memory : (status : Status) → IsRefusal status → IsRefusalOrMemory status
+refusal_or_memory Done refused = refused
+refusal_or_memory Usage refused = refused
+refusal_or_memory Config refused = refused
+refusal_or_memory ReadFault refused = refused
+refusal_or_memory SinkFault refused = refused
+refusal_or_memory LinkFault refused = refused
+refusal_or_memory Memory refused = tt
+refusal_or_memory Script refused = refused
+refusal_or_memory Truncated refused = refused
+refusal_or_memory TooLong refused = refused
+
+pub out_of_memory : (status : Status) → status ≡ Memory → IsRefusalOrMemory status
+out_of_memory status e = rw e tt

@@ -1,6 +1,6 @@
 ghost use Rattle.std.specs.Prelude.{◌≡◌, ◌≢◌, ◌↔◌, ◌⊎◌};
 ghost use Rattle.check_command.specs.Checks.{Checks};
-ghost use Rattle.command_io.specs.Endings.{GotLineOf, IsRefusal};
+ghost use Rattle.command_io.specs.Endings.{GotLineOf, HasNoLine, IsRefusal};
 ghost use Rattle.command_io.specs.Lines.{usage_line};
 ghost use Rattle.command_io.specs.Reports.{links_report, reports, sink_report, store_report};
 ghost use Rattle.feed_command.specs.Feeds.{Feeds};
@@ -56,6 +56,12 @@ pub fn riemann<S: Store, L: Links, O: Sink, E: Sink, P: Patterns, G: Ledger>(
         (sink_report (E.text err.old) (E.puts err.old) (E.faults err.old))
         (sink_report (E.text err.new) (E.puts err.new) (E.faults err.new)) }
     ensures untouched { IsRefusal result → (out.new ≡ out.old) × (links.new ≡ links.old) }
+    // Out of memory, only commands that write notices to `out` have written to it.
+    ensures memory { result ≡ Status.Memory → OnReplay words.now (λ config script. ⊥) →
+        OnServe words.now (λ config turns. ⊥) → out.new ≡ out.old }
+    // Without a line of its own for the status, only `feed` writes to `err`, where its notices go.
+    ensures no_line { HasNoLine result → OnFeed words.now (λ config file. ⊥) →
+        err.new ≡ err.old }
     ensures read_fault { result ≡ Status.ReadFault →
         Rose (S.faults store.old) (S.faults store.new) }
     ensures sink_fault { result ≡ Status.SinkFault →
@@ -63,7 +69,7 @@ pub fn riemann<S: Store, L: Links, O: Sink, E: Sink, P: Patterns, G: Ledger>(
     ensures link_fault { result ≡ Status.LinkFault →
         Rose (L.faults links.old) (L.faults links.new) }
 
-    // What each command promises.
+    // What each command promises. The equality is for the record's fact that no pattern was asked for.
     ensures feed { OnFeed words.now (λ config file. Feeds config file
         (reports (store_report (S.held store.old) (S.reads store.old) (S.taken store.old)
         (S.faults store.old)) (links_report (L.log links.old) (L.faults links.old))
@@ -75,7 +81,7 @@ pub fn riemann<S: Store, L: Links, O: Sink, E: Sink, P: Patterns, G: Ledger>(
         (sink_report (O.text out.new) (O.puts out.new) (O.faults out.new))
         (sink_report (E.text err.new) (E.puts err.new) (E.faults err.new))
         (patterns_state (P.refusals patterns.new) (P.refused patterns.new)) steps.new.forks)
-        result) }
+        (patterns.new ≡ patterns.old) result) }
     ensures check { OnCheck words.now (λ config. Checks config
         (reports (store_report (S.held store.old) (S.reads store.old) (S.taken store.old)
         (S.faults store.old)) (links_report (L.log links.old) (L.faults links.old))
@@ -87,7 +93,7 @@ pub fn riemann<S: Store, L: Links, O: Sink, E: Sink, P: Patterns, G: Ledger>(
         (sink_report (O.text out.new) (O.puts out.new) (O.faults out.new))
         (sink_report (E.text err.new) (E.puts err.new) (E.faults err.new))
         (patterns_state (P.refusals patterns.new) (P.refused patterns.new)) steps.new.forks)
-        result) }
+        (patterns.new ≡ patterns.old) result) }
     ensures replay { OnReplay words.now (λ config script. Replays config script
         (reports (store_report (S.held store.old) (S.reads store.old) (S.taken store.old)
         (S.faults store.old)) (links_report (L.log links.old) (L.faults links.old))
@@ -99,7 +105,7 @@ pub fn riemann<S: Store, L: Links, O: Sink, E: Sink, P: Patterns, G: Ledger>(
         (sink_report (O.text out.new) (O.puts out.new) (O.faults out.new))
         (sink_report (E.text err.new) (E.puts err.new) (E.faults err.new))
         (patterns_state (P.refusals patterns.new) (P.refused patterns.new)) steps.new.forks)
-        result) }
+        (patterns.new ≡ patterns.old) result) }
     ensures serve { OnServe words.now (λ config turns. Serves config turns
         (reports (store_report (S.held store.old) (S.reads store.old) (S.taken store.old)
         (S.faults store.old)) (links_report (L.log links.old) (L.faults links.old))
@@ -111,7 +117,7 @@ pub fn riemann<S: Store, L: Links, O: Sink, E: Sink, P: Patterns, G: Ledger>(
         (sink_report (O.text out.new) (O.puts out.new) (O.faults out.new))
         (sink_report (E.text err.new) (E.puts err.new) (E.faults err.new))
         (patterns_state (P.refusals patterns.new) (P.refused patterns.new)) steps.new.forks)
-        result) }
+        (patterns.new ≡ patterns.old) result) }
     ensures load { OnLoad words.now (λ config count start. Loads config count start
         (reports (store_report (S.held store.old) (S.reads store.old) (S.taken store.old)
         (S.faults store.old)) (links_report (L.log links.old) (L.faults links.old))
@@ -123,7 +129,7 @@ pub fn riemann<S: Store, L: Links, O: Sink, E: Sink, P: Patterns, G: Ledger>(
         (sink_report (O.text out.new) (O.puts out.new) (O.faults out.new))
         (sink_report (E.text err.new) (E.puts err.new) (E.faults err.new))
         (patterns_state (P.refusals patterns.new) (P.refused patterns.new)) steps.new.forks)
-        result) }
+        (patterns.new ≡ patterns.old) result) }
 {
     match command_of(words) {
         Some(Command::Feed { config, file }) => {

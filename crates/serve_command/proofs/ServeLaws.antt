@@ -1,5 +1,5 @@
 -- What `serve` promises, from what its parts say.
-use Rattle.std.proofs.Common.{◌≡◌, ℕ, ◌≤◌, List, [], ◌∷◌, length, refl, inl, inr, arith}
+use Rattle.std.proofs.Common.{◌≡◌, ◌≢◌, ℕ, ◌≤◌, List, [], ◌∷◌, length, refl, inl, inr, arith}
 use Rattle.std.specs.Prelude.{Option, Result, Ok, Err}
 use Rattle.conn_core.specs.declared.hub.Hub.{Hub}
 use Rattle.hub_run.specs.declared.fault.RunFault.{RunFault}
@@ -14,7 +14,7 @@ use Rattle.command_io.specs.declared.ending.Ending.{Ending}
 use Rattle.command_io.specs.declared.ending.Ending.TheVariants.{Finished, ConfigRefused, Unread, OverLimit, BytesLeft, WriteFailed, LinksFailed, ScriptRefused, OutOfMemory}
 use Rattle.command_io.specs.declared.limits.TheConstants.{CONFIG_LIMIT}
 use Rattle.command_io.specs.declared.status.Status.TheVariants.{ReadFault, SinkFault, LinkFault}
-use Rattle.command_io.specs.Endings.{IsComplete, IsDoneOrMemory, IsReadOnce, IsRefusal, Reads, status_of}
+use Rattle.command_io.specs.Endings.{HasNoConfig, IsComplete, IsDoneOrMemory, IsReadOnce, IsRefusal, Reads, status_of}
 use Rattle.command_io.specs.Files.{ReadMore, good_read}
 use Rattle.command_io.specs.Reports.{IsIdle, Reports as Reporting}
 use Rattle.command_io.proofs.ReadLaws.{read_alone}
@@ -26,11 +26,19 @@ use Rattle.serve_command.specs.Serves.{RanOn, ServeEnds, ending_of_run}
 
 pub served : (content : Content) (turns : ℕ) (setup : Setup) (old new : Reporting) (ran : Result Hub RunFault) → SetsUp content setup → RanOn setup turns old new ran
     → (ran ≡ Err Links → Rose old.links.faults new.links.faults) → (ran ≡ Err Sink → Rose old.out.faults new.out.faults)
+    → (ran ≢ Err Links → new.links.faults ≡ old.links.faults) → (ran ≢ Err Sink → new.out.faults ≡ old.out.faults)
     → ServeEnds content turns old new (ending_of_run ran)
-served content turns setup old new (Ok hub) sets ran links_rose sink_rose = (setup, sets, (hub, ran))
-served content turns setup old new (Err Links) sets ran links_rose sink_rose = (setup, sets, ran, links_rose refl)
-served content turns setup old new (Err Sink) sets ran links_rose sink_rose = (setup, sets, ran, sink_rose refl)
-served content turns setup old new (Err Memory) sets ran links_rose sink_rose = inr (setup, sets, ran)
+served content turns setup old new (Ok hub) sets ran links_rose sink_rose links_quiet sink_quiet = (setup, sets, (hub, ran))
+served content turns setup old new (Err Links) sets ran links_rose sink_rose links_quiet sink_quiet = (setup, sets, ran, links_rose refl)
+served content turns setup old new (Err Sink) sets ran links_rose sink_rose links_quiet sink_quiet = (setup, sets, ran, sink_rose refl)
+served content turns setup old new (Err Memory) sets ran links_rose sink_rose links_quiet sink_quiet =
+    inr (setup, sets, ran, links_quiet (λ e. cc), sink_quiet (λ e. cc))
+
+pub run_has_config : (ran : Result Hub RunFault) → HasNoConfig (ending_of_run ran) → ⊥
+run_has_config (Ok hub) refused = refused
+run_has_config (Err Links) refused = refused
+run_has_config (Err Sink) refused = refused
+run_has_config (Err Memory) refused = refused
 
 pub served_reads : (old new : Option (List StoreRead)) (name : List ℕ) (ran : Result Hub RunFault) → ReadMore (good_read name ∷ []) old new
     → Reads (name ∷ []) (IsReadOnce (ending_of_run ran)) old new (ending_of_run ran)

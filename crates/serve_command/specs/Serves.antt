@@ -13,7 +13,7 @@ use Rattle.command_io.specs.declared.ending.Ending.{Ending}
 use Rattle.command_io.specs.declared.ending.Ending.TheVariants.{Finished, WriteFailed, LinksFailed, OutOfMemory}
 use Rattle.command_io.specs.declared.limits.TheConstants.{CONFIG_LIMIT}
 use Rattle.command_io.specs.declared.status.Status.{Status}
-use Rattle.command_io.specs.Endings.{IsComplete, IsDoneOrMemory, IsReadOnce, Reads, Says, status_of}
+use Rattle.command_io.specs.Endings.{HasNoConfig, IsComplete, IsDoneOrMemory, IsReadOnce, Reads, Says, status_of}
 use Rattle.command_io.specs.Reports.{IsIdle, Reports}
 use Rattle.command_setup.specs.Setups.{RefusesSetup, SetsUp, run_report_of}
 
@@ -40,7 +40,8 @@ ServeEnds content turns old new WriteFailed =
     (setup : Setup) × SetsUp content setup × RanOn setup turns old new (Err Sink) × Rose old.out.faults new.out.faults
 ServeEnds content turns old new OutOfMemory =
     (RefusesSetup content old.store new.store old.patterns new.patterns OutOfMemory × IsIdle old new)
-    ⊎ ((setup : Setup) × SetsUp content setup × RanOn setup turns old new (Err Memory))
+    ⊎ ((setup : Setup) × SetsUp content setup × RanOn setup turns old new (Err Memory)
+    × (new.links.faults ≡ old.links.faults) × (new.out.faults ≡ old.out.faults))
 ServeEnds content turns old new ending = RefusesSetup content old.store new.store old.patterns new.patterns ending × IsIdle old new
 
 -- with a configuration within its limit, no fault and no pattern refused, all turns are taken, or memory runs out
@@ -50,7 +51,8 @@ ServeCompletes config old new status = (text : List ℕ) (read : Config)
     → IsStill old.store.faults new.store.faults → IsStill old.links.faults new.links.faults
     → IsStill old.out.faults new.out.faults → IsStill old.patterns.refusals new.patterns.refusals → IsDoneOrMemory status
 
-pub record Serves (config : List ℕ) (turns : ℕ) (old new : Reports) (status : Status) : Type 0 where
+-- `Unasked` is that no pattern was asked for.
+pub record Serves (config : List ℕ) (turns : ℕ) (old new : Reports) (Unasked : Type 0) (status : Status) : Type 0 where
   -- how it ended, as the status and the line on the error stream say
   pub ending : Ending
   pub ended : status ≡ status_of ending
@@ -59,6 +61,8 @@ pub record Serves (config : List ℕ) (turns : ℕ) (old new : Reports) (status 
   pub ends : ServeEnds (old.store.held config) turns old new ending
   -- what it read
   pub reads : Reads (config ∷ []) (IsReadOnce ending) old.store.reads new.store.reads ending
+  -- patterns are asked for once there is a configuration
+  pub unasked : HasNoConfig ending → Unasked
   -- where it did all that it had to, nothing failed
   pub quiet : IsComplete ending
       → (new.store.faults ≡ old.store.faults) × (new.links.faults ≡ old.links.faults) × (new.out.faults ≡ old.out.faults)

@@ -1,7 +1,7 @@
 ghost use Rattle.std.specs.Prelude.{◌≡◌, [], ◌∷◌};
 ghost use Rattle.hub_meaning.specs.Verdicts.{patterns_state};
 ghost use Rattle.ports.specs.Counts.{Rose};
-ghost use Rattle.command_io.specs.Endings.{IsComplete, IsReadOnce, IsRefusal, Reads, status_of};
+ghost use Rattle.command_io.specs.Endings.{HasNoConfig, HasNoLine, IsComplete, IsReadOnce, IsRefusal, Reads, status_of};
 ghost use Rattle.command_io.specs.Reports.{SinkReport, links_report, reports, sink_report, store_report};
 ghost use Rattle.serve_command.specs.Serves.{ServeEnds, Serves, ending_of_run};
 
@@ -39,13 +39,14 @@ pub fn serve<S: Store, L: Links, O: Sink, E: Sink, P: Patterns, G: Ledger>(
         (sink_report (O.text out.new) (O.puts out.new) (O.faults out.new))
         (sink_report (E.text err.new) (E.puts err.new) (E.faults err.new))
         (patterns_state (P.refusals patterns.new) (P.refused patterns.new)) steps.new.forks)
-        result }
+        (patterns.new ≡ patterns.old) result }
     ensures read_fault { result ≡ Status.ReadFault →
         Rose (S.faults store.old) (S.faults store.new) }
     ensures sink_fault { result ≡ Status.SinkFault → Rose (O.faults out.old) (O.faults out.new) }
     ensures link_fault { result ≡ Status.LinkFault →
         Rose (L.faults links.old) (L.faults links.new) }
     ensures untouched { IsRefusal result → (out.new ≡ out.old) × (links.new ≡ links.old) }
+    ensures no_line { HasNoLine result → err.new ≡ err.old }
 {
     let ending = serve_links(alloc, config, turns, store, links, out, patterns, steps);
     report(ending, config, config, err)
@@ -78,6 +79,7 @@ fn serve_links<S: Store, L: Links, O: Sink, P: Patterns, G: Ledger>(
         (L.faults links.new ≡ L.faults links.old) × (O.faults out.new ≡ O.faults out.old) }
     ensures untouched { IsRefusal (status_of result) → (out.new ≡ out.old) ×
         (links.new ≡ links.old) }
+    ensures unasked { HasNoConfig result → patterns.new ≡ patterns.old }
 {
     match fetch_setup(alloc, config, store, patterns) {
         Ok(setup) => ending_of_run(run(alloc, setup, turns, links, out, patterns, steps)),

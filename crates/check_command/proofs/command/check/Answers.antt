@@ -11,6 +11,7 @@ returns-clause-promise g c = λ links forks. record {
   reads = c.check_file-ending.ensures.reads;
   taken = c.check_file-ending.ensures.taken;
   writes = c.check_file-ending.ensures.writes;
+  unasked = c.check_file-ending.ensures.unasked;
   quiet = c.check_file-ending.ensures.quiet;
   idle = (refl, refl);
   complete = λ text read holds reads fits reads_still out_still patterns_still.

@@ -26,6 +26,7 @@ returns-clause-promise g c = λ links.
       ends = ends;
       untouched = refl {a = links};
       reads = c.feed_files-ending.ensures.reads;
+      unasked = c.feed_files-ending.ensures.unasked;
       quiet = c.feed_files-ending.ensures.quiet;
       complete = λ text bytes read holds is fits holds_bytes bytes_fit reads_still out_still err_still still.
           rw c.report.ensures.status (feed_completes c.args.config.now c.args.file.now held held' old new after text bytes read ending ends

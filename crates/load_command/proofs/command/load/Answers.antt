@@ -23,6 +23,7 @@ returns-clause-promise g c = λ links.
       ends = ends;
       untouched = refl;
       reads = c.load_config-ending.ensures.reads;
+      unasked = c.load_config-ending.ensures.unasked;
       quiet = c.load_config-ending.ensures.quiet;
       complete = λ text read holds is fits reads_still out_still still.
           rw c.report.ensures.status (load_complete content c.args.count c.args.start text read old new ending holds is fits reads_still out_still still ends);

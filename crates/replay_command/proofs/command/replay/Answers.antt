@@ -12,6 +12,7 @@ returns-clause-promise g c = λ links. record {
   ends = c.replay_files-ending.ensures.ends links _ _;
   untouched = refl;
   reads = c.replay_files-ending.ensures.reads;
+  unasked = c.replay_files-ending.ensures.unasked;
   quiet = c.replay_files-ending.ensures.quiet;
   complete = λ text lines read played holds is fits holds_lines is_script lines_fit reads_still out_still still.
       rw c.report.ensures.status (replay_complete _ _ _ _ text lines read played c.replay_files-ending.result (c.replay_files-ending.ensures.ends links

@@ -1,5 +1,6 @@
+use Rattle.std.proofs.Common.{refl}
 use Rattle.command_io.specs.Reports.{links_report}
-use Rattle.riemann_server.proofs.CommandLaws.{named, not_usage}
+use Rattle.riemann_server.proofs.CommandLaws.{named, not_usage, out_of_memory, refusal_or_memory}
 use Rattle.riemann_server.proofs.server.riemann.Goals as goal
 
 pub returns-in-Some-Feed-clause-usage : goal.returns-in-Some-Feed-clause-usage
@@ -52,3 +53,30 @@ returns-in-Some-Load-clause-idle g c =
 
 pub returns-in-None-clause-load : goal.returns-in-None-clause-load
 returns-in-None-clause-load g c = λ config count start is. absurd (c.in-None.ensures.4 config count start is)
+
+pub returns-in-Some-Feed-clause-untouched : goal.returns-in-Some-Feed-clause-untouched
+returns-in-Some-Feed-clause-untouched g c = λ refused. (c.feed.ensures.untouched (refusal_or_memory c.feed.result refused), refl)
+
+pub returns-in-Some-Feed-clause-memory : goal.returns-in-Some-Feed-clause-memory
+returns-in-Some-Feed-clause-memory g c = λ e not_replay not_serve. c.feed.ensures.untouched (out_of_memory c.feed.result e)
+
+pub returns-in-Some-Check-clause-untouched : goal.returns-in-Some-Check-clause-untouched
+returns-in-Some-Check-clause-untouched g c = λ refused. (c.check.ensures.untouched (refusal_or_memory c.check.result refused), refl)
+
+pub returns-in-Some-Check-clause-memory : goal.returns-in-Some-Check-clause-memory
+returns-in-Some-Check-clause-memory g c = λ e not_replay not_serve. c.check.ensures.untouched (out_of_memory c.check.result e)
+
+pub returns-in-Some-Load-clause-untouched : goal.returns-in-Some-Load-clause-untouched
+returns-in-Some-Load-clause-untouched g c = λ refused. (c.load.ensures.untouched (refusal_or_memory c.load.result refused), refl)
+
+pub returns-in-Some-Load-clause-memory : goal.returns-in-Some-Load-clause-memory
+returns-in-Some-Load-clause-memory g c = λ e not_replay not_serve. c.load.ensures.untouched (out_of_memory c.load.result e)
+
+pub returns-in-Some-Replay-clause-memory : goal.returns-in-Some-Replay-clause-memory
+returns-in-Some-Replay-clause-memory g c = λ e not_replay not_serve. absurd (not_replay _ _ (rw c.in-Some-Replay.field-0-is at c.in-Some-Replay.ensures))
+
+pub returns-in-Some-Serve-clause-memory : goal.returns-in-Some-Serve-clause-memory
+returns-in-Some-Serve-clause-memory g c = λ e not_replay not_serve. absurd (not_serve _ _ (rw c.in-Some-Serve.field-0-is at c.in-Some-Serve.ensures))
+
+pub returns-in-Some-Feed-clause-no_line : goal.returns-in-Some-Feed-clause-no_line
+returns-in-Some-Feed-clause-no_line g c = λ quiet not_feed. absurd (not_feed _ _ (rw c.in-Some-Feed.field-0-is at c.in-Some-Feed.ensures))

@@ -21,6 +21,7 @@ returns-clause-promise g c =
       says = c.report.ensures.says;
       ends = ends;
       reads = c.serve_links-ending.ensures.reads;
+      unasked = c.serve_links-ending.ensures.unasked;
       quiet = c.serve_links-ending.ensures.quiet;
       complete = λ text read holds is fits reads_still links_still out_still still.
           rw c.report.ensures.status (serve_complete content turns text read old new ending holds is fits reads_still links_still out_still still ends);

@@ -1,6 +1,6 @@
 use Rattle.command_io.specs.Reports.{links_report, reports, sink_report, store_report}
 use Rattle.hub_meaning.specs.Verdicts.{patterns_state}
-use Rattle.serve_command.proofs.ServeLaws.{served}
+use Rattle.serve_command.proofs.ServeLaws.{run_has_config, served}
 use Rattle.serve_command.proofs.command.serve_links.Goals as goal
 
 pub returns-in-Ok-clause-ends : goal.returns-in-Ok-clause-ends
@@ -12,4 +12,7 @@ returns-in-Ok-clause-ends g c = λ err err'.
     (links_report (g.L.Links.log c.run.new.links) (g.L.Links.faults c.run.new.links)) (sink_report (g.O.Sink.text c.run.new.sink) (g.O.Sink.puts c.run.new.sink) (g.O.Sink.faults c.run.new.sink))
     err' (patterns_state (g.P.Patterns.refusals c.run.new.patterns) (g.P.Patterns.refused c.run.new.patterns)) c.run.new.steps.forks in
     rw c.ending_of_run.ensures (served (g.S.Store.held c.args.store.now c.args.config.now) c.args.turns c.in-Ok.setup old new c.run.result
-    c.in-Ok.ensures.setup (rw c.in-Ok.ensures.same at c.run.ensures.runs) c.run.ensures.links_fault c.run.ensures.sink_fault)
+    c.in-Ok.ensures.setup (rw c.in-Ok.ensures.same at c.run.ensures.runs) c.run.ensures.links_fault c.run.ensures.sink_fault c.run.ensures.links_quiet c.run.ensures.sink_quiet)
+
+pub returns-in-Ok-clause-unasked : goal.returns-in-Ok-clause-unasked
+returns-in-Ok-clause-unasked g c = λ refused. absurd (run_has_config c.run.result (rw c.ending_of_run.ensures at refused))
