@@ -1,5 +1,5 @@
 -- A run of the examples is legal, call by call, and another one is not.
-use Rattle.std.proofs.Common.{◌≡◌, ℕ, ◌<◌, true, List, [], ◌∷◌, refl, sym, subst, arith}
+use Rattle.std.proofs.Common.{◌≡◌, true, [], ◌∷◌, refl, sym, subst, arith}
 use Rattle.hub_meaning.specs.Examples.{LateRoomExample, ClosedEarlyExample, ok_reply}
 use Rattle.hub_meaning.specs.Legal.{MayClose}
 use Rattle.hub_meaning.specs.Links.{Link, ReadClosed}

@@ -1,9 +1,9 @@
 -- Links by their numbers: how one is found, and what changing one keeps.
-use Rattle.std.proofs.Common.{◌≡◌, ◌≢◌, ℕ, ◌+◌, ◌<◌, ◌==◌, Bool, true, false, cond, ◌&&◌, List, [], ◌∷◌, ◌++◌, map, refl, ap, sym, ◌∙◌, subst, arith}
-use Rattle.std.specs.Prelude.{Option, Some, None, nat_lt}
+use Rattle.std.proofs.Common.{◌≡◌, ℕ, ◌<◌, Bool, true, false, cond, List, [], ◌∷◌, ◌++◌, refl, ap, sym, ◌∙◌, subst, arith}
+use Rattle.std.specs.Prelude.{Some, nat_lt}
 use Rattle.std.specs.List.{AllByRecursion, list_all}
-use Rattle.std.proofs.lemmas.Bool.{eqb-true, eq-eqb, ne_eqb, ltb-true, and_parts}
-use Rattle.hub_meaning.specs.Links.{Link, Status, Open, ReadClosed, Closing, Closed, changed, closed, broken, ended, find_link, has_number, is_above, is_connected, is_open, new_link, opened, sent, unblocked, with_status}
+use Rattle.std.proofs.lemmas.Bool.{eqb-true, eq-eqb, ltb-true, and_parts}
+use Rattle.hub_meaning.specs.Links.{Link, ReadClosed, Closing, changed, broken, ended, find_link, has_number, is_above, is_connected, is_open, new_link, opened, unblocked, with_status}
 use Rattle.hub_meaning.specs.Laws.{AreAbove, AreRising}
 
 -- ---- what holds of each link

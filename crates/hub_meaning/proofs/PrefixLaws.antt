@@ -1,11 +1,10 @@
 -- A link was sent a prefix of its replies.
-use Rattle.std.proofs.Common.{◌≡◌, ℕ, ◌+◌, Bool, true, false, cond, List, [], ◌∷◌, ◌++◌, length, take, drop, map, refl, ap, sym, ◌∙◌, subst, arith, append-nil, append_assoc}
+use Rattle.std.proofs.Common.{◌≡◌, ℕ, Bool, true, false, cond, List, [], ◌∷◌, ◌++◌, length, take, drop, refl, ap, sym, ◌∙◌, append_assoc}
 use Rattle.std.specs.Prelude.{Option, Some, None}
 use Rattle.std.specs.List.{AllByRecursion}
 use Rattle.std.proofs.lemmas.List.{drop_at, take-append-drop}
 use Rattle.event_core.specs.Core.{CoreConfig}
 use Rattle.framing.specs.Frames.{partial, length_at}
-use Rattle.list_laws.specs.Prefix.{IsPrefix}
 use Rattle.ports.specs.declared.entry.Entry.{Entry}
 use Rattle.ports.specs.declared.entry.Entry.TheVariants.{Listen, Next, Send, Close}
 use Rattle.ports.specs.declared.links.SendAnswer.{SendAnswer}
@@ -14,13 +13,13 @@ use Rattle.ports.specs.declared.links.Turn.{Turn}
 use Rattle.ports.specs.declared.links.What.{What}
 use Rattle.ports.specs.declared.links.What.TheVariants as what
 use Rattle.hub_meaning.specs.Clock.{next_moment}
-use Rattle.hub_meaning.specs.Links.{Link, ReadClosed, Closing, changed, closed, broken, ended, find_link, has_number, is_above, is_connected, is_open, new_link, opened, sent, unblocked, unsent, with_status}
+use Rattle.hub_meaning.specs.Links.{Link, ReadClosed, Closing, closed, broken, ended, find_link, is_above, is_connected, is_open, new_link, opened, sent, unblocked, unsent, with_status}
 use Rattle.hub_meaning.specs.Replies.{reply_to_oversized}
-use Rattle.hub_meaning.specs.Runs.{RunState, Step, Talk, after_entry, after_step, all_answered, answered, cut_off, first_state, is_oversized, is_turn, messages_in, occurred, passed, read_by, read_from, state_from, state_after, talk_of, turned, with_piece, with_reply, with_talk}
+use Rattle.hub_meaning.specs.Runs.{RunState, Step, Talk, after_entry, after_step, all_answered, answered, cut_off, first_state, is_oversized, is_turn, messages_in, occurred, passed, read_by, read_from, state_from, talk_of, turned, with_reply, with_talk}
 use Rattle.hub_meaning.specs.Verdicts.{Message, Refusal}
-use Rattle.hub_meaning.specs.Legal.{IsLegal, IsLegalFrom, MayCome, MaySend}
+use Rattle.hub_meaning.specs.Legal.{IsLegalFrom, MayCome, MaySend}
 use Rattle.hub_meaning.specs.Laws.{AreRising, NumbersRise, PrefixesAreSent, SentPrefix}
-use Rattle.hub_meaning.proofs.LinkLaws.{all_append, all_changed, all_found, all_replaced, rising_changed, rising_opened, ended_number, broken_number, unblocked_number, found_number}
+use Rattle.hub_meaning.proofs.LinkLaws.{all_append, all_changed, all_found, all_replaced, rising_changed, rising_opened, ended_number, broken_number, unblocked_number}
 
 -- ---- one link
 

@@ -1,11 +1,9 @@
 -- Laws of runs: how they go on.
-use Rattle.std.proofs.Common.{◌≡◌, ℕ, List, [], ◌∷◌, ◌++◌, length, drop, refl, ap, sym, ◌∙◌, arith}
+use Rattle.std.proofs.Common.{[], ◌∷◌, ◌++◌, length, refl}
 use Rattle.std.proofs.lemmas.List.{drop_at}
-use Rattle.event_core.specs.Core.{CoreConfig}
 use Rattle.framing.specs.Frames.{frames_of, partial}
 use Rattle.framing.proofs.FrameLaws.{frames_append}
-use Rattle.hub_meaning.specs.Runs.{RunState, Step, new_frames, state_from, after_step}
-use Rattle.hub_meaning.specs.Legal.{IsLegalFrom}
+use Rattle.hub_meaning.specs.Runs.{after_step}
 use Rattle.hub_meaning.specs.Laws.{StepsComeInOrder, LegalInOrder, MessagesComeWhole, NewFramesAreOfTheRest}
 
 pub state_append : StepsComeInOrder

@@ -1,17 +1,17 @@
 -- Small runs, as the definitions compute them.
-use Rattle.std.specs.Prelude.{◌≡◌, ℕ, zero, suc, true, false, List, [], ◌∷◌, ◌++◌, length, map, None}
+use Rattle.std.specs.Prelude.{◌≡◌, ℕ, zero, suc, true, false, List, [], ◌∷◌, ◌++◌, length, None}
 use Rattle.event_core.specs.Core.{CoreConfig}
 use Rattle.ports.specs.declared.entry.Entry.{Entry}
 use Rattle.ports.specs.declared.entry.Entry.TheVariants.{Next, Send, Close}
 use Rattle.ports.specs.declared.links.SendAnswer.TheVariants.{Took, Later}
 use Rattle.ports.specs.declared.links.Want.{Want}
 use Rattle.ports.specs.declared.links.What.{What}
-use Rattle.ports.specs.declared.links.What.TheVariants.{Opened, Ended, Room}
+use Rattle.ports.specs.declared.links.What.TheVariants.{Ended, Room}
 use Rattle.stream_plan.specs.Tree.{Index, none}
 use Rattle.stream_meaning.specs.Small.{above, alone}
 use Rattle.hub_meaning.specs.Clock.{next_moment}
 use Rattle.hub_meaning.specs.Legal.{IsLegalFrom}
-use Rattle.hub_meaning.specs.Links.{Link, Open, Closing, Closed, connected, opened}
+use Rattle.hub_meaning.specs.Links.{Link, Open, Closed, connected, opened}
 use Rattle.hub_meaning.specs.Runs.{RunState, plain, state_from}
 
 -- a clock that goes back, and then far on: an hour a turn is taken of it

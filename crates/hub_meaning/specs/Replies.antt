@@ -1,5 +1,5 @@
 -- What each message is answered. A reply is a message too, in a frame of its own.
-use Rattle.std.specs.Prelude.{ℕ, true, false, nat_le, if◌then◌else◌, List, [], ◌∷◌, ◌++◌, filter, length, codes, Option, Some, None, Result, Ok, Err}
+use Rattle.std.specs.Prelude.{ℕ, true, false, nat_le, if◌then◌else◌, List, [], ◌++◌, filter, length, codes, Option, Some, None, Result, Ok, Err}
 use Rattle.std.specs.Fmt.{decimal}
 use Rattle.ev_types.specs.declared.event.Event.{Event}
 use Rattle.framing.specs.declared.TheConstants.{BODY_LIMIT}
@@ -12,6 +12,7 @@ use Rattle.riemann_msg.specs.Spelling.{spelling}
 use Rattle.index_log.specs.Live.{IndexLog, live_events}
 use Rattle.pred_eval.specs.Tree.{Tree}
 use Rattle.pred_eval.specs.Truth.{holds}
+use Rattle.query_lang.specs.declared.read.TheConstants.{MAX_BYTES}
 use Rattle.query_lang.specs.declared.fault.QueryFault.{QueryFault}
 use Rattle.query_lang.specs.declared.fault.QueryFault.TheVariants.{TooLong, Refused as QueryRefused, TooDeep, Memory as NoMemory}
 use Rattle.query_lang.specs.Answer.{query_of}
@@ -34,7 +35,7 @@ framed msg = frame (spelling msg)
 
 -- the reason for which a reply of this many bytes is not sent
 unfoldable pub over_limit : ℕ → List ℕ
-over_limit size = codes "reply of " ++ (decimal size ++ codes " bytes over 4194304")
+over_limit size = codes "reply of " ++ (decimal size ++ (codes " bytes over " ++ decimal BODY_LIMIT))
 
 -- a reply, unless its body is over the limit
 unfoldable pub limited : Msg → Msg
@@ -50,11 +51,11 @@ busy unsent = codes "busy: " ++ (decimal unsent ++ codes " bytes unsent")
 
 -- the reason for which a length is refused
 unfoldable pub oversized : ℕ → List ℕ
-oversized size = codes "frame of " ++ (decimal size ++ codes " bytes over 4194304")
+oversized size = codes "frame of " ++ (decimal size ++ (codes " bytes over " ++ decimal BODY_LIMIT))
 
 -- the reason for which a query is refused; out of memory is no answer
 unfoldable pub query_refusal : QueryFault → List ℕ
-query_refusal (TooLong size) = codes "query of " ++ (decimal size ++ codes " bytes over 4096")
+query_refusal (TooLong size) = codes "query of " ++ (decimal size ++ (codes " bytes over " ++ decimal MAX_BYTES))
 query_refusal (QueryRefused place) = codes "query refused at " ++ decimal place
 query_refusal (TooDeep place) = codes "query too deep at " ++ decimal place
 query_refusal NoMemory = []

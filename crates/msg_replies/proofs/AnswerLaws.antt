@@ -1,5 +1,5 @@
 -- How a message is answered, put together from its steps.
-use Rattle.std.proofs.Common.{◌≡◌, ◌≢◌, ℕ, ◌+◌, ◌<◌, ◌≤◌, Bool, true, false, cond, List, [], ◌∷◌, ◌++◌, length, map, refl, ap, sym, ◌∙◌, subst, arith, append-nil, append_assoc}
+use Rattle.std.proofs.Common.{◌≡◌, ◌≢◌, ℕ, Bool, true, false, cond, List, [], ◌∷◌, ◌++◌, map, refl, ap, sym, ◌∙◌, subst, arith, append-nil, append_assoc}
 use Rattle.std.proofs.lemmas.List.{map-append}
 use Rattle.std.specs.Prelude.{Option, Some, None, Result, Ok, Err, OnOk, OnErr, option_and_then}
 use Rattle.ev_types.specs.declared.event.Event.{Event}
@@ -14,15 +14,14 @@ use Rattle.query_lang.specs.Answer.{query_of}
 use Rattle.query_lang.specs.Queries.{Says}
 use Rattle.riemann_msg.specs.declared.fault.MsgWhy.{MsgWhy}
 use Rattle.riemann_msg.specs.declared.msg.Msg.{Msg}
-use Rattle.riemann_msg.specs.declared.msg.QueryPart.{QueryPart}
 use Rattle.riemann_msg.specs.Fault.{Fault, fault_at, first_fault}
 use Rattle.riemann_msg.specs.Value.{message_of}
 use Rattle.stream_meaning.specs.Arrivals.{Arrival, Post}
-use Rattle.hub_meaning.specs.Messages.{events_of, posts_of, reading_of, rule_of, rule_of_query, rule_read}
+use Rattle.hub_meaning.specs.Messages.{posts_of, reading_of, rule_of, rule_of_query, rule_read}
 use Rattle.hub_meaning.specs.Replies.{answer_to_query, answer_to_text, framed, message_refusal, query_refusal, refused, reply_to}
 use Rattle.hub_meaning.specs.Verdicts.{PatternsState, Refusal, built_rule, is_busy}
-use Rattle.msg_replies.specs.Arriving.{Arrives, Told, told}
-use Rattle.msg_replies.specs.Answering.{AfterVerdict, AnswersMessage, AnswersQuery, Replies, asked_of}
+use Rattle.msg_replies.specs.Arriving.{Arrives, Told}
+use Rattle.msg_replies.specs.Answering.{AfterVerdict, AnswersMessage, AnswersQuery, asked_of}
 use Rattle.msg_replies.proofs.VerdictLaws.{no_verdict}
 
 pub on_ok : {T E : Type 0} {P Q : Type 0} (r : Result T E) → (P → Q) → OnOk r P → OnOk r Q

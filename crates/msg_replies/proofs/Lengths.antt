@@ -1,5 +1,5 @@
 -- How long replies are, and the reasons in them.
-use Rattle.std.proofs.Common.{◌≡◌, ℕ, zero, suc, ◌+◌, ◌/◌, ◌%◌, ◌^◌, ◌<◌, ◌≤◌, true, false, cond, List, [], ◌∷◌, ◌++◌, length, refl, arith, length-append, lit<}
+use Rattle.std.proofs.Common.{◌≡◌, ℕ, zero, suc, ◌+◌, ◌/◌, ◌%◌, ◌^◌, ◌<◌, ◌≤◌, true, false, cond, List, [], ◌∷◌, length, refl, arith, length-append, lit<}
 use Rattle.std.specs.Prelude.{nat_lt}
 use Rattle.std.specs.Fmt.{decimal}
 use Rattle.std.proofs.lemmas.Bool.Decides.{nat_tests}
@@ -7,6 +7,7 @@ use Rattle.std.proofs.lemmas.Fmt.{length-decimal-le}
 use Rattle.framing.specs.declared.TheConstants.{BODY_LIMIT}
 use Rattle.pb_wire.specs.Spelling.{field_spelling}
 use Rattle.pb_wire.specs.Varint.{varint, spelled_within}
+use Rattle.query_lang.specs.declared.read.TheConstants.{MAX_BYTES}
 use Rattle.query_lang.specs.declared.fault.QueryFault.{QueryFault}
 use Rattle.query_lang.specs.declared.fault.QueryFault.TheVariants.{TooLong, Refused as QueryRefused, TooDeep, Memory as NoMemory}
 use Rattle.riemann_msg.specs.declared.fault.MsgWhy.{MsgWhy}
@@ -14,11 +15,11 @@ use Rattle.riemann_msg.specs.declared.fault.MsgWhy.TheVariants.{Short, Varint, T
 use Rattle.riemann_msg.specs.declared.msg.Msg.{Msg}
 use Rattle.riemann_msg.specs.Spelling.{spelling, message_values}
 use Rattle.riemann_msg.specs.Fault.{why_name}
-use Rattle.hub_meaning.specs.Replies.{accepted, busy, limited, message_refusal, over_limit, oversized, pattern_refusal, query_refusal, refused}
+use Rattle.hub_meaning.specs.Replies.{accepted, busy, framed, limited, message_refusal, over_limit, oversized, pattern_refusal, query_refusal, refused}
 
-pub accepted_length : length (spelling accepted) ≡ 2
-unfolding spelling message_values field_spelling varint spelled_within
-accepted_length = refl
+pub accepted_frame : framed accepted ≡ 0 ∷ 0 ∷ 0 ∷ 2 ∷ 16 ∷ 1 ∷ []
+unfolding framed spelling message_values field_spelling varint spelled_within
+accepted_frame = refl
 
 spelled_within_length : (n value : ℕ) → length (spelled_within n value) ≤ n + 1
 unfolding spelled_within
@@ -49,10 +50,17 @@ pub limited_over : (msg : Msg) → BODY_LIMIT < length (spelling msg) → limite
 unfolding limited
 limited_over msg large = grind (arith, nat_tests)
 
+body_digits : length (decimal BODY_LIMIT) ≤ 20
+body_digits = length-decimal-le 20 BODY_LIMIT (lit< tt) (omega arith) (lit< tt)
+
+query_digits : length (decimal MAX_BYTES) ≤ 20
+query_digits = length-decimal-le 20 MAX_BYTES (lit< tt) (omega arith) (lit< tt)
+
 pub over_limit_length : (size : ℕ) → size < 2 ^ 64 → length (over_limit size) < 1000
 unfolding over_limit
 over_limit_length size small =
     let digits : length (decimal size) ≤ 20 = length-decimal-le 20 size (lit< tt) (omega arith) small in
+    let limit = body_digits in
     simp length-append (omega arith)
 
 why_length : (why : MsgWhy) → length (why_name why) ≤ 6
@@ -88,6 +96,7 @@ pub query_refusal_length : (fault : QueryFault) → IsSmallFault fault → lengt
 unfolding query_refusal
 query_refusal_length (TooLong size) small =
     let digits : length (decimal size) ≤ 20 = length-decimal-le 20 size (lit< tt) (omega arith) small in
+    let limit = query_digits in
     simp length-append (omega arith)
 query_refusal_length (QueryRefused place) small =
     let digits : length (decimal place) ≤ 20 = length-decimal-le 20 place (lit< tt) (omega arith) small in
@@ -107,4 +116,5 @@ pub oversized_length : (size : ℕ) → size < 2 ^ 32 → length (oversized size
 unfolding oversized
 oversized_length size small =
     let digits : length (decimal size) ≤ 20 = length-decimal-le 20 size (lit< tt) (omega arith) (omega arith) in
+    let limit = body_digits in
     simp length-append (omega arith)

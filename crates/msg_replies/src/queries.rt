@@ -15,7 +15,7 @@ use ev_types::{Blob, Events, Memory};
 use event_core::Core;
 use framing::BODY_LIMIT;
 use pred_eval::{BuildFault, Patterns, Pred, Rule};
-use query_lang::{QueryFault, read_query};
+use query_lang::{MAX_BYTES, QueryFault, read_query};
 use riemann_msg::{Msg, QueryPart, msg_len};
 use std::alloc::{AllocError, Global};
 use step_count::{Ledger, Steps};
@@ -169,7 +169,7 @@ fn put_limited(alloc: Global, events: Events, replies: &mut Blob) -> Result<(), 
 fn over_limit(alloc: Global, size: usize) -> Result<String, AllocError>
     ensures { IfOk result (λ reason. string_bytes reason ≡ over_limit size) }
 {
-    format!(in alloc; "reply of {size} bytes over 4194304")
+    format!(in alloc; "reply of {size} bytes over {BODY_LIMIT}")
 }
 
 /// Appends a reply that so many bytes are unsent.
@@ -205,7 +205,9 @@ fn query_refusal(alloc: Global, fault: QueryFault) -> Result<String, Memory>
     ensures reason { IfOk result (λ reason. string_bytes reason ≡ query_refusal fault) }
 {
     Ok(match fault {
-        QueryFault::TooLong { length } => format!(in alloc; "query of {length} bytes over 4096")?,
+        QueryFault::TooLong { length } => format!(in alloc;
+            "query of {length} bytes over {MAX_BYTES}"
+        )?,
         QueryFault::Refused { place } => format!(in alloc; "query refused at {place}")?,
         QueryFault::TooDeep { place } => format!(in alloc; "query too deep at {place}")?,
         QueryFault::Memory => return Err(Memory),

@@ -11,6 +11,7 @@ ghost use Rattle.msg_replies.specs.Arriving.{Arrives, told};
 use crate::queries::answer_query;
 use ev_types::{Blob, Events, Memory, Notices, Text};
 use event_core::Core;
+use framing::BODY_LIMIT;
 use pred_eval::Patterns;
 use riemann_msg::{Msg, MsgFault, MsgWhy, msg_len, read_msg, write_msg};
 use std::alloc::{AllocError, Global};
@@ -64,18 +65,16 @@ fn post_all<G: Ledger>(
     Ok(())
 }
 
+/// The reply that a message was accepted: a frame of two bytes, field 2 with the value 1.
+const ACCEPTED: [u8; 6] = [0, 0, 0, 2, 16, 1];
+
 /// Appends a reply that the message was accepted.
-#[tactic(auto, using(crate::proofs::Lengths::accepted_length))]
+#[tactic(auto, using(crate::proofs::Lengths::accepted_frame))]
 pub(crate) fn accept(alloc: Global, replies: &mut Blob) -> Result<(), Memory>
     ensures { OnOk result (replies.new ≡ replies.old ++ framed accepted) }
 {
-    let msg = Msg {
-        ok: Some(true),
-        error: None,
-        query: None,
-        events: Events::fresh(alloc),
-    };
-    put_frame(alloc, &msg, 2, replies)
+    replies.append(alloc, &ACCEPTED)?;
+    Ok(())
 }
 
 /// Appends a reply that the message was refused at a place.
@@ -143,5 +142,5 @@ pub fn refuse_length(alloc: Global, length: u32, replies: &mut Blob) -> Result<(
 fn oversized(alloc: Global, length: u32) -> Result<String, AllocError>
     ensures { IfOk result (λ reason. string_bytes reason ≡ oversized length) }
 {
-    format!(in alloc; "frame of {length} bytes over 4194304")
+    format!(in alloc; "frame of {length} bytes over {BODY_LIMIT}")
 }

@@ -1,5 +1,4 @@
-use Rattle.std.proofs.Common.{◌≡◌, refl, arith}
-use Rattle.hub_meaning.specs.Examples.{ClockExample, LateRoomExample, AllTakenExample, ClosedEarlyExample, ConnectedExample}
+use Rattle.std.proofs.Common.{refl}
 use Rattle.hub_meaning.proofs.ExampleLaws.{late_room_example, closed_early_example}
 use Rattle.hub_meaning.proofs.example.examples_are_computed.Goals as goal
 

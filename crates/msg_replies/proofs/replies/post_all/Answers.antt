@@ -1,5 +1,4 @@
-use Rattle.std.proofs.Common.{◌≡◌, [], ◌∷◌, ◌++◌, map, refl, sym, ◌∙◌}
-use Rattle.stream_meaning.specs.Arrivals.{Post}
+use Rattle.std.proofs.Common.{refl, ◌∙◌}
 use Rattle.msg_replies.specs.Arriving.{told}
 use Rattle.msg_replies.proofs.AnswerLaws.{arrives_nothing, posted_more}
 use Rattle.msg_replies.proofs.replies.post_all.Goals as goal
