@@ -40,7 +40,8 @@ pub struct Hub {
 impl Hub {
     /// A hub without links, over a core to which nothing has arrived.
     pub fn fresh(alloc: Global, core: Core) -> Result<Hub, Memory>
-        ensures follows { IfOk result (λ hub. Represents core [] → Follows hub (config_of core) []) }
+        ensures follows { IfOk result (λ hub. Represents core [] →
+            Follows hub (config_of core) []) }
         ensures core { IfOk result (λ hub. core_of hub ≡ core) }
         ensures wants { IfOk result (λ hub. wants_in hub ≡ []) }
     {

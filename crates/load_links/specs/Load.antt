@@ -28,7 +28,7 @@ drawn_from number = number / 2 ^ 33
 abbrev pub second_of : ℕ → ℕ
 second_of i = i / 10
 
--- of the states, every fourth is critical
+-- one state in four is critical
 abbrev pub state_of : ℕ → List ℕ
 state_of drawn = if drawn / 50 % 4 == 0 then codes "critical" else codes "ok"
 

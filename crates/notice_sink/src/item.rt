@@ -3,7 +3,8 @@ ghost use Rattle.std.specs.Fmt.{signed_decimal};
 ghost use Rattle.std.specs.List.{flat_map, join_with_byte};
 ghost use Rattle.notice_sink.specs.Joining.{ended, led};
 ghost use Rattle.notice_sink.specs.Lines.{attribute_text, event_text, first_parts, item_text, last_parts, metric_part, tags_part, text_part, time_text, ttl_part, value_text};
-ghost use Rattle.notice_sink.specs.Quoting.{Grew, quoted};
+ghost use Rattle.list_laws.specs.Prefix.{IsPrefix};
+ghost use Rattle.notice_sink.specs.Quoting.{quoted};
 
 use crate::quoting::put_quoted;
 use ev_types::{Attr, Blob, Event, Item, Memory, Text};
@@ -16,7 +17,7 @@ use std::alloc::Global;
 /// microseconds and the raw metrics are left out. After `Memory`, `out` begins with what it had.
 pub fn put_item(alloc: Global, item: &Item, out: &mut Blob) -> Result<(), Memory>
     ensures ok { OnOk result (out.new ≡ out.old ++ item_text item.now) }
-    ensures err { OnErr result (Grew out.old out.new) }
+    ensures err { OnErr result (IsPrefix out.old out.new) }
 {
     match item {
         Item::One(event) => put_event(alloc, event, out)?,
@@ -28,7 +29,7 @@ pub fn put_item(alloc: Global, item: &Item, out: &mut Blob) -> Result<(), Memory
 fn put_vector(alloc: Global, events: &[Event], out: &mut Blob) -> Result<(), Memory>
     ensures ok { OnOk result (out.new ≡ out.old
         ++ (91 ∷ (join_with_byte 32 (map event_text events.now) ++ 93 ∷ []))) }
-    ensures err { OnErr result (Grew out.old out.new) }
+    ensures err { OnErr result (IsPrefix out.old out.new) }
 {
     out.push(alloc, b'[')?;
     put_events(alloc, events, out)?;
@@ -41,7 +42,7 @@ fn put_vector(alloc: Global, events: &[Event], out: &mut Blob) -> Result<(), Mem
 fn put_events(alloc: Global, events: &[Event], out: &mut Blob) -> Result<(), Memory>
     ensures ok { OnOk result (out.new ≡ out.old
         ++ join_with_byte 32 (map event_text events.now)) }
-    ensures err { OnErr result (Grew out.old out.new) }
+    ensures err { OnErr result (IsPrefix out.old out.new) }
 {
     let Some((first, rest)) = events.split_first() else {
         return Ok(());
@@ -55,7 +56,7 @@ fn put_events(alloc: Global, events: &[Event], out: &mut Blob) -> Result<(), Mem
 #[tactic(auto, using(crate::proofs::JoiningLemmas::events_step, crate::proofs::JoiningLemmas::events_all))]
 fn put_more_events(alloc: Global, events: &[Event], out: &mut Blob) -> Result<(), Memory>
     ensures ok { OnOk result (out.new ≡ out.old ++ led (map event_text events.now)) }
-    ensures err { OnErr result (Grew out.old out.new) }
+    ensures err { OnErr result (IsPrefix out.old out.new) }
 {
     for event in events {
         out.push(alloc, b' ')?;
@@ -67,7 +68,7 @@ fn put_more_events(alloc: Global, events: &[Event], out: &mut Blob) -> Result<()
 #[tactic(auto, using(crate::proofs::JoiningLemmas::event_written))]
 fn put_event(alloc: Global, event: &Event, out: &mut Blob) -> Result<(), Memory>
     ensures ok { OnOk result (out.new ≡ out.old ++ event_text event.now) }
-    ensures err { OnErr result (Grew out.old out.new) }
+    ensures err { OnErr result (IsPrefix out.old out.new) }
 {
     out.push(alloc, b'{')?;
     put_first_parts(alloc, event, out)?;
@@ -81,7 +82,7 @@ fn put_event(alloc: Global, event: &Event, out: &mut Blob) -> Result<(), Memory>
 #[tactic(auto, using(crate::proofs::JoiningLemmas::ended_four))]
 fn put_first_parts(alloc: Global, event: &Event, out: &mut Blob) -> Result<(), Memory>
     ensures ok { OnOk result (out.new ≡ out.old ++ ended (first_parts event.now)) }
-    ensures err { OnErr result (Grew out.old out.new) }
+    ensures err { OnErr result (IsPrefix out.old out.new) }
 {
     put_text(alloc, b"host=", &event.host, out)?;
     put_text(alloc, b"service=", &event.service, out)?;
@@ -94,7 +95,7 @@ fn put_first_parts(alloc: Global, event: &Event, out: &mut Blob) -> Result<(), M
 #[tactic(auto, using(crate::proofs::JoiningLemmas::text_written))]
 fn put_text(alloc: Global, name: &[u8], text: &Option<Text>, out: &mut Blob) -> Result<(), Memory>
     ensures ok { OnOk result (out.new ≡ out.old ++ ended (text_part name.now text.now)) }
-    ensures err { OnErr result (Grew out.old out.new) }
+    ensures err { OnErr result (IsPrefix out.old out.new) }
 {
     if let Some(text) = text {
         out.append(alloc, name)?;
@@ -106,7 +107,7 @@ fn put_text(alloc: Global, name: &[u8], text: &Option<Text>, out: &mut Blob) -> 
 
 fn put_time(alloc: Global, time: i64, out: &mut Blob) -> Result<(), Memory>
     ensures ok { OnOk result (out.new ≡ out.old ++ (codes "time=" ++ signed_decimal time)) }
-    ensures err { OnErr result (Grew out.old out.new) }
+    ensures err { OnErr result (IsPrefix out.old out.new) }
 {
     out.append(alloc, b"time=")?;
     let mut digits = Buffer::new();
@@ -118,7 +119,7 @@ fn put_time(alloc: Global, time: i64, out: &mut Blob) -> Result<(), Memory>
 #[tactic(auto, using(crate::proofs::JoiningLemmas::led_four))]
 fn put_last_parts(alloc: Global, event: &Event, out: &mut Blob) -> Result<(), Memory>
     ensures ok { OnOk result (out.new ≡ out.old ++ led (last_parts event.now)) }
-    ensures err { OnErr result (Grew out.old out.new) }
+    ensures err { OnErr result (IsPrefix out.old out.new) }
 {
     put_ttl(alloc, event.ttl, out)?;
     put_metric(alloc, event.metric, out)?;
@@ -130,7 +131,7 @@ fn put_last_parts(alloc: Global, event: &Event, out: &mut Blob) -> Result<(), Me
 #[tactic(auto, using(crate::proofs::JoiningLemmas::number_written))]
 fn put_ttl(alloc: Global, ttl: Option<u32>, out: &mut Blob) -> Result<(), Memory>
     ensures ok { OnOk result (out.new ≡ out.old ++ led (ttl_part ttl)) }
-    ensures err { OnErr result (Grew out.old out.new) }
+    ensures err { OnErr result (IsPrefix out.old out.new) }
 {
     if let Some(ttl) = ttl {
         out.append(alloc, b" ttl=")?;
@@ -143,7 +144,7 @@ fn put_ttl(alloc: Global, ttl: Option<u32>, out: &mut Blob) -> Result<(), Memory
 #[tactic(auto, using(crate::proofs::JoiningLemmas::number_written))]
 fn put_metric(alloc: Global, metric: Option<i64>, out: &mut Blob) -> Result<(), Memory>
     ensures ok { OnOk result (out.new ≡ out.old ++ led (metric_part metric)) }
-    ensures err { OnErr result (Grew out.old out.new) }
+    ensures err { OnErr result (IsPrefix out.old out.new) }
 {
     if let Some(metric) = metric {
         out.append(alloc, b" metric=")?;
@@ -157,7 +158,7 @@ fn put_metric(alloc: Global, metric: Option<i64>, out: &mut Blob) -> Result<(), 
 #[tactic(auto, using(crate::proofs::JoiningLemmas::tags_written))]
 fn put_tags(alloc: Global, tags: &[Text], out: &mut Blob) -> Result<(), Memory>
     ensures ok { OnOk result (out.new ≡ out.old ++ led (tags_part tags.now)) }
-    ensures err { OnErr result (Grew out.old out.new) }
+    ensures err { OnErr result (IsPrefix out.old out.new) }
 {
     let Some((first, rest)) = tags.split_first() else {
         return Ok(());
@@ -173,7 +174,7 @@ fn put_tags(alloc: Global, tags: &[Text], out: &mut Blob) -> Result<(), Memory>
 #[tactic(auto, using(crate::proofs::JoiningLemmas::tags_step, crate::proofs::JoiningLemmas::tags_all))]
 fn put_more_tags(alloc: Global, tags: &[Text], out: &mut Blob) -> Result<(), Memory>
     ensures ok { OnOk result (out.new ≡ out.old ++ led (map quoted tags.now)) }
-    ensures err { OnErr result (Grew out.old out.new) }
+    ensures err { OnErr result (IsPrefix out.old out.new) }
 {
     for tag in tags {
         out.push(alloc, b' ')?;
@@ -186,7 +187,7 @@ fn put_more_tags(alloc: Global, tags: &[Text], out: &mut Blob) -> Result<(), Mem
 #[tactic(auto, using(crate::proofs::JoiningLemmas::attributes_step, crate::proofs::JoiningLemmas::attributes_all))]
 fn put_attributes(alloc: Global, attributes: &[Attr], out: &mut Blob) -> Result<(), Memory>
     ensures ok { OnOk result (out.new ≡ out.old ++ led (map attribute_text attributes.now)) }
-    ensures err { OnErr result (Grew out.old out.new) }
+    ensures err { OnErr result (IsPrefix out.old out.new) }
 {
     for attribute in attributes {
         out.push(alloc, b' ')?;
@@ -197,7 +198,7 @@ fn put_attributes(alloc: Global, attributes: &[Attr], out: &mut Blob) -> Result<
 
 fn put_attribute(alloc: Global, attribute: &Attr, out: &mut Blob) -> Result<(), Memory>
     ensures ok { OnOk result (out.new ≡ out.old ++ attribute_text attribute.now) }
-    ensures err { OnErr result (Grew out.old out.new) }
+    ensures err { OnErr result (IsPrefix out.old out.new) }
 {
     out.push(alloc, b'@')?;
     put_quoted(alloc, &attribute.key, out)?;
@@ -207,7 +208,7 @@ fn put_attribute(alloc: Global, attribute: &Attr, out: &mut Blob) -> Result<(), 
 
 fn put_value(alloc: Global, value: &Option<Text>, out: &mut Blob) -> Result<(), Memory>
     ensures ok { OnOk result (out.new ≡ out.old ++ value_text value.now) }
-    ensures err { OnErr result (Grew out.old out.new) }
+    ensures err { OnErr result (IsPrefix out.old out.new) }
 {
     if let Some(text) = value {
         out.push(alloc, b'=')?;

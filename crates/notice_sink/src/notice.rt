@@ -3,7 +3,7 @@ ghost use Rattle.std.specs.Option.{option_map};
 ghost use Rattle.ports.specs.Counts.{Rose, greatest};
 ghost use Rattle.ports.specs.Writing.{Got, GotPrefix};
 ghost use Rattle.notice_sink.specs.Lines.{notice_line};
-ghost use Rattle.notice_sink.specs.Quoting.{Grew};
+ghost use Rattle.list_laws.specs.Prefix.{IsPrefix};
 ghost use Rattle.notice_sink.specs.declared.notice.LineFault.TheVariants.{Memory as out_of_memory};
 
 use crate::item::put_item;
@@ -56,7 +56,8 @@ impl NoticeWriter {
         notice: &Notice,
         sink: &mut O,
     ) -> Result<(), LineFault>
-        ensures ok { OnOk result (Got (O.text sink.old) (notice_line notice.now) (O.text sink.new)) }
+        ensures ok { OnOk result
+            (Got (O.text sink.old) (notice_line notice.now) (O.text sink.new)) }
         ensures counted { OnOk result (O.puts sink.new
             ≡ option_map (λ n. min (n + 1) greatest) (O.puts sink.old)) }
         ensures no_fault { OnOk result (O.faults sink.new ≡ O.faults sink.old) }
@@ -82,7 +83,7 @@ impl NoticeWriter {
 #[tactic(auto, using(crate::proofs::JoiningLemmas::line_written))]
 fn put_line(alloc: Global, notice: &Notice, out: &mut Blob) -> Result<(), Memory>
     ensures ok { OnOk result (out.new ≡ out.old ++ notice_line notice.now) }
-    ensures err { OnErr result (Grew out.old out.new) }
+    ensures err { OnErr result (IsPrefix out.old out.new) }
 {
     let mut digits = Buffer::new();
     out.append(alloc, digits.format(notice.moment).as_bytes())?;

@@ -1,6 +1,7 @@
 ghost use Rattle.std.specs.Prelude.{◌≡◌, ◌<◌, ◌≤◌, ◌||◌, ◌++◌, ◌∷◌, [], length, take, OnOk, OnErr};
 ghost use Rattle.std.specs.List.{flat_map};
-ghost use Rattle.notice_sink.specs.Quoting.{Grew, hex_digit, is_control, is_escaped, quoted, quoted_byte};
+ghost use Rattle.list_laws.specs.Prefix.{IsPrefix};
+ghost use Rattle.notice_sink.specs.Quoting.{hex_digit, is_control, is_escaped, quoted, quoted_byte};
 
 use ev_types::{Blob, Memory, Text};
 use std::alloc::Global;
@@ -9,7 +10,7 @@ use std::alloc::Global;
 /// hexadecimal digits in lower case. After `Memory`, `out` begins with what it had.
 pub fn put_quoted(alloc: Global, text: &Text, out: &mut Blob) -> Result<(), Memory>
     ensures ok { OnOk result (out.new ≡ out.old ++ quoted text.now) }
-    ensures err { OnErr result (Grew out.old out.new) }
+    ensures err { OnErr result (IsPrefix out.old out.new) }
 {
     out.push(alloc, b'"')?;
     put_content(alloc, text.as_bytes(), out)?;
@@ -21,7 +22,7 @@ pub fn put_quoted(alloc: Global, text: &Text, out: &mut Blob) -> Result<(), Memo
 #[tactic(auto, using(crate::proofs::QuotingLemmas::stretch, crate::proofs::QuotingLemmas::stretch_last))]
 fn put_content(alloc: Global, bytes: &[u8], out: &mut Blob) -> Result<(), Memory>
     ensures ok { OnOk result (out.new ≡ out.old ++ flat_map quoted_byte bytes.now) }
-    ensures err { OnErr result (Grew out.old out.new) }
+    ensures err { OnErr result (IsPrefix out.old out.new) }
 {
     let mut rest = bytes;
     'stretches: loop {
@@ -67,7 +68,7 @@ fn is_control(byte: u8) -> bool
 /// Appends a byte of a text.
 fn put_byte(alloc: Global, byte: u8, out: &mut Blob) -> Result<(), Memory>
     ensures ok { OnOk result (out.new ≡ out.old ++ quoted_byte byte) }
-    ensures err { OnErr result (Grew out.old out.new) }
+    ensures err { OnErr result (IsPrefix out.old out.new) }
 {
     if is_escaped(byte) {
         out.append(alloc, &[b'\\', byte])?;

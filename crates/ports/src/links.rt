@@ -91,7 +91,7 @@ pub struct Turn {
 pub enum What {
     /// Nothing.
     Idle,
-    /// A client connected. Numbers of links rise.
+    /// A client connected. Real links count their numbers up from 0; a script chooses its own.
     Opened { link: u64 },
     /// `count` bytes came, from 1 to [`PIECE_LIMIT`].
     Read { link: u64, count: usize },
@@ -101,7 +101,7 @@ pub enum What {
     Broken { link: u64 },
     /// The link may be sent to again.
     Room { link: u64 },
-    /// No turn comes after this one.
+    /// The server is to stop: it asks for no turn after this one.
     Stopped,
     /// The links failed. This is not a turn.
     Failed,

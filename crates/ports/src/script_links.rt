@@ -13,9 +13,9 @@ use std::alloc::Global;
 use std::collections::HashMap;
 use std::marker::Model;
 
-/// Links in memory that play a script. They never fail. Contracts see the script and the calls so far. Once a call of
-/// [`Links::next`] or [`Links::send`] was out of memory, the links are poisoned: each later call that can answer so
-/// does.
+/// Links in memory that play a script. Only a send can fail, where the script says so. Contracts see the script and the
+/// calls so far. Once a call of [`Links::next`] or [`Links::send`] was out of memory, the links are poisoned: each later
+/// call that can answer so does.
 #[derive(Drop)]
 pub struct ScriptLinks {
     place: Place,
@@ -44,8 +44,9 @@ impl Model for ScriptLinks {
 
     ghost view = { λ links. record { script = links.place.script; log = links.log } };
 
-    ghost invariant = { λ links. IsPlaying links.place.script links.log links.place.next links.place.secs
-        (rules_in links.place.rules) (taken_in links.taken) links.nothing links.poisoned };
+    ghost invariant = { λ links. IsPlaying links.place.script links.log
+        links.place.next links.place.secs (rules_in links.place.rules) (taken_in links.taken)
+        links.nothing links.poisoned };
 }
 
 impl ScriptLinks {

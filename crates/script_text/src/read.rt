@@ -14,8 +14,8 @@ use thiserror::Error;
 /// Why a text gives no links.
 #[derive(Clone, Copy, Debug, PartialEq, Eq, Error)]
 pub enum ScriptFault {
-    /// The text is not a script: `line` is the number of its first line that is not valid, from 1. Where no line of the
-    /// text is a start line, that is the number of its lines plus one.
+    /// The text is not a script: `line` is the number of its first line that is not valid, from 1. Where all
+    /// lines are skipped, that is the number of the lines plus one.
     #[error("script refused at line {line}")]
     Refused { line: u64 },
     #[error("out of memory")]

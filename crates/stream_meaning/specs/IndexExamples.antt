@@ -27,7 +27,7 @@ elapsed (suc n) = Elapsed ∷ elapsed n
 abbrev pub of_place : String → String → String → ℕ → Event
 of_place state service host time = record (bare time) { state = Some (codes state); service = Some (codes service); host = Some (codes host) }
 
--- an event of no state, which expires five seconds after 100
+-- an event of no state at 100, which is expired from 106 on
 abbrev pub fading : Event
 fading = record (bare 100) { service = Some (codes "b"); host = Some (codes "a"); ttl = Some 5 }
 

@@ -45,7 +45,7 @@ abbrev pub allowed : ℕ → ℕ → ℕ → History → ℕ
 allowed n secs window h = n - one_if (rolls_into n secs window h)
 
 -- rollup: the first n of a window one by one, each as a vector; when the window ends, the others in one, which counts in
--- the next
+-- the next, so that of that one only n - 1 events pass one by one
 abbrev pub rollup_items : ℕ → ℕ → History → List Item
 rollup_items n secs (since start) = []
 rollup_items n secs (h ▸ Tick) =

@@ -70,7 +70,8 @@ pub fn check_kinds(alloc: Global, plan: Plan) -> Result<CheckedPlan, PlanFault>
 /// Refuses the plan where it has a fault of the cause.
 fn refuse(alloc: Global, plan: &Plan, why: PlanWhy) -> Result<(), PlanFault>
     ensures ok { OnOk result (fault_for why (preorder_of (plan_tree plan.now)) ≡ None) }
-    ensures refused { IfErr result (IsRefusedFor (fault_for why (preorder_of (plan_tree plan.now)))) }
+    ensures refused { IfErr result
+        (IsRefusedFor (fault_for why (preorder_of (plan_tree plan.now)))) }
 {
     match place_of(alloc, plan, why)? {
         Some(path) => Err(PlanFault::Refused { path, why }),
