@@ -1,4 +1,4 @@
-use Rattle.std.specs.Prelude.{ℕ, Bool, false, List, Option, Some, None}
+use Rattle.std.specs.Prelude.{ℕ, Bool, false, List, [], ◌∷◌, Option, Some, None}
 use Rattle.std.specs.Str.{IsValidUpTo, bytes_eq}
 use Rattle.ev_types.specs.declared.text.TextFault.{TextFault}
 use Rattle.ev_types.specs.declared.text.TextFault.TheVariants.{Utf8, Memory}
@@ -12,3 +12,8 @@ IsNoText bytes Memory = Unit {0}
 abbrev pub is_text : List ℕ → Option (List ℕ) → Bool
 is_text wanted None = false
 is_text wanted (Some text) = bytes_eq text wanted
+
+-- the bytes of a text: those of its long part where that has any, and else those of its short part
+abbrev pub either_of : List ℕ → List ℕ → List ℕ
+either_of short [] = short
+either_of short (byte ∷ long) = byte ∷ long

@@ -8,9 +8,10 @@ ghost use Rattle.std.specs.Cmp.Rules.{hashing};
 ghost use Rattle.std.specs.Hash as fed;
 ghost use Rattle.std.proofs.Common.{rules};
 ghost use Rattle.ev_types.specs.declared.text.TextFault.TheVariants.{Memory as out_of_memory};
-ghost use Rattle.ev_types.specs.Text.{IsNoText};
+ghost use Rattle.ev_types.specs.Text.{either_of, IsNoText};
 
 use crate::{Items, Memory};
+use arrayvec::ArrayString;
 use std::alloc::Global;
 use std::cmp::Ordering;
 use std::fmt;
@@ -20,9 +21,13 @@ use std::str::from_utf8;
 use thiserror::Error;
 
 /// A text, which contracts see as its bytes. They are UTF-8. Texts are ordered by their bytes.
+///
+/// A text of at most 24 bytes takes no memory of its own.
 #[derive(Drop)]
 pub struct Text {
-    chars: String,
+    // The bytes are in `long` where it has any, and else in `short`.
+    short: ArrayString<24>,
+    long: String,
 }
 
 /// A list of texts.
@@ -49,11 +54,11 @@ impl From<Memory> for TextFault {
 impl Model for Text {
     ghost Value = { List ℕ };
 
-    ghost view = { λ text. string_bytes text.chars };
+    ghost view = { λ text. either_of text.short.bytes (string_bytes text.long) };
 }
 
 impl Text {
-    /// The text that the bytes spell, in memory of its own.
+    /// The text that the bytes spell.
     pub fn read(alloc: Global, bytes: &[u8]) -> Result<Text, TextFault>
         ensures text { IfOk result (λ text. IsUtf8 bytes.now × (text ≡ bytes.now)) }
         ensures fault { IfErr result (IsNoText bytes.now) }
@@ -66,46 +71,58 @@ impl Text {
         }
     }
 
-    /// A text of the same characters, in memory of its own.
+    /// A text of the same characters.
     pub fn from_str(alloc: Global, chars: &str) -> Result<Text, Memory>
         ensures { IfOk result (λ text. text ≡ chars.now) }
     {
-        let chars = String::from_str(alloc, chars)?;
-        Ok(Text { chars })
+        if let Ok(short) = ArrayString::from(chars) {
+            return Ok(Text {
+                short,
+                long: String::new(alloc),
+            });
+        }
+        Ok(Text::from_string(String::from_str(alloc, chars)?))
     }
 
     /// The text of these characters, with no copy.
     pub fn from_string(chars: String) -> Text
         ensures { result ≡ string_bytes chars }
     {
-        Text { chars }
+        Text {
+            short: ArrayString::new(),
+            long: chars,
+        }
     }
 
-    /// An equal text, in memory of its own.
+    /// An equal text.
     pub fn copy(&self, alloc: Global) -> Result<Text, Memory>
         ensures { IfOk result (λ text. text ≡ self.now) }
     {
-        Text::from_str(alloc, self.chars.as_str())
+        Text::from_str(alloc, self.as_str())
     }
 
     pub fn as_str(&self) -> &str
         ensures { result.now ≡ self.now }
     {
-        self.chars.as_str()
+        if self.long.is_empty() {
+            self.short.as_str()
+        } else {
+            self.long.as_str()
+        }
     }
 
     pub fn as_bytes(&self) -> &[u8]
         ensures bytes { result.now ≡ self.now }
         ensures utf8 { IsUtf8 self.now }
     {
-        self.chars.as_str().as_bytes()
+        self.as_str().as_bytes()
     }
 
     /// Whether these are the text's bytes.
     pub fn is(&self, bytes: &[u8]) -> bool
         ensures { IsTrue result ↔ (self.now ≡ bytes.now) }
     {
-        self.chars.as_bytes() == bytes
+        self.as_bytes() == bytes
     }
 }
 
@@ -115,7 +132,7 @@ impl PartialEq for Text {
     ghost laws = { partial_equiv_from_equiv nat_list_eq_equiv };
 
     fn eq(&self, other: &Text) -> bool {
-        self.chars.as_str() == other.chars.as_str()
+        self.as_str() == other.as_str()
     }
 }
 
@@ -143,7 +160,7 @@ impl Ord for Text {
     ghost matches_eq = { texts_ties };
 
     fn cmp(&self, other: &Text) -> Ordering {
-        self.chars.as_str().cmp(other.chars.as_str())
+        self.as_str().cmp(other.as_str())
     }
 }
 
@@ -153,12 +170,12 @@ impl Hash for Text {
     ghost respects_eq = { Prim.search (hashing, rules) };
 
     fn hash<H: Hasher>(&self, state: &mut H) {
-        self.chars.as_str().hash(state);
+        self.as_str().hash(state);
     }
 }
 
 impl fmt::Debug for Text {
     fn fmt<W: fmt::Write>(&self, f: &mut fmt::Formatter<W>) -> fmt::Result {
-        fmt::Debug::fmt(self.chars.as_str(), f)
+        fmt::Debug::fmt(self.as_str(), f)
     }
 }

@@ -82,7 +82,9 @@ impl<'a> ValueRef<'a> {
 impl PartialEq for Value {
     ghost eq = { same_value };
 
-    ghost laws = { partial_equiv_from_equiv (and_equiv (on_equiv text_of (options_equiv nat_list_eq_equiv)) (on_equiv number_of (options_equiv int_eq_equiv))) };
+    ghost laws = { partial_equiv_from_equiv
+        (and_equiv (on_equiv text_of (options_equiv nat_list_eq_equiv))
+        (on_equiv number_of (options_equiv int_eq_equiv))) };
 
     fn eq(&self, other: &Value) -> bool {
         self.lend().is(other.lend())
@@ -90,13 +92,16 @@ impl PartialEq for Value {
 }
 
 impl Eq for Value {
-    ghost laws = { and_equiv (on_equiv text_of (options_equiv nat_list_eq_equiv)) (on_equiv number_of (options_equiv int_eq_equiv)) };
+    ghost laws = { and_equiv (on_equiv text_of (options_equiv nat_list_eq_equiv))
+        (on_equiv number_of (options_equiv int_eq_equiv)) };
 }
 
 impl PartialOrd for Value {
     ghost partial_cmp = { λ a b. Some (value_cmp a b) };
 
-    ghost laws = { po (then_total (on_total text_of (options_total nat_list_cmp_total)) (on_total number_of (options_total int_cmp_total)))
+    ghost laws = { po
+        (then_total (on_total text_of (options_total nat_list_cmp_total))
+        (on_total number_of (options_total int_cmp_total)))
         (λ a b.
         both_tied (on text_of (option_eq bytes_eq) a b) (on number_of (option_eq int_eq) a b)
         (on text_of (option_cmp (slice_cmp nat_cmp)) a b) (on number_of (option_cmp int_cmp) a b)
@@ -132,8 +137,11 @@ impl Ord for Value {
 impl Hash for Value {
     ghost hash_input = { value_input };
 
-    ghost respects_eq = { (and-Alike (on_Alike text_of {E = option_eq bytes_eq} {F = text_input} (record { fed = Prim.search rules }))
-        (on_Alike number_of {E = option_eq int_eq} {F = number_input} (record { fed = Prim.search rules }))).fed };
+    ghost respects_eq = { (and-Alike
+        (on_Alike text_of {E = option_eq bytes_eq} {F = text_input}
+        (record { fed = Prim.search rules }))
+        (on_Alike number_of {E = option_eq int_eq} {F = number_input}
+        (record { fed = Prim.search rules }))).fed };
 
     fn hash<H: Hasher>(&self, state: &mut H) {
         match self {

@@ -1,4 +1,5 @@
-ghost use Rattle.std.specs.Prelude.{◌≡◌, ◌+◌, [], ◌++◌, false, IfOk, IsErr, IsOk, IsTrue, OnErr, OnOk};
+ghost use Rattle.std.specs.Prelude.{◌≡◌, ◌+◌, [], ◌++◌, false, if◌then◌else◌, Some, IfOk, IsErr, IsOk, IsTrue, OnErr, OnOk};
+ghost use Rattle.ev_types.specs.Field.{field_value};
 ghost use Rattle.ev_types.specs.declared.item.Item.TheVariants.{One};
 ghost use Rattle.list_laws.specs.Prefix.{IsPrefix};
 ghost use Rattle.stream_plan.specs.Tree.{Changed};
@@ -9,7 +10,7 @@ ghost use Rattle.stream_meaning.specs.History.{History, ◌▸◌, TicksAlone, b
 ghost use Rattle.stream_meaning.specs.Runs.{differs_from};
 ghost use Rattle.flow_streams.specs.Changed.{changed_kind, changed_at, is_poisoned, compared_with, ChangedRepresents};
 
-use crate::emit::{copy_value, emit_event};
+use crate::emit::{copy_value, emit_if};
 use ev_types::{Emissions, Event, Field, Memory, Value, field_is};
 use std::alloc::Global;
 
@@ -73,10 +74,8 @@ impl ChangedState {
             return Err(Memory);
         }
         self.poisoned = true;
-        if self.differs(&event) {
-            self.last = Some(copy_value(alloc, &event, &self.params.field)?);
-            emit_event(alloc, event, out)?;
-        }
+        let differs = self.follow(alloc, &event)?;
+        emit_if(alloc, differs, event, out)?;
         self.poisoned = false;
         Ok(())
     }
@@ -113,6 +112,24 @@ impl ChangedState {
             ChangedRepresents self.now (h ▸ Tick) }
     {
         None
+    }
+
+    /// Whether the event's field differs. If so, what it holds is kept, and only that takes memory.
+    fn follow(&mut self, alloc: Global, event: &Event) -> Result<bool, Memory>
+        ensures params { self.new.params ≡ self.old.params }
+        ensures poisoned { self.new.poisoned ≡ self.old.poisoned }
+        ensures differs { IfOk result (λ differs. differs
+            ≡ differs_from self.old.params.field (compared_with self.old) event.now) }
+        ensures last { IfOk result (λ differs. self.new.last ≡ (if differs
+            then Some (field_value event.now self.old.params.field) else self.old.last)) }
+        ensures memory { differs_from self.old.params.field (compared_with self.old) event.now
+            ≡ false → IsOk result }
+    {
+        if !self.differs(event) {
+            return Ok(false);
+        }
+        self.last = Some(copy_value(alloc, event, &self.params.field)?);
+        Ok(true)
     }
 
     fn differs(&self, event: &Event) -> bool

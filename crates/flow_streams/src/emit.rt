@@ -1,4 +1,4 @@
-ghost use Rattle.std.specs.Prelude.{◌≡◌, [], ◌∷◌, ◌++◌, if◌then◌else◌, IfOk, OnErr, OnOk};
+ghost use Rattle.std.specs.Prelude.{◌≡◌, [], ◌∷◌, ◌++◌, false, if◌then◌else◌, IfOk, IsOk, OnErr, OnOk};
 ghost use Rattle.ev_types.specs.Field.{field_value};
 ghost use Rattle.stream_meaning.specs.Came.{each};
 ghost use Rattle.stream_meaning.specs.Emitted.{emitted};
@@ -18,7 +18,7 @@ pub(crate) fn emit_event(alloc: Global, event: Event, out: &mut Emissions) -> Re
     out.push(alloc, emission)
 }
 
-/// Appends the event to what the children get, if it passes.
+/// Appends the event to what the children get, if it passes. Only that takes memory.
 pub(crate) fn emit_if(
     alloc: Global,
     passes: bool,
@@ -28,6 +28,7 @@ pub(crate) fn emit_if(
     ensures ok { OnOk result
         (out.new ≡ out.old ++ emitted (if passes then each (event ∷ []) else [])) }
     ensures err { OnErr result (out.new ≡ out.old) }
+    ensures memory { passes ≡ false → IsOk result }
 {
     if passes {
         emit_event(alloc, event, out)?;

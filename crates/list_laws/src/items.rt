@@ -62,11 +62,14 @@ impl<T: Drop> Items<T> {
         &self.items[i]
     }
 
-    /// Adds the item at the end.
+    /// Adds the item at the end. A list takes room for one item first, since most lists have no more.
     pub fn push(&mut self, _alloc: Global, item: T) -> Result<(), Memory>
         ensures ok { OnOk result (self.new ≡ self.old ++ item ∷ []) }
         ensures err { OnErr result (self.new ≡ self.old) }
     {
+        if self.items.capacity() == 0 {
+            self.items.reserve_exact(1)?;
+        }
         self.items.push(item)?;
         Ok(())
     }
