@@ -6,7 +6,7 @@ use Rattle.stream_plan.specs.Tree.{Stable, FixedTime, MovingTime, Coalesce}
 use Rattle.stream_meaning.specs.Windows.{stretch_of}
 use Rattle.stream_meaning.specs.Small.{noticing, of_many, of_one, Gives, a, b, ok, bad, Wait, Comes}
 
--- expires three seconds after the moment 1
+-- has three seconds to live from the moment 1 on, and so is expired from the moment 5 on
 abbrev pub brief : Event
 brief = record (a 1) { ttl = Some 3 }
 

@@ -8,7 +8,7 @@ use Rattle.stream_plan.specs.declared.kinds.Flow.{Flow}
 use Rattle.stream_plan.specs.declared.kinds.Flow.TheVariants.{Event}
 use Rattle.stream_plan.specs.Faults.{preorder_at, preorder_in, count_of}
 use Rattle.stream_plan.specs.Kinds.{passes_on}
-use Rattle.stream_plan.specs.Paths.{listed, following, stream_below, stream_at, StandsThere, PathsLeadToStreams}
+use Rattle.stream_plan.specs.Paths.{listed, following, stream_below, stream_at, IsStreamAt, PathsLeadToStreams}
 use Rattle.stream_plan.specs.Tree.{StreamTree, stream, StreamTrees, none, also}
 
 both : {A : Type 0} (P : A → Type 0) (xs ys : List A) → AllByRecursion P xs → AllByRecursion P ys → AllByRecursion P (xs ++ ys)
@@ -40,22 +40,22 @@ LeadTo top path number streams = (i n : ℕ) (s : StreamTree) → n ≡ number +
 mutual
   unfolding preorder_at preorder_in
 
-  there_at : (top : StreamTrees) (path : List ℕ) (flow : Flow) (s : StreamTree) → Leads top path s → AllByRecursion (StandsThere top) (preorder_at path flow s)
+  there_at : (top : StreamTrees) (path : List ℕ) (flow : Flow) (s : StreamTree) → Leads top path s → AllByRecursion (IsStreamAt top) (preorder_at path flow s)
   there_at top path flow (stream kind children otherwise) leads =
       let s = stream kind children otherwise in
       let here : stream_at top path ≡ Some s = subst (λ (p : List ℕ). stream_at top p ≡ Some s) (append-nil path) (leads []) in (
         here,
-        both (StandsThere top) (preorder_in path 0 (passes_on kind flow) children) (preorder_in path (count_of children) (passes_on kind flow) otherwise)
+        both (IsStreamAt top) (preorder_in path 0 (passes_on kind flow) children) (preorder_in path (count_of children) (passes_on kind flow) otherwise)
             (there_in top path 0 (passes_on kind flow) children (λ i n next number is. let same : n ≡ i = omega arith in
             step_down top path s next n leads (rw same (among_front (listed children) (listed otherwise) i next is))))
             (there_in top path (count_of children) (passes_on kind flow) otherwise (λ i n next number is.
             step_down top path s next n leads (among_back children (listed otherwise) i n next number is))),
       )
 
-  there_in : (top : StreamTrees) (path : List ℕ) (number : ℕ) (flow : Flow) (streams : StreamTrees) → LeadTo top path number streams → AllByRecursion (StandsThere top) (preorder_in path number flow streams)
+  there_in : (top : StreamTrees) (path : List ℕ) (number : ℕ) (flow : Flow) (streams : StreamTrees) → LeadTo top path number streams → AllByRecursion (IsStreamAt top) (preorder_in path number flow streams)
   there_in top path number flow none lead = tt
   there_in top path number flow (also s streams) lead =
-      both (StandsThere top) (preorder_at (path ++ number ∷ []) flow s) (preorder_in path (number + 1) flow streams)
+      both (IsStreamAt top) (preorder_at (path ++ number ∷ []) flow s) (preorder_in path (number + 1) flow streams)
       (there_at top (path ++ number ∷ []) flow s (lead 0 number s (omega arith) refl))
       (there_in top path (number + 1) flow streams (λ i n next is. lead (suc i) n next (omega arith)))
 

@@ -9,7 +9,7 @@ use Rattle.stream_plan.specs.declared.fault.PlanWhy.{PlanWhy}
 use Rattle.stream_plan.specs.declared.fault.PlanWhy.TheVariants.{Many, Deep, Children, Range, Kind}
 use Rattle.stream_plan.specs.Faults.{Placed, Fault, preorder_of, kind_of, counts, place_of, fault_for, first_fault}
 use Rattle.stream_plan.specs.Kinds.{takes, is_in_range}
-use Rattle.stream_plan.specs.Sound.{IsSound, StandsShallow, IsInRange, TakesWhatComes, SoundPlansHaveNoFault}
+use Rattle.stream_plan.specs.Sound.{IsSound, IsShallow, IsInRange, TakesWhatComes, SoundPlansHaveNoFault}
 use Rattle.stream_plan.specs.Tree.{StreamTrees}
 
 all_are : {A : Type 0} (P Q : A → Type 0) → ((x : A) → P x → Q x) → (xs : List A) → AllByRecursion P xs → AllByRecursion Q xs
@@ -64,10 +64,10 @@ few_from streams lacking =
 few_lack : (streams : List Placed) → length streams ≤ 4096 → Lacks Many streams
 few_lack streams few = rw (filter-all streams) (slice_get_past streams 4096 few)
 
-shallow_from : (s : Placed) → counts Deep s ≡ false → StandsShallow s
+shallow_from : (s : Placed) → counts Deep s ≡ false → IsShallow s
 shallow_from s is = ltb-false 64 (length s.path) is
 
-shallow_lack : (s : Placed) → StandsShallow s → counts Deep s ≡ false
+shallow_lack : (s : Placed) → IsShallow s → counts Deep s ≡ false
 shallow_lack s shallow = le-ltb 64 (length s.path) shallow
 
 true_from : (b : Bool) → not b ≡ false → b ≡ true
@@ -89,7 +89,7 @@ sound_from streams none =
     let range = or_none (fault_for Range all) (fault_for Kind all) children.1 in
     record {
       few = few_from all (lacks Many all many.0);
-      shallow = all_are (λ s. counts Deep s ≡ false) StandsShallow shallow_from all (none_passes (counts Deep) all (lacks Deep all deep.0));
+      shallow = all_are (λ s. counts Deep s ≡ false) IsShallow shallow_from all (none_passes (counts Deep) all (lacks Deep all deep.0));
       followed = none_passes (counts Children) all (lacks Children all children.0);
       in_range = all_are (λ s. counts Range s ≡ false) IsInRange (λ s. true_from (is_in_range (kind_of s.tree))) all (none_passes (counts Range) all (lacks Range all range.0));
       taken = all_are (λ s. counts Kind s ≡ false) TakesWhatComes (λ s. true_from (takes (kind_of s.tree) s.flow)) all (none_passes (counts Kind) all (lacks Kind all range.1));
@@ -100,7 +100,7 @@ unfolding first_fault
 sound_lack streams sound =
     let all = preorder_of streams in
     let many = no_fault Many all (few_lack all sound.few) in
-    let deep = no_fault Deep all (passes_none (counts Deep) all (all_are StandsShallow (λ s. counts Deep s ≡ false) shallow_lack all sound.shallow)) in
+    let deep = no_fault Deep all (passes_none (counts Deep) all (all_are IsShallow (λ s. counts Deep s ≡ false) shallow_lack all sound.shallow)) in
     let children = no_fault Children all (passes_none (counts Children) all sound.followed) in
     let range = no_fault Range all (passes_none (counts Range) all (all_are IsInRange (λ s. counts Range s ≡ false) (λ s. not_true (is_in_range (kind_of s.tree))) all sound.in_range)) in
     let kind = no_fault Kind all (passes_none (counts Kind) all (all_are TakesWhatComes (λ s. counts Kind s ≡ false) (λ s. not_true (takes (kind_of s.tree) s.flow)) all sound.taken)) in

@@ -23,9 +23,9 @@ abbrev pub stream_at : StreamTrees → List ℕ → Option StreamTree
 stream_at streams [] = None
 stream_at streams (number ∷ path) = option_and_then (λ s. stream_below s path) (slice_get (listed streams) number)
 
-abbrev pub StandsThere : StreamTrees → Placed → Type 0
-StandsThere streams s = stream_at streams s.path ≡ Some s.tree
+abbrev pub IsStreamAt : StreamTrees → Placed → Type 0
+IsStreamAt streams s = stream_at streams s.path ≡ Some s.tree
 
 -- the path of each stream leads to it
 abbrev pub PathsLeadToStreams : Type 0
-PathsLeadToStreams = (streams : StreamTrees) → AllByRecursion (StandsThere streams) (preorder_of streams)
+PathsLeadToStreams = (streams : StreamTrees) → AllByRecursion (IsStreamAt streams) (preorder_of streams)

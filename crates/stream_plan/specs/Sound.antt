@@ -6,8 +6,8 @@ use Rattle.stream_plan.specs.Faults.{Placed, preorder_of, has_wrong_streams, kin
 use Rattle.stream_plan.specs.Kinds.{takes, is_in_range}
 use Rattle.stream_plan.specs.Tree.{StreamTrees}
 
-abbrev pub StandsShallow : Placed → Type 0
-StandsShallow s = length s.path ≤ MAX_DEPTH
+abbrev pub IsShallow : Placed → Type 0
+IsShallow s = length s.path ≤ MAX_DEPTH
 
 abbrev pub HasStreamsThatMayFollow : Placed → Type 0
 HasStreamsThatMayFollow s = has_wrong_streams s.tree ≡ false
@@ -20,7 +20,7 @@ TakesWhatComes s = takes (kind_of s.tree) s.flow ≡ true
 
 pub record IsSound (streams : StreamTrees) : Type 0 where
   pub few : length (preorder_of streams) ≤ MAX_STREAMS
-  pub shallow : AllByRecursion StandsShallow (preorder_of streams)
+  pub shallow : AllByRecursion IsShallow (preorder_of streams)
   pub followed : AllByRecursion HasStreamsThatMayFollow (preorder_of streams)
   pub in_range : AllByRecursion IsInRange (preorder_of streams)
   pub taken : AllByRecursion TakesWhatComes (preorder_of streams)

@@ -86,6 +86,6 @@ QuietTicksKeepStates = (texts : List (List ℕ)) (kind : KindTree) (state : Stat
 
 -- after one more entry the state represents the longer history, the stream's own outputs are put, and this is what it passes on
 pub record Acts (texts : List (List ℕ)) (kind : KindTree) (old new : State) (h : History) (x : Entry) (before after : List Output) (passed : Passed) : Type 0 where
-  pub stands : StateRepresents texts kind new (h ▸ x)
+  pub represents : StateRepresents texts kind new (h ▸ x)
   pub said : after ≡ before ++ own_outputs kind (h ▸ x)
   pub passes : emissions_meant passed x ≡ emissions kind (h ▸ x)

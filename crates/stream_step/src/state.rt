@@ -39,7 +39,7 @@ impl State {
     /// becomes the number after them. A `by` has none of its own: those of its children begin at `next`, which is left
     /// there.
     pub fn fresh(alloc: Global, kind: &Kind, next: &mut usize, start: u64) -> Result<State, Memory>
-        ensures stands { IfOk result (λ state. (before after : List (List ℕ)) (h : History) →
+        ensures represents { IfOk result (λ state. (before after : List (List ℕ)) (h : History) →
             TicksAlone h → begun h ≡ start → is_in_range (kind_tree kind.now) ≡ true →
             length before ≡ next.old →
             length (kind_patterns (kind_tree kind.now)) ≤ greatest →
@@ -59,7 +59,7 @@ impl State {
 
     /// The state of a stream that keeps nothing of what comes.
     fn of_numbers(kind: &Kind, next: &mut usize) -> State
-        ensures stands { (before after : List (List ℕ)) →
+        ensures represents { (before after : List (List ℕ)) →
             keeps (kind_tree kind.now) ≡ false →
             length before ≡ next.old →
             length (kind_patterns (kind_tree kind.now)) ≤ greatest →
@@ -79,7 +79,7 @@ impl State {
     }
 
     fn of_rule(rule: &Rule, next: &mut usize) -> State
-        ensures stands { (before after : List (List ℕ)) →
+        ensures represents { (before after : List (List ℕ)) →
             length before ≡ next.old → length (searches (tree_of rule.now)) ≤ greatest →
             HasNumbers (before ++ (searches (tree_of rule.now) ++ after))
             (Where (tree_of rule.now)) result }

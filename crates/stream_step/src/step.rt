@@ -78,7 +78,7 @@ fn advance(
     entry: &Entry,
     context: &Context,
 ) -> Result<Passed, Memory>
-    ensures stands { OnOk result ((texts : List (List ℕ)) (h : History) →
+    ensures represents { OnOk result ((texts : List (List ℕ)) (h : History) →
         StateRepresents texts (kind_tree kind.now) state.old h →
         moment_of (h ▸ entry.now) ≡ context.now.moment → context.now.moment ≤ 2 ^ 40 →
         StateRepresents texts (kind_tree kind.now) state.new (h ▸ entry.now)) }

@@ -31,7 +31,7 @@ use Rattle.stream_tree.specs.declared.forest.Forest.{Forest}
 use Rattle.stream_tree.specs.declared.forest.Node.{Node}
 use Rattle.stream_tree.specs.Forest.{Meaning, nodes_of, Below, below_of, forked_by, CanFork, ForksRepresent, BelowRepresents, ForestRepresents}
 use Rattle.stream_tree.specs.Forks.{FoundAt, IsFound}
-use Rattle.stream_tree.specs.Running.{ComesAt, Stops, ForestRuns, ForestStops, kind_of, children_of, otherwise_of, Received, BelowIs, effects_below, branches_by, FitsBranch, FitAll, with_branch, with_branches, UnseenHaveTicks, extended, entering, ForkStands, ForkRuns, ForkStops, AllCome, DueRuns, DueStops, TickRuns, TickStops, BranchRuns, BranchStops, AllStand, EmissionsRun, EmissionsStop}
+use Rattle.stream_tree.specs.Running.{ComesAt, Stops, ForestRuns, ForestStops, kind_of, children_of, otherwise_of, Received, BelowIs, effects_below, branches_by, FitsBranch, FitAll, with_branch, with_branches, UnseenHaveTicks, extended, entering, ForkComes, ForkRuns, ForkStops, AllCome, DueRuns, DueStops, TickRuns, TickStops, BranchRuns, BranchStops, AllAreAt, EmissionsRun, EmissionsStop}
 use Rattle.stream_tree.specs.Tree.{Performs, PerformsPart}
 use Rattle.stream_tree.proofs.DueLaws.{even_keys}
 use Rattle.stream_tree.proofs.ForkLaws.{fork_goes_on, unseen_goes_on, unseen_fits}
@@ -57,37 +57,37 @@ otherwise_of-opened s = refl
 module _ (texts : List (List ℕ)) (plan : StreamTrees) (first : ℕ) (Means Beside : Meaning) where
   children_stand : (shape : Option (List Field)) (keys : List (List Value)) (received : Received) (below : Below) → FitsBranch shape Children →
       BelowRepresents texts plan first Means Beside shape keys received below → Means below.children (received Children)
-  children_stand None keys received below fits stands = stands.children
-  children_stand (Some fields) keys received below fits stands = absurd fits
+  children_stand None keys received below fits represents = represents.children
+  children_stand (Some fields) keys received below fits represents = absurd fits
 
   otherwise_stand : (shape : Option (List Field)) (keys : List (List Value)) (received : Received) (below : Below) → FitsBranch shape Otherwise →
       BelowRepresents texts plan first Means Beside shape keys received below → Beside below.otherwise (received Otherwise)
-  otherwise_stand None keys received below fits stands = stands.otherwise
-  otherwise_stand (Some fields) keys received below fits stands = absurd fits
+  otherwise_stand None keys received below fits represents = represents.otherwise
+  otherwise_stand (Some fields) keys received below fits represents = absurd fits
 
   children_put : (shape : Option (List Field)) (keys : List (List Value)) (received : Received) (x : Entry) (children otherwise : List Node) (forks : ForkTable Forest) (children' : List Node) → FitsBranch shape Children →
       BelowRepresents texts plan first Means Beside shape keys received (record { children = children; otherwise = otherwise; forks = forks }) → Means children' (received Children ▸ x) →
       BelowRepresents texts plan first Means Beside shape keys (extended Children x received) (record { children = children'; otherwise = otherwise; forks = forks })
-  children_put None keys received x children otherwise forks children' fits stands now = record { children = now; otherwise = stands.otherwise; is_table = stands.is_table; no_forks = stands.no_forks }
-  children_put (Some fields) keys received x children otherwise forks children' fits stands now = absurd fits
+  children_put None keys received x children otherwise forks children' fits represents now = record { children = now; otherwise = represents.otherwise; is_table = represents.is_table; no_forks = represents.no_forks }
+  children_put (Some fields) keys received x children otherwise forks children' fits represents now = absurd fits
 
   otherwise_put : (shape : Option (List Field)) (keys : List (List Value)) (received : Received) (x : Entry) (children otherwise : List Node) (forks : ForkTable Forest) (otherwise' : List Node) → FitsBranch shape Otherwise →
       BelowRepresents texts plan first Means Beside shape keys received (record { children = children; otherwise = otherwise; forks = forks }) → Beside otherwise' (received Otherwise ▸ x) →
       BelowRepresents texts plan first Means Beside shape keys (extended Otherwise x received) (record { children = children; otherwise = otherwise'; forks = forks })
-  otherwise_put None keys received x children otherwise forks otherwise' fits stands now = record { children = stands.children; otherwise = now; is_table = stands.is_table; no_forks = stands.no_forks }
-  otherwise_put (Some fields) keys received x children otherwise forks otherwise' fits stands now = absurd fits
+  otherwise_put None keys received x children otherwise forks otherwise' fits represents now = record { children = represents.children; otherwise = now; is_table = represents.is_table; no_forks = represents.no_forks }
+  otherwise_put (Some fields) keys received x children otherwise forks otherwise' fits represents now = absurd fits
 
   forks_stand : (shape : Option (List Field)) (keys : List (List Value)) (received : Received) (key : List Value) (below : Below) → FitsBranch shape (Fork key) →
       BelowRepresents texts plan first Means Beside shape keys received below → CanFork texts plan first × ForksRepresent Means (plan_deadline plan) keys (λ k. received (Fork k)) below.forks
-  forks_stand None keys received key below fits stands = absurd fits
-  forks_stand (Some fields) keys received key below fits stands = (stands.can_fork, stands.forks)
+  forks_stand None keys received key below fits represents = absurd fits
+  forks_stand (Some fields) keys received key below fits represents = (represents.can_fork, represents.forks)
 
   forks_put : (shape : Option (List Field)) (keys keys' : List (List Value)) (received received' : Received) (key : List Value) (children otherwise : List Node) (forks forks' : ForkTable Forest) → FitsBranch shape (Fork key) →
       BelowRepresents texts plan first Means Beside shape keys received (record { children = children; otherwise = otherwise; forks = forks }) → ForksRepresent Means (plan_deadline plan) keys' (λ k. received' (Fork k)) forks' →
       BelowRepresents texts plan first Means Beside shape keys' received' (record { children = children; otherwise = otherwise; forks = forks' })
-  forks_put None keys keys' received received' key children otherwise forks forks' fits stands now = absurd fits
-  forks_put (Some fields) keys keys' received received' key children otherwise forks forks' fits stands now =
-      record { can_fork = stands.can_fork; forks = now; no_children = stands.no_children; no_otherwise = stands.no_otherwise }
+  forks_put None keys keys' received received' key children otherwise forks forks' fits represents now = absurd fits
+  forks_put (Some fields) keys keys' received received' key children otherwise forks forks' fits represents now =
+      record { can_fork = represents.can_fork; forks = now; no_children = represents.no_children; no_otherwise = represents.no_otherwise }
 
 fit_front : (shape : Option (List Field)) (es more : List Emission) → FitAll shape (es ++ more) → FitAll shape es
 fit_front shape [] more fit = tt
@@ -130,13 +130,13 @@ unseen_after shape (emission ∷ es) keys received unseen =
     unseen_after shape es (with_branch emission.branch keys) (extended emission.branch (In emission.item) received) (unseen_goes_on shape emission.branch (In emission.item) keys received unseen)
 
 module _ (start moment : ℕ) where
-  comes_here : (received : Received) (branch : Branch) (item : Item) → AllStand start moment received → ComesAt start moment (received branch) (In item)
-  comes_here received branch item stand = record { begins = stand.begins branch; comes = stand.stands branch; small = stand.small }
+  comes_here : (received : Received) (branch : Branch) (item : Item) → AllAreAt start moment received → ComesAt start moment (received branch) (In item)
+  comes_here received branch item stand = record { begins = stand.begins branch; comes = stand.represents branch; small = stand.small }
 
-  stand_after : (es : List Emission) (received : Received) → AllStand start moment received → AllStand start moment (λ branch. after_emissions branch es (received branch))
+  stand_after : (es : List Emission) (received : Received) → AllAreAt start moment received → AllAreAt start moment (λ branch. after_emissions branch es (received branch))
   stand_after es received stand = record {
     begins = λ branch. (after_emissions-moments branch es (received branch)).begins ∙ stand.begins branch;
-    stands = λ branch. (after_emissions-moments branch es (received branch)).ends ∙ stand.stands branch;
+    represents = λ branch. (after_emissions-moments branch es (received branch)).ends ∙ stand.represents branch;
     small = stand.small;
   }
 
@@ -146,14 +146,14 @@ module _ (start moment : ℕ) where
     fork_found : (texts : List (List ℕ)) (keys : List (List Value)) (received : Received) → FitsBranch (forked_by (kind_of (opened s))) (Fork key) →
         BelowIs texts (opened s) first keys received (below_of children otherwise forks) → UnseenHaveTicks (forked_by (kind_of (opened s))) keys received → ComesAt start moment (received (Fork key)) x →
         FoundAt texts (children_of (opened s)) key keys (λ k. received (Fork k)) found number
-    fork_found texts keys received fits stands unseen comes =
+    fork_found texts keys received fits represents unseen comes =
         let plan = children_of (opened s) in
         let trees : list_trees streams ≡ children_of (opened s) = ap list_trees is ∙ sym (children_of-opened s) in
-        let here = forks_stand texts plan first (ForestRepresents texts plan) (ForestRepresents texts (otherwise_of (opened s))) (forked_by (kind_of (opened s))) keys received key (below_of children otherwise forks) fits stands in
+        let here = forks_stand texts plan first (ForestRepresents texts plan) (ForestRepresents texts (otherwise_of (opened s))) (forked_by (kind_of (opened s))) keys received key (below_of children otherwise forks) fits represents in
         subst (λ (trees : StreamTrees). IsFound trees first start key forks found number) trees finds texts keys (λ k. received (Fork k)) here.0 here.1 (unseen_fits (forked_by (kind_of (opened s))) keys received key fits unseen) comes.begins
 
     stands_there : (texts : List (List ℕ)) (keys : List (List Value)) (received : Received) → FoundAt texts (children_of (opened s)) key keys (λ k. received (Fork k)) found number →
-        ComesAt start moment (received (Fork key)) x → ForkStands start moment texts (children_of (opened s)) number found (received (Fork key)) x
+        ComesAt start moment (received (Fork key)) x → ForkComes start moment texts (children_of (opened s)) number found (received (Fork key)) x
     stands_there texts keys received at comes = record {
       is_table = at.forks_stand.is_table;
       within = let even = even_keys found (with_key key keys) at.forks_stand.is_table at.forks_stand.keys_are in omega (arith, even, at.within);
@@ -171,52 +171,52 @@ module _ {G : Type 0} (patterns : List Regex) (start moment : ℕ) where
       (first : ℕ) (forks : ForkTable Forest) → BranchRuns patterns start moment a t b u x (opened s) first (branch_meant branch) (below_of children otherwise forks) (below_of children' otherwise forks)
   branch_children s streams branch x a b t u children otherwise children' at is runs first forks =
       subst (λ (other : CodeBranch). BranchRuns patterns start moment a t b u x (opened s) first (branch_meant other) (below_of children otherwise forks) (below_of children' otherwise forks)) (sym at)
-      (λ texts keys received from fits stands unseen comes.
+      (λ texts keys received from fits represents unseen comes.
       let plan = children_of (opened s) in
       let Means = ForestRepresents texts plan in
       let Beside = ForestRepresents texts (otherwise_of (opened s)) in
       let shape = forked_by (kind_of (opened s)) in
       let trees : list_trees streams ≡ children_of (opened s) = ap list_trees is ∙ sym (children_of-opened s) in
       let ran = subst (λ (trees : StreamTrees). ForestRuns patterns start moment a t b u x trees (nodes_of children) (nodes_of children')) trees runs texts (received Children) from
-      (children_stand texts plan first Means Beside shape keys received (below_of children otherwise forks) fits stands) comes in
-      (children_put texts plan first Means Beside shape keys received x (nodes_of children) (nodes_of otherwise) forks (nodes_of children') fits stands ran.0, ran.1))
+      (children_stand texts plan first Means Beside shape keys received (below_of children otherwise forks) fits represents) comes in
+      (children_put texts plan first Means Beside shape keys received x (nodes_of children) (nodes_of otherwise) forks (nodes_of children') fits represents ran.0, ran.1))
 
   pub branch_otherwise : (s : Stream) (streams : List Stream) (branch : CodeBranch) (x : Entry) (a b : List Output) (t u : StepCount G) (children otherwise otherwise' : Forest) →
       branch ≡ code.Otherwise → streams ≡ (out-Stream s).otherwise.items → ForestRuns patterns start moment a t b u x (list_trees streams) (nodes_of otherwise) (nodes_of otherwise') →
       (first : ℕ) (forks : ForkTable Forest) → BranchRuns patterns start moment a t b u x (opened s) first (branch_meant branch) (below_of children otherwise forks) (below_of children otherwise' forks)
   branch_otherwise s streams branch x a b t u children otherwise otherwise' at is runs first forks =
       subst (λ (other : CodeBranch). BranchRuns patterns start moment a t b u x (opened s) first (branch_meant other) (below_of children otherwise forks) (below_of children otherwise' forks)) (sym at)
-      (λ texts keys received from fits stands unseen comes.
+      (λ texts keys received from fits represents unseen comes.
       let plan = children_of (opened s) in
       let Means = ForestRepresents texts plan in
       let Beside = ForestRepresents texts (otherwise_of (opened s)) in
       let shape = forked_by (kind_of (opened s)) in
       let trees : list_trees streams ≡ otherwise_of (opened s) = ap list_trees is ∙ sym (otherwise_of-opened s) in
       let ran = subst (λ (trees : StreamTrees). ForestRuns patterns start moment a t b u x trees (nodes_of otherwise) (nodes_of otherwise')) trees runs texts (received Otherwise) from
-      (otherwise_stand texts plan first Means Beside shape keys received (below_of children otherwise forks) fits stands) comes in
-      (otherwise_put texts plan first Means Beside shape keys received x (nodes_of children) (nodes_of otherwise) forks (nodes_of otherwise') fits stands ran.0, ran.1))
+      (otherwise_stand texts plan first Means Beside shape keys received (below_of children otherwise forks) fits represents) comes in
+      (otherwise_put texts plan first Means Beside shape keys received x (nodes_of children) (nodes_of otherwise) forks (nodes_of otherwise') fits represents ran.0, ran.1))
 
   pub children_stop : (s : Stream) (streams : List Stream) (branch : CodeBranch) (x : Entry) (a b : List Output) (t u : StepCount G) (children otherwise : Forest) →
       branch ≡ code.Children → streams ≡ (out-Stream s).children.items → ForestStops patterns start moment a t b u x (list_trees streams) (nodes_of children) →
       (first : ℕ) (forks : ForkTable Forest) → BranchStops patterns start moment a t b u x (opened s) first (branch_meant branch) (below_of children otherwise forks)
   children_stop s streams branch x a b t u children otherwise at is stops first forks =
       subst (λ (other : CodeBranch). BranchStops patterns start moment a t b u x (opened s) first (branch_meant other) (below_of children otherwise forks)) (sym at)
-      (λ texts keys received from fits stands unseen comes.
+      (λ texts keys received from fits represents unseen comes.
       let plan = children_of (opened s) in
       let trees : list_trees streams ≡ children_of (opened s) = ap list_trees is ∙ sym (children_of-opened s) in
       (subst (λ (trees : StreamTrees). ForestStops patterns start moment a t b u x trees (nodes_of children)) trees stops texts (received Children) from
-      (children_stand texts plan first (ForestRepresents texts plan) (ForestRepresents texts (otherwise_of (opened s))) (forked_by (kind_of (opened s))) keys received (below_of children otherwise forks) fits stands) comes).part)
+      (children_stand texts plan first (ForestRepresents texts plan) (ForestRepresents texts (otherwise_of (opened s))) (forked_by (kind_of (opened s))) keys received (below_of children otherwise forks) fits represents) comes).part)
 
   pub otherwise_stop : (s : Stream) (streams : List Stream) (branch : CodeBranch) (x : Entry) (a b : List Output) (t u : StepCount G) (children otherwise : Forest) →
       branch ≡ code.Otherwise → streams ≡ (out-Stream s).otherwise.items → ForestStops patterns start moment a t b u x (list_trees streams) (nodes_of otherwise) →
       (first : ℕ) (forks : ForkTable Forest) → BranchStops patterns start moment a t b u x (opened s) first (branch_meant branch) (below_of children otherwise forks)
   otherwise_stop s streams branch x a b t u children otherwise at is stops first forks =
       subst (λ (other : CodeBranch). BranchStops patterns start moment a t b u x (opened s) first (branch_meant other) (below_of children otherwise forks)) (sym at)
-      (λ texts keys received from fits stands unseen comes.
+      (λ texts keys received from fits represents unseen comes.
       let plan = children_of (opened s) in
       let trees : list_trees streams ≡ otherwise_of (opened s) = ap list_trees is ∙ sym (otherwise_of-opened s) in
       (subst (λ (trees : StreamTrees). ForestStops patterns start moment a t b u x trees (nodes_of otherwise)) trees stops texts (received Otherwise) from
-      (otherwise_stand texts plan first (ForestRepresents texts plan) (ForestRepresents texts (otherwise_of (opened s))) (forked_by (kind_of (opened s))) keys received (below_of children otherwise forks) fits stands) comes).part)
+      (otherwise_stand texts plan first (ForestRepresents texts plan) (ForestRepresents texts (otherwise_of (opened s))) (forked_by (kind_of (opened s))) keys received (below_of children otherwise forks) fits represents) comes).part)
 
   -- ---- a tick comes to both branches
 
@@ -227,15 +227,15 @@ module _ {G : Type 0} (patterns : List Regex) (start moment : ℕ) where
       (ForestRepresents texts beside otherwise (received Otherwise) → ForestRepresents texts beside otherwise' (received Otherwise ▸ Tick) × Performs b u c v (plan_effects beside (received Otherwise ▸ Tick))) →
       BelowRepresents texts plan first (ForestRepresents texts plan) (ForestRepresents texts beside) shape keys (λ branch. received branch ▸ Tick) (record { children = children'; otherwise = otherwise'; forks = forks })
       × Performs a t c v (at_tick Tick (branch_effects (plan_effects plan) (plan_effects beside)) received (branches_by shape keys))
-  both_case texts plan beside first None keys received a b c t u v children otherwise children' otherwise' forks plain stands one two =
-      let ran = one stands.children in
-      let ran' = two stands.otherwise in
+  both_case texts plan beside first None keys received a b c t u v children otherwise children' otherwise' forks plain represents one two =
+      let ran = one represents.children in
+      let ran' = two represents.otherwise in
       let told = plan_effects plan (received Children ▸ Tick) in
       let told' = plan_effects beside (received Otherwise ▸ Tick) in (
-        record { children = ran.0; otherwise = ran'.0; is_table = stands.is_table; no_forks = stands.no_forks },
+        record { children = ran.0; otherwise = ran'.0; is_table = represents.is_table; no_forks = represents.no_forks },
         subst (λ (hs : List Effect). Performs a t c v (told ++ hs)) (sym (append-nil told')) (grew_then a b c t u v told told' ran.1 ran'.1),
       )
-  both_case texts plan beside first (Some fields) keys received a b c t u v children otherwise children' otherwise' forks plain stands one two = absurd (cc)
+  both_case texts plan beside first (Some fields) keys received a b c t u v children otherwise children' otherwise' forks plain represents one two = absurd (cc)
 
   pub both_run : (s : Stream) (children_streams otherwise_streams : List Stream) (x : Entry) (a b c : List Output) (t u v : StepCount G) (children otherwise children' otherwise' : Forest) (forks : ForkTable Forest) →
       is_some (forked_by (kind_tree (out-Stream s).kind)) ≡ false → x ≡ Tick → children_streams ≡ (out-Stream s).children.items → otherwise_streams ≡ (out-Stream s).otherwise.items →
@@ -244,7 +244,7 @@ module _ {G : Type 0} (patterns : List Regex) (start moment : ℕ) where
       (first : ℕ) → TickRuns patterns start moment a t c v x (opened s) first (below_of children otherwise forks) (below_of children' otherwise' forks)
   both_run s children_streams otherwise_streams x a b c t u v children otherwise children' otherwise' forks plain is children_is otherwise_is one two first =
       subst (λ (y : Entry). TickRuns patterns start moment a t c v y (opened s) first (below_of children otherwise forks) (below_of children' otherwise' forks)) (sym is)
-      (λ texts keys received from stands comes.
+      (λ texts keys received from represents comes.
       let trees : list_trees children_streams ≡ children_of (opened s) = ap list_trees children_is ∙ sym (children_of-opened s) in
       let trees' : list_trees otherwise_streams ≡ otherwise_of (opened s) = ap list_trees otherwise_is ∙ sym (otherwise_of-opened s) in
       let one' = subst (λ (trees : StreamTrees). ForestRuns patterns start moment a t b u Tick trees (nodes_of children) (nodes_of children')) trees
@@ -253,7 +253,7 @@ module _ {G : Type 0} (patterns : List Regex) (start moment : ℕ) where
       (subst (λ (y : Entry). ForestRuns patterns start moment b u c v y (list_trees otherwise_streams) (nodes_of otherwise) (nodes_of otherwise')) is two) in
       both_case texts (children_of (opened s)) (otherwise_of (opened s)) first (forked_by (kind_of (opened s))) keys received a b c t u v
       (nodes_of children) (nodes_of otherwise) (nodes_of children') (nodes_of otherwise') forks
-      (ap (λ (kind : KindTree). is_some (forked_by kind)) (kind_of-opened s) ∙ plain) stands
+      (ap (λ (kind : KindTree). is_some (forked_by kind)) (kind_of-opened s) ∙ plain) represents
       (λ here. one' texts (received Children) from here (comes.each Children)) (λ here. two' texts (received Otherwise) from here (comes.each Otherwise)))
 
   one_stops_case : (texts : List (List ℕ)) (plan beside : StreamTrees) (first : ℕ) (shape : Option (List Field)) (keys : List (List Value)) (received : Received) (a b : List Output) (t u : StepCount G)
@@ -261,9 +261,9 @@ module _ {G : Type 0} (patterns : List Regex) (start moment : ℕ) where
       BelowRepresents texts plan first (ForestRepresents texts plan) (ForestRepresents texts beside) shape keys received below →
       (ForestRepresents texts plan below.children (received Children) → Stops a t b u Tick (plan_effects plan (received Children ▸ Tick))) →
       Stops a t b u Tick (at_tick Tick (branch_effects (plan_effects plan) (plan_effects beside)) received (branches_by shape keys))
-  one_stops_case texts plan beside first None keys received a b t u below plain stands one =
-      stops_more a b t u Tick (plan_effects plan (received Children ▸ Tick)) (plan_effects beside (received Otherwise ▸ Tick) ++ []) (one stands.children)
-  one_stops_case texts plan beside first (Some fields) keys received a b t u below plain stands one = absurd (cc)
+  one_stops_case texts plan beside first None keys received a b t u below plain represents one =
+      stops_more a b t u Tick (plan_effects plan (received Children ▸ Tick)) (plan_effects beside (received Otherwise ▸ Tick) ++ []) (one represents.children)
+  one_stops_case texts plan beside first (Some fields) keys received a b t u below plain represents one = absurd (cc)
 
   pub one_stops : (s : Stream) (streams : List Stream) (x : Entry) (a b : List Output) (t u : StepCount G) (children otherwise : Forest) (forks : ForkTable Forest) →
       is_some (forked_by (kind_tree (out-Stream s).kind)) ≡ false → x ≡ Tick → streams ≡ (out-Stream s).children.items →
@@ -271,12 +271,12 @@ module _ {G : Type 0} (patterns : List Regex) (start moment : ℕ) where
       (first : ℕ) → TickStops patterns start moment a t b u x (opened s) first (below_of children otherwise forks)
   one_stops s streams x a b t u children otherwise forks plain is children_is one first =
       subst (λ (y : Entry). TickStops patterns start moment a t b u y (opened s) first (below_of children otherwise forks)) (sym is)
-      (λ texts keys received from stands comes.
+      (λ texts keys received from represents comes.
       let trees : list_trees streams ≡ children_of (opened s) = ap list_trees children_is ∙ sym (children_of-opened s) in
       let one' = subst (λ (trees : StreamTrees). ForestStops patterns start moment a t b u Tick trees (nodes_of children)) trees
       (subst (λ (y : Entry). ForestStops patterns start moment a t b u y (list_trees streams) (nodes_of children)) is one) in
       one_stops_case texts (children_of (opened s)) (otherwise_of (opened s)) first (forked_by (kind_of (opened s))) keys received a b t u (below_of children otherwise forks)
-      (ap (λ (kind : KindTree). is_some (forked_by kind)) (kind_of-opened s) ∙ plain) stands (λ here. one' texts (received Children) from here (comes.each Children)))
+      (ap (λ (kind : KindTree). is_some (forked_by kind)) (kind_of-opened s) ∙ plain) represents (λ here. one' texts (received Children) from here (comes.each Children)))
 
   two_stops_case : (texts : List (List ℕ)) (plan beside : StreamTrees) (first : ℕ) (shape : Option (List Field)) (keys : List (List Value)) (received : Received) (a b c : List Output) (t u v : StepCount G)
       (below : Below) (children' : List Node) → is_some shape ≡ false →
@@ -284,11 +284,11 @@ module _ {G : Type 0} (patterns : List Regex) (start moment : ℕ) where
       (ForestRepresents texts plan below.children (received Children) → ForestRepresents texts plan children' (received Children ▸ Tick) × Performs a t b u (plan_effects plan (received Children ▸ Tick))) →
       (ForestRepresents texts beside below.otherwise (received Otherwise) → Stops b u c v Tick (plan_effects beside (received Otherwise ▸ Tick))) →
       Stops a t c v Tick (at_tick Tick (branch_effects (plan_effects plan) (plan_effects beside)) received (branches_by shape keys))
-  two_stops_case texts plan beside first None keys received a b c t u v below children' plain stands one two =
+  two_stops_case texts plan beside first None keys received a b c t u v below children' plain represents one two =
       let told = plan_effects plan (received Children ▸ Tick) in
       let told' = plan_effects beside (received Otherwise ▸ Tick) in
-      subst (λ (hs : List Effect). Stops a t c v Tick (told ++ hs)) (sym (append-nil told')) (stops_then a b c t u v Tick told told' (one stands.children).1 (two stands.otherwise))
-  two_stops_case texts plan beside first (Some fields) keys received a b c t u v below children' plain stands one two = absurd (cc)
+      subst (λ (hs : List Effect). Stops a t c v Tick (told ++ hs)) (sym (append-nil told')) (stops_then a b c t u v Tick told told' (one represents.children).1 (two represents.otherwise))
+  two_stops_case texts plan beside first (Some fields) keys received a b c t u v below children' plain represents one two = absurd (cc)
 
   pub two_stops : (s : Stream) (children_streams otherwise_streams : List Stream) (x : Entry) (a b c : List Output) (t u v : StepCount G) (children otherwise children' : Forest) (forks : ForkTable Forest) →
       is_some (forked_by (kind_tree (out-Stream s).kind)) ≡ false → x ≡ Tick → children_streams ≡ (out-Stream s).children.items → otherwise_streams ≡ (out-Stream s).otherwise.items →
@@ -297,7 +297,7 @@ module _ {G : Type 0} (patterns : List Regex) (start moment : ℕ) where
       (first : ℕ) → TickStops patterns start moment a t c v x (opened s) first (below_of children otherwise forks)
   two_stops s children_streams otherwise_streams x a b c t u v children otherwise children' forks plain is children_is otherwise_is one two first =
       subst (λ (y : Entry). TickStops patterns start moment a t c v y (opened s) first (below_of children otherwise forks)) (sym is)
-      (λ texts keys received from stands comes.
+      (λ texts keys received from represents comes.
       let trees : list_trees children_streams ≡ children_of (opened s) = ap list_trees children_is ∙ sym (children_of-opened s) in
       let trees' : list_trees otherwise_streams ≡ otherwise_of (opened s) = ap list_trees otherwise_is ∙ sym (otherwise_of-opened s) in
       let one' = subst (λ (trees : StreamTrees). ForestRuns patterns start moment a t b u Tick trees (nodes_of children) (nodes_of children')) trees
@@ -305,7 +305,7 @@ module _ {G : Type 0} (patterns : List Regex) (start moment : ℕ) where
       let two' = subst (λ (trees : StreamTrees). ForestStops patterns start moment b u c v Tick trees (nodes_of otherwise)) trees'
       (subst (λ (y : Entry). ForestStops patterns start moment b u c v y (list_trees otherwise_streams) (nodes_of otherwise)) is two) in
       two_stops_case texts (children_of (opened s)) (otherwise_of (opened s)) first (forked_by (kind_of (opened s))) keys received a b c t u v (below_of children otherwise forks) (nodes_of children')
-      (ap (λ (kind : KindTree). is_some (forked_by kind)) (kind_of-opened s) ∙ plain) stands
+      (ap (λ (kind : KindTree). is_some (forked_by kind)) (kind_of-opened s) ∙ plain) represents
       (λ here. one' texts (received Children) from here (comes.each Children)) (λ here. two' texts (received Otherwise) from here (comes.each Otherwise)))
 
   -- ---- a tick comes to the forks
@@ -316,10 +316,10 @@ module _ {G : Type 0} (patterns : List Regex) (start moment : ℕ) where
       ((branch : Branch) → ComesAt start moment (received branch) Tick) → DueRuns patterns start moment a t b u plan forks forks' →
       BelowRepresents texts plan first (ForestRepresents texts plan) (ForestRepresents texts beside) shape keys (λ branch. received branch ▸ Tick) (record { children = children; otherwise = otherwise; forks = forks' })
       × Performs a t b u (at_tick Tick (branch_effects (plan_effects plan) (plan_effects beside)) received (branches_by shape keys))
-  due_case texts plan beside first None keys received a b t u children otherwise forks forks' forked from stands comes runs = absurd (cc)
-  due_case texts plan beside first (Some fields) keys received a b t u children otherwise forks forks' forked from stands comes runs =
-      let ran = runs texts keys (λ key. received (Fork key)) from stands.can_fork.in_range stands.forks (λ key. comes (Fork key)) in (
-        record { can_fork = stands.can_fork; forks = ran.0; no_children = stands.no_children; no_otherwise = stands.no_otherwise },
+  due_case texts plan beside first None keys received a b t u children otherwise forks forks' forked from represents comes runs = absurd (cc)
+  due_case texts plan beside first (Some fields) keys received a b t u children otherwise forks forks' forked from represents comes runs =
+      let ran = runs texts keys (λ key. received (Fork key)) from represents.can_fork.in_range represents.forks (λ key. comes (Fork key)) in (
+        record { can_fork = represents.can_fork; forks = ran.0; no_children = represents.no_children; no_otherwise = represents.no_otherwise },
         subst (λ (hs : List Effect). Performs a t b u hs) (sym (forks_tick (plan_effects plan) (plan_effects beside) received keys)) ran.1,
       )
 
@@ -328,33 +328,33 @@ module _ {G : Type 0} (patterns : List Regex) (start moment : ℕ) where
       (first : ℕ) → TickRuns patterns start moment a t b u x (opened s) first (below_of children otherwise forks) (below_of children otherwise forks')
   due_run s x a b t u children otherwise forks forks' forked is runs first =
       subst (λ (y : Entry). TickRuns patterns start moment a t b u y (opened s) first (below_of children otherwise forks) (below_of children otherwise forks')) (sym is)
-      (λ texts keys received from stands comes.
+      (λ texts keys received from represents comes.
       due_case texts (children_of (opened s)) (otherwise_of (opened s)) first (forked_by (kind_of (opened s))) keys received a b t u (nodes_of children) (nodes_of otherwise) forks forks'
-      (ap (λ (kind : KindTree). is_some (forked_by kind)) (kind_of-opened s) ∙ forked) from stands comes.each runs)
+      (ap (λ (kind : KindTree). is_some (forked_by kind)) (kind_of-opened s) ∙ forked) from represents comes.each runs)
 
   due_stops_case : (texts : List (List ℕ)) (plan beside : StreamTrees) (first : ℕ) (shape : Option (List Field)) (keys : List (List Value)) (received : Received) (a b : List Output) (t u : StepCount G)
       (below : Below) → is_some shape ≡ true → AreReadFrom texts patterns →
       BelowRepresents texts plan first (ForestRepresents texts plan) (ForestRepresents texts beside) shape keys received below →
       ((branch : Branch) → ComesAt start moment (received branch) Tick) → DueStops patterns start moment a t b u plan below.forks →
       Stops a t b u Tick (at_tick Tick (branch_effects (plan_effects plan) (plan_effects beside)) received (branches_by shape keys))
-  due_stops_case texts plan beside first None keys received a b t u below forked from stands comes stops = absurd (cc)
-  due_stops_case texts plan beside first (Some fields) keys received a b t u below forked from stands comes stops =
+  due_stops_case texts plan beside first None keys received a b t u below forked from represents comes stops = absurd (cc)
+  due_stops_case texts plan beside first (Some fields) keys received a b t u below forked from represents comes stops =
       subst (λ (hs : List Effect). Stops a t b u Tick hs) (sym (forks_tick (plan_effects plan) (plan_effects beside) received keys))
-      (stops texts keys (λ key. received (Fork key)) from stands.can_fork.in_range stands.forks (λ key. comes (Fork key)))
+      (stops texts keys (λ key. received (Fork key)) from represents.can_fork.in_range represents.forks (λ key. comes (Fork key)))
 
   pub due_stops : (s : Stream) (x : Entry) (a b : List Output) (t u : StepCount G) (children otherwise : Forest) (forks : ForkTable Forest) →
       is_some (forked_by (kind_tree (out-Stream s).kind)) ≡ true → x ≡ Tick → DueStops patterns start moment a t b u (children_of (opened s)) forks →
       (first : ℕ) → TickStops patterns start moment a t b u x (opened s) first (below_of children otherwise forks)
   due_stops s x a b t u children otherwise forks forked is stops first =
       subst (λ (y : Entry). TickStops patterns start moment a t b u y (opened s) first (below_of children otherwise forks)) (sym is)
-      (λ texts keys received from stands comes.
+      (λ texts keys received from represents comes.
       due_stops_case texts (children_of (opened s)) (otherwise_of (opened s)) first (forked_by (kind_of (opened s))) keys received a b t u (below_of children otherwise forks)
-      (ap (λ (kind : KindTree). is_some (forked_by kind)) (kind_of-opened s) ∙ forked) from stands comes.each stops)
+      (ap (λ (kind : KindTree). is_some (forked_by kind)) (kind_of-opened s) ∙ forked) from represents comes.each stops)
 
   -- an item is no tick
   pub item_waits : (s : StreamTree) (x : Entry) (item : Item) (a : List Output) (t : StepCount G) (below : Below) → x ≡ In item → (first : ℕ) → TickRuns patterns start moment a t a t x s first below below
   item_waits s x item a t below is first =
-      subst (λ (y : Entry). TickRuns patterns start moment a t a t y s first below below) (sym is) (λ texts keys received from stands comes. (stands, grew_none a t))
+      subst (λ (y : Entry). TickRuns patterns start moment a t a t y s first below below) (sym is) (λ texts keys received from represents comes. (represents, grew_none a t))
 
   -- ---- an item comes to a fork
 
@@ -362,42 +362,42 @@ module _ {G : Type 0} (patterns : List Regex) (start moment : ℕ) where
       (finds : IsFound (list_trees streams) first start key forks found number) where
     pub key_run : (a b : List Output) (t u : StepCount G) (forks' : ForkTable Forest) → ForkRuns patterns start moment a t b u x (children_of (opened s)) number found forks' →
         BranchRuns patterns start moment a t b u x (opened s) first (Fork key) (below_of children otherwise forks) (below_of children otherwise forks')
-    key_run a b t u forks' runs texts keys received from fits stands unseen comes =
+    key_run a b t u forks' runs texts keys received from fits represents unseen comes =
         let plan = children_of (opened s) in
-        let at = fork_found start moment s streams is first key x children otherwise forks found number finds texts keys received fits stands unseen comes in
+        let at = fork_found start moment s streams is first key x children otherwise forks found number finds texts keys received fits represents unseen comes in
         let ran = runs texts (received (Fork key)) from (stands_there start moment s streams is first key x children otherwise forks found number finds texts keys received at comes) in (
           forks_put texts plan first (ForestRepresents texts plan) (ForestRepresents texts (otherwise_of (opened s))) (forked_by (kind_of (opened s))) keys (with_key key keys) received (extended (Fork key) x received) key
-              (nodes_of children) (nodes_of otherwise) forks forks' fits stands (fork_goes_on texts plan x key keys received found forks' number at ran.0),
+              (nodes_of children) (nodes_of otherwise) forks forks' fits represents (fork_goes_on texts plan x key keys received found forks' number at ran.0),
           ran.1,
         )
 
     pub key_stops : (a b : List Output) (t u : StepCount G) → ForkStops patterns start moment a t b u x (children_of (opened s)) number found →
         BranchStops patterns start moment a t b u x (opened s) first (Fork key) (below_of children otherwise forks)
-    key_stops a b t u stops texts keys received from fits stands unseen comes =
-        let at = fork_found start moment s streams is first key x children otherwise forks found number finds texts keys received fits stands unseen comes in
+    key_stops a b t u stops texts keys received from fits represents unseen comes =
+        let at = fork_found start moment s streams is first key x children otherwise forks found number finds texts keys received fits represents unseen comes in
         stops texts (received (Fork key)) from (stands_there start moment s streams is first key x children otherwise forks found number finds texts keys received at comes)
 
   -- the fork was not found
   pub key_missed : (s : StreamTree) (x : Entry) (first : ℕ) (branch : Branch) (a : List Output) (t : StepCount G) (below : Below) → BranchStops patterns start moment a t a t x s first branch below
-  key_missed s x first branch a t below texts keys received from fits stands unseen comes = part_none a t (entering (effects_below s) branch (received branch ▸ x))
+  key_missed s x first branch a t below texts keys received from fits represents unseen comes = part_none a t (entering (effects_below s) branch (received branch ▸ x))
 
   -- ---- emissions
 
   -- no emission
   pub none_run : (s : StreamTree) (first : ℕ) (a : List Output) (t : StepCount G) (below : Below) → EmissionsRun patterns start moment a t a t [] s first below below
-  none_run s first a t below texts keys received from fit stands unseen stand = (stands, grew_none a t)
+  none_run s first a t below texts keys received from fit represents unseen stand = (represents, grew_none a t)
 
   -- one emission alone
   pub one_run : (s : StreamTree) (first : ℕ) (branch : Branch) (item : Item) (a b : List Output) (t u : StepCount G) (below below' : Below) →
       BranchRuns patterns start moment a t b u (In item) s first branch below below' → EmissionsRun patterns start moment a t b u (record { branch = branch; item = item } ∷ []) s first below below'
-  one_run s first branch item a b t u below below' runs texts keys received from fit stands unseen stand =
-      let ran = runs texts keys received from fit.0 stands unseen (comes_here start moment received branch item stand) in
+  one_run s first branch item a b t u below below' runs texts keys received from fit represents unseen stand =
+      let ran = runs texts keys received from fit.0 represents unseen (comes_here start moment received branch item stand) in
       (ran.0, subst (λ (hs : List Effect). Performs a t b u hs) (sym (append-nil (entering (effects_below s) branch (received branch ▸ In item)))) ran.1)
 
   pub one_stop : (s : StreamTree) (first : ℕ) (branch : Branch) (item : Item) (a b : List Output) (t u : StepCount G) (below : Below) →
       BranchStops patterns start moment a t b u (In item) s first branch below → EmissionsStop patterns start moment a t b u (record { branch = branch; item = item } ∷ []) s first below
-  one_stop s first branch item a b t u below stops texts keys received from fit stands unseen stand = (
-    part_more a b t u (entering (effects_below s) branch (received branch ▸ In item)) [] (stops texts keys received from fit.0 stands unseen (comes_here start moment received branch item stand)),
+  one_stop s first branch item a b t u below stops texts keys received from fit represents unseen stand = (
+    part_more a b t u (entering (effects_below s) branch (received branch ▸ In item)) [] (stops texts keys received from fit.0 represents unseen (comes_here start moment received branch item stand)),
     λ none. cc,
   )
 
@@ -405,12 +405,12 @@ module _ {G : Type 0} (patterns : List Regex) (start moment : ℕ) where
   emissions_more : (s : StreamTree) (first : ℕ) (a b c : List Output) (t u v : StepCount G) (below below' below'' : Below) (es : List Emission) (emission : Emission) →
       EmissionsRun patterns start moment a t b u es s first below below' → BranchRuns patterns start moment b u c v (In emission.item) s first emission.branch below' below'' →
       EmissionsRun patterns start moment a t c v (es ++ emission ∷ []) s first below below''
-  emissions_more s first a b c t u v below below' below'' es emission so_far more texts keys received from fit stands unseen stand =
+  emissions_more s first a b c t u v below below' below'' es emission so_far more texts keys received from fit represents unseen stand =
       let plan = children_of s in
       let Means = ForestRepresents texts plan in
       let Beside = ForestRepresents texts (otherwise_of s) in
       let shape = forked_by (kind_of s) in
-      let one = so_far texts keys received from (fit_front shape es (emission ∷ []) fit) stands unseen stand in
+      let one = so_far texts keys received from (fit_front shape es (emission ∷ []) fit) represents unseen stand in
       let so = λ (branch : Branch). after_emissions branch es (received branch) in
       let fits = (fit_back shape es (emission ∷ []) fit).0 in
       let two = more texts (with_branches es keys) so from fits one.0 (unseen_after shape es keys received unseen) (comes_here start moment so emission.branch emission.item (stand_after start moment es received stand)) in
@@ -436,10 +436,10 @@ module _ {G : Type 0} (patterns : List Regex) (start moment : ℕ) where
   emissions_stop : (s : StreamTree) (first : ℕ) (a b c : List Output) (t u v : StepCount G) (below below' : Below) (es : List Emission) (emission : Emission) (rest : List Emission) →
       EmissionsRun patterns start moment a t b u es s first below below' → BranchStops patterns start moment b u c v (In emission.item) s first emission.branch below' →
       EmissionsStop patterns start moment a t c v ((es ++ emission ∷ []) ++ rest) s first below
-  emissions_stop s first a b c t u v below below' es emission rest so_far stops texts keys received from fit stands unseen stand =
+  emissions_stop s first a b c t u v below below' es emission rest so_far stops texts keys received from fit represents unseen stand =
       let shape = forked_by (kind_of s) in
       let fit' = fit_front shape (es ++ emission ∷ []) rest fit in
-      let one = so_far texts keys received from (fit_front shape es (emission ∷ []) fit') stands unseen stand in
+      let one = so_far texts keys received from (fit_front shape es (emission ∷ []) fit') represents unseen stand in
       let so = λ (branch : Branch). after_emissions branch es (received branch) in
       let fits = (fit_back shape es (emission ∷ []) fit').0 in
       let two = stops texts (with_branches es keys) so from fits one.0 (unseen_after shape es keys received unseen) (comes_here start moment so emission.branch emission.item (stand_after start moment es received stand)) in

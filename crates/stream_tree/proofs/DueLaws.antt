@@ -290,20 +290,20 @@ module _ (streams : StreamTrees) (Means : Meaning) (keys : List (List Value)) (r
   abbrev pub tick_effects : List Effect
   tick_effects = flat_map (λ key. due_if_any (plan_effects streams (received key ▸ Tick))) keys
 
-  module _ (forks : ForkTable Forest) (stands : ForksRepresent Means (plan_deadline streams) keys received forks) where
+  module _ (forks : ForkTable Forest) (represents : ForksRepresent Means (plan_deadline streams) keys received forks) where
     -- the forks that have effects are due
     due_met : (n : ℕ) → n < length keys → has n (due_ids now (fork_dues forks)) ≡ has_effects (fork_effects n)
     due_met n within =
-        due-is_by now n (fork_dues forks) stands.is_table.rising ∙ ap (is_by now) (stands.dues n within)
+        due-is_by now n (fork_dues forks) represents.is_table.rising ∙ ap (is_by now) (represents.dues n within)
         ∙ ap (λ (m : ℕ). is_by m (plan_deadline streams (received (get_or keys n [])))) (sym (comes (get_or keys n [])))
         ∙ due_if_effects streams (received (get_or keys n [])) ranges
 
     pub due_keys : (n : ℕ) → has n (due_ids now (fork_dues forks)) ≡ true → n < length keys
-    due_keys n h = let so = due_within now forks stands.is_table n h in omega (arith, so, even_keys forks keys stands.is_table stands.keys_are)
+    due_keys n h = let so = due_within now forks represents.is_table n h in omega (arith, so, even_keys forks keys represents.is_table represents.keys_are)
 
     pub due_are_all : tick_effects ≡ flat_map (λ n. Due ∷ fork_effects n) (due_ids now (fork_dues forks))
     due_are_all =
-        due_in_order (λ key. plan_effects streams (received key ▸ Tick)) keys (due_ids now (fork_dues forks)) (due_rises now (fork_dues forks) stands.is_table.rising) due_met due_keys
+        due_in_order (λ key. plan_effects streams (received key ▸ Tick)) keys (due_ids now (fork_dues forks)) (due_rises now (fork_dues forks) represents.is_table.rising) due_met due_keys
 
     -- where nothing is due there are no effects, and the other way round
     pub none_due : tick_effects ≡ [] → due_ids now (fork_dues forks) ≡ []
@@ -327,19 +327,19 @@ module _ (streams : StreamTrees) (Means : Meaning) (keys : List (List Value)) (r
 
   pub due_begins : IsStill Means (plan_effects streams) → (forks forks' : ForkTable Forest) → ForksRepresent Means (plan_deadline streams) keys received forks → IsTable forks' →
       table_keys forks' ≡ table_keys forks → fork_list forks' ≡ fork_list forks → fork_dues forks' ≡ due_later now (fork_dues forks) → DueRan (due_ids now (fork_dues forks)) forks'
-  due_begins still forks forks' stands is_table same_keys same_forks later =
+  due_begins still forks forks' represents is_table same_keys same_forks later =
       let was : (number : ℕ) (other : Forest) → number < length keys → Means (nodes_of (get_or (fork_list forks') number other)) (received (get_or keys number [])) =
-      λ number other within. subst (λ (l : List Forest). Means (nodes_of (get_or l number other)) (received (get_or keys number []))) (sym same_forks) (stands.each number other within) in
+      λ number other within. subst (λ (l : List Forest). Means (nodes_of (get_or l number other)) (received (get_or keys number []))) (sym same_forks) (represents.each number other within) in
       let quiet : (number : ℕ) → number < length keys → has number (due_ids now (fork_dues forks)) ≡ false → fork_effects number ≡ [] =
-      λ number within absent. nothing_happens (fork_effects number) (sym (due_met forks stands number within) ∙ absent) in record {
+      λ number within absent. nothing_happens (fork_effects number) (sym (due_met forks represents number within) ∙ absent) in record {
         is_table = is_table;
-        keys_are = same_keys ∙ stands.keys_are;
+        keys_are = same_keys ∙ represents.keys_are;
         ticked = λ number other within absent. still (nodes_of (get_or (fork_list forks') number other)) (received (get_or keys number [])) (was number other within) (quiet number within absent);
         waiting = λ number other within present. was number other within;
         dues = λ number within absent.
             ap (moment_at number) later
-            ∙ kept_moment now number (fork_dues forks) (sym (due-is_by now number (fork_dues forks) stands.is_table.rising) ∙ absent)
-            ∙ stands.dues number within
+            ∙ kept_moment now number (fork_dues forks) (sym (due-is_by now number (fork_dues forks) represents.is_table.rising) ∙ absent)
+            ∙ represents.dues number within
             ∙ sym (plan_still streams (received (get_or keys number [])) ranges (quiet number within absent));
       }
 

@@ -22,7 +22,7 @@ use Rattle.tick_schedule.specs.Queue.{due_ids, due_later}
 use Rattle.tick_schedule.proofs.QueueLaws.{at-same}
 use Rattle.stream_tree.specs.declared.forest.Forest.{Forest}
 use Rattle.stream_tree.specs.Forest.{Meaning, nodes_of, AreInRange, ForksRepresent, ForestRepresents}
-use Rattle.stream_tree.specs.Running.{ComesAt, Stops, ForkRuns, ForkStops, DueRuns, DueStops, ForkStands}
+use Rattle.stream_tree.specs.Running.{ComesAt, Stops, ForkRuns, ForkStops, DueRuns, DueStops, ForkComes}
 use Rattle.stream_tree.specs.Tree.{Performs, PerformsPart}
 use Rattle.stream_tree.proofs.DueLaws.{has, RisesFrom, due_rises, not_below, rises_drop, even_keys, entered_as_given, due_keys, due_are_all, none_due, DueRan, due_begins, due_goes_on, due_ends}
 use Rattle.stream_tree.proofs.PerformLaws.{extends_none, grew_none, grew_then, part_more, part_then}
@@ -74,23 +74,23 @@ module _ {G : Type 0} (patterns : List Regex) (start moment : ℕ) (a : List Out
   -- the forks of the first i numbers have got the tick; the steps are counted from those on at which the numbers were taken
   abbrev pub LoopRan : ℕ → ForkTable Forest → List Output → StepCount G → Type 0
   LoopRan i forks b u = (texts : List (List ℕ)) (keys : List (List Value)) (received : List Value → History) (from : AreReadFrom texts patterns) (ranges : AreInRange streams)
-      (stands : ForksRepresent (ForestRepresents texts streams) (plan_deadline streams) keys received first) (comes : Comes received) →
+      (represents : ForksRepresent (ForestRepresents texts streams) (plan_deadline streams) keys received first) (comes : Comes received) →
       DueRan streams (ForestRepresents texts streams) keys received moment ranges (now received comes) (drop i numbers) forks
       × Performs a t' b u (Given_to keys received (take i numbers))
 
   pub loop_begins : (forks : ForkTable Forest) → (IsTable first → IsTable forks) → SameForks first forks → fork_dues forks ≡ due_later moment (fork_dues first) → LoopRan 0 forks a t'
-  loop_begins forks table same later texts keys received from ranges stands comes = (
-    due_begins streams (ForestRepresents texts streams) keys received moment ranges (now received comes) (forest_still texts streams) first forks stands (table stands.is_table) same.keys same.forks later,
+  loop_begins forks table same later texts keys received from ranges represents comes = (
+    due_begins streams (ForestRepresents texts streams) keys received moment ranges (now received comes) (forest_still texts streams) first forks represents (table represents.is_table) same.keys same.forks later,
     grew_none a t',
   )
 
   -- the next fork represents what it has received
   fork_next : (texts : List (List ℕ)) (keys : List (List Value)) (received : List Value → History) (ranges : AreInRange streams)
-      (stands : ForksRepresent (ForestRepresents texts streams) (plan_deadline streams) keys received first) (comes : Comes received) (i id : ℕ) (forks : ForkTable Forest) → i < length numbers → id ≡ get_or numbers i id →
-      DueRan streams (ForestRepresents texts streams) keys received moment ranges (now received comes) (drop i numbers) forks → ForkStands start moment texts streams id forks (received (get_or keys id [])) Tick
-  fork_next texts keys received ranges stands comes i id forks within is ran =
+      (represents : ForksRepresent (ForestRepresents texts streams) (plan_deadline streams) keys received first) (comes : Comes received) (i id : ℕ) (forks : ForkTable Forest) → i < length numbers → id ≡ get_or numbers i id →
+      DueRan streams (ForestRepresents texts streams) keys received moment ranges (now received comes) (drop i numbers) forks → ForkComes start moment texts streams id forks (received (get_or keys id [])) Tick
+  fork_next texts keys received ranges represents comes i id forks within is ran =
       let here : has id (drop i numbers) ≡ true = ap (has id) (get_more numbers i id within is) ∙ has_head id (drop (i + 1) numbers) in
-      let less : id < length keys = due_keys streams (ForestRepresents texts streams) keys received moment ranges (now received comes) first stands id (has_drop id i numbers here) in record {
+      let less : id < length keys = due_keys streams (ForestRepresents texts streams) keys received moment ranges (now received comes) first represents id (has_drop id i numbers here) in record {
         is_table = ran.is_table;
         within = let even = even_keys forks keys ran.is_table ran.keys_are in omega (arith, even, less);
         fork = λ other. ran.waiting id other less here;
@@ -99,13 +99,13 @@ module _ {G : Type 0} (patterns : List Regex) (start moment : ℕ) (a : List Out
 
   pub loop_more : (i id : ℕ) (forks forks' : ForkTable Forest) (b c : List Output) (u v : StepCount G) → i < length numbers → id ≡ get_or numbers i id → LoopRan i forks b u →
       ForkRuns patterns start moment b u c v Tick streams id forks forks' → LoopRan (i + 1) forks' c v
-  loop_more i id forks forks' b c u v within is so_far runs texts keys received from ranges stands comes =
-      let before = so_far texts keys received from ranges stands comes in
+  loop_more i id forks forks' b c u v within is so_far runs texts keys received from ranges represents comes =
+      let before = so_far texts keys received from ranges represents comes in
       let Means : Meaning = ForestRepresents texts streams in
-      let at = fork_next texts keys received ranges stands comes i id forks within is before.0 in
+      let at = fork_next texts keys received ranges represents comes i id forks within is before.0 in
       let ran = runs texts (received (get_or keys id [])) from at in
       let left : drop i numbers ≡ id ∷ drop (i + 1) numbers = get_more numbers i id within is in
-      let rise : RisesFrom (suc id) (drop (i + 1) numbers) = rises_tail 0 (drop i numbers) (rises_drop 0 i numbers (due_rises moment (fork_dues first) stands.is_table.rising)) id (drop (i + 1) numbers) left in
+      let rise : RisesFrom (suc id) (drop (i + 1) numbers) = rises_tail 0 (drop i numbers) (rises_drop 0 i numbers (due_rises moment (fork_dues first) represents.is_table.rising)) id (drop (i + 1) numbers) left in
       let less : id < length keys = let even = even_keys forks keys before.0.is_table before.0.keys_are in omega (arith, even, at.within) in
       let effects = plan_effects streams (received (get_or keys id []) ▸ Tick) in
       let told : Given_to keys received (take i numbers) ++ (Given ∷ effects) ≡ Given_to keys received (take (i + 1) numbers) =
@@ -144,42 +144,42 @@ module _ {G : Type 0} (patterns : List Regex) (start moment : ℕ) (a : List Out
       }
 
   pub loop_ends : (i : ℕ) (forks : ForkTable Forest) (b : List Output) (u : StepCount G) → length numbers ≤ i → Taken → LoopRan i forks b u → DueRuns patterns start moment a t b u streams first forks
-  loop_ends i forks b u past taken so_far texts keys received from ranges stands comes =
+  loop_ends i forks b u past taken so_far texts keys received from ranges represents comes =
       let Means : Meaning = ForestRepresents texts streams in
-      let ran = so_far texts keys received from ranges stands comes in (
+      let ran = so_far texts keys received from ranges represents comes in (
         due_ends streams Means keys received moment ranges (now received comes) forks
             (subst (λ (l : List ℕ). DueRan streams Means keys received moment ranges (now received comes) l forks) (drop_all i numbers past) ran.0),
-        subst (λ (hs : List Effect). Performs a t b u hs) (sym (due_are_all streams Means keys received moment ranges (now received comes) first stands))
+        subst (λ (hs : List Effect). Performs a t b u hs) (sym (due_are_all streams Means keys received moment ranges (now received comes) first represents))
             (all_performed keys received b u taken (subst (λ (l : List ℕ). Performs a t' b u (Given_to keys received l)) (take_all i numbers past) ran.1)),
       )
 
   pub loop_stops : (i id : ℕ) (forks : ForkTable Forest) (b c : List Output) (u v : StepCount G) → i < length numbers → id ≡ get_or numbers i id → Taken → LoopRan i forks b u →
       ForkStops patterns start moment b u c v Tick streams id forks → DueStops patterns start moment a t c v streams first
-  loop_stops i id forks b c u v within is taken so_far stops texts keys received from ranges stands comes =
+  loop_stops i id forks b c u v within is taken so_far stops texts keys received from ranges represents comes =
       let Means : Meaning = ForestRepresents texts streams in
-      let before = so_far texts keys received from ranges stands comes in
-      let at = fork_next texts keys received ranges stands comes i id forks within is before.0 in
+      let before = so_far texts keys received from ranges represents comes in
+      let at = fork_next texts keys received ranges represents comes i id forks within is before.0 in
       let stop = stops texts (received (get_or keys id [])) from at in
       let f = λ (n : ℕ). Given ∷ plan_effects streams (received (get_or keys n []) ▸ Tick) in
       let rest = flat_map f (drop (i + 1) numbers) in
       let whole : (Given_to keys received (take i numbers) ++ f id) ++ rest ≡ Given_to keys received numbers =
       ap (λ (l : List Effect). l ++ rest) (flat_more f numbers i id within is) ∙ flat_whole f numbers (i + 1) in record {
-        part = subst (λ (hs : List Effect). PerformsPart a t c v hs) (sym (due_are_all streams Means keys received moment ranges (now received comes) first stands))
+        part = subst (λ (hs : List Effect). PerformsPart a t c v hs) (sym (due_are_all streams Means keys received moment ranges (now received comes) first represents))
             (part_performed keys received c v taken
             (subst (λ (hs : List Effect). PerformsPart a t' c v hs) whole
             (part_more a c t' v (Given_to keys received (take i numbers) ++ f id) rest (part_then a b c t' u v (Given_to keys received (take i numbers)) (f id) before.1 stop))));
         busy = λ tick none.
-            let no_number : numbers ≡ [] = none_due streams Means keys received moment ranges (now received comes) first stands none in
+            let no_number : numbers ≡ [] = none_due streams Means keys received moment ranges (now received comes) first represents none in
             let few : i < 0 = subst (λ (l : List ℕ). i < length l) no_number within in absurd (omega (arith, few));
       }
 
   -- the numbers were not taken
   pub due_stop : (steps : StepCount G) → steps.forks ≡ t.forks → steps.entries ≤ t.entries + length numbers → t.entries ≤ steps.entries → (numbers ≡ [] → ⊥) → DueStops patterns start moment a t a steps streams first
-  due_stop steps forks_same at_most at_least some texts keys received from ranges stands comes =
+  due_stop steps forks_same at_most at_least some texts keys received from ranges represents comes =
       let Means : Meaning = ForestRepresents texts streams in
       let counts = entered_as_given (λ n. plan_effects streams (received (get_or keys n []) ▸ Tick)) numbers in
       let due = flat_map (λ n. Due ∷ plan_effects streams (received (get_or keys n []) ▸ Tick)) numbers in record {
-        part = subst (λ (hs : List Effect). PerformsPart a t a steps hs) (sym (due_are_all streams Means keys received moment ranges (now received comes) first stands)) (record {
+        part = subst (λ (hs : List Effect). PerformsPart a t a steps hs) (sym (due_are_all streams Means keys received moment ranges (now received comes) first represents)) (record {
           begins = extends_none a;
           within = (outputs_among due, refl);
           forks = omega (arith, forks_same);
@@ -187,7 +187,7 @@ module _ {G : Type 0} (patterns : List Regex) (start moment : ℕ) (a : List Out
           no_fewer_forks = omega (arith, forks_same);
           no_fewer_entries = at_least;
         });
-        busy = λ tick none. some (none_due streams Means keys received moment ranges (now received comes) first stands none);
+        busy = λ tick none. some (none_due streams Means keys received moment ranges (now received comes) first represents none);
       }
 
 -- the number that the code reads

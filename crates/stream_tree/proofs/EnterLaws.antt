@@ -22,7 +22,7 @@ use Rattle.tick_schedule.specs.Queue.{Sets}
 use Rattle.stream_tree.specs.declared.forest.Forest.{Forest}
 use Rattle.stream_tree.specs.declared.forest.Node.{Node}
 use Rattle.stream_tree.specs.Forest.{nodes_of, ForestRepresents}
-use Rattle.stream_tree.specs.Running.{ComesAt, ForestRuns, ForestStops, ForkRan, ForkStands, ForkRuns, ForkStops}
+use Rattle.stream_tree.specs.Running.{ComesAt, ForestRuns, ForestStops, ForkRan, ForkComes, ForkRuns, ForkStops}
 use Rattle.stream_tree.specs.Tree.{Performs, PerformsPart}
 use Rattle.stream_tree.proofs.BelowLaws.{children_of-opened}
 use Rattle.stream_tree.proofs.PerformLaws.{part_none, part_then}
@@ -41,14 +41,14 @@ same_table forks number fork is_table =
 fork_replaced : (texts : List (List ℕ)) (streams : StreamTrees) (number : ℕ) (forks forks' : ForkTable Forest) (fork : Forest) (due : Option ℕ) (h : History) → IsTable forks → number < length (fork_list forks) →
     SameForks (with_fork forks number fork) forks' → (IsTable (with_fork forks number fork) → IsTable forks') → Sets (fork_dues forks) (fork_dues forks') number due →
     ForestRepresents texts streams (nodes_of fork) h → due ≡ plan_deadline streams h → ForkRan texts streams number forks forks' h
-fork_replaced texts streams number forks forks' fork due h is_table within same table sets stands due_is =
+fork_replaced texts streams number forks forks' fork due h is_table within same table sets represents due_is =
     let list_is : fork_list forks' ≡ set (fork_list forks) number fork = same.forks in record {
       is_table = table (same_table forks number fork is_table);
       keys = same.keys;
       many = ap (λ (l : List Forest). length l) list_is ∙ length-set (fork_list forks) number fork;
       here = λ other.
           subst (λ (f : Forest). ForestRepresents texts streams (nodes_of f) h)
-          (sym (ap (λ (l : List Forest). get_or l number other) list_is ∙ get_or-set_same (fork_list forks) number fork other within)) stands;
+          (sym (ap (λ (l : List Forest). get_or l number other) list_is ∙ get_or-set_same (fork_list forks) number fork other within)) represents;
       elsewhere = λ n other apart. ap (λ (l : List Forest). get_or l n other) list_is ∙ get_or-set_other (fork_list forks) number n fork other apart;
       dues = subst (λ (d : Option ℕ). Sets (fork_dues forks) (fork_dues forks') number d) due_is sets;
     }
@@ -64,10 +64,10 @@ module _ {G : Type 0} (patterns : List Regex) (start moment : ℕ) (s : Stream) 
   trees : list_trees streams ≡ children_of (opened s)
   trees = ap list_trees is ∙ sym (children_of-opened s)
 
-  stands_here : (texts : List (List ℕ)) (h : History) → ForkStands start moment texts (children_of (opened s)) number forks h x → ForestRepresents texts (list_trees streams) (nodes_of fork) h
-  stands_here texts h stands =
+  stands_here : (texts : List (List ℕ)) (h : History) → ForkComes start moment texts (children_of (opened s)) number forks h x → ForestRepresents texts (list_trees streams) (nodes_of fork) h
+  stands_here texts h represents =
       subst (λ (ts : StreamTrees). ForestRepresents texts ts (nodes_of fork) h) (sym trees)
-      (subst (λ (f : Forest). ForestRepresents texts (children_of (opened s)) (nodes_of f) h) (sym here) (stands.fork fork))
+      (subst (λ (f : Forest). ForestRepresents texts (children_of (opened s)) (nodes_of f) h) (sym here) (represents.fork fork))
 
   -- the entry that is given to the fork counts one
   counted : (es : List Effect) → Performs a t' b u es → Performs a t b u (Given ∷ es)
@@ -80,24 +80,24 @@ module _ {G : Type 0} (patterns : List Regex) (start moment : ℕ) (s : Stream) 
       ((texts : List (List ℕ)) (h : History) → ForestRepresents texts (list_trees streams) (nodes_of fork') h → moment_of h ≤ 2 ^ 40 → due ≡ plan_deadline (list_trees streams) h) →
       SameForks (with_fork forks number fork') forks' → (IsTable (with_fork forks number fork') → IsTable forks') → Sets (fork_dues forks) (fork_dues forks') number due →
       ForkRuns patterns start moment a t b u x (children_of (opened s)) number forks forks'
-  fork_runs fork' forks' due runs due_is same table sets texts h from stands =
-      let ran = runs texts h from (stands_here texts h stands) stands.comes in
-      let due_so : due ≡ plan_deadline (children_of (opened s)) (h ▸ x) = due_is texts (h ▸ x) ran.0 (moment_small start moment h x stands.comes) ∙ ap (λ (ts : StreamTrees). plan_deadline ts (h ▸ x)) trees in (
-        fork_replaced texts (children_of (opened s)) number forks forks' fork' due (h ▸ x) stands.is_table stands.within same table sets
+  fork_runs fork' forks' due runs due_is same table sets texts h from represents =
+      let ran = runs texts h from (stands_here texts h represents) represents.comes in
+      let due_so : due ≡ plan_deadline (children_of (opened s)) (h ▸ x) = due_is texts (h ▸ x) ran.0 (moment_small start moment h x represents.comes) ∙ ap (λ (ts : StreamTrees). plan_deadline ts (h ▸ x)) trees in (
+        fork_replaced texts (children_of (opened s)) number forks forks' fork' due (h ▸ x) represents.is_table represents.within same table sets
             (subst (λ (ts : StreamTrees). ForestRepresents texts ts (nodes_of fork') (h ▸ x)) trees ran.0) due_so,
         performed h ran.1,
       )
 
   -- the due moment was not set
   pub fork_unset : (fork' : Forest) → ForestRuns patterns start moment a t' b u x (list_trees streams) (nodes_of fork) (nodes_of fork') → ForkStops patterns start moment a t b u x (children_of (opened s)) number forks
-  fork_unset fork' runs texts h from stands =
-      let ran = runs texts h from (stands_here texts h stands) stands.comes in
+  fork_unset fork' runs texts h from represents =
+      let ran = runs texts h from (stands_here texts h represents) represents.comes in
       whole_part a b t u (Given ∷ plan_effects (children_of (opened s)) (h ▸ x)) (performed h ran.1)
 
   -- the fork stopped
   pub fork_stops : ForestStops patterns start moment a t' b u x (list_trees streams) (nodes_of fork) → ForkStops patterns start moment a t b u x (children_of (opened s)) number forks
-  fork_stops stops texts h from stands =
-      let part = (stops texts h from (stands_here texts h stands) stands.comes).part in
+  fork_stops stops texts h from represents =
+      let part = (stops texts h from (stands_here texts h represents) represents.comes).part in
       subst (λ (ts : StreamTrees). PerformsPart a t b u (Given ∷ plan_effects ts (h ▸ x))) trees (record {
         begins = part.begins;
         within = part.within;
@@ -110,7 +110,7 @@ module _ {G : Type 0} (patterns : List Regex) (start moment : ℕ) (s : Stream) 
 -- there is no such fork
 pub fork_missing : {G : Type 0} (patterns : List Regex) (start moment : ℕ) (a : List Output) (t : StepCount G) (x : Entry) (streams : StreamTrees) (number : ℕ) (forks : ForkTable Forest) → length (fork_list forks) ≤ number →
     ForkStops patterns start moment a t a t x streams number forks
-fork_missing patterns start moment a t x streams number forks past texts h from stands = absurd (omega (arith, past, stands.within))
+fork_missing patterns start moment a t x streams number forks past texts h from represents = absurd (omega (arith, past, represents.within))
 
 -- the same streams read twice
 pub due_same : (streams streams' : List Stream) (nodes : List Node) (due : Option ℕ) → streams ≡ streams' →

@@ -49,9 +49,9 @@ module _ (texts : List (List ℕ)) (h : History) (x : Entry) where
 
 -- there is a node for each stream
 forest_long : (texts : List (List ℕ)) (streams : List Stream) (nodes : List Node) (h : History) → ForestRepresents texts (list_trees streams) nodes h → length streams ≤ length nodes
-forest_long texts [] nodes h stands = omega arith
-forest_long texts (first ∷ streams) [] h stands = absurd stands
-forest_long texts (first ∷ streams) (node ∷ nodes) h stands = omega (arith, forest_long texts streams nodes h stands.1)
+forest_long texts [] nodes h represents = omega arith
+forest_long texts (first ∷ streams) [] h represents = absurd represents
+forest_long texts (first ∷ streams) (node ∷ nodes) h represents = omega (arith, forest_long texts streams nodes h represents.1)
 
 plan_effects-append : (front back : List Stream) (h : History) → plan_effects (list_trees (front ++ back)) h ≡ plan_effects (list_trees front) h ++ plan_effects (list_trees back) h
 plan_effects-append [] back h = refl
@@ -83,7 +83,7 @@ module _ {G : Type 0} (patterns : List Regex) (start moment : ℕ) (x : Entry) (
   ForestRan i nodes b u = FirstRun patterns start moment a t b u x streams first i nodes
 
   pub forest_begins : ForestRan 0 first a t
-  forest_begins texts h from stands comes = (stands, grew_none a t)
+  forest_begins texts h from represents comes = (represents, grew_none a t)
 
   -- the node of the next stream
   node_here : (texts : List (List ℕ)) (h : History) (i : ℕ) (nodes : List Node) (s : Stream) (node other : Node) → i < length streams → i < length nodes → s ≡ get_or streams i s → node ≡ get_or nodes i other →
@@ -96,8 +96,8 @@ module _ {G : Type 0} (patterns : List Regex) (start moment : ℕ) (x : Entry) (
       i < length streams → i < length nodes → s ≡ get_or streams i s → node ≡ get_or nodes i other → ForestRan i nodes b u →
       StreamRuns patterns start moment b u c v x (opened s) (out-Node node).state (node_below node) (out-Node node').state (node_below node') →
       ForestRan (i + 1) (set nodes i node') c v
-  forest_more i nodes b c u v s node node' other within within' is is' so_far runs texts h from stands comes =
-      let before = so_far texts h from stands comes in
+  forest_more i nodes b c u v s node node' other within within' is is' so_far runs texts h from represents comes =
+      let before = so_far texts h from represents comes in
       let ran = runs texts h from (node_here texts h i nodes s node other within within' is is' before.0) comes in
       let done : NodeRepresents texts (opened (get_or streams i s)) node' (h ▸ x) = subst (λ (r : Stream). NodeRepresents texts (opened r) node' (h ▸ x)) is ran.0 in
       let half : FirstRepresent texts (suc i) (list_trees streams) (set nodes i node') h x = half_more texts h x streams nodes i s node' within within' before.0 done in
@@ -113,8 +113,8 @@ module _ {G : Type 0} (patterns : List Regex) (start moment : ℕ) (x : Entry) (
       i < length streams → i < length nodes → s ≡ get_or streams i s → node ≡ get_or nodes i other → ForestRan i nodes b u →
       StreamStops patterns start moment b u c v x (opened s) (out-Node node).state (node_below node) →
       ForestStops patterns start moment a t c v x (list_trees streams) first
-  forest_stops i nodes b c u v s node other within within' is is' so_far stops texts h from stands comes =
-      let before = so_far texts h from stands comes in
+  forest_stops i nodes b c u v s node other within within' is is' so_far stops texts h from represents comes =
+      let before = so_far texts h from represents comes in
       let stop = stops texts h from (node_here texts h i nodes s node other within within' is is' before.0) comes in
       let front = plan_effects (list_trees (take i streams)) (h ▸ x) in
       let rest = plan_effects (list_trees (drop (i + 1) streams)) (h ▸ x) in
@@ -125,8 +125,8 @@ module _ {G : Type 0} (patterns : List Regex) (start moment : ℕ) (x : Entry) (
 
   pub forest_ends : (i : ℕ) (nodes : List Node) (b : List Output) (u : StepCount G) → min (length streams) (length nodes) ≤ i → length nodes ≡ length first →
       ForestRan i nodes b u → ForestRuns patterns start moment a t b u x (list_trees streams) first nodes
-  forest_ends i nodes b u past same so_far texts h from stands comes =
-      let ran = so_far texts h from stands comes in
-      let long = forest_long texts streams first h stands in
+  forest_ends i nodes b u past same so_far texts h from represents comes =
+      let ran = so_far texts h from represents comes in
+      let long = forest_long texts streams first h represents in
       let all : take i streams ≡ streams = take_all i streams (omega (arith, past, same, long)) in
       (half_all texts h x streams nodes i past ran.0, subst (λ (l : List Stream). Performs a t b u (plan_effects (list_trees l) (h ▸ x))) all ran.1)

@@ -96,12 +96,12 @@ with_key_new key keys e = ap (λ (b : Bool). cond b keys (keys ++ key ∷ [])) e
 -- a fork that is there
 pub found_known : (streams : StreamTrees) (first start : ℕ) (key : List Value) (forks : ForkTable Forest) (number : ℕ) → (IsTable forks → Some number ≡ key_number key (table_keys forks)) →
     IsFound streams first start key forks forks number
-found_known streams first start key forks number found texts keys received can stands unseen begins =
-    let at : position (same_key key) keys ≡ Some number = ap (key_number key) (sym stands.keys_are) ∙ sym (found stands.is_table) in
+found_known streams first start key forks number found texts keys received can represents unseen begins =
+    let at : position (same_key key) keys ≡ Some number = ap (key_number key) (sym represents.keys_are) ∙ sym (found represents.is_table) in
     let place = position-Some (same_key key) keys number [] at in
     let is : get_or keys number [] ≡ key = sym ((same_key_decides key (get_or keys number [])).0 place.1) in
     let same : with_key key keys ≡ keys = with_key_known key keys (among_at key keys number place.0 is) in record {
-      forks_stand = subst (λ (ks : List (List Value)). ForksRepresent (ForestRepresents texts streams) (plan_deadline streams) ks received forks) (sym same) stands;
+      forks_stand = subst (λ (ks : List (List Value)). ForksRepresent (ForestRepresents texts streams) (plan_deadline streams) ks received forks) (sym same) represents;
       within = subst (λ (ks : List (List Value)). number < length ks) (sym same) place.0;
       at_key = subst (λ (ks : List (List Value)). get_or ks number [] ≡ key) (sym same) is;
     }
@@ -123,19 +123,19 @@ pub found_new : (streams : StreamTrees) (first start next : ℕ) (key : List Val
     fork_list forks' ≡ fork_list forks ++ fork ∷ [] → (key_number key (table_keys forks) ≡ None → table_keys forks' ≡ table_keys forks ++ key ∷ []) →
     (key_number key (table_keys forks) ≡ None → IsTable forks → IsTable forks') → fork_dues forks' ≡ fork_dues forks →
     IsFound streams first start key forks forks' number
-found_new streams first start next key forks forks' fork number absent fresh number_is list_is keys_are table same_dues texts keys received can stands unseen begins =
+found_new streams first start next key forks forks' fork number absent fresh number_is list_is keys_are table same_dues texts keys received can represents unseen begins =
     let Means : Meaning = ForestRepresents texts streams in
-    let none : key_number key (table_keys forks) ≡ None = sym (absent stands.is_table) in
-    let here : position (same_key key) keys ≡ None = ap (key_number key) (sym stands.keys_are) ∙ none in
+    let none : key_number key (table_keys forks) ≡ None = sym (absent represents.is_table) in
+    let here : position (same_key key) keys ≡ None = ap (key_number key) (sym represents.keys_are) ∙ none in
     let new : is_among key keys ≡ false = sym (among_flip key keys) ∙ none_passes (same_key key) keys here in
     let same : with_key key keys ≡ keys ++ key ∷ [] = with_key_new key keys new in
-    let even : length keys ≡ length (fork_list forks) = even_keys forks keys stands.is_table stands.keys_are in
+    let even : length keys ≡ length (fork_list forks) = even_keys forks keys represents.is_table represents.keys_are in
     let many : length (keys ++ key ∷ []) ≡ length keys + 1 = length-append keys (key ∷ []) in
     let last : get_or (keys ++ key ∷ []) (length keys) [] ≡ key = get_or-append_seam keys key [] [] in
     let alone : TicksAlone (received key) = unseen new in
     let stands_new : Means (nodes_of fork) (received key) =
     subst (λ (ts : List (List ℕ)). ForestRepresents ts streams (nodes_of fork) (received key)) (sym can.among)
-    (fresh.stands can.before can.after (received key) alone begins can.in_range can.begins (subst (λ (ts : List (List ℕ)). length ts ≤ greatest) can.among can.few)) in
+    (fresh.represents can.before can.after (received key) alone begins can.in_range can.begins (subst (λ (ts : List (List ℕ)). length ts ≤ greatest) can.among can.few)) in
     let each : (n : ℕ) (other : Forest) → n < length (keys ++ key ∷ []) → Means (nodes_of (get_or (fork_list forks') n other)) (received (get_or (keys ++ key ∷ []) n [])) =
     λ n other within.
     subst (λ (l : List Forest). Means (nodes_of (get_or l n other)) (received (get_or (keys ++ key ∷ []) n []))) (sym list_is)
@@ -143,8 +143,8 @@ found_new streams first start next key forks forks' fork number absent fresh num
     let dues : (n : ℕ) → n < length (keys ++ key ∷ []) → fork_due n forks' ≡ plan_deadline streams (received (get_or (keys ++ key ∷ []) n [])) =
     λ n within. ap (moment_at n) same_dues ∙ due_new n (omega (arith, within, many)) even alone in record {
       forks_stand = subst (λ (ks : List (List Value)). ForksRepresent Means (plan_deadline streams) ks received forks') (sym same) (record {
-        is_table = table none stands.is_table;
-        keys_are = keys_are none ∙ ap (λ (ks : List (List Value)). ks ++ key ∷ []) stands.keys_are;
+        is_table = table none represents.is_table;
+        keys_are = keys_are none ∙ ap (λ (ks : List (List Value)). ks ++ key ∷ []) represents.keys_are;
         each = each;
         dues = dues;
       });
@@ -160,7 +160,7 @@ found_new streams first start next key forks forks' fork number absent fresh num
     each_new n other within even made =
         let known = λ (less : n < length keys).
         subst (λ (f : Forest). ForestRepresents texts streams (nodes_of f) (received (get_or (keys ++ key ∷ []) n []))) (sym (get_or_append_left (fork_list forks) (fork ∷ []) other n (omega (arith, less, even))))
-        (subst (λ (k : List Value). ForestRepresents texts streams (nodes_of (get_or (fork_list forks) n other)) (received k)) (sym (get_or_append_left keys (key ∷ []) [] n less)) (stands.each n other less)) in
+        (subst (λ (k : List Value). ForestRepresents texts streams (nodes_of (get_or (fork_list forks) n other)) (received k)) (sym (get_or_append_left keys (key ∷ []) [] n less)) (represents.each n other less)) in
         let new = λ (is : n ≡ length keys).
         subst (λ (f : Forest). ForestRepresents texts streams (nodes_of f) (received (get_or (keys ++ key ∷ []) n [])))
         (sym (ap (λ (m : ℕ). get_or (fork_list forks ++ fork ∷ []) m other) (is ∙ even) ∙ get_or-append_seam (fork_list forks) fork [] other))
@@ -170,9 +170,9 @@ found_new streams first start next key forks forks' fork number absent fresh num
     due_new : (n : ℕ) → n < length keys + 1 → length keys ≡ length (fork_list forks) → TicksAlone (received key) →
         fork_due n forks ≡ plan_deadline streams (received (get_or (keys ++ key ∷ []) n []))
     due_new n within even alone =
-        let known = λ (less : n < length keys). stands.dues n less ∙ ap (λ (k : List Value). plan_deadline streams (received k)) (sym (get_or_append_left keys (key ∷ []) [] n less)) in
+        let known = λ (less : n < length keys). represents.dues n less ∙ ap (λ (k : List Value). plan_deadline streams (received k)) (sym (get_or_append_left keys (key ∷ []) [] n less)) in
         let new = λ (is : n ≡ length keys).
-        ap (λ (m : ℕ). fork_due m forks) (is ∙ even) ∙ none_due_past forks stands.is_table
+        ap (λ (m : ℕ). fork_due m forks) (is ∙ even) ∙ none_due_past forks represents.is_table
         ∙ sym (ticks_due streams (received key) can.in_range alone)
         ∙ ap (λ (k : List Value). plan_deadline streams (received k)) (sym (ap (λ (m : ℕ). get_or (keys ++ key ∷ []) m []) is ∙ get_or-append_seam keys key [] [])) in
         elim (split n (length keys) within) [ inl less ↦ known less | inr is ↦ new is ]

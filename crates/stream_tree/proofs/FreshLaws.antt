@@ -88,11 +88,11 @@ plain_fresh kind children otherwise state below start first second third fourth 
     let third_is : third ≡ second + length c = children_fresh.behind (omega (arith, small, size, at, second_is)) in
     let one : ForestRepresents texts children below.children h =
     subst (λ (ts : Texts). ForestRepresents ts children below.children h) (children_part before mine c o after)
-    (children_fresh.stands (before ++ mine) (o ++ after) h alone begins ranges.1 (omega (arith, length-append before mine, at, second_is))
+    (children_fresh.represents (before ++ mine) (o ++ after) h alone begins ranges.1 (omega (arith, length-append before mine, at, second_is))
     (subst (λ (ts : Texts). length ts ≤ greatest) (sym (children_part before mine c o after)) small)) in
     let two : ForestRepresents texts otherwise below.otherwise h =
     subst (λ (ts : Texts). ForestRepresents ts otherwise below.otherwise h) (otherwise_part before mine c o after)
-    (otherwise_fresh.stands ((before ++ mine) ++ c) after h alone begins ranges.2 (omega (arith, length-append (before ++ mine) c, length-append before mine, at, second_is, third_is))
+    (otherwise_fresh.represents ((before ++ mine) ++ c) after h alone begins ranges.2 (omega (arith, length-append (before ++ mine) c, length-append before mine, at, second_is, third_is))
     (subst (λ (ts : Texts). length ts ≤ greatest) (sym (otherwise_part before mine c o after)) small)) in (
       state_part kind children otherwise state start first own before after h alone begins ranges.0 at small,
       plain_below texts children (first_of state) (ForestRepresents texts children) (ForestRepresents texts otherwise) (forked_by kind) (keys_by (forked_by kind) h) (λ branch. child_history kind branch h) below plain
@@ -198,21 +198,21 @@ unforked_behind s first second fourth next over small =
 -- what is said of the parts of a node is said of it
 pub node_fresh : (s : Stream) (node : Node) (state : State) (below : Below) (start first next : ℕ) → (out-Node node).state ≡ state → node_below node ≡ below → OpenedFresh s state below start first →
     (first + length (stream_patterns (opened s)) ≤ greatest → next ≡ first + length (stream_patterns (opened s))) → NodeIsFresh (opened s) start first next node
-node_fresh s node state below start first next state_is below_is stands behind = record {
-  stands = λ before after h alone begins ranges at small.
+node_fresh s node state below start first next state_is below_is represents behind = record {
+  represents = λ before after h alone begins ranges at small.
       subst (λ (st : State). PartsRepresent (before ++ (stream_patterns (opened s) ++ after)) (opened s) st (node_below node) h) (sym state_is)
-      (subst (λ (b : Below). PartsRepresent (before ++ (stream_patterns (opened s) ++ after)) (opened s) state b h) (sym below_is) (stands before after h alone begins ranges at small));
+      (subst (λ (b : Below). PartsRepresent (before ++ (stream_patterns (opened s) ++ after)) (opened s) state b h) (sym below_is) (represents before after h alone begins ranges at small));
   behind = behind;
 }
 
 -- ---- one node more
 
-stands-snoc : (texts : Texts) (front : List Stream) (s : Stream) (nodes : List Node) (node : Node) (h : History) →
+represents-snoc : (texts : Texts) (front : List Stream) (s : Stream) (nodes : List Node) (node : Node) (h : History) →
     ForestRepresents texts (list_trees front) nodes h → NodeRepresents texts (stream_tree s) node h → ForestRepresents texts (list_trees (front ++ s ∷ [])) (nodes ++ node ∷ []) h
-stands-snoc texts [] s [] node h stands one = (one, tt)
-stands-snoc texts [] s (other ∷ nodes) node h stands one = absurd stands
-stands-snoc texts (first ∷ front) s [] node h stands one = absurd stands
-stands-snoc texts (first ∷ front) s (other ∷ nodes) node h stands one = (stands.0, stands-snoc texts front s nodes node h stands.1 one)
+represents-snoc texts [] s [] node h represents one = (one, tt)
+represents-snoc texts [] s (other ∷ nodes) node h represents one = absurd represents
+represents-snoc texts (first ∷ front) s [] node h represents one = absurd represents
+represents-snoc texts (first ∷ front) s (other ∷ nodes) node h represents one = (represents.0, represents-snoc texts front s nodes node h represents.1 one)
 
 patterns-snoc : (front : List Stream) (s : Stream) → plan_patterns (list_trees (front ++ s ∷ [])) ≡ plan_patterns (list_trees front) ++ stream_patterns (stream_tree s)
 unfolding plan_patterns
@@ -227,7 +227,7 @@ in_range-snoc (first ∷ front) s ranges = let more = in_range-snoc front s rang
 
 no_nodes : (start first : ℕ) → ForestIsFresh none start first first []
 unfolding plan_patterns
-no_nodes start first = record { stands = λ before after h alone begins ranges at small. tt; behind = λ small. omega arith }
+no_nodes start first = record { represents = λ before after h alone begins ranges at small. tt; behind = λ small. omega arith }
 
 fresh-snoc : (front : List Stream) (s : Stream) (nodes : List Node) (node : Node) (start first second third : ℕ) →
     ForestIsFresh (list_trees front) start first second nodes → NodeIsFresh (stream_tree s) start second third node → ForestIsFresh (list_trees (front ++ s ∷ [])) start first third (nodes ++ node ∷ [])
@@ -237,7 +237,7 @@ fresh-snoc front s nodes node start first second third fresh one =
     let all = patterns-snoc front s in
     let size : length (plan_patterns (list_trees (front ++ s ∷ []))) ≡ length ts + length more = omega (arith, ap (λ (ts : Texts). length ts) all, length-append ts more) in
     record {
-      stands = λ before after h alone begins ranges at small.
+      represents = λ before after h alone begins ranges at small.
           let parts = in_range-snoc front s ranges in
           let small' : length (before ++ ((ts ++ more) ++ after)) ≤ greatest = subst (λ (l : Texts). length (before ++ (l ++ after)) ≤ greatest) all small in
           let total = length-append before ((ts ++ more) ++ after) in
@@ -247,10 +247,10 @@ fresh-snoc front s nodes node start first second third fresh one =
           let before_is : (before ++ ts) ++ (more ++ after) ≡ before ++ ((ts ++ more) ++ after) =
           append_assoc before ts (more ++ after) ∙ ap (λ (l : Texts). before ++ l) (sym (append_assoc ts more after)) in
           let front_is : before ++ (ts ++ (more ++ after)) ≡ before ++ ((ts ++ more) ++ after) = ap (λ (l : Texts). before ++ l) (sym (append_assoc ts more after)) in
-          let front_stands = fresh.stands before (more ++ after) h alone begins parts.0 at (subst (λ (l : Texts). length l ≤ greatest) (sym front_is) small') in
-          let one_stands = one.stands (before ++ ts) after h alone begins parts.1 (omega (arith, length-append before ts, at, second_is)) (subst (λ (l : Texts). length l ≤ greatest) (sym before_is) small') in
+          let front_stands = fresh.represents before (more ++ after) h alone begins parts.0 at (subst (λ (l : Texts). length l ≤ greatest) (sym front_is) small') in
+          let one_stands = one.represents (before ++ ts) after h alone begins parts.1 (omega (arith, length-append before ts, at, second_is)) (subst (λ (l : Texts). length l ≤ greatest) (sym before_is) small') in
           subst (λ (l : Texts). ForestRepresents (before ++ (l ++ after)) (list_trees (front ++ s ∷ [])) (nodes ++ node ∷ []) h) (sym all)
-          (stands-snoc (before ++ ((ts ++ more) ++ after)) front s nodes node h
+          (represents-snoc (before ++ ((ts ++ more) ++ after)) front s nodes node h
           (subst (λ (l : Texts). ForestRepresents l (list_trees front) nodes h) front_is front_stands)
           (subst (λ (l : Texts). NodeRepresents l (stream_tree s) node h) before_is one_stands));
       behind = λ small.
@@ -281,4 +281,4 @@ pub plan_fresh : (plan : StreamTrees) (streams : List Stream) (nodes : List Node
 plan_fresh plan streams nodes start next is sound few fresh h alone begins =
     let fresh' : ForestIsFresh plan start 0 next nodes = subst (λ (trees : StreamTrees). ForestIsFresh trees start 0 next nodes) is fresh in
     subst (λ (ts : Texts). ForestRepresents ts plan nodes h) (append-nil (plan_patterns plan))
-    (fresh'.stands [] [] h alone begins (sound_in_range plan sound) refl (subst (λ (ts : Texts). length ts ≤ greatest) (sym (append-nil (plan_patterns plan))) few))
+    (fresh'.represents [] [] h alone begins (sound_in_range plan sound) refl (subst (λ (ts : Texts). length ts ≤ greatest) (sym (append-nil (plan_patterns plan))) few))

@@ -28,20 +28,20 @@ use Rattle.stream_tree.proofs.StreamLaws.{kept_keeps}
 
 -- the state of an `index` holds nothing
 index_stays : (texts : List (List ℕ)) (state : State) (h : History) (x : Entry) → StateRepresents texts Index state h → StateRepresents texts Index state (h ▸ x)
-index_stays texts (variant.Kept held) h x stands = absurd (true≢false (sym (kept_keeps held) ∙ ap keeps stands.keeps.same_kind))
-index_stays texts state h x stands = record { in_range = stands.in_range; keeps = stands.keeps }
+index_stays texts (variant.Kept held) h x represents = absurd (true≢false (sym (kept_keeps held) ∙ ap keeps represents.keeps.same_kind))
+index_stays texts state h x represents = record { in_range = represents.in_range; keeps = represents.keeps }
 
 module _ {G : Type 0} (patterns : List Regex) (start moment : ℕ) (children otherwise : StreamTrees) where
   kind_runs : (kind : KindTree) (x : Entry) (state : State) (a b : List Output) (t : StepCount G) (below : Below) → IsWritten kind x → ((h : History) → b ≡ a ++ own_outputs Index (h ▸ x)) →
       StreamRuns patterns start moment a t b t x (stream kind children otherwise) state below state below
-  kind_runs Index (In (One event)) state a b t below is said texts h from stands comes =
-      ((index_stays texts state h (In (One event)) stands.0, stands.1), own_grew Index h (In (One event)) a b t None refl (said h))
-  kind_runs kind x state a b t below is said texts h from stands comes = absurd is
+  kind_runs Index (In (One event)) state a b t below is said texts h from represents comes =
+      ((index_stays texts state h (In (One event)) represents.0, represents.1), own_grew Index h (In (One event)) a b t None refl (said h))
+  kind_runs kind x state a b t below is said texts h from represents comes = absurd is
 
   kind_stops : (kind : KindTree) (x : Entry) (state : State) (a : List Output) (t : StepCount G) (below : Below) → IsWritten kind x →
       StreamStops patterns start moment a t a t x (stream kind children otherwise) state below
-  kind_stops Index (In (One event)) state a t below is texts h from stands comes = record { part = part_none a t (own_effects Index (h ▸ In (One event))); busy = λ tick none. cc }
-  kind_stops kind x state a t below is texts h from stands comes = absurd is
+  kind_stops Index (In (One event)) state a t below is texts h from represents comes = record { part = part_none a t (own_effects Index (h ▸ In (One event))); busy = λ tick none. cc }
+  kind_stops kind x state a t below is texts h from represents comes = absurd is
 
 module _ {G : Type 0} (patterns : List Regex) (start moment : ℕ) (s : Stream) (x : Entry) where
   pub written_runs : (state : State) (a b : List Output) (t : StepCount G) (below : Below) → IsWritten (kind_tree (out-Stream s).kind) x → ((h : History) → b ≡ a ++ own_outputs Index (h ▸ x)) →

@@ -63,23 +63,23 @@ module _ (texts : List (List ℕ)) (plan : StreamTrees) (first : ℕ) (Means Bes
   -- the same histories in another form
   pub below_same : (shape : Option (List Field)) (keys : List (List Value)) (received received' : Branch → History) (below : Below) → ((branch : Branch) → received branch ≡ received' branch) →
       BelowRepresents texts plan first Means Beside shape keys received below → BelowRepresents texts plan first Means Beside shape keys received' below
-  below_same None keys received received' below same stands = record {
-    children = subst (λ (h : History). Means below.children h) (same Children) stands.children;
-    otherwise = subst (λ (h : History). Beside below.otherwise h) (same Otherwise) stands.otherwise;
-    is_table = stands.is_table;
-    no_forks = stands.no_forks;
+  below_same None keys received received' below same represents = record {
+    children = subst (λ (h : History). Means below.children h) (same Children) represents.children;
+    otherwise = subst (λ (h : History). Beside below.otherwise h) (same Otherwise) represents.otherwise;
+    is_table = represents.is_table;
+    no_forks = represents.no_forks;
   }
-  below_same (Some fields) keys received received' below same stands = record {
-    can_fork = stands.can_fork;
+  below_same (Some fields) keys received received' below same represents = record {
+    can_fork = represents.can_fork;
     forks = record {
-      is_table = stands.forks.is_table;
-      keys_are = stands.forks.keys_are;
+      is_table = represents.forks.is_table;
+      keys_are = represents.forks.keys_are;
       each = λ number other within.
-          subst (λ (h : History). Means (nodes_of (get_or (fork_list below.forks) number other)) h) (same (Fork (get_or keys number []))) (stands.forks.each number other within);
-      dues = λ number within. stands.forks.dues number within ∙ ap (plan_deadline plan) (same (Fork (get_or keys number [])));
+          subst (λ (h : History). Means (nodes_of (get_or (fork_list below.forks) number other)) h) (same (Fork (get_or keys number []))) (represents.forks.each number other within);
+      dues = λ number within. represents.forks.dues number within ∙ ap (plan_deadline plan) (same (Fork (get_or keys number [])));
     };
-    no_children = stands.no_children;
-    no_otherwise = stands.no_otherwise;
+    no_children = represents.no_children;
+    no_otherwise = represents.no_otherwise;
   }
 
 -- the effects of a tick in the forks
@@ -93,40 +93,40 @@ IsStill Means effects = (nodes : List Node) (h : History) → Means nodes h → 
 forks_still : (streams : StreamTrees) (Means : Meaning) (keys : List (List Value)) (received : List Value → History) (forks : ForkTable Forest) → AreInRange streams → IsStill Means (plan_effects streams) →
     flat_map (λ key. due_if_any (plan_effects streams (received key ▸ Tick))) keys ≡ [] →
     ForksRepresent Means (plan_deadline streams) keys received forks → ForksRepresent Means (plan_deadline streams) keys (λ key. received key ▸ Tick) forks
-forks_still streams Means keys received forks ranges still empty stands =
+forks_still streams Means keys received forks ranges still empty represents =
     let quiet : (number : ℕ) → number < length keys → plan_effects streams (received (get_or keys number []) ▸ Tick) ≡ [] =
     λ number within. forks_quiet (λ key. plan_effects streams (received key ▸ Tick)) keys empty number within in record {
-      is_table = stands.is_table;
-      keys_are = stands.keys_are;
-      each = λ number other within. still (nodes_of (get_or (fork_list forks) number other)) (received (get_or keys number [])) (stands.each number other within) (quiet number within);
-      dues = λ number within. stands.dues number within ∙ sym (plan_still streams (received (get_or keys number [])) ranges (quiet number within));
+      is_table = represents.is_table;
+      keys_are = represents.keys_are;
+      each = λ number other within. still (nodes_of (get_or (fork_list forks) number other)) (received (get_or keys number [])) (represents.each number other within) (quiet number within);
+      dues = λ number within. represents.dues number within ∙ sym (plan_still streams (received (get_or keys number [])) ranges (quiet number within));
     }
 
 below_still : (texts : List (List ℕ)) (plan beside : StreamTrees) (first : ℕ) (Means Beside : Meaning) (shape : Option (List Field)) (keys : List (List Value)) (received : Branch → History) (below : Below) →
     IsStill Means (plan_effects plan) → IsStill Beside (plan_effects beside) →
     at_tick Tick (branch_effects (plan_effects plan) (plan_effects beside)) received (branches_by shape keys) ≡ [] →
     BelowRepresents texts plan first Means Beside shape keys received below → BelowRepresents texts plan first Means Beside shape keys (λ branch. received branch ▸ Tick) below
-below_still texts plan beside first Means Beside None keys received below still still' empty stands =
+below_still texts plan beside first Means Beside None keys received below still still' empty represents =
     let c = plan_effects plan (received Children ▸ Tick) in
     let o = plan_effects beside (received Otherwise ▸ Tick) in record {
-      children = still below.children (received Children) stands.children (nil_left c (o ++ []) empty);
-      otherwise = still' below.otherwise (received Otherwise) stands.otherwise (nil_left o [] (nil_right c (o ++ []) empty));
-      is_table = stands.is_table;
-      no_forks = stands.no_forks;
+      children = still below.children (received Children) represents.children (nil_left c (o ++ []) empty);
+      otherwise = still' below.otherwise (received Otherwise) represents.otherwise (nil_left o [] (nil_right c (o ++ []) empty));
+      is_table = represents.is_table;
+      no_forks = represents.no_forks;
     }
-below_still texts plan beside first Means Beside (Some fields) keys received below still still' empty stands = record {
-  can_fork = stands.can_fork;
-  forks = forks_still plan Means keys (λ key. received (Fork key)) below.forks stands.can_fork.in_range still
-      (sym (forks_tick (plan_effects plan) (plan_effects beside) received keys) ∙ empty) stands.forks;
-  no_children = stands.no_children;
-  no_otherwise = stands.no_otherwise;
+below_still texts plan beside first Means Beside (Some fields) keys received below still still' empty represents = record {
+  can_fork = represents.can_fork;
+  forks = forks_still plan Means keys (λ key. received (Fork key)) below.forks represents.can_fork.in_range still
+      (sym (forks_tick (plan_effects plan) (plan_effects beside) received keys) ∙ empty) represents.forks;
+  no_children = represents.no_children;
+  no_otherwise = represents.no_otherwise;
 }
 
 -- ---- whole forests
 
 mutual
   parts_still : (texts : List (List ℕ)) (s : StreamTree) (state : State) (below : Below) (h : History) → PartsRepresent texts s state below h → stream_effects s (h ▸ Tick) ≡ [] → PartsRepresent texts s state below (h ▸ Tick)
-  parts_still texts (stream kind children otherwise) state below h stands empty =
+  parts_still texts (stream kind children otherwise) state below h represents empty =
       let effects_in = branch_effects (plan_effects children) (plan_effects otherwise) in
       let received = λ (branch : Branch). child_history kind branch h in
       let own = own_effects kind (h ▸ Tick) in
@@ -138,18 +138,18 @@ mutual
       let Means = ForestRepresents texts children in
       let Beside = ForestRepresents texts otherwise in
       let ticked = below_still texts children otherwise (first_of state) Means Beside (forked_by kind) (keys_by (forked_by kind) h) received below
-      (λ nodes g here still. forest_still texts children nodes g here still) (λ nodes g here still. forest_still texts otherwise nodes g here still) silent stands.1 in (
-        states_stay texts kind state h stands.0 quiet,
+      (λ nodes g here still. forest_still texts children nodes g here still) (λ nodes g here still. forest_still texts otherwise nodes g here still) silent represents.1 in (
+        states_stay texts kind state h represents.0 quiet,
         subst (λ (keys : List (List Value)). BelowRepresents texts children (first_of state) Means Beside (forked_by kind) keys (λ branch. child_history kind branch (h ▸ Tick)) below) (sym (same_keys (forked_by kind) h))
             (below_same texts children (first_of state) Means Beside (forked_by kind) (keys_by (forked_by kind) h) (λ branch. received branch ▸ Tick) (λ branch. child_history kind branch (h ▸ Tick)) below
             (λ branch. sym (quiet_history kind branch h quiet)) ticked),
       )
 
   pub forest_still : (texts : List (List ℕ)) (streams : StreamTrees) (nodes : List Node) (h : History) → ForestRepresents texts streams nodes h → plan_effects streams (h ▸ Tick) ≡ [] → ForestRepresents texts streams nodes (h ▸ Tick)
-  forest_still texts none [] h stands none_happens = tt
-  forest_still texts none (node ∷ nodes) h stands none_happens = absurd stands
-  forest_still texts (also first more) [] h stands none_happens = absurd stands
-  forest_still texts (also first more) (node ∷ nodes) h stands none_happens = (
-    parts_still texts first (out-Node node).state (node_below node) h stands.0 (nil_left (stream_effects first (h ▸ Tick)) (plan_effects more (h ▸ Tick)) none_happens),
-    forest_still texts more nodes h stands.1 (nil_right (stream_effects first (h ▸ Tick)) (plan_effects more (h ▸ Tick)) none_happens),
+  forest_still texts none [] h represents none_happens = tt
+  forest_still texts none (node ∷ nodes) h represents none_happens = absurd represents
+  forest_still texts (also first more) [] h represents none_happens = absurd represents
+  forest_still texts (also first more) (node ∷ nodes) h represents none_happens = (
+    parts_still texts first (out-Node node).state (node_below node) h represents.0 (nil_left (stream_effects first (h ▸ Tick)) (plan_effects more (h ▸ Tick)) none_happens),
+    forest_still texts more nodes h represents.1 (nil_right (stream_effects first (h ▸ Tick)) (plan_effects more (h ▸ Tick)) none_happens),
   )

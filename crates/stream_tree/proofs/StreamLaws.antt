@@ -28,7 +28,7 @@ use Rattle.stream_states.specs.Kept.{keeps, kept_kind}
 use Rattle.stream_step.specs.declared.state.State.TheVariants as variant
 use Rattle.stream_step.specs.Step.{emissions_meant, is_kept, StateRepresents, Acts}
 use Rattle.stream_tree.specs.Forest.{Meaning, Below, first_of, forked_by, keys_by, BelowRepresents, PartsRepresent, ForestRepresents}
-use Rattle.stream_tree.specs.Running.{ComesAt, Stops, StreamRuns, StreamStops, UnseenHaveTicks, entering, AllCome, AllStand, TickRuns, TickStops, EmissionsRun, EmissionsStop}
+use Rattle.stream_tree.specs.Running.{ComesAt, Stops, StreamRuns, StreamStops, UnseenHaveTicks, entering, AllCome, AllAreAt, TickRuns, TickStops, EmissionsRun, EmissionsStop}
 use Rattle.stream_tree.specs.Tree.{Performs, PerformsPart}
 use Rattle.stream_tree.proofs.KindLaws.{branches_are, emissions_fit, keys_go_on, all_effects, no_emission}
 use Rattle.stream_tree.proofs.PerformLaws.{acted, grew_then, part_then, part_more, stops_more, stops_then, own_grew, own_part}
@@ -69,16 +69,16 @@ kept_keeps (kept.Coalesce state) = refl
 
 -- the state of a `by` has a number alone
 by_keeps_nothing : (texts : List (List ℕ)) (fields : List Field) (state : State) (h : History) → StateRepresents texts (By fields) state h → is_kept state ≡ false
-by_keeps_nothing texts fields (variant.Kept held) h stands = absurd (true≢false (sym (kept_keeps held) ∙ ap keeps stands.keeps.same_kind))
-by_keeps_nothing texts fields state h stands = refl
+by_keeps_nothing texts fields (variant.Kept held) h represents = absurd (true≢false (sym (kept_keeps held) ∙ ap keeps represents.keeps.same_kind))
+by_keeps_nothing texts fields state h represents = refl
 
 -- so the number stays
 below_first : (kind : KindTree) (texts : List (List ℕ)) (plan : StreamTrees) (Means Beside : Meaning) (keys : List (List Value)) (received : Branch → History) (below : Below) (state state' : State) (h : History) →
     StateRepresents texts kind state h → (is_kept state ≡ false → state' ≡ state) →
     BelowRepresents texts plan (first_of state) Means Beside (forked_by kind) keys received below → BelowRepresents texts plan (first_of state') Means Beside (forked_by kind) keys received below
-below_first (By fields) texts plan Means Beside keys received below state state' h stands same here =
-    subst (λ (s : State). BelowRepresents texts plan (first_of s) Means Beside (Some fields) keys received below) (sym (same (by_keeps_nothing texts fields state h stands))) here
-below_first kind texts plan Means Beside keys received below state state' h stands same here = here
+below_first (By fields) texts plan Means Beside keys received below state state' h represents same here =
+    subst (λ (s : State). BelowRepresents texts plan (first_of s) Means Beside (Some fields) keys received below) (sym (same (by_keeps_nothing texts fields state h represents))) here
+below_first kind texts plan Means Beside keys received below state state' h represents same here = here
 
 come : (start moment : ℕ) (kind : KindTree) (x : Entry) (h : History) → ComesAt start moment h x → AllCome start moment (λ branch. child_history kind branch h) x
 come start moment kind x h comes = record {
@@ -89,10 +89,10 @@ come start moment kind x h comes = record {
   };
 }
 
-stand : (start moment : ℕ) (kind : KindTree) (x : Entry) (h : History) → ComesAt start moment h x → AllStand start moment (λ branch. ticked x (child_history kind branch h))
+stand : (start moment : ℕ) (kind : KindTree) (x : Entry) (h : History) → ComesAt start moment h x → AllAreAt start moment (λ branch. ticked x (child_history kind branch h))
 stand start moment kind x h comes = record {
   begins = λ branch. ticked_begun (child_history kind branch h) x ∙ (branch_moments kind branch h).begins ∙ comes.begins;
-  stands = λ branch. ticked_moment (child_history kind branch h) x ∙ same_moment (child_history kind branch h) h x (branch_moments kind branch h).ends ∙ comes.comes;
+  represents = λ branch. ticked_moment (child_history kind branch h) x ∙ same_moment (child_history kind branch h) h x (branch_moments kind branch h).ends ∙ comes.comes;
   small = comes.small;
 }
 
@@ -104,7 +104,7 @@ StateActs patterns moment kind x state state' passed a b = (texts : List (List �
 module _ {G : Type 0} (patterns : List Regex) (start moment : ℕ) (kind : KindTree) (children otherwise : StreamTrees) (x : Entry) where
   -- the stream has acted, and a tick has gone on
   pub record HalfRun (texts : List (List ℕ)) (h : History) (state state' : State) (passed : Passed) (below' : Below) (a c : List Output) (t u : StepCount G) : Type 0 where
-    pub stands : StateRepresents texts kind state' (h ▸ x)
+    pub represents : StateRepresents texts kind state' (h ▸ x)
     pub passes : emissions_meant passed x ≡ emissions kind (h ▸ x)
     pub below : BelowRepresents texts children (first_of state') (ForestRepresents texts children) (ForestRepresents texts otherwise) (forked_by kind) (keys_by (forked_by kind) h) (λ branch. ticked x (child_history kind branch h)) below'
     pub grew : Performs a t c u (acted (forked_by kind) (own_effects kind (h ▸ x)) ++ at_tick x (branch_effects (plan_effects children) (plan_effects otherwise)) (λ branch. child_history kind branch h) (branches kind h))
@@ -112,13 +112,13 @@ module _ {G : Type 0} (patterns : List Regex) (start moment : ℕ) (kind : KindT
   half_run : (state state' : State) (passed : Passed) (a b c : List Output) (t u : StepCount G) (below below' : Below) → StateActs patterns moment kind x state state' passed a b → (is_kept state ≡ false → state' ≡ state) →
       TickRuns patterns start moment b t c u x (stream kind children otherwise) (first_of state') below below' →
       (texts : List (List ℕ)) (h : History) → AreReadFrom texts patterns → PartsRepresent texts (stream kind children otherwise) state below h → ComesAt start moment h x → HalfRun texts h state state' passed below' a c t u
-  half_run state state' passed a b c t u below below' acts same ticks texts h from stands comes =
+  half_run state state' passed a b c t u below below' acts same ticks texts h from represents comes =
       let effects_in = branch_effects (plan_effects children) (plan_effects otherwise) in
       let received = λ (branch : Branch). child_history kind branch h in
-      let acted_so = acts texts h from stands.0 comes.comes comes.small in
-      let here = below_first kind texts children (ForestRepresents texts children) (ForestRepresents texts otherwise) (keys_by (forked_by kind) h) received below state state' h stands.0 same stands.1 in
+      let acted_so = acts texts h from represents.0 comes.comes comes.small in
+      let here = below_first kind texts children (ForestRepresents texts children) (ForestRepresents texts otherwise) (keys_by (forked_by kind) h) received below state state' h represents.0 same represents.1 in
       let tick = ticks texts (keys_by (forked_by kind) h) received from here (come start moment kind x h comes) in record {
-        stands = acted_so.stands;
+        represents = acted_so.represents;
         passes = acted_so.passes;
         below = tick.0;
         grew = grew_then a b c t t u (acted (forked_by kind) (own_effects kind (h ▸ x))) (at_tick x effects_in received (branches kind h))
@@ -130,17 +130,17 @@ module _ {G : Type 0} (patterns : List Regex) (start moment : ℕ) (kind : KindT
       TickRuns patterns start moment b t c u x (stream kind children otherwise) (first_of state') below below' →
       EmissionsRun patterns start moment c u d v (emissions_meant passed x) (stream kind children otherwise) (first_of state') below' below'' →
       StreamRuns patterns start moment a t d v x (stream kind children otherwise) state below state' below''
-  parts_run state state' passed a b c d t u v below below' below'' acts same ticks runs texts h from stands comes =
+  parts_run state state' passed a b c d t u v below below' below'' acts same ticks runs texts h from represents comes =
       let effects_in = branch_effects (plan_effects children) (plan_effects otherwise) in
       let received = λ (branch : Branch). child_history kind branch h in
       let after = λ (branch : Branch). ticked x (child_history kind branch h) in
-      let half = half_run state state' passed a b c t u below below' acts same ticks texts h from stands comes in
+      let half = half_run state state' passed a b c t u below below' acts same ticks texts h from represents comes in
       let es = emissions kind (h ▸ x) in
       let passes : EmissionsRun patterns start moment c u d v es (stream kind children otherwise) (first_of state') below' below'' =
       subst (λ (es : List Emission). EmissionsRun patterns start moment c u d v es (stream kind children otherwise) (first_of state') below' below'') half.passes runs in
       let last = passes texts (keys_by (forked_by kind) h) after from (emissions_fit kind h x) half.below (unseen_ticked kind h x) (stand start moment kind x h comes) in (
         (
-          half.stands,
+          half.represents,
           subst (λ (keys : List (List Value)). BelowRepresents texts children (first_of state') (ForestRepresents texts children) (ForestRepresents texts otherwise) (forked_by kind) keys (λ branch. child_history kind branch (h ▸ x)) below'')
               (sym (keys_go_on kind h x)) last.0,
         ),
@@ -153,7 +153,7 @@ module _ {G : Type 0} (patterns : List Regex) (start moment : ℕ) (kind : KindT
   act_stops : (state : State) (a b : List Output) (t : StepCount G) (below : Below) → IsPrefix a b → ((h : History) → moment_of (h ▸ x) ≡ moment → IsPrefix b (a ++ own_outputs kind (h ▸ x))) →
       ((texts : List (List ℕ)) (h : History) → StateRepresents texts kind state h → x ≡ Tick → moment_of (h ▸ Tick) ≡ moment → emissions kind (h ▸ Tick) ≡ [] → ⊥) →
       StreamStops patterns start moment a t b t x (stream kind children otherwise) state below
-  act_stops state a b t below begins within quiet texts h from stands comes =
+  act_stops state a b t below begins within quiet texts h from represents comes =
       let effects_in = branch_effects (plan_effects children) (plan_effects otherwise) in
       let received = λ (branch : Branch). child_history kind branch h in
       let own = own_effects kind (h ▸ x) in
@@ -162,18 +162,18 @@ module _ {G : Type 0} (patterns : List Regex) (start moment : ℕ) (kind : KindT
         part = part_more a b t t (own ++ tick) after (part_more a b t t own tick (own_part kind h x a b t begins (within h comes.comes)));
         busy = λ is none.
             let none' : stream_effects (stream kind children otherwise) (h ▸ Tick) ≡ [] = subst (λ (y : Entry). stream_effects (stream kind children otherwise) (h ▸ y) ≡ []) is none in
-            quiet texts h stands.0 is (subst (λ (y : Entry). moment_of (h ▸ y) ≡ moment) is comes.comes) (no_emission kind h (at_tick Tick effects_in received (branches kind h)) (at_emissions effects_in (λ (branch : Branch). received branch ▸ Tick) (emissions kind (h ▸ Tick))) none');
+            quiet texts h represents.0 is (subst (λ (y : Entry). moment_of (h ▸ y) ≡ moment) is comes.comes) (no_emission kind h (at_tick Tick effects_in received (branches kind h)) (at_emissions effects_in (λ (branch : Branch). received branch ▸ Tick) (emissions kind (h ▸ Tick))) none');
       }
 
   tick_stops : (state state' : State) (passed : Passed) (a b c : List Output) (t u : StepCount G) (below : Below) → StateActs patterns moment kind x state state' passed a b → (is_kept state ≡ false → state' ≡ state) →
       TickStops patterns start moment b t c u x (stream kind children otherwise) (first_of state') below →
       StreamStops patterns start moment a t c u x (stream kind children otherwise) state below
-  tick_stops state state' passed a b c t u below acts same stops texts h from stands comes =
+  tick_stops state state' passed a b c t u below acts same stops texts h from represents comes =
       let effects_in = branch_effects (plan_effects children) (plan_effects otherwise) in
       let received = λ (branch : Branch). child_history kind branch h in
       let after = λ (branch : Branch). ticked x (child_history kind branch h) in
-      let acted_so = acts texts h from stands.0 comes.comes comes.small in
-      let here = below_first kind texts children (ForestRepresents texts children) (ForestRepresents texts otherwise) (keys_by (forked_by kind) h) received below state state' h stands.0 same stands.1 in
+      let acted_so = acts texts h from represents.0 comes.comes comes.small in
+      let here = below_first kind texts children (ForestRepresents texts children) (ForestRepresents texts otherwise) (keys_by (forked_by kind) h) received below state state' h represents.0 same represents.1 in
       let stop = stops texts (keys_by (forked_by kind) h) received from here (come start moment kind x h comes) in
       let own = acted (forked_by kind) (own_effects kind (h ▸ x)) in
       let tick = at_tick x effects_in received (branches kind h) in
@@ -186,11 +186,11 @@ module _ {G : Type 0} (patterns : List Regex) (start moment : ℕ) (kind : KindT
       TickRuns patterns start moment b t c u x (stream kind children otherwise) (first_of state') below below' →
       EmissionsStop patterns start moment c u d v (emissions_meant passed x) (stream kind children otherwise) (first_of state') below' →
       StreamStops patterns start moment a t d v x (stream kind children otherwise) state below
-  passed_stops state state' passed a b c d t u v below below' acts same ticks stops texts h from stands comes =
+  passed_stops state state' passed a b c d t u v below below' acts same ticks stops texts h from represents comes =
       let effects_in = branch_effects (plan_effects children) (plan_effects otherwise) in
       let received = λ (branch : Branch). child_history kind branch h in
       let after = λ (branch : Branch). ticked x (child_history kind branch h) in
-      let half = half_run state state' passed a b c t u below below' acts same ticks texts h from stands comes in
+      let half = half_run state state' passed a b c t u below below' acts same ticks texts h from represents comes in
       let es = emissions kind (h ▸ x) in
       let passes : EmissionsStop patterns start moment c u d v es (stream kind children otherwise) (first_of state') below' =
       subst (λ (es : List Emission). EmissionsStop patterns start moment c u d v es (stream kind children otherwise) (first_of state') below') half.passes stops in

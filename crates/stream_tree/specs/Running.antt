@@ -129,7 +129,7 @@ pub record ForkRan (texts : List (List ℕ)) (streams : StreamTrees) (number : �
   pub dues : Sets (fork_dues forks) (fork_dues forks') number (plan_deadline streams h)
 
 -- the fork of the number represents a history to which the entry comes
-pub record ForkStands (start moment : ℕ) (texts : List (List ℕ)) (streams : StreamTrees) (number : ℕ) (forks : ForkTable Forest) (h : History) (x : Entry) : Type 0 where
+pub record ForkComes (start moment : ℕ) (texts : List (List ℕ)) (streams : StreamTrees) (number : ℕ) (forks : ForkTable Forest) (h : History) (x : Entry) : Type 0 where
   pub is_table : IsTable forks
   pub within : number < length (fork_list forks)
   pub fork : (other : Forest) → ForestRepresents texts streams (nodes_of (slice_index_or (fork_list forks) number other)) h
@@ -140,9 +140,9 @@ pub record AllCome (start moment : ℕ) (received : Received) (x : Entry) : Type
   pub each : (branch : Branch) → ComesAt start moment (received branch) x
 
 -- each branch has come to this moment
-pub record AllStand (start moment : ℕ) (received : Received) : Type 0 where
+pub record AllAreAt (start moment : ℕ) (received : Received) : Type 0 where
   pub begins : (branch : Branch) → begun (received branch) ≡ start
-  pub stands : (branch : Branch) → moment_of (received branch) ≡ moment
+  pub represents : (branch : Branch) → moment_of (received branch) ≡ moment
   pub small : moment ≤ 2 ^ 40
 
 module _ {G : Type 0} (patterns : List Regex) (start moment : ℕ) (old : List Output) (before : StepCount G) (new : List Output) (after : StepCount G) where
@@ -180,12 +180,12 @@ module _ {G : Type 0} (patterns : List Regex) (start moment : ℕ) (old : List O
 
   abbrev pub ForkRuns : Entry → StreamTrees → ℕ → ForkTable Forest → ForkTable Forest → Type 0
   ForkRuns x streams number forks forks' = (texts : List (List ℕ)) (h : History) → AreReadFrom texts patterns →
-      ForkStands start moment texts streams number forks h x →
+      ForkComes start moment texts streams number forks h x →
       ForkRan texts streams number forks forks' (h ▸ x) × Performs old before new after (Given ∷ plan_effects streams (h ▸ x))
 
   abbrev pub ForkStops : Entry → StreamTrees → ℕ → ForkTable Forest → Type 0
   ForkStops x streams number forks = (texts : List (List ℕ)) (h : History) → AreReadFrom texts patterns →
-      ForkStands start moment texts streams number forks h x →
+      ForkComes start moment texts streams number forks h x →
       PerformsPart old before new after (Given ∷ plan_effects streams (h ▸ x))
 
   -- ---- what is below a stream
@@ -229,12 +229,12 @@ module _ {G : Type 0} (patterns : List Regex) (start moment : ℕ) (old : List O
   -- these emissions come, each to its branch
   abbrev pub EmissionsRun : List Emission → StreamTree → ℕ → Below → Below → Type 0
   EmissionsRun es s first below below' = (texts : List (List ℕ)) (keys : List (List Value)) (received : Received) → AreReadFrom texts patterns → FitAll (forked_by (kind_of s)) es →
-      BelowIs texts s first keys received below → UnseenHaveTicks (forked_by (kind_of s)) keys received → AllStand start moment received →
+      BelowIs texts s first keys received below → UnseenHaveTicks (forked_by (kind_of s)) keys received → AllAreAt start moment received →
       BelowIs texts s first (with_branches es keys) (λ branch. after_emissions branch es (received branch)) below'
       × Performs old before new after (at_emissions (entering (effects_below s)) received es)
 
   -- a part of the effects is performed, and there are emissions
   abbrev pub EmissionsStop : List Emission → StreamTree → ℕ → Below → Type 0
   EmissionsStop es s first below = (texts : List (List ℕ)) (keys : List (List Value)) (received : Received) → AreReadFrom texts patterns → FitAll (forked_by (kind_of s)) es →
-      BelowIs texts s first keys received below → UnseenHaveTicks (forked_by (kind_of s)) keys received → AllStand start moment received →
+      BelowIs texts s first keys received below → UnseenHaveTicks (forked_by (kind_of s)) keys received → AllAreAt start moment received →
       PerformsPart old before new after (at_emissions (entering (effects_below s)) received es) × (es ≡ [] → ⊥)

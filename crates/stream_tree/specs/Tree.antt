@@ -22,7 +22,7 @@ is_poisoned tree = tree.poisoned
 pub record Represents (tree : Tree) (h : History) : Type 0 where
   pub alive : is_poisoned tree ≡ false
   pub begins : begun h ≡ tree.start
-  pub stands : ForestRepresents (plan_patterns (plan_of tree)) (plan_of tree) (nodes_of tree.forest) h
+  pub represents : ForestRepresents (plan_patterns (plan_of tree)) (plan_of tree) (nodes_of tree.forest) h
 
 -- The effects are performed in order, and counted: a fork is entered where it is due and where an item comes to it, and
 -- an entry is visited for each fork that is due.

@@ -153,7 +153,7 @@ run_key-returns-in_err-run_fork-clause-stops g t c =
 pub run_stream-returns-in_err-passed-clause-stops : goal.run_stream-returns-in_err-passed-clause-stops
 run_stream-returns-in_err-passed-clause-stops g t c =
     on_error c.from_residual.result (stream_act_stops c.args.context.now.patterns.now c.args.context.now.start c.args.context.now.moment c.args.stream.now c.args.entry.now c.args.state.now c.args.out.now c.act.new.out c.args.steps.now (below_of c.args.children.now c.args.otherwise.now c.args.forks.now) c.act.ensures.prefix c.in_err-passed.ensures.part
-    (λ texts h stands is at none. let bad = c.in_err-passed.ensures.quiet texts h stands is at none in cc))
+    (λ texts h represents is at none. let bad = c.in_err-passed.ensures.quiet texts h represents is at none in cc))
 
 pub run_stream-returns-in_err-run_tick-clause-stops : goal.run_stream-returns-in_err-run_tick-clause-stops
 run_stream-returns-in_err-run_tick-clause-stops g t c =
