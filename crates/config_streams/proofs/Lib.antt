@@ -1,2 +1,7 @@
 pub mod KindLaws
 pub mod StreamLaws
+pub mod KindsRead
+pub mod KindsOnly
+pub mod GrammarRead
+pub mod GrammarOnly
+pub mod GrammarLaws

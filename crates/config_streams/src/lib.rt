@@ -2,8 +2,10 @@
 #![tactic(auto)]
 
 mod kinds;
+mod law;
 mod source;
 mod streams;
 
+pub use law::streams_are_read;
 pub use source::{Source, Sources};
 pub use streams::{Below, Located, parts_onto};

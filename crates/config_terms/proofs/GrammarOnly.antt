@@ -51,7 +51,7 @@ bound_meaning env name (Some (bound.Number number)) is = a_name is
 bound_meaning env name (Some (bound.Keyword key)) is = a_name is
 bound_meaning env name (Some bound.Index) is = tt
 
-meaning : (env : Env) (f : FormTree) → Meaning env (bare_tree f) (argument_of env f)
+pub meaning : (env : Env) (f : FormTree) → Meaning env (bare_tree f) (argument_of env f)
 unfolding argument_of
 meaning env (Single (atom.Text text) start last) = a_text
 meaning env (Single (atom.Pattern text) start last) = a_pattern

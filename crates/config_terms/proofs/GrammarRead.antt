@@ -144,24 +144,24 @@ worded_rule env f one args h =
           ∙ ap (λ (head : Head). headed_rule env head call.start call.forms (rules_in env call.forms)) (word_head one call.begin call.end);
     }
 
-record IsOne (forms : FormTrees) (first : BareTree) : Type 0 where
-  a : FormTree
-  are : forms ≡ also a none
-  a_is : bare_tree a ≡ first
+pub record IsOne (forms : FormTrees) (first : BareTree) : Type 0 where
+  pub a : FormTree
+  pub are : forms ≡ also a none
+  pub a_is : bare_tree a ≡ first
 
-one_of : (forms : FormTrees) (first : BareTree) → bare_trees forms ≡ listed (first ∷ []) → IsOne forms first
+pub one_of : (forms : FormTrees) (first : BareTree) → bare_trees forms ≡ listed (first ∷ []) → IsOne forms first
 one_of forms first h =
     let one = also_of forms first no_trees h in
     record { a = one.first; a_is = one.first_is; are = one.are ∙ ap (also one.first) (none_of one.rest one.rest_are) }
 
-record AreTwo (forms : FormTrees) (first second : BareTree) : Type 0 where
-  a : FormTree
-  b : FormTree
-  are : forms ≡ also a (also b none)
-  a_is : bare_tree a ≡ first
-  b_is : bare_tree b ≡ second
+pub record AreTwo (forms : FormTrees) (first second : BareTree) : Type 0 where
+  pub a : FormTree
+  pub b : FormTree
+  pub are : forms ≡ also a (also b none)
+  pub a_is : bare_tree a ≡ first
+  pub b_is : bare_tree b ≡ second
 
-two_of : (forms : FormTrees) (first second : BareTree) → bare_trees forms ≡ listed (first ∷ second ∷ []) → AreTwo forms first second
+pub two_of : (forms : FormTrees) (first second : BareTree) → bare_trees forms ≡ listed (first ∷ second ∷ []) → AreTwo forms first second
 two_of forms first second h =
     let one = also_of forms first (and_trees second no_trees) h in
     let two = also_of one.rest second no_trees one.rest_are in

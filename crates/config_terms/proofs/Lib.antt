@@ -7,3 +7,5 @@ pub mod GrammarRead
 pub mod GrammarOnly
 pub mod GrammarLaws
 pub mod TermLaws
+pub mod VectorLaws
+pub mod SetLaws

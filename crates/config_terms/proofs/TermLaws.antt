@@ -6,7 +6,7 @@ use Rattle.sexp_read.specs.Tree.{FormTree}
 use Rattle.sexp_read.specs.Written.{BareTree, bare_tree}
 use Rattle.config_terms.specs.declared.binding.Bound.TheVariants as bound
 use Rattle.config_terms.specs.Arguments.{Env, Argument, Text, Pattern, Number, Keyword, Index, Unbound, Forms, argument_of, field_in, text_at, number_at, value_at, field_at}
-use Rattle.config_terms.specs.Grammar.{IsLiteral, IsValue}
+use Rattle.config_terms.specs.Grammar.{IsValue}
 use Rattle.config_terms.specs.Terms.{IsField, a_field, TextsAreRead, NumbersAreRead, ValuesAreRead, FieldsAreRead}
 use Rattle.config_terms.proofs.Outcomes.{OkGood, SomeGood, some_from, ok_read}
 use Rattle.config_terms.proofs.GrammarRead.{literal_read, text_read, number_read, value_read}
@@ -30,11 +30,11 @@ values_are_read env f held = (
   (λ is. ok_read (IsValue env (bare_tree f)) (value_at env f) held is (value_means env f)),
 )
 
-keyword_field : (env : Env) (f : FormTree) (name : List ℕ) (field : Field) → argument_of env f ≡ Keyword name → named_field name ≡ Some field → field_at env f ≡ Ok field
+pub keyword_field : (env : Env) (f : FormTree) (name : List ℕ) (field : Field) → argument_of env f ≡ Keyword name → named_field name ≡ Some field → field_at env f ≡ Ok field
 unfolding field_at
 keyword_field env f name field at is = rw (at, is) refl
 
-field_read : (env : Env) (form : BareTree) (field : Field) → IsField env form field → (f : FormTree) → bare_tree f ≡ form → field_at env f ≡ Ok field
+pub field_read : (env : Env) (form : BareTree) (field : Field) → IsField env form field → (f : FormTree) → bare_tree f ≡ form → field_at env f ≡ Ok field
 field_read env form field (a_field {name = name} literal is) f h = keyword_field env f name field (literal_read env form (bound.Keyword name) literal f h) is
 
 field_in_means : (env : Env) (form : BareTree) (given : Argument) → Meaning env form given → SomeGood (IsField env form) (field_in given)
@@ -46,7 +46,7 @@ field_in_means env form Index means = tt
 field_in_means env form (Unbound name) means = tt
 field_in_means env form (Forms bracket forms) means = tt
 
-field_means : (env : Env) (f : FormTree) → OkGood (IsField env (bare_tree f)) (field_at env f)
+pub field_means : (env : Env) (f : FormTree) → OkGood (IsField env (bare_tree f)) (field_at env f)
 unfolding field_at
 field_means env f = taken_means (IsField env (bare_tree f)) field_in env f (field_in_means env (bare_tree f))
 

@@ -1,0 +1,460 @@
+-- The arguments of which a kind of stream is read are those of the grammar.
+use Rattle.std.proofs.Common.{◌≡◌, ℕ, ℤ, Bool, true, false, not, codes, List, [], ◌∷◌, if◌then◌else◌, Option, Some, None, Result, Ok, Err, refl, ap, sym, subst}
+use Rattle.std.proofs.lemmas.Slice.Eq.{bytes_eq-Decides}
+use Rattle.std.specs.Str.{bytes_eq}
+use Rattle.ev_types.specs.declared.field.Field.{Field}
+use Rattle.ev_types.specs.declared.settings.Fold.{Fold}
+use Rattle.ev_types.specs.declared.settings.Fold.TheVariants as fold
+use Rattle.ev_types.specs.declared.settings.Set.{Set}
+use Rattle.ev_types.specs.declared.value.Value.{Value}
+use Rattle.pred_eval.specs.Tree.{Tree}
+use Rattle.sexp_read.specs.declared.piece.Atom.TheVariants as atom
+use Rattle.sexp_read.specs.declared.piece.Bracket.TheVariants.{Round, Square, Curly}
+use Rattle.sexp_read.specs.Tree.{FormTree, FormTrees, Single, Group, none, also}
+use Rattle.sexp_read.specs.Written.{BareTree, BareTrees, no_trees, and_trees, bare_tree, bare_trees, listed}
+use Rattle.stream_plan.specs.Tree.{KindTree}
+use Rattle.stream_plan.specs.Tree as plan
+use Rattle.config_terms.specs.declared.binding.Bound.TheVariants as bound
+use Rattle.config_terms.specs.declared.word.StreamWord.{StreamWord}
+use Rattle.config_terms.specs.declared.word.StreamWord.TheVariants as word
+use Rattle.config_terms.specs.Code.{later}
+use Rattle.config_terms.specs.Steps.{Fault, ◌>>=◌, start_of, nth, argument}
+use Rattle.config_terms.specs.Words.{stream_text, stream_word, passing_word, counting_word, window_word, fold_word, init_text}
+use Rattle.config_terms.specs.Arguments.{Env, text_at, number_at, field_at, value_at, texts_at, fields_at, some_of, set_at, sets_from, one_entry}
+use Rattle.config_terms.specs.Rules.{rule_at}
+use Rattle.config_terms.specs.Grammar.{symbol, IsLiteral, IsPredicate}
+use Rattle.config_terms.specs.Terms.{map_of, IsField, IsTexts, IsFields, IsSet, AreSets, IsInit}
+use Rattle.config_terms.proofs.GrammarLaws.{predicates_are_those}
+use Rattle.config_terms.proofs.Outcomes.{OkGood, SomeGood, Any_, bind_good, any_good, weaker, some_if, some_or}
+use Rattle.config_terms.proofs.TermLaws.{texts_are_read, numbers_are_read, fields_are_read}
+use Rattle.config_terms.proofs.VectorLaws.{ranges_are_read, text_vectors_are_read, field_vectors_are_read}
+use Rattle.config_terms.proofs.SetLaws.{sets_are_read, set_maps_are_read, inits_are_read}
+use Rattle.stream_plan.specs.declared.kinds.TheConstants.{MAX_COUNT, MAX_SECS}
+use Rattle.config_streams.specs.Kinds.{count_at, secs_at, secs_of, count_and_secs, is_map, is_map_in, one_set, sets_of, some_init, init_of, fold_by, fold_named, fold_at, has_secs, coalesce_secs, all_tagged, tagged_kind, order_kind, where_kind, notice_kind, tag_kind, by_kind, smap_kind, changed_kind, runs_kind, stable_kind, window_kind, counting_kind, kind_of, leads, two_if, one_if}
+use Rattle.config_streams.specs.Streams.{is_where}
+use Rattle.config_streams.specs.Grammar.{IsCount, AreSecs, IsFold, sum, minimum, maximum, counted, and_then, IsKind, sdo, where_, with_one, with_all, default_one, default_all, tagging, by, changed, changed_from, runs, throttle, rollup, batch, stable, fixed_event, moving_event, fixed_time, moving_time, coalesce, coalesce_every, smap, expired, tagged, over, under}
+use Rattle.config_streams.proofs.KindsRead.{all_tags_are}
+
+-- ---- arguments
+
+good_of : {A : Type 0} (P : A → Type 0) (read : Result A Fault) → ((a : A) → read ≡ Ok a → P a) → OkGood P read
+good_of P (Ok a) h = h a refl
+good_of P (Err fault) h = tt
+
+abbrev TextIs : Env → FormTree → List ℕ → Type 0
+TextIs env f text = IsLiteral env (bare_tree f) (bound.Text text)
+
+abbrev NumberIs : Env → FormTree → ℤ → Type 0
+NumberIs env f number = IsLiteral env (bare_tree f) (bound.Number number)
+
+rule_means : (env : Env) (f : FormTree) → OkGood (IsPredicate env (bare_tree f)) (rule_at env f)
+rule_means env f = good_of (IsPredicate env (bare_tree f)) (rule_at env f) (λ rule is. (predicates_are_those env f rule).1 is)
+
+text_means : (env : Env) (f : FormTree) → OkGood (TextIs env f) (text_at env f)
+text_means env f = good_of (TextIs env f) (text_at env f) (λ text is. (texts_are_read env f text).1 is)
+
+number_means : (env : Env) (f : FormTree) → OkGood (NumberIs env f) (number_at env f)
+number_means env f = good_of (NumberIs env f) (number_at env f) (λ number is. (numbers_are_read env f number).1 is)
+
+field_means : (env : Env) (f : FormTree) → OkGood (IsField env (bare_tree f)) (field_at env f)
+field_means env f = good_of (IsField env (bare_tree f)) (field_at env f) (λ one is. (fields_are_read env f one).1 is)
+
+count_means : (env : Env) (f : FormTree) → OkGood (IsCount env (bare_tree f)) (count_at env f)
+count_means env f = good_of (IsCount env (bare_tree f)) (count_at env f) (λ count is. (ranges_are_read 1 MAX_COUNT env f count).1 is)
+
+secs_mean : (env : Env) (f : FormTree) → OkGood (AreSecs env (bare_tree f)) (secs_at env f)
+secs_mean env f = good_of (AreSecs env (bare_tree f)) (secs_at env f) (λ secs is. (ranges_are_read 1 MAX_SECS env f secs).1 is)
+
+texts_mean : (env : Env) (f : FormTree) → OkGood (IsTexts env (bare_tree f)) (texts_at env f)
+texts_mean env f = good_of (IsTexts env (bare_tree f)) (texts_at env f) (λ texts is. (text_vectors_are_read env f texts).1 is)
+
+fields_mean : (env : Env) (f : FormTree) → OkGood (IsFields env (bare_tree f)) (fields_at env f)
+fields_mean env f = good_of (IsFields env (bare_tree f)) (fields_at env f) (λ fields is. (field_vectors_are_read env f fields).1 is)
+
+set_means : (env : Env) (one : Field) (f : FormTree) → OkGood (IsSet env one (bare_tree f)) (set_at env one f)
+set_means env one f = good_of (IsSet env one (bare_tree f)) (set_at env one f) (λ set is. (sets_are_read env one f set).1 is)
+
+sets_mean : (env : Env) (place : ℕ) (forms : FormTrees) → OkGood (AreSets env (bare_trees forms)) (sets_from place env [] forms)
+sets_mean env place forms = good_of (AreSets env (bare_trees forms)) (sets_from place env [] forms) (λ sets is. (set_maps_are_read env place forms sets).1 is)
+
+init_means : (env : Env) (place : ℕ) (forms : FormTrees) → OkGood (IsInit env (bare_trees forms)) (one_entry init_text value_at place env None forms)
+init_means env place forms = good_of (IsInit env (bare_trees forms)) (one_entry init_text value_at place env None forms) (λ held is. (inits_are_read env place forms held).1 is)
+
+-- the words of the folds
+
+abbrev FoldOf : List ℕ → Fold → Type 0
+FoldOf name one = IsFold (symbol name) one
+
+fold_if : (name text : List ℕ) (one : Fold) (other : Option Fold) → IsFold (symbol text) one → SomeGood (FoldOf name) other → SomeGood (FoldOf name) (if bytes_eq name text then Some one else other)
+fold_if name text one other is rest =
+    some_if (FoldOf name) (bytes_eq name text) (Some one) other (λ same. subst (λ (n : List ℕ). IsFold (symbol n) one) (sym ((bytes_eq-Decides name text).0 same)) is) (λ _. rest)
+
+fold_word_means : (name : List ℕ) → SomeGood (FoldOf name) (fold_word name)
+unfolding fold_word
+fold_word_means name =
+    fold_if name (codes "folds/sum") fold.Sum _ sum (fold_if name (codes "folds/minimum") fold.Minimum _ minimum
+    (fold_if name (codes "folds/maximum") fold.Maximum _ maximum (fold_if name (codes "folds/count") fold.Count _ counted tt)))
+
+fold_by_means : (P : Fold → Type 0) (env : Env) (f : FormTree) (found : Option Fold) → SomeGood P found → OkGood P (fold_by env f found)
+fold_by_means P env f None good = tt
+fold_by_means P env f (Some one) good = good
+
+named_means : (f : FormTree) → SomeGood (IsFold (bare_tree f)) (fold_named f)
+named_means (Single (atom.Symbol name) start last) = fold_word_means name
+named_means (Single (atom.Text text) start last) = tt
+named_means (Single (atom.Pattern text) start last) = tt
+named_means (Single (atom.Number number) start last) = tt
+named_means (Single (atom.Keyword key) start last) = tt
+named_means (Group bracket forms start last) = tt
+
+fold_means : (env : Env) (f : FormTree) → OkGood (IsFold (bare_tree f)) (fold_at env f)
+unfolding fold_at
+fold_means env f = fold_by_means (IsFold (bare_tree f)) env f (fold_named f) (named_means f)
+
+-- ---- what is known of a kind that was read
+
+-- the word and these arguments begin a stream of the kind, also one that no stream follows
+pub data Starts : Env → List ℕ → BareTrees → KindTree → Type 0 where
+  start_index : {env : Env} → Starts env (codes "index") no_trees plan.Index
+  start_notice : {env : Env} {x : BareTree} {name : List ℕ} → IsLiteral env x (bound.Text name) → Starts env (codes "notice") (listed (x ∷ [])) (plan.Notice name)
+  start_kind : {env : Env} {name : List ℕ} {own : BareTrees} {one : KindTree} → IsKind env name own one → Starts env name own one
+
+-- an `else` may follow
+pub record Divides (env : Env) (own : BareTrees) (one : KindTree) : Type 0 where
+  pub p : BareTree
+  pub rule : Tree
+  pub own_is : own ≡ listed (p ∷ [])
+  pub one_is : one ≡ plan.Where rule
+  pub is : IsPredicate env p rule
+
+pub record Known (env : Env) (from : StreamWord) (forms : FormTrees) (one : KindTree) : Type 0 where
+  pub own : BareTrees
+  pub is : Starts env (stream_text from) own one
+  pub are : bare_trees forms ≡ and_then own (bare_trees (later (leads env from forms) forms))
+  pub divides : is_where from ≡ true → Divides env own one
+
+never : {A : Type 0} → false ≡ true → A
+never e = cc
+
+-- ---- kinds of no arguments
+
+index_means : (env : Env) (start : ℕ) (forms : FormTrees) → OkGood (Known env word.Index forms) (kind_of env word.Index start forms)
+unfolding kind_of leads
+index_means env start forms = record { own = no_trees; is = start_index; are = refl; divides = never }
+
+sdo_means : (env : Env) (start : ℕ) (forms : FormTrees) → OkGood (Known env word.Sdo forms) (kind_of env word.Sdo start forms)
+unfolding kind_of leads
+sdo_means env start forms = record { own = no_trees; is = start_kind sdo; are = refl; divides = never }
+
+expired_means : (env : Env) (start : ℕ) (forms : FormTrees) → OkGood (Known env word.Expired forms) (kind_of env word.Expired start forms)
+unfolding kind_of counting_kind window_kind leads
+expired_means env start forms = record { own = no_trees; is = start_kind expired; are = refl; divides = never }
+
+else_means : (env : Env) (start : ℕ) (forms : FormTrees) → OkGood (Known env word.Else forms) (kind_of env word.Else start forms)
+unfolding kind_of counting_kind window_kind
+else_means env start forms = tt
+
+-- ---- kinds of one argument
+
+notice_means : (env : Env) (start : ℕ) (forms : FormTrees) → OkGood (Known env word.Notice forms) (kind_of env word.Notice start forms)
+unfolding kind_of notice_kind leads argument
+notice_means env start none = tt
+notice_means env start (also a rest) =
+    bind_good (TextIs env a) (Known env word.Notice (also a rest)) (text_at env a) _ (text_means env a) (λ one is. record { own = listed (bare_tree a ∷ []); is = start_notice is; are = refl; divides = never })
+
+tag_means : (env : Env) (start : ℕ) (forms : FormTrees) → OkGood (Known env word.Tag forms) (kind_of env word.Tag start forms)
+unfolding kind_of tag_kind leads argument
+tag_means env start none = tt
+tag_means env start (also a rest) =
+    bind_good (IsTexts env (bare_tree a)) (Known env word.Tag (also a rest)) (texts_at env a) _ (texts_mean env a) (λ one is. record { own = listed (bare_tree a ∷ []); is = start_kind (tagging is); are = refl; divides = never })
+
+by_means : (env : Env) (start : ℕ) (forms : FormTrees) → OkGood (Known env word.By forms) (kind_of env word.By start forms)
+unfolding kind_of by_kind leads argument
+by_means env start none = tt
+by_means env start (also a rest) =
+    bind_good (IsFields env (bare_tree a)) (Known env word.By (also a rest)) (fields_at env a) _ (fields_mean env a) (λ one is. record { own = listed (bare_tree a ∷ []); is = start_kind (by is); are = refl; divides = never })
+
+smap_means : (env : Env) (start : ℕ) (forms : FormTrees) → OkGood (Known env word.Smap forms) (kind_of env word.Smap start forms)
+unfolding kind_of counting_kind smap_kind leads argument
+smap_means env start none = tt
+smap_means env start (also a rest) =
+    bind_good (IsFold (bare_tree a)) (Known env word.Smap (also a rest)) (fold_at env a) _ (fold_means env a) (λ one is. record { own = listed (bare_tree a ∷ []); is = start_kind (smap is); are = refl; divides = never })
+
+fixed_event_means : (env : Env) (start : ℕ) (forms : FormTrees) → OkGood (Known env word.FixedEvent forms) (kind_of env word.FixedEvent start forms)
+unfolding kind_of counting_kind window_kind leads argument
+fixed_event_means env start none = tt
+fixed_event_means env start (also a rest) =
+    bind_good (IsCount env (bare_tree a)) (Known env word.FixedEvent (also a rest)) (count_at env a) _ (count_means env a) (λ one is. record { own = listed (bare_tree a ∷ []); is = start_kind (fixed_event is); are = refl; divides = never })
+
+moving_event_means : (env : Env) (start : ℕ) (forms : FormTrees) → OkGood (Known env word.MovingEvent forms) (kind_of env word.MovingEvent start forms)
+unfolding kind_of counting_kind window_kind leads argument
+moving_event_means env start none = tt
+moving_event_means env start (also a rest) =
+    bind_good (IsCount env (bare_tree a)) (Known env word.MovingEvent (also a rest)) (count_at env a) _ (count_means env a) (λ one is. record { own = listed (bare_tree a ∷ []); is = start_kind (moving_event is); are = refl; divides = never })
+
+fixed_time_means : (env : Env) (start : ℕ) (forms : FormTrees) → OkGood (Known env word.FixedTime forms) (kind_of env word.FixedTime start forms)
+unfolding kind_of counting_kind window_kind leads argument
+fixed_time_means env start none = tt
+fixed_time_means env start (also a rest) =
+    bind_good (AreSecs env (bare_tree a)) (Known env word.FixedTime (also a rest)) (secs_at env a) _ (secs_mean env a) (λ one is. record { own = listed (bare_tree a ∷ []); is = start_kind (fixed_time is); are = refl; divides = never })
+
+moving_time_means : (env : Env) (start : ℕ) (forms : FormTrees) → OkGood (Known env word.MovingTime forms) (kind_of env word.MovingTime start forms)
+unfolding kind_of counting_kind window_kind leads argument
+moving_time_means env start none = tt
+moving_time_means env start (also a rest) =
+    bind_good (AreSecs env (bare_tree a)) (Known env word.MovingTime (also a rest)) (secs_at env a) _ (secs_mean env a) (λ one is. record { own = listed (bare_tree a ∷ []); is = start_kind (moving_time is); are = refl; divides = never })
+
+over_means : (env : Env) (start : ℕ) (forms : FormTrees) → OkGood (Known env word.Over forms) (kind_of env word.Over start forms)
+unfolding kind_of counting_kind window_kind order_kind leads argument
+over_means env start none = tt
+over_means env start (also a rest) =
+    bind_good (NumberIs env a) (Known env word.Over (also a rest)) (number_at env a) _ (number_means env a) (λ one is. record { own = listed (bare_tree a ∷ []); is = start_kind (over is); are = refl; divides = never })
+
+under_means : (env : Env) (start : ℕ) (forms : FormTrees) → OkGood (Known env word.Under forms) (kind_of env word.Under start forms)
+unfolding kind_of counting_kind window_kind order_kind leads argument
+under_means env start none = tt
+under_means env start (also a rest) =
+    bind_good (NumberIs env a) (Known env word.Under (also a rest)) (number_at env a) _ (number_means env a) (λ one is. record { own = listed (bare_tree a ∷ []); is = start_kind (under is); are = refl; divides = never })
+
+where_means : (env : Env) (start : ℕ) (forms : FormTrees) → OkGood (Known env word.Where forms) (kind_of env word.Where start forms)
+unfolding kind_of where_kind leads argument
+where_means env start none = tt
+where_means env start (also a rest) =
+    bind_good (IsPredicate env (bare_tree a)) (Known env word.Where (also a rest)) (rule_at env a) _ (rule_means env a)
+    (λ rule is. record {
+      own = listed (bare_tree a ∷ []);
+      is = start_kind (where_ is);
+      are = refl;
+      divides = λ _. record { p = bare_tree a; rule = rule; own_is = refl; one_is = refl; is = is };
+    })
+
+some_tags : (env : Env) (a : FormTree) (rest : FormTrees) (texts : List (List ℕ)) → IsTexts env (bare_tree a) texts
+    → OkGood (Known env word.Tagged (also a rest)) (some_of (start_of a) texts >>= λ tags. Ok (plan.Where (all_tagged tags)))
+unfolding leads
+some_tags env a rest [] are = tt
+some_tags env a rest (one ∷ tags) are =
+    record {
+      own = listed (bare_tree a ∷ []);
+      is = subst (λ (rule : Tree). Starts env (codes "tagged") (listed (bare_tree a ∷ [])) (plan.Where rule)) (sym (all_tags_are one tags)) (start_kind (tagged are));
+      are = refl;
+      divides = never;
+    }
+
+tagged_means : (env : Env) (start : ℕ) (forms : FormTrees) → OkGood (Known env word.Tagged forms) (kind_of env word.Tagged start forms)
+unfolding kind_of counting_kind window_kind tagged_kind argument
+tagged_means env start none = tt
+tagged_means env start (also a rest) = bind_good (IsTexts env (bare_tree a)) (Known env word.Tagged (also a rest)) (texts_at env a) _ (texts_mean env a) (λ texts are. some_tags env a rest texts are)
+
+-- seconds, where there are any
+
+record Coalesced (env : Env) (forms : FormTrees) (has : Bool) (secs : ℕ) : Type 0 where
+  own : BareTrees
+  is : IsKind env (codes "coalesce") own (plan.Coalesce secs)
+  are : bare_trees forms ≡ and_then own (bare_trees (later (one_if has) forms))
+
+coalesced : (env : Env) (start : ℕ) (forms : FormTrees) (has : Bool) → OkGood (Coalesced env forms has) (if has then secs_of env 0 start forms else Ok 1)
+unfolding argument
+coalesced env start none true = tt
+coalesced env start (also a rest) true =
+    weaker (AreSecs env (bare_tree a)) (Coalesced env (also a rest) true) (secs_at env a) (λ secs are. record { own = listed (bare_tree a ∷ []); is = coalesce_every are; are = refl }) (secs_mean env a)
+coalesced env start none false = record { own = no_trees; is = coalesce; are = refl }
+coalesced env start (also a rest) false = record { own = no_trees; is = coalesce; are = refl }
+
+coalesce_means : (env : Env) (start : ℕ) (forms : FormTrees) → OkGood (Known env word.Coalesce forms) (kind_of env word.Coalesce start forms)
+unfolding kind_of counting_kind coalesce_secs leads
+coalesce_means env start forms =
+    bind_good (Coalesced env forms (has_secs env forms)) (Known env word.Coalesce forms) _ _ (coalesced env start forms (has_secs env forms))
+    (λ secs known. record { own = known.own; is = start_kind known.is; are = known.are; divides = never })
+
+-- ---- kinds of two arguments
+
+record Pair (env : Env) (forms : FormTrees) (both : ℕ × ℕ) : Type 0 where
+  n : BareTree
+  dt : BareTree
+  count : IsCount env n both.0
+  secs : AreSecs env dt both.1
+  are : bare_trees forms ≡ and_trees n (and_trees dt (bare_trees (later 2 forms)))
+
+pair_means : (env : Env) (start : ℕ) (forms : FormTrees) → OkGood (Pair env forms) (count_and_secs env start forms)
+unfolding count_and_secs argument
+pair_means env start none = tt
+pair_means env start (also a none) = bind_good Any_ (Pair env (also a none)) (count_at env a) _ (any_good (count_at env a)) (λ count _. tt)
+pair_means env start (also a (also b rest)) =
+    bind_good (IsCount env (bare_tree a)) (Pair env (also a (also b rest))) (count_at env a) _ (count_means env a) (λ count is.
+    bind_good (AreSecs env (bare_tree b)) (Pair env (also a (also b rest))) (secs_at env b) _ (secs_mean env b) (λ secs are.
+    record { n = bare_tree a; dt = bare_tree b; count = is; secs = are; are = refl }))
+
+throttle_means : (env : Env) (start : ℕ) (forms : FormTrees) → OkGood (Known env word.Throttle forms) (kind_of env word.Throttle start forms)
+unfolding kind_of counting_kind leads
+throttle_means env start forms =
+    bind_good (Pair env forms) (Known env word.Throttle forms) (count_and_secs env start forms) _ (pair_means env start forms)
+    (λ both known. record { own = listed (known.n ∷ known.dt ∷ []); is = start_kind (throttle known.count known.secs); are = known.are; divides = never })
+
+rollup_means : (env : Env) (start : ℕ) (forms : FormTrees) → OkGood (Known env word.Rollup forms) (kind_of env word.Rollup start forms)
+unfolding kind_of counting_kind leads
+rollup_means env start forms =
+    bind_good (Pair env forms) (Known env word.Rollup forms) (count_and_secs env start forms) _ (pair_means env start forms)
+    (λ both known. record { own = listed (known.n ∷ known.dt ∷ []); is = start_kind (rollup known.count known.secs); are = known.are; divides = never })
+
+batch_means : (env : Env) (start : ℕ) (forms : FormTrees) → OkGood (Known env word.Batch forms) (kind_of env word.Batch start forms)
+unfolding kind_of counting_kind leads
+batch_means env start forms =
+    bind_good (Pair env forms) (Known env word.Batch forms) (count_and_secs env start forms) _ (pair_means env start forms)
+    (λ both known. record { own = listed (known.n ∷ known.dt ∷ []); is = start_kind (batch known.count known.secs); are = known.are; divides = never })
+
+runs_means : (env : Env) (start : ℕ) (forms : FormTrees) → OkGood (Known env word.Runs forms) (kind_of env word.Runs start forms)
+unfolding kind_of counting_kind runs_kind leads argument
+runs_means env start none = tt
+runs_means env start (also a none) = bind_good Any_ (Known env word.Runs (also a none)) (count_at env a) _ (any_good (count_at env a)) (λ number _. tt)
+runs_means env start (also a (also b rest)) =
+    bind_good (IsCount env (bare_tree a)) (Known env word.Runs (also a (also b rest))) (count_at env a) _ (count_means env a) (λ number is.
+    bind_good (IsField env (bare_tree b)) (Known env word.Runs (also a (also b rest))) (field_at env b) _ (field_means env b) (λ one means.
+    record { own = listed (bare_tree a ∷ bare_tree b ∷ []); is = start_kind (runs is means); are = refl; divides = never }))
+
+stable_means : (env : Env) (start : ℕ) (forms : FormTrees) → OkGood (Known env word.Stable forms) (kind_of env word.Stable start forms)
+unfolding kind_of counting_kind stable_kind leads argument
+stable_means env start none = tt
+stable_means env start (also a none) = bind_good Any_ (Known env word.Stable (also a none)) (secs_at env a) _ (any_good (secs_at env a)) (λ number _. tt)
+stable_means env start (also a (also b rest)) =
+    bind_good (AreSecs env (bare_tree a)) (Known env word.Stable (also a (also b rest))) (secs_at env a) _ (secs_mean env a) (λ number is.
+    bind_good (IsField env (bare_tree b)) (Known env word.Stable (also a (also b rest))) (field_at env b) _ (field_means env b) (λ one means.
+    record { own = listed (bare_tree a ∷ bare_tree b ∷ []); is = start_kind (stable is means); are = refl; divides = never }))
+
+-- a map, or a field and its value
+
+record Setting (env : Env) (forms : FormTrees) (sets : List Set) : Type 0 where
+  own : BareTrees
+  as_with : IsKind env (codes "with") own (plan.With sets)
+  as_default : IsKind env (codes "default") own (plan.Default sets)
+  are : bare_trees forms ≡ and_then own (bare_trees (later (two_if (not (is_map_in (nth 0 forms)))) forms))
+
+one_setting : (env : Env) (start : ℕ) (a : FormTree) (rest : FormTrees) → is_map a ≡ false → OkGood (Setting env (also a rest)) (one_set env start a (also a rest))
+unfolding argument
+one_setting env start a none no_map = bind_good Any_ (Setting env (also a none)) (field_at env a) _ (any_good (field_at env a)) (λ one _. tt)
+one_setting env start a (also b rest) no_map =
+    let Q = Setting env (also a (also b rest)) in
+    bind_good (IsField env (bare_tree a)) Q (field_at env a) _ (field_means env a) (λ one means.
+    bind_good (IsSet env one (bare_tree b)) Q (set_at env one b) _ (set_means env one b) (λ set is.
+    record {
+      own = listed (bare_tree a ∷ bare_tree b ∷ []);
+      as_with = with_one means is;
+      as_default = default_one means is;
+      are = ap (λ (map : Bool). and_then (listed (bare_tree a ∷ bare_tree b ∷ [])) (bare_trees (later (two_if (not map)) (also a (also b rest))))) (sym no_map);
+    }))
+
+settings : (env : Env) (start : ℕ) (forms : FormTrees) → OkGood (Setting env forms) (sets_of env start forms)
+unfolding sets_of argument
+settings env start none = tt
+settings env start (also (Group Curly entries begin last) rest) =
+    weaker (AreSets env (bare_trees entries)) (Setting env (also (Group Curly entries begin last) rest)) (sets_from begin env [] entries)
+    (λ sets are. record { own = listed (map_of (bare_trees entries) ∷ []); as_with = with_all are; as_default = default_all are; are = refl }) (sets_mean env begin entries)
+settings env start (also (Group Round entries begin last) rest) = one_setting env start (Group Round entries begin last) rest refl
+settings env start (also (Group Square entries begin last) rest) = one_setting env start (Group Square entries begin last) rest refl
+settings env start (also (Single one begin last) rest) = one_setting env start (Single one begin last) rest refl
+
+with_means : (env : Env) (start : ℕ) (forms : FormTrees) → OkGood (Known env word.With forms) (kind_of env word.With start forms)
+unfolding kind_of leads
+with_means env start forms =
+    bind_good (Setting env forms) (Known env word.With forms) (sets_of env start forms) _ (settings env start forms)
+    (λ sets known. record { own = known.own; is = start_kind known.as_with; are = known.are; divides = never })
+
+default_means : (env : Env) (start : ℕ) (forms : FormTrees) → OkGood (Known env word.Default forms) (kind_of env word.Default start forms)
+unfolding kind_of leads
+default_means env start forms =
+    bind_good (Setting env forms) (Known env word.Default forms) (sets_of env start forms) _ (settings env start forms)
+    (λ sets known. record { own = known.own; is = start_kind known.as_default; are = known.are; divides = never })
+
+-- a field, and what it was
+
+no_init_means : (env : Env) (a : FormTree) (rest : FormTrees) → is_map_in (nth 0 rest) ≡ false → (one : Field) → IsField env (bare_tree a) one → Known env word.Changed (also a rest) (plan.Changed one None)
+unfolding leads
+no_init_means env a rest no_map one means =
+    record {
+      own = listed (bare_tree a ∷ []);
+      is = start_kind (changed means);
+      are = ap (λ (map : Bool). and_then (listed (bare_tree a ∷ [])) (bare_trees (later (two_if map) (also a rest)))) (sym no_map);
+      divides = never;
+    }
+
+record Inited (env : Env) (entries : FormTrees) (init : Option Value) : Type 0 where
+  held : Value
+  init_is : init ≡ Some held
+  is : IsInit env (bare_trees entries) held
+
+inited : (env : Env) (place : ℕ) (entries : FormTrees) → OkGood (Inited env entries) (some_init env place entries)
+inited env place entries =
+    bind_good (IsInit env (bare_trees entries)) (Inited env entries) (one_entry init_text value_at place env None entries) _ (init_means env place entries) (λ held is. record { held = held; init_is = refl; is = is })
+
+changed_means : (env : Env) (start : ℕ) (forms : FormTrees) → OkGood (Known env word.Changed forms) (kind_of env word.Changed start forms)
+unfolding kind_of counting_kind changed_kind init_of leads argument
+changed_means env start none = tt
+changed_means env start (also a none) =
+    bind_good (IsField env (bare_tree a)) (Known env word.Changed (also a none)) (field_at env a) _ (field_means env a) (λ one means. no_init_means env a none refl one means)
+changed_means env start (also a (also (Single x begin last) rest)) =
+    bind_good (IsField env (bare_tree a)) (Known env word.Changed (also a (also (Single x begin last) rest))) (field_at env a) _ (field_means env a)
+    (λ one means. no_init_means env a (also (Single x begin last) rest) refl one means)
+changed_means env start (also a (also (Group Round entries begin last) rest)) =
+    bind_good (IsField env (bare_tree a)) (Known env word.Changed (also a (also (Group Round entries begin last) rest))) (field_at env a) _ (field_means env a)
+    (λ one means. no_init_means env a (also (Group Round entries begin last) rest) refl one means)
+changed_means env start (also a (also (Group Square entries begin last) rest)) =
+    bind_good (IsField env (bare_tree a)) (Known env word.Changed (also a (also (Group Square entries begin last) rest))) (field_at env a) _ (field_means env a)
+    (λ one means. no_init_means env a (also (Group Square entries begin last) rest) refl one means)
+changed_means env start (also a (also (Group Curly entries begin last) rest)) =
+    let Q = Known env word.Changed (also a (also (Group Curly entries begin last) rest)) in
+    let make : (one : Field) → IsField env (bare_tree a) one → (held : Value) → IsInit env (bare_trees entries) held → Q (plan.Changed one (Some held)) =
+    λ one means held is. record { own = listed (bare_tree a ∷ map_of (bare_trees entries) ∷ []); is = start_kind (changed_from means is); are = refl; divides = never } in
+    bind_good (IsField env (bare_tree a)) Q (field_at env a) _ (field_means env a) (λ one means.
+    bind_good (Inited env entries) Q (some_init env begin entries) _ (inited env begin entries) (λ init known.
+    subst (λ (found : Option Value). Q (plan.Changed one found)) (sym known.init_is) (make one means known.held known.is)))
+
+-- ---- all kinds
+
+pub kind_means : (env : Env) (from : StreamWord) (start : ℕ) (forms : FormTrees) → OkGood (Known env from forms) (kind_of env from start forms)
+kind_means env word.Index start forms = index_means env start forms
+kind_means env word.Notice start forms = notice_means env start forms
+kind_means env word.Sdo start forms = sdo_means env start forms
+kind_means env word.Where start forms = where_means env start forms
+kind_means env word.Else start forms = else_means env start forms
+kind_means env word.With start forms = with_means env start forms
+kind_means env word.Default start forms = default_means env start forms
+kind_means env word.Tag start forms = tag_means env start forms
+kind_means env word.By start forms = by_means env start forms
+kind_means env word.Changed start forms = changed_means env start forms
+kind_means env word.Runs start forms = runs_means env start forms
+kind_means env word.Throttle start forms = throttle_means env start forms
+kind_means env word.Rollup start forms = rollup_means env start forms
+kind_means env word.Batch start forms = batch_means env start forms
+kind_means env word.Stable start forms = stable_means env start forms
+kind_means env word.FixedEvent start forms = fixed_event_means env start forms
+kind_means env word.MovingEvent start forms = moving_event_means env start forms
+kind_means env word.FixedTime start forms = fixed_time_means env start forms
+kind_means env word.MovingTime start forms = moving_time_means env start forms
+kind_means env word.Coalesce start forms = coalesce_means env start forms
+kind_means env word.Smap start forms = smap_means env start forms
+kind_means env word.Expired start forms = expired_means env start forms
+kind_means env word.Tagged start forms = tagged_means env start forms
+kind_means env word.Over start forms = over_means env start forms
+kind_means env word.Under start forms = under_means env start forms
+
+-- ---- words
+
+abbrev pub Spells : List ℕ → StreamWord → Type 0
+Spells name one = name ≡ stream_text one
+
+spells_if : (name : List ℕ) (one : StreamWord) (other : Option StreamWord) → SomeGood (Spells name) other → SomeGood (Spells name) (if bytes_eq name (stream_text one) then Some one else other)
+spells_if name one other rest = some_if (Spells name) (bytes_eq name (stream_text one)) (Some one) other (λ is. (bytes_eq-Decides name (stream_text one)).0 is) (λ _. rest)
+
+pub word_spells : (name : List ℕ) → SomeGood (Spells name) (stream_word name)
+unfolding stream_word passing_word counting_word window_word
+word_spells name =
+    some_or (Spells name) (passing_word name) _
+    (spells_if name word.Index _ (spells_if name word.Notice _ (spells_if name word.Sdo _ (spells_if name word.Where _
+    (spells_if name word.Else _ (spells_if name word.With _ (spells_if name word.Default _ (spells_if name word.Tag _
+    (spells_if name word.By _ tt)))))))))
+    (some_or (Spells name) (counting_word name) (window_word name)
+    (spells_if name word.Changed _ (spells_if name word.Runs _ (spells_if name word.Throttle _ (spells_if name word.Rollup _
+    (spells_if name word.Batch _ (spells_if name word.Stable _ (spells_if name word.Coalesce _ (spells_if name word.Smap _
+    tt))))))))
+    (spells_if name word.FixedEvent _ (spells_if name word.MovingEvent _ (spells_if name word.FixedTime _ (spells_if name word.MovingTime _
+    (spells_if name word.Expired _ (spells_if name word.Tagged _ (spells_if name word.Over _ (spells_if name word.Under _
+    tt)))))))))

@@ -1,0 +1,489 @@
+-- What the grammar says of a stream's word and arguments is read.
+use Rattle.std.proofs.Common.{◌≡◌, ℕ, ℤ, pos, Bool, true, false, codes, List, [], ◌∷◌, drop, Option, Some, None, Result, Ok, refl, ap, sym, subst, ◌∙◌}
+use Rattle.ev_types.specs.declared.field.Field.{Field}
+use Rattle.ev_types.specs.declared.field.Field.TheVariants as field
+use Rattle.ev_types.specs.declared.settings.Fold.{Fold}
+use Rattle.ev_types.specs.declared.settings.Fold.TheVariants as fold
+use Rattle.ev_types.specs.declared.settings.Set.{Set}
+use Rattle.ev_types.specs.declared.value.Value.{Value}
+use Rattle.ev_types.specs.declared.value.Value.TheVariants as value
+use Rattle.pred_eval.specs.declared.rule.Ordering.TheVariants.{Less, Greater}
+use Rattle.pred_eval.specs.Tree.{Tree, Trees, All, Tagged, Order}
+use Rattle.pred_eval.specs.Tree as pred
+use Rattle.sexp_read.specs.declared.piece.Atom.{Atom}
+use Rattle.sexp_read.specs.declared.piece.Atom.TheVariants as atom
+use Rattle.sexp_read.specs.declared.piece.Bracket.TheVariants.{Round, Square, Curly}
+use Rattle.sexp_read.specs.Tree.{FormTree, FormTrees, Single, Group, also}
+use Rattle.sexp_read.specs.Written.{BareTree, BareTrees, and_trees, bare_tree, bare_trees}
+use Rattle.stream_plan.specs.Kinds.{may_have_children}
+use Rattle.stream_plan.specs.Tree.{KindTree}
+use Rattle.stream_plan.specs.Tree as plan
+use Rattle.stream_plan.specs.declared.kinds.TheConstants.{MAX_COUNT, MAX_SECS}
+use Rattle.config_terms.specs.declared.binding.Bound.{Bound}
+use Rattle.config_terms.specs.declared.binding.Bound.TheVariants as bound
+use Rattle.config_terms.specs.declared.word.StreamWord.{StreamWord}
+use Rattle.config_terms.specs.declared.word.StreamWord.TheVariants as word
+use Rattle.config_terms.specs.Code.{map_in}
+use Rattle.config_terms.specs.Steps.{Fault, ◌>>=◌, start_of, nth, argument}
+use Rattle.config_terms.specs.Words.{stream_text, stream_word, passing_word, counting_word, window_word, fold_text, fold_word, init_text}
+use Rattle.config_terms.specs.Arguments.{Env, text_at, number_at, field_at, value_at, ranged_at, texts_at, fields_at, set_at, sets_from, one_entry}
+use Rattle.config_terms.specs.Rules.{rule_at}
+use Rattle.config_terms.specs.Grammar.{IsLiteral, a_text, a_pattern, a_number, a_keyword, a_name, IsPredicate, all_of}
+use Rattle.config_terms.specs.Terms.{map_of, IsRanged, a_ranged, IsField, a_field, IsTexts, IsFields, IsSet, AreSets, IsInit}
+use Rattle.config_terms.proofs.BareForms.{IsSingle, single_of, group_of, also_of}
+use Rattle.config_terms.proofs.GrammarLaws.{predicates_are_those}
+use Rattle.config_terms.proofs.GrammarRead.{literal_read}
+use Rattle.config_terms.proofs.TermLaws.{texts_are_read, numbers_are_read, fields_are_read}
+use Rattle.config_terms.proofs.VectorLaws.{ranges_are_read, text_vectors_are_read, field_vectors_are_read}
+use Rattle.config_terms.proofs.SetLaws.{sets_are_read, set_maps_are_read, inits_are_read}
+use Rattle.config_streams.specs.Kinds.{count_at, secs_at, count_and_secs, is_map, is_map_in, is_number_in, one_set, sets_of, some_init, init_by, init_of, fold_by, fold_named, fold_at, has_secs, coalesce_secs, tag_rules, all_tagged, tagged_kind, order_kind, where_kind, tag_kind, by_kind, smap_kind, changed_kind, runs_kind, stable_kind, window_kind, counting_kind, kind_of, leads}
+use Rattle.config_streams.specs.Streams.{part_at, parts_in, is_else}
+use Rattle.config_streams.specs.Grammar.{IsCount, AreSecs, IsFold, sum, minimum, maximum, counted, each_tag, and_then, IsKind, sdo, where_, with_one, with_all, default_one, default_all, tagging, by, changed, changed_from, runs, throttle, rollup, batch, stable, fixed_event, moving_event, fixed_time, moving_time, coalesce, coalesce_every, smap, expired, tagged, over, under}
+use Rattle.config_streams.proofs.KindLaws.{no_map_of_sets}
+
+-- ---- arguments
+
+pub rule_is : (env : Env) (p : BareTree) (rule : Tree) → IsPredicate env p rule → (f : FormTree) → bare_tree f ≡ p → rule_at env f ≡ Ok rule
+rule_is env p rule is f at = (predicates_are_those env f rule).0 (subst (λ (t : BareTree). IsPredicate env t rule) (sym at) is)
+
+pub text_is : (env : Env) (x : BareTree) (text : List ℕ) → IsLiteral env x (bound.Text text) → (f : FormTree) → bare_tree f ≡ x → text_at env f ≡ Ok text
+text_is env x text is f at = (texts_are_read env f text).0 (subst (λ (t : BareTree). IsLiteral env t (bound.Text text)) (sym at) is)
+
+number_is : (env : Env) (k : BareTree) (number : ℤ) → IsLiteral env k (bound.Number number) → (f : FormTree) → bare_tree f ≡ k → number_at env f ≡ Ok number
+number_is env k number is f at = (numbers_are_read env f number).0 (subst (λ (t : BareTree). IsLiteral env t (bound.Number number)) (sym at) is)
+
+field_is : (env : Env) (x : BareTree) (one : Field) → IsField env x one → (f : FormTree) → bare_tree f ≡ x → field_at env f ≡ Ok one
+field_is env x one is f at = (fields_are_read env f one).0 (subst (λ (t : BareTree). IsField env t one) (sym at) is)
+
+ranged_is : (least most : ℕ) (env : Env) (x : BareTree) (number : ℕ) → IsRanged least most env x number → (f : FormTree) → bare_tree f ≡ x → ranged_at least most env f ≡ Ok number
+ranged_is least most env x number is f at = (ranges_are_read least most env f number).0 (subst (λ (t : BareTree). IsRanged least most env t number) (sym at) is)
+
+count_is : (env : Env) (x : BareTree) (count : ℕ) → IsCount env x count → (f : FormTree) → bare_tree f ≡ x → count_at env f ≡ Ok count
+count_is env x count is f at = ranged_is 1 MAX_COUNT env x count is f at
+
+secs_are : (env : Env) (x : BareTree) (secs : ℕ) → AreSecs env x secs → (f : FormTree) → bare_tree f ≡ x → secs_at env f ≡ Ok secs
+secs_are env x secs is f at = ranged_is 1 MAX_SECS env x secs is f at
+
+texts_are : (env : Env) (x : BareTree) (texts : List (List ℕ)) → IsTexts env x texts → (f : FormTree) → bare_tree f ≡ x → texts_at env f ≡ Ok texts
+texts_are env x texts is f at = (text_vectors_are_read env f texts).0 (subst (λ (t : BareTree). IsTexts env t texts) (sym at) is)
+
+fields_are : (env : Env) (x : BareTree) (fields : List Field) → IsFields env x fields → (f : FormTree) → bare_tree f ≡ x → fields_at env f ≡ Ok fields
+fields_are env x fields is f at = (field_vectors_are_read env f fields).0 (subst (λ (t : BareTree). IsFields env t fields) (sym at) is)
+
+set_is : (env : Env) (one : Field) (x : BareTree) (set : Set) → IsSet env one x set → (f : FormTree) → bare_tree f ≡ x → set_at env one f ≡ Ok set
+set_is env one x set is f at = (sets_are_read env one f set).0 (subst (λ (t : BareTree). IsSet env one t set) (sym at) is)
+
+sets_are : (env : Env) (row : BareTrees) (sets : List Set) → AreSets env row sets → (place : ℕ) (forms : FormTrees) → bare_trees forms ≡ row → sets_from place env [] forms ≡ Ok sets
+sets_are env row sets are place forms at = (set_maps_are_read env place forms sets).0 (subst (λ (ts : BareTrees). AreSets env ts sets) (sym at) are)
+
+init_is : (env : Env) (row : BareTrees) (held : Value) → IsInit env row held → (place : ℕ) (forms : FormTrees) → bare_trees forms ≡ row → one_entry init_text value_at place env None forms ≡ Ok held
+init_is env row held is place forms at = (inits_are_read env place forms held).0 (subst (λ (ts : BareTrees). IsInit env ts held) (sym at) is)
+
+fold_found : (env : Env) (f : FormTree) (name : List ℕ) (one : Fold) → IsSingle f (atom.Symbol name) → fold_word name ≡ Some one → fold_at env f ≡ Ok one
+unfolding fold_at
+fold_found env f name one single is = ap (fold_by env f) (ap fold_named single.is ∙ is)
+
+fold_word_is : (one : Fold) → fold_word (fold_text one) ≡ Some one
+unfolding fold_word
+fold_word_is fold.Sum = refl
+fold_word_is fold.Minimum = refl
+fold_word_is fold.Maximum = refl
+fold_word_is fold.Count = refl
+
+fold_is : (env : Env) (x : BareTree) (one : Fold) → IsFold x one → (f : FormTree) → bare_tree f ≡ x → fold_at env f ≡ Ok one
+fold_is env _ _ sum f at = fold_found env f (codes "folds/sum") fold.Sum (single_of f (atom.Symbol (codes "folds/sum")) at) (fold_word_is fold.Sum)
+fold_is env _ _ minimum f at = fold_found env f (codes "folds/minimum") fold.Minimum (single_of f (atom.Symbol (codes "folds/minimum")) at) (fold_word_is fold.Minimum)
+fold_is env _ _ maximum f at = fold_found env f (codes "folds/maximum") fold.Maximum (single_of f (atom.Symbol (codes "folds/maximum")) at) (fold_word_is fold.Maximum)
+fold_is env _ _ counted f at = fold_found env f (codes "folds/count") fold.Count (single_of f (atom.Symbol (codes "folds/count")) at) (fold_word_is fold.Count)
+
+-- a literal and a name are single forms
+record Alone (f : FormTree) : Type 0 where
+  one : Atom
+  single : IsSingle f one
+
+literal_alone : (env : Env) (form : BareTree) (literal : Bound) → IsLiteral env form literal → (f : FormTree) → bare_tree f ≡ form → Alone f
+literal_alone env _ _ (a_text {text = text}) f h = record { one = atom.Text text; single = single_of f (atom.Text text) h }
+literal_alone env _ _ (a_pattern {text = text}) f h = record { one = atom.Pattern text; single = single_of f (atom.Pattern text) h }
+literal_alone env _ _ (a_number {number = number}) f h = record { one = atom.Number number; single = single_of f (atom.Number number) h }
+literal_alone env _ _ (a_keyword {name = name}) f h = record { one = atom.Keyword name; single = single_of f (atom.Keyword name) h }
+literal_alone env _ literal (a_name {name = name} is) f h = record { one = atom.Symbol name; single = single_of f (atom.Symbol name) h }
+
+field_no_map : (env : Env) (form : BareTree) (one : Field) → IsField env form one → (f : FormTree) → bare_tree f ≡ form → None ≡ map_in f
+field_no_map env form one (a_field {name = name} literal is) f h = sym (ap map_in (literal_alone env form (bound.Keyword name) literal f h).single.is)
+
+is_no_map : (f : FormTree) → None ≡ map_in f → is_map f ≡ false
+is_no_map (Single a start last) h = refl
+is_no_map (Group Round forms start last) h = refl
+is_no_map (Group Square forms start last) h = refl
+is_no_map (Group Curly forms start last) h = cc
+
+-- ---- words
+
+pub word_read : (one : StreamWord) → stream_word (stream_text one) ≡ Some one
+unfolding stream_word passing_word counting_word window_word
+word_read word.Index = refl
+word_read word.Notice = refl
+word_read word.Sdo = refl
+word_read word.Where = refl
+word_read word.Else = refl
+word_read word.With = refl
+word_read word.Default = refl
+word_read word.Tag = refl
+word_read word.By = refl
+word_read word.Changed = refl
+word_read word.Runs = refl
+word_read word.Throttle = refl
+word_read word.Rollup = refl
+word_read word.Batch = refl
+word_read word.Stable = refl
+word_read word.FixedEvent = refl
+word_read word.MovingEvent = refl
+word_read word.FixedTime = refl
+word_read word.MovingTime = refl
+word_read word.Coalesce = refl
+word_read word.Smap = refl
+word_read word.Expired = refl
+word_read word.Tagged = refl
+word_read word.Over = refl
+word_read word.Under = refl
+
+-- ---- what stands before the streams
+
+-- the first of the forms is neither a number nor a map
+abbrev pub IsPlain : Env → FormTrees → Type 0
+IsPlain env forms = (is_number_in env (nth 0 forms) ≡ false) × (is_map_in (nth 0 forms) ≡ false)
+
+abbrev pub IsPlainRow : Env → BareTrees → Type 0
+IsPlainRow env row = (forms : FormTrees) → bare_trees forms ≡ row → IsPlain env forms
+
+-- the kind is read of the arguments, and the rest of them are these
+pub record Led (env : Env) (name : List ℕ) (one : KindTree) (forms : FormTrees) (more : BareTrees) : Type 0 where
+  pub from : StreamWord
+  pub named : stream_word name ≡ Some from
+  pub not_else : is_else from ≡ false
+  pub rest : FormTrees
+  pub rest_are : bare_trees rest ≡ more
+  pub read : (start : ℕ) → kind_of env from start forms ≡ Ok one
+  pub drops : (may_else : Bool) → drop (leads env from forms) (parts_in may_else env forms) ≡ parts_in may_else env rest
+
+parts_of : (may_else : Bool) (env : Env) (f : FormTree) (forms : FormTrees) → parts_in may_else env (also f forms) ≡ (start_of f, part_at may_else env f) ∷ parts_in may_else env forms
+unfolding part_at parts_in
+parts_of may_else env f forms = refl
+
+one_dropped : (may_else : Bool) (env : Env) (f : FormTree) (forms : FormTrees) → drop 1 (parts_in may_else env (also f forms)) ≡ parts_in may_else env forms
+one_dropped may_else env f forms = ap (drop 1) (parts_of may_else env f forms)
+
+two_dropped : (may_else : Bool) (env : Env) (f g : FormTree) (forms : FormTrees) → drop 2 (parts_in may_else env (also f (also g forms))) ≡ parts_in may_else env forms
+two_dropped may_else env f g forms = ap (drop 2) (parts_of may_else env f (also g forms)) ∙ ap (drop 1) (parts_of may_else env g forms)
+
+abbrev Reads : Env → StreamWord → KindTree → FormTrees → ℕ → Type 0
+Reads env from one forms n = ((start : ℕ) → kind_of env from start forms ≡ Ok one) × (leads env from forms ≡ n)
+
+-- a kind of no arguments, of one and of two
+none_led : (env : Env) (from : StreamWord) (one : KindTree) (forms : FormTrees) (more : BareTrees) → is_else from ≡ false → Reads env from one forms 0 → bare_trees forms ≡ more → Led env (stream_text from) one forms more
+none_led env from one forms more not_else reads h =
+    record {
+      from = from;
+      named = word_read from;
+      not_else = not_else;
+      rest = forms;
+      rest_are = h;
+      read = reads.0;
+      drops = λ may_else. ap (λ (n : ℕ). drop n (parts_in may_else env forms)) reads.1;
+    }
+
+one_led : (env : Env) (from : StreamWord) (one : KindTree) (forms : FormTrees) (a : BareTree) (more : BareTrees) → is_else from ≡ false
+    → ((f : FormTree) (rest : FormTrees) → bare_tree f ≡ a → bare_trees rest ≡ more → Reads env from one (also f rest) 1) → bare_trees forms ≡ and_trees a more → Led env (stream_text from) one forms more
+one_led env from one forms a more not_else reads h =
+    let first = also_of forms a more h in
+    let known = reads first.first first.rest first.first_is first.rest_are in
+    record {
+      from = from;
+      named = word_read from;
+      not_else = not_else;
+      rest = first.rest;
+      rest_are = first.rest_are;
+      read = λ start. ap (kind_of env from start) first.are ∙ known.0 start;
+      drops = λ may_else. ap (λ (fs : FormTrees). drop (leads env from fs) (parts_in may_else env fs)) first.are
+          ∙ ap (λ (n : ℕ). drop n (parts_in may_else env (also first.first first.rest))) known.1 ∙ one_dropped may_else env first.first first.rest;
+    }
+
+two_led : (env : Env) (from : StreamWord) (one : KindTree) (forms : FormTrees) (a b : BareTree) (more : BareTrees) → is_else from ≡ false
+    → ((f g : FormTree) (rest : FormTrees) → bare_tree f ≡ a → bare_tree g ≡ b → Reads env from one (also f (also g rest)) 2) → bare_trees forms ≡ and_trees a (and_trees b more)
+    → Led env (stream_text from) one forms more
+two_led env from one forms a b more not_else reads h =
+    let first = also_of forms a (and_trees b more) h in
+    let second = also_of first.rest b more first.rest_are in
+    let are = first.are ∙ ap (also first.first) second.are in
+    let known = reads first.first second.first second.rest first.first_is second.first_is in
+    record {
+      from = from;
+      named = word_read from;
+      not_else = not_else;
+      rest = second.rest;
+      rest_are = second.rest_are;
+      read = λ start. ap (kind_of env from start) are ∙ known.0 start;
+      drops = λ may_else. ap (λ (fs : FormTrees). drop (leads env from fs) (parts_in may_else env fs)) are
+          ∙ ap (λ (n : ℕ). drop n (parts_in may_else env (also first.first (also second.first second.rest)))) known.1 ∙ two_dropped may_else env first.first second.first second.rest;
+    }
+
+-- ---- kinds of no arguments
+
+sdo_none : (env : Env) (forms : FormTrees) → Reads env word.Sdo plan.Sdo forms 0
+unfolding kind_of leads
+sdo_none env forms = ((λ start. refl), refl)
+
+expired_none : (env : Env) (forms : FormTrees) → Reads env word.Expired (plan.Where (pred.Equal field.State (value.Text (codes "expired")))) forms 0
+unfolding kind_of counting_kind window_kind leads
+expired_none env forms = ((λ start. refl), refl)
+
+coalesce_none : (env : Env) (forms : FormTrees) → has_secs env forms ≡ false → Reads env word.Coalesce (plan.Coalesce 1) forms 0
+unfolding kind_of counting_kind coalesce_secs leads
+coalesce_none env forms is = ((λ start. rw is refl), rw is refl)
+
+no_secs : (env : Env) (forms : FormTrees) → is_number_in env (nth 0 forms) ≡ false → has_secs env forms ≡ false
+unfolding has_secs
+no_secs env forms is = is
+
+-- ---- kinds of one argument
+
+where_one : (env : Env) (f : FormTree) (rest : FormTrees) (rule : Tree) → rule_at env f ≡ Ok rule → Reads env word.Where (plan.Where rule) (also f rest) 1
+unfolding kind_of where_kind leads argument
+where_one env f rest rule is = ((λ start. rw is refl), refl)
+
+tag_one : (env : Env) (f : FormTree) (rest : FormTrees) (tags : List (List ℕ)) → texts_at env f ≡ Ok tags → Reads env word.Tag (plan.Tag tags) (also f rest) 1
+unfolding kind_of tag_kind leads argument
+tag_one env f rest tags is = ((λ start. rw is refl), refl)
+
+by_one : (env : Env) (f : FormTree) (rest : FormTrees) (fields : List Field) → fields_at env f ≡ Ok fields → Reads env word.By (plan.By fields) (also f rest) 1
+unfolding kind_of by_kind leads argument
+by_one env f rest fields is = ((λ start. rw is refl), refl)
+
+smap_one : (env : Env) (f : FormTree) (rest : FormTrees) (one : Fold) → fold_at env f ≡ Ok one → Reads env word.Smap (plan.Smap one) (also f rest) 1
+unfolding kind_of counting_kind smap_kind leads argument
+smap_one env f rest one is = ((λ start. rw is refl), refl)
+
+fixed_event_one : (env : Env) (f : FormTree) (rest : FormTrees) (count : ℕ) → count_at env f ≡ Ok count → Reads env word.FixedEvent (plan.FixedEvent count) (also f rest) 1
+unfolding kind_of counting_kind window_kind leads argument
+fixed_event_one env f rest count is = ((λ start. rw is refl), refl)
+
+moving_event_one : (env : Env) (f : FormTree) (rest : FormTrees) (count : ℕ) → count_at env f ≡ Ok count → Reads env word.MovingEvent (plan.MovingEvent count) (also f rest) 1
+unfolding kind_of counting_kind window_kind leads argument
+moving_event_one env f rest count is = ((λ start. rw is refl), refl)
+
+fixed_time_one : (env : Env) (f : FormTree) (rest : FormTrees) (secs : ℕ) → secs_at env f ≡ Ok secs → Reads env word.FixedTime (plan.FixedTime secs) (also f rest) 1
+unfolding kind_of counting_kind window_kind leads argument
+fixed_time_one env f rest secs is = ((λ start. rw is refl), refl)
+
+moving_time_one : (env : Env) (f : FormTree) (rest : FormTrees) (secs : ℕ) → secs_at env f ≡ Ok secs → Reads env word.MovingTime (plan.MovingTime secs) (also f rest) 1
+unfolding kind_of counting_kind window_kind leads argument
+moving_time_one env f rest secs is = ((λ start. rw is refl), refl)
+
+over_one : (env : Env) (f : FormTree) (rest : FormTrees) (number : ℤ) → number_at env f ≡ Ok number → Reads env word.Over (plan.Where (Order field.Metric Greater number)) (also f rest) 1
+unfolding kind_of counting_kind window_kind order_kind leads argument
+over_one env f rest number is = ((λ start. rw is refl), refl)
+
+under_one : (env : Env) (f : FormTree) (rest : FormTrees) (number : ℤ) → number_at env f ≡ Ok number → Reads env word.Under (plan.Where (Order field.Metric Less number)) (also f rest) 1
+unfolding kind_of counting_kind window_kind order_kind leads argument
+under_one env f rest number is = ((λ start. rw is refl), refl)
+
+pub each_tag_is : (tags : List (List ℕ)) → tag_rules tags ≡ each_tag tags
+each_tag_is [] = refl
+each_tag_is (tag ∷ tags) = ap (λ (rules : Trees). pred.also (Tagged tag) rules) (each_tag_is tags)
+
+pub all_tags_are : (tag : List ℕ) (tags : List (List ℕ)) → all_tagged (tag ∷ tags) ≡ all_of (Tagged tag) (each_tag tags)
+all_tags_are tag [] = refl
+all_tags_are tag (second ∷ tags) = ap (λ (rules : Trees). All (pred.also (Tagged tag) (pred.also (Tagged second) rules))) (each_tag_is tags)
+
+tagged_one : (env : Env) (f : FormTree) (rest : FormTrees) (tag : List ℕ) (tags : List (List ℕ)) → texts_at env f ≡ Ok (tag ∷ tags) → Reads env word.Tagged (plan.Where (all_of (Tagged tag) (each_tag tags))) (also f rest) 1
+unfolding kind_of counting_kind window_kind tagged_kind leads argument
+tagged_one env f rest tag tags is = ((λ start. rw is (ap (λ (rule : Tree). Ok (plan.Where rule)) (all_tags_are tag tags))), refl)
+
+has_number : (env : Env) (dt : BareTree) (secs : ℕ) → AreSecs env dt secs → (f : FormTree) (rest : FormTrees) → bare_tree f ≡ dt → has_secs env (also f rest) ≡ true
+unfolding has_secs
+has_number env dt secs (a_ranged is low high) f rest h = rw (literal_read env dt (bound.Number (pos secs)) is f h) refl
+
+coalesce_one : (env : Env) (f : FormTree) (rest : FormTrees) (secs : ℕ) → has_secs env (also f rest) ≡ true → secs_at env f ≡ Ok secs → Reads env word.Coalesce (plan.Coalesce secs) (also f rest) 1
+unfolding kind_of counting_kind coalesce_secs leads argument
+coalesce_one env f rest secs has is = ((λ start. rw (has, is) refl), rw has refl)
+
+no_init : (env : Env) (found : Option FormTree) → is_map_in found ≡ false → init_by env found ≡ Ok None
+no_init env None h = refl
+no_init env (Some (Single a start last)) h = refl
+no_init env (Some (Group Round forms start last)) h = refl
+no_init env (Some (Group Square forms start last)) h = refl
+no_init env (Some (Group Curly forms start last)) h = cc
+
+changed_one : (env : Env) (f : FormTree) (rest : FormTrees) (one : Field) → is_map_in (nth 0 rest) ≡ false → field_at env f ≡ Ok one → Reads env word.Changed (plan.Changed one None) (also f rest) 1
+unfolding kind_of counting_kind changed_kind init_of leads argument
+changed_one env f rest one no_map is = ((λ start. rw (is, no_init env (nth 0 rest) no_map) refl), rw no_map refl)
+
+-- ---- sets
+
+map_sets : (env : Env) (start begin last : ℕ) (entries rest : FormTrees) → sets_of env start (also (Group Curly entries begin last) rest) ≡ sets_from begin env [] entries
+unfolding sets_of argument
+map_sets env start begin last entries rest = refl
+
+map_sets_are : (env : Env) (row : BareTrees) (sets : List Set) → AreSets env row sets → (start : ℕ) (f : FormTree) (rest : FormTrees) → bare_tree f ≡ map_of row → (sets_of env start (also f rest) ≡ Ok sets) × (is_map f ≡ true)
+map_sets_are env row sets are start f rest h =
+    let group = group_of f Curly row h in (
+      ap (λ (one : FormTree). sets_of env start (also one rest)) group.is ∙ map_sets env start group.start group.last group.forms rest ∙ sets_are env row sets are group.start group.forms group.forms_are,
+      ap is_map group.is,
+    )
+
+one_set_is : (env : Env) (start : ℕ) (f g : FormTree) (rest : FormTrees) (one : Field) (set : Set) → field_at env f ≡ Ok one → set_at env one g ≡ Ok set → one_set env start f (also f (also g rest)) ≡ Ok (set ∷ [])
+unfolding argument
+one_set_is env start f g rest one set first second = rw (first, second) refl
+
+two_sets : (env : Env) (start : ℕ) (f g : FormTree) (rest : FormTrees) (sets : List Set) → None ≡ map_in f → one_set env start f (also f (also g rest)) ≡ Ok sets → sets_of env start (also f (also g rest)) ≡ Ok sets
+unfolding sets_of argument
+two_sets env start f g rest sets no_map is = no_map_of_sets env start (also f (also g rest)) f no_map ∙ is
+
+with_reads_one : (env : Env) (f : FormTree) (rest : FormTrees) (sets : List Set) → is_map f ≡ true → ((start : ℕ) → sets_of env start (also f rest) ≡ Ok sets) → Reads env word.With (plan.With sets) (also f rest) 1
+unfolding kind_of leads
+with_reads_one env f rest sets map is = ((λ start. rw (is start) refl), rw map refl)
+
+with_reads_two : (env : Env) (f g : FormTree) (rest : FormTrees) (sets : List Set) → is_map f ≡ false → ((start : ℕ) → sets_of env start (also f (also g rest)) ≡ Ok sets) → Reads env word.With (plan.With sets) (also f (also g rest)) 2
+unfolding kind_of leads
+with_reads_two env f g rest sets map is = ((λ start. rw (is start) refl), rw map refl)
+
+default_reads_one : (env : Env) (f : FormTree) (rest : FormTrees) (sets : List Set) → is_map f ≡ true → ((start : ℕ) → sets_of env start (also f rest) ≡ Ok sets) → Reads env word.Default (plan.Default sets) (also f rest) 1
+unfolding kind_of leads
+default_reads_one env f rest sets map is = ((λ start. rw (is start) refl), rw map refl)
+
+default_reads_two : (env : Env) (f g : FormTree) (rest : FormTrees) (sets : List Set) → is_map f ≡ false → ((start : ℕ) → sets_of env start (also f (also g rest)) ≡ Ok sets)
+    → Reads env word.Default (plan.Default sets) (also f (also g rest)) 2
+unfolding kind_of leads
+default_reads_two env f g rest sets map is = ((λ start. rw (is start) refl), rw map refl)
+
+one_of_sets : (env : Env) (x v : BareTree) (one : Field) (set : Set) → IsField env x one → IsSet env one v set → (start : ℕ) (f g : FormTree) (rest : FormTrees) → bare_tree f ≡ x → bare_tree g ≡ v
+    → sets_of env start (also f (also g rest)) ≡ Ok (set ∷ [])
+one_of_sets env x v one set means is start f g rest at to =
+    two_sets env start f g rest (set ∷ []) (field_no_map env x one means f at) (one_set_is env start f g rest one set (field_is env x one means f at) (set_is env one v set is g to))
+
+-- ---- kinds of two arguments
+
+both_are : (env : Env) (start : ℕ) (f g : FormTree) (rest : FormTrees) (count secs : ℕ) → count_at env f ≡ Ok count → secs_at env g ≡ Ok secs → count_and_secs env start (also f (also g rest)) ≡ Ok (count, secs)
+unfolding count_and_secs argument
+both_are env start f g rest count secs first second = rw (first, second) refl
+
+throttle_two : (env : Env) (f g : FormTree) (rest : FormTrees) (count secs : ℕ) → ((start : ℕ) → count_and_secs env start (also f (also g rest)) ≡ Ok (count, secs))
+    → Reads env word.Throttle (plan.Throttle count secs) (also f (also g rest)) 2
+unfolding kind_of counting_kind leads
+throttle_two env f g rest count secs is = ((λ start. rw (is start) refl), refl)
+
+rollup_two : (env : Env) (f g : FormTree) (rest : FormTrees) (count secs : ℕ) → ((start : ℕ) → count_and_secs env start (also f (also g rest)) ≡ Ok (count, secs))
+    → Reads env word.Rollup (plan.Rollup count secs) (also f (also g rest)) 2
+unfolding kind_of counting_kind leads
+rollup_two env f g rest count secs is = ((λ start. rw (is start) refl), refl)
+
+batch_two : (env : Env) (f g : FormTree) (rest : FormTrees) (count secs : ℕ) → ((start : ℕ) → count_and_secs env start (also f (also g rest)) ≡ Ok (count, secs))
+    → Reads env word.Batch (plan.Batch count secs) (also f (also g rest)) 2
+unfolding kind_of counting_kind leads
+batch_two env f g rest count secs is = ((λ start. rw (is start) refl), refl)
+
+runs_two : (env : Env) (f g : FormTree) (rest : FormTrees) (count : ℕ) (one : Field) → count_at env f ≡ Ok count → field_at env g ≡ Ok one → Reads env word.Runs (plan.Runs count one) (also f (also g rest)) 2
+unfolding kind_of counting_kind runs_kind leads argument
+runs_two env f g rest count one first second = ((λ start. rw (first, second) refl), refl)
+
+stable_two : (env : Env) (f g : FormTree) (rest : FormTrees) (secs : ℕ) (one : Field) → secs_at env f ≡ Ok secs → field_at env g ≡ Ok one → Reads env word.Stable (plan.Stable secs one) (also f (also g rest)) 2
+unfolding kind_of counting_kind stable_kind leads argument
+stable_two env f g rest secs one first second = ((λ start. rw (first, second) refl), refl)
+
+map_init : (env : Env) (row : BareTrees) (held : Value) → IsInit env row held → (f : FormTree) → bare_tree f ≡ map_of row → (init_by env (Some f) ≡ Ok (Some held)) × (is_map f ≡ true)
+map_init env row held is f h =
+    let group = group_of f Curly row h in
+    let read : some_init env group.start group.forms ≡ Ok (Some held) =
+    ap (λ (read : Result Value Fault). read >>= λ init. Ok (Some init)) (init_is env row held is group.start group.forms group.forms_are) in
+    (ap (λ (one : FormTree). init_by env (Some one)) group.is ∙ read, ap is_map group.is)
+
+changed_two : (env : Env) (f g : FormTree) (rest : FormTrees) (one : Field) (held : Value) → field_at env f ≡ Ok one → init_by env (Some g) ≡ Ok (Some held) → is_map g ≡ true
+    → Reads env word.Changed (plan.Changed one (Some held)) (also f (also g rest)) 2
+unfolding kind_of counting_kind changed_kind init_of leads argument
+changed_two env f g rest one held first second map = ((λ start. rw (first, second) refl), rw map refl)
+
+-- ---- all kinds
+
+pub kind_read : (env : Env) (name : List ℕ) (own : BareTrees) (one : KindTree) → IsKind env name own one → (forms : FormTrees) (more : BareTrees) → bare_trees forms ≡ and_then own more → IsPlainRow env more → Led env name one forms more
+kind_read env _ _ _ sdo forms more h plain = none_led env word.Sdo plan.Sdo forms more refl (sdo_none env forms) h
+kind_read env _ _ _ (where_ {p = p} {rule = rule} is) forms more h plain =
+    one_led env word.Where (plan.Where rule) forms p more refl (λ f rest at _. where_one env f rest rule (rule_is env p rule is f at)) h
+kind_read env _ _ _ (with_one {f = x} {v = v} {one = one} {set = set} means is) forms more h plain =
+    two_led env word.With (plan.With (set ∷ [])) forms x v more refl
+    (λ f g rest at to. with_reads_two env f g rest (set ∷ []) (is_no_map f (field_no_map env x one means f at)) (λ start. one_of_sets env x v one set means is start f g rest at to)) h
+kind_read env _ _ _ (with_all {entries = entries} {sets = sets} are) forms more h plain =
+    one_led env word.With (plan.With sets) forms (map_of entries) more refl
+    (λ f rest at _. with_reads_one env f rest sets (map_sets_are env entries sets are 0 f rest at).1 (λ start. (map_sets_are env entries sets are start f rest at).0)) h
+kind_read env _ _ _ (default_one {f = x} {v = v} {one = one} {set = set} means is) forms more h plain =
+    two_led env word.Default (plan.Default (set ∷ [])) forms x v more refl
+    (λ f g rest at to. default_reads_two env f g rest (set ∷ []) (is_no_map f (field_no_map env x one means f at)) (λ start. one_of_sets env x v one set means is start f g rest at to)) h
+kind_read env _ _ _ (default_all {entries = entries} {sets = sets} are) forms more h plain =
+    one_led env word.Default (plan.Default sets) forms (map_of entries) more refl
+    (λ f rest at _. default_reads_one env f rest sets (map_sets_are env entries sets are 0 f rest at).1 (λ start. (map_sets_are env entries sets are start f rest at).0)) h
+kind_read env _ _ _ (tagging {x = x} {tags = tags} are) forms more h plain = one_led env word.Tag (plan.Tag tags) forms x more refl (λ f rest at _. tag_one env f rest tags (texts_are env x tags are f at)) h
+kind_read env _ _ _ (by {f = x} {fields = fields} are) forms more h plain = one_led env word.By (plan.By fields) forms x more refl (λ f rest at _. by_one env f rest fields (fields_are env x fields are f at)) h
+kind_read env _ _ _ (changed {f = x} {one = one} means) forms more h plain =
+    one_led env word.Changed (plan.Changed one None) forms x more refl (λ f rest at are. changed_one env f rest one (plain rest are).1 (field_is env x one means f at)) h
+kind_read env _ _ _ (changed_from {f = x} {entries = entries} {one = one} {held = held} means is) forms more h plain =
+    two_led env word.Changed (plan.Changed one (Some held)) forms x (map_of entries) more refl
+    (λ f g rest at to. let init = map_init env entries held is g to in changed_two env f g rest one held (field_is env x one means f at) init.0 init.1) h
+kind_read env _ _ _ (runs {n = n} {f = x} {count = count} {one = one} is means) forms more h plain =
+    two_led env word.Runs (plan.Runs count one) forms n x more refl (λ f g rest at to. runs_two env f g rest count one (count_is env n count is f at) (field_is env x one means g to)) h
+kind_read env _ _ _ (throttle {n = n} {dt = dt} {count = count} {secs = secs} is are) forms more h plain =
+    two_led env word.Throttle (plan.Throttle count secs) forms n dt more refl
+    (λ f g rest at to. throttle_two env f g rest count secs (λ start. both_are env start f g rest count secs (count_is env n count is f at) (secs_are env dt secs are g to))) h
+kind_read env _ _ _ (rollup {n = n} {dt = dt} {count = count} {secs = secs} is are) forms more h plain =
+    two_led env word.Rollup (plan.Rollup count secs) forms n dt more refl
+    (λ f g rest at to. rollup_two env f g rest count secs (λ start. both_are env start f g rest count secs (count_is env n count is f at) (secs_are env dt secs are g to))) h
+kind_read env _ _ _ (batch {n = n} {dt = dt} {count = count} {secs = secs} is are) forms more h plain =
+    two_led env word.Batch (plan.Batch count secs) forms n dt more refl
+    (λ f g rest at to. batch_two env f g rest count secs (λ start. both_are env start f g rest count secs (count_is env n count is f at) (secs_are env dt secs are g to))) h
+kind_read env _ _ _ (stable {dt = dt} {f = x} {secs = secs} {one = one} are means) forms more h plain =
+    two_led env word.Stable (plan.Stable secs one) forms dt x more refl (λ f g rest at to. stable_two env f g rest secs one (secs_are env dt secs are f at) (field_is env x one means g to)) h
+kind_read env _ _ _ (fixed_event {n = n} {count = count} is) forms more h plain =
+    one_led env word.FixedEvent (plan.FixedEvent count) forms n more refl (λ f rest at _. fixed_event_one env f rest count (count_is env n count is f at)) h
+kind_read env _ _ _ (moving_event {n = n} {count = count} is) forms more h plain =
+    one_led env word.MovingEvent (plan.MovingEvent count) forms n more refl (λ f rest at _. moving_event_one env f rest count (count_is env n count is f at)) h
+kind_read env _ _ _ (fixed_time {dt = dt} {secs = secs} are) forms more h plain =
+    one_led env word.FixedTime (plan.FixedTime secs) forms dt more refl (λ f rest at _. fixed_time_one env f rest secs (secs_are env dt secs are f at)) h
+kind_read env _ _ _ (moving_time {dt = dt} {secs = secs} are) forms more h plain =
+    one_led env word.MovingTime (plan.MovingTime secs) forms dt more refl (λ f rest at _. moving_time_one env f rest secs (secs_are env dt secs are f at)) h
+kind_read env _ _ _ coalesce forms more h plain = none_led env word.Coalesce (plan.Coalesce 1) forms more refl (coalesce_none env forms (no_secs env forms (plain forms h).0)) h
+kind_read env _ _ _ (coalesce_every {dt = dt} {secs = secs} are) forms more h plain =
+    one_led env word.Coalesce (plan.Coalesce secs) forms dt more refl (λ f rest at _. coalesce_one env f rest secs (has_number env dt secs are f rest at) (secs_are env dt secs are f at)) h
+kind_read env _ _ _ (smap {f = x} {fold = one} is) forms more h plain = one_led env word.Smap (plan.Smap one) forms x more refl (λ f rest at _. smap_one env f rest one (fold_is env x one is f at)) h
+kind_read env _ _ _ expired forms more h plain = none_led env word.Expired (plan.Where (pred.Equal field.State (value.Text (codes "expired")))) forms more refl (expired_none env forms) h
+kind_read env _ _ _ (tagged {x = x} {tag = one} {tags = tags} are) forms more h plain =
+    one_led env word.Tagged (plan.Where (all_of (Tagged one) (each_tag tags))) forms x more refl (λ f rest at _. tagged_one env f rest one tags (texts_are env x (one ∷ tags) are f at)) h
+kind_read env _ _ _ (over {k = k} {number = number} is) forms more h plain =
+    one_led env word.Over (plan.Where (Order field.Metric Greater number)) forms k more refl (λ f rest at _. over_one env f rest number (number_is env k number is f at)) h
+kind_read env _ _ _ (under {k = k} {number = number} is) forms more h plain =
+    one_led env word.Under (plan.Where (Order field.Metric Less number)) forms k more refl (λ f rest at _. under_one env f rest number (number_is env k number is f at)) h
+
+pub kind_passes : (env : Env) (name : List ℕ) (own : BareTrees) (one : KindTree) → IsKind env name own one → may_have_children one ≡ true
+kind_passes env _ _ _ sdo = refl
+kind_passes env _ _ _ (where_ a) = refl
+kind_passes env _ _ _ (with_one a b) = refl
+kind_passes env _ _ _ (with_all a) = refl
+kind_passes env _ _ _ (default_one a b) = refl
+kind_passes env _ _ _ (default_all a) = refl
+kind_passes env _ _ _ (tagging a) = refl
+kind_passes env _ _ _ (by a) = refl
+kind_passes env _ _ _ (changed a) = refl
+kind_passes env _ _ _ (changed_from a b) = refl
+kind_passes env _ _ _ (runs a b) = refl
+kind_passes env _ _ _ (throttle a b) = refl
+kind_passes env _ _ _ (rollup a b) = refl
+kind_passes env _ _ _ (batch a b) = refl
+kind_passes env _ _ _ (stable a b) = refl
+kind_passes env _ _ _ (fixed_event a) = refl
+kind_passes env _ _ _ (moving_event a) = refl
+kind_passes env _ _ _ (fixed_time a) = refl
+kind_passes env _ _ _ (moving_time a) = refl
+kind_passes env _ _ _ coalesce = refl
+kind_passes env _ _ _ (coalesce_every a) = refl
+kind_passes env _ _ _ (smap a) = refl
+kind_passes env _ _ _ expired = refl
+kind_passes env _ _ _ (tagged a) = refl
+kind_passes env _ _ _ (over a) = refl
+kind_passes env _ _ _ (under a) = refl
