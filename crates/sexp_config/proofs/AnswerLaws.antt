@@ -16,6 +16,7 @@ use Rattle.sexp_config.specs.declared.config.Config.{Config}
 use Rattle.config_terms.specs.Steps.{Fault}
 use Rattle.sexp_config.specs.Config.{config_of, why_of}
 use Rattle.sexp_config.specs.Answer.{IsConfig, IsRefused, TextsAreAnswered, ConfigsAreNotRefused, ConfigsAreOne, RefusalsAreOne}
+use Rattle.sexp_config.proofs.GrammarLaws.{configs_are_read, config_read_of}
 use Rattle.sexp_config.proofs.ReadLaws.{place_in, why_in, none_some, same_places}
 
 -- ---- forms
@@ -38,7 +39,7 @@ same_forms text trees others h k = one_reading trees others (sym h.read.spelled 
 
 pub configs_are_one : ConfigsAreOne
 configs_are_one text config other is also_is =
-    let both : Ok config ≡ Ok other = sym is.stands ∙ ap config_of (same_forms text is.forms also_is.forms is.read also_is.read) ∙ also_is.stands in
+    let both : Ok config ≡ Ok other = sym (config_read_of text config is) ∙ ap config_of (same_forms text is.forms also_is.forms is.read also_is.read) ∙ config_read_of text other also_is in
     cc
 
 ok_err : (read : Result Config Fault) (config : Config) (fault : Fault) → read ≡ Ok config → read ≡ Err fault → ⊥
@@ -47,7 +48,7 @@ ok_err read config fault is fails = cc
 pub not_refused : ConfigsAreNotRefused
 not_refused text config place why is (inl fault) = none_some (place, fault.cause) (text_fault text) (no_fault text is.forms is.read) fault.fault
 not_refused text config place why is (inr fault) =
-    ok_err (config_of is.forms) config (place, why) is.stands (ap config_of (same_forms text is.forms fault.forms is.read fault.read) ∙ fault.fault)
+    ok_err (config_of is.forms) config (place, why) (config_read_of text config is) (ap config_of (same_forms text is.forms fault.forms is.read fault.read) ∙ fault.fault)
 
 pub refusals_are_one : RefusalsAreOne
 refusals_are_one text place other why cause (inl is) (inl fault) =
@@ -79,7 +80,7 @@ forms_of text short utf8 none =
     (trees, are_forms text trees short (IsUtf8-from_is_utf8 text utf8) (record { spelled = spelled; faultless = inner.0 }) none)
 
 stands_by : (text : List ℕ) (trees : FormTrees) → IsForms text trees → (read : Result Config Fault) → config_of trees ≡ read → IsConfig text ⊎ IsRefused text
-stands_by text trees h (Ok config) is = inl (config, record { forms = trees; read = h; stands = is })
+stands_by text trees h (Ok config) is = inl (config, record { forms = trees; read = h; stands = (configs_are_read trees config).1 is })
 stands_by text trees h (Err (place, why)) is = inr (place, why, inr (record { forms = trees; read = h; fault = is }))
 
 refused_by : (text : List ℕ) (fault : forms.Fault) → text_fault text ≡ Some fault → IsConfig text ⊎ IsRefused text

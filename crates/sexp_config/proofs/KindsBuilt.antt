@@ -18,7 +18,8 @@ use Rattle.config_terms.specs.Steps.{Fault, ◌>>=◌, start_of, argument}
 use Rattle.config_terms.specs.Arguments.{Env, field_at, value_at, text_at, number_at, texts_at, fields_at, some_of, is_number, is_ttl_field, fitted, set_at, new_field_at, sets_from}
 use Rattle.config_streams.specs.Kinds.{count_at, secs_at, count_of, secs_of, field_of, one_set, sets_by, sets_of, init_of, fold_at, has_secs, coalesce_secs, all_tagged, tagged_kind, order_kind, notice_kind, where_kind, tag_kind, by_kind, smap_kind, count_and_secs, changed_kind, runs_kind, stable_kind, window_kind, counting_kind, kind_of}
 use Rattle.config_terms.specs.Rules.{rule_at}
-use Rattle.sexp_config.proofs.ReadGood.{OkGood, Any_, bind_good, any_good, ok_if, ranged_good}
+use Rattle.config_terms.proofs.Outcomes.{OkGood, Any_, bind_good, any_good, ok_if}
+use Rattle.sexp_config.proofs.ReadGood.{ranged_good}
 
 -- ---- sets
 

@@ -32,7 +32,8 @@ use Rattle.config_streams.specs.Kinds.{count_of, secs_of, field_of, one_set, set
 use Rattle.config_streams.specs.Streams.{Below, nothing, Part, One, Rest, with_stream, stream_of, Readings, ended, next_place, with_part, all_read, is_where_in, is_else, symbol_by, followed, worded, part_at, parts_in}
 use Rattle.sexp_config.proofs.RulesRead.{GoodField, GoodValue, GoodRule, GoodRules}
 use Rattle.sexp_config.proofs.KindsRead.{AllGood, Some_, GoodSet, Distinct, GoodKind}
-use Rattle.sexp_config.proofs.ReadGood.{OkGood, SomeGood, Any_, bind_good, any_good, ok_if, all_snoc, IsText, GoodEnv, GoodArgument, argument_good, Writable, text_good, field_good, number_good, value_good, argument_at_good, nth_good, each_good, rule_good}
+use Rattle.config_terms.proofs.Outcomes.{OkGood, SomeGood, Any_, bind_good, any_good, ok_if}
+use Rattle.sexp_config.proofs.ReadGood.{all_snoc, IsText, GoodEnv, GoodArgument, argument_good, Writable, text_good, field_good, number_good, value_good, argument_at_good, nth_good, each_good, rule_good}
 
 -- ---- texts, fields and sets
 

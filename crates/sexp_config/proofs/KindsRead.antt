@@ -24,7 +24,7 @@ use Rattle.config_terms.specs.Arguments.{argument_of, value_at, keyword_at, rang
 use Rattle.config_streams.specs.Kinds.{count_of, secs_of, sets_of, init_by, init_of, fold_by, fold_at, has_secs, coalesce_secs, notice_kind, where_kind, tag_kind, by_kind, smap_kind, count_and_secs, changed_kind, runs_kind, stable_kind, window_kind, counting_kind, kind_of, is_map, is_map_in, leads}
 use Rattle.config_streams.specs.Streams.{parts_in, part_at}
 use Rattle.sexp_config.specs.Canonical.{symbol_form, keyword_form, text_form, number_form, vector_form, map_form, value_form, field_form, set_forms, init_forms, rule_form, kind_forms}
-use Rattle.sexp_config.proofs.BareForms.{single_of, group_of, also_of, none_of}
+use Rattle.config_terms.proofs.BareForms.{single_of, group_of, also_of, none_of}
 use Rattle.sexp_config.proofs.RulesRead.{GoodField, GoodValue, GoodRule, text_read, number_read, field_read, value_read, rule_read}
 
 -- ---- numbers in their ranges

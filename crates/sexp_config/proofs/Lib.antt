@@ -1,5 +1,4 @@
 pub mod CanonicalLaws
-pub mod BareForms
 pub mod RulesRead
 pub mod KindsRead
 pub mod StreamsRead
@@ -14,6 +13,11 @@ pub mod CanonicalRead
 pub mod CanonicalWritable
 pub mod TopLaws
 pub mod ReadLaws
+pub mod PlanPasses
+pub mod GrammarRead
+pub mod GrammarOnly
+pub mod GrammarTops
+pub mod GrammarLaws
 pub mod SourceLaws
 pub mod PlanLaws
 pub mod AnswerLaws

@@ -30,9 +30,10 @@ use Rattle.config_streams.specs.Kinds.{count_of, secs_of, field_of, sets_of, ini
 use Rattle.config_streams.specs.Streams.{Below, nothing, Part, One, Rest, with_stream, stream_of, Readings, ended, next_place, with_part, all_read, is_where, is_where_in, is_else, symbol_by, followed, worded, part_at, parts_in}
 use Rattle.sexp_config.specs.Tops.{Draft, fresh_draft, default_server, or_default, once, server_in, expiry_in, names_in, Step, run, top_by, top_at, tops_in}
 use Rattle.sexp_config.specs.Config.{plan_fault, faultless, checked, config_from, finished, config_of, IsConfigOf}
-use Rattle.sexp_config.proofs.ReadGood.{OkGood, Any_, bind_good, any_good, weaker, ok_if}
+use Rattle.config_terms.proofs.Outcomes.{OkGood, Any_, bind_good, any_good, weaker, ok_if}
 use Rattle.sexp_config.proofs.RulesFew.{form_brackets, brackets, few_brackets, FewRule, rule_few}
 use Rattle.config_streams.proofs.StreamLaws.{parts_later}
+use Rattle.sexp_config.proofs.GrammarLaws.{config_read_of}
 
 -- ---- kinds
 
@@ -348,5 +349,5 @@ config_few forms =
 
 pub patterns_few : (text : List ℕ) (config : Config) → IsConfigOf text config → length (plan_patterns config.plan) ≤ longest
 patterns_few text config is =
-    let few : FewConfig (brackets is.forms) config = subst (λ (read : Result Config Fault). OkGood (FewConfig (brackets is.forms)) read) is.stands (config_few is.forms) in
+    let few : FewConfig (brackets is.forms) config = subst (λ (read : Result Config Fault). OkGood (FewConfig (brackets is.forms)) read) (config_read_of text config is) (config_few is.forms) in
     omega (arith, few, few_brackets text is.forms is.read)

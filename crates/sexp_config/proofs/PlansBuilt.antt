@@ -1,8 +1,7 @@
 -- The plan that is read of forms at most 64 brackets deep is well built, and one that passes has no fault.
-use Rattle.std.proofs.Common.{◌≡◌, ℕ, suc, ◌+◌, ◌≤◌, Bool, true, false, not, List, [], ◌∷◌, ◌++◌, drop, length, Option, Some, None, Result, Ok, refl, ap, subst, arith}
+use Rattle.std.proofs.Common.{◌≡◌, ℕ, suc, ◌+◌, ◌≤◌, false, List, [], ◌∷◌, ◌++◌, drop, length, Option, Some, None, Result, Ok, refl, ap, subst, arith}
 use Rattle.std.proofs.lemmas.Bool.{le-ltb}
-use Rattle.std.specs.Prelude.{slice_get}
-use Rattle.std.specs.List.{filter, AllByRecursion}
+use Rattle.std.specs.List.{AllByRecursion}
 use Rattle.std.specs.Option.{option_map, option_or}
 use Rattle.sexp_read.specs.declared.piece.Atom.TheVariants as atom
 use Rattle.sexp_read.specs.declared.piece.Bracket.TheVariants.{Round, Square, Curly}
@@ -13,7 +12,7 @@ use Rattle.stream_plan.specs.declared.fault.PlanWhy.TheVariants.{Many, Deep, Chi
 use Rattle.stream_plan.specs.Faults.{preorder_at, preorder_in, preorder_of, count_of, counts, has_wrong_streams, first_fault}
 use Rattle.stream_plan.specs.Faults as faults
 use Rattle.stream_plan.specs.Kinds.{passes_on, is_in_range}
-use Rattle.stream_plan.specs.Sound.{StandsShallow, HasStreamsThatMayFollow, IsInRange}
+use Rattle.stream_plan.specs.Sound.{IsShallow, HasStreamsThatMayFollow, IsInRange}
 use Rattle.stream_plan.specs.Tree.{StreamTree, stream, StreamTrees}
 use Rattle.stream_plan.specs.Tree as plan
 use Rattle.sexp_config.specs.declared.config.Config.{Config}
@@ -28,9 +27,11 @@ use Rattle.config_streams.specs.Streams.{Located, all_read, parts_in}
 use Rattle.sexp_config.specs.Tops.{default_server, Draft, fresh_draft, or_default, once, server_in, expiry_in, names_in, Step, run, top_by, top_at, tops_in}
 use Rattle.sexp_config.specs.Config.{plan_fault, faultless, checked, config_from, finished, config_of}
 use Rattle.sexp_config.specs.Built.{IsWellBuilt, IsLeft, ReadPlansHaveNoFault}
-use Rattle.sexp_config.proofs.ReadGood.{OkGood, Any_, bind_good, any_good, weaker}
+use Rattle.config_terms.proofs.Outcomes.{OkGood, Any_, bind_good, any_good, weaker}
 use Rattle.sexp_config.proofs.StreamsBuilt.{Stands, AllStand, StandBelow, nothing_stands, all_read_stand, parts_stand}
 use Rattle.sexp_config.proofs.PlanLaws.{At, one, first, why_told}
+use Rattle.sexp_config.proofs.PlanPasses.{all_are, passes_none, not_true}
+use Rattle.sexp_config.proofs.GrammarLaws.{config_read_of}
 
 -- ---- forms at the top
 
@@ -95,7 +96,7 @@ mutual
 -- ---- each stream of the plan
 
 abbrev Right : faults.Placed → Type 0
-Right s = StandsShallow s × HasStreamsThatMayFollow s × IsInRange s
+Right s = IsShallow s × HasStreamsThatMayFollow s × IsInRange s
 
 both : {A : Type 0} (P : A → Type 0) (xs ys : List A) → AllByRecursion P xs → AllByRecursion P ys → AllByRecursion P (xs ++ ys)
 both P [] ys front back = back
@@ -121,15 +122,11 @@ mutual
       both Right (preorder_at (path ++ number ∷ []) flow s) (preorder_in path (number + 1) flow streams)
       (right_at (path ++ number ∷ []) flow s (subst (λ (n : ℕ). Stands n s) (one_longer path number) all.0)) (right_in path (number + 1) flow streams all.1)
 
-all_are : {A : Type 0} (P Q : A → Type 0) → ((x : A) → P x → Q x) → (xs : List A) → AllByRecursion P xs → AllByRecursion Q xs
-all_are P Q turned [] all = tt
-all_are P Q turned (x ∷ xs) all = (turned x all.0, all_are P Q turned xs all.1)
-
 well_built : (streams : StreamTrees) → AllStand 1 streams → IsWellBuilt streams
 well_built streams all =
     let right = right_in [] 0 _ streams all in
     record {
-      shallow = all_are Right StandsShallow (λ s known. known.0) (preorder_of streams) right;
+      shallow = all_are Right IsShallow (λ s known. known.0) (preorder_of streams) right;
       followed = all_are Right HasStreamsThatMayFollow (λ s known. known.1) (preorder_of streams) right;
       in_range = all_are Right IsInRange (λ s known. known.2) (preorder_of streams) right;
     }
@@ -148,13 +145,6 @@ read_is_built forms draft h is = subst (λ (read : Result Draft Fault). OkGood I
 
 -- ---- three of the causes have no place
 
-passes_none : {A : Type 0} (test : A → Bool) (xs : List A) → AllByRecursion (λ x. test x ≡ false) xs → slice_get (filter test xs) 0 ≡ None
-passes_none test [] all = refl
-passes_none test (x ∷ xs) all = rw all.0 (passes_none test xs all.1)
-
-not_true : (b : Bool) → b ≡ true → not b ≡ false
-not_true b is = rw is refl
-
 record HasNone (streams : StreamTrees) : Type 0 where
   deep : faults.place_of Deep (preorder_of streams) ≡ None
   children : faults.place_of Children (preorder_of streams) ≡ None
@@ -164,7 +154,7 @@ has_none : (streams : StreamTrees) → IsWellBuilt streams → HasNone streams
 has_none streams built =
     let all = preorder_of streams in
     record {
-      deep = passes_none (counts Deep) all (all_are StandsShallow (λ s. counts Deep s ≡ false) (λ s shallow. le-ltb 64 (length s.path) shallow) all built.shallow);
+      deep = passes_none (counts Deep) all (all_are IsShallow (λ s. counts Deep s ≡ false) (λ s shallow. le-ltb 64 (length s.path) shallow) all built.shallow);
       children = passes_none (counts Children) all built.followed;
       range = passes_none (counts Range) all (all_are IsInRange (λ s. counts Range s ≡ false) (λ s. not_true (is_in_range (faults.kind_of s.tree))) all built.in_range);
     }
@@ -231,4 +221,4 @@ config_faultless forms h =
     bind_good IsBuiltDraft HasFaultless (run [] fresh_draft (tops_in forms)) (λ draft. finished draft) (draft_built forms h) (λ draft built. finished_faultless draft built)
 
 pub read_plans : ReadPlansHaveNoFault
-read_plans text config is = subst (λ (read : Result Config Fault). OkGood HasFaultless read) is.stands (config_faultless is.forms is.read.shallow)
+read_plans text config is = subst (λ (read : Result Config Fault). OkGood HasFaultless read) (config_read_of text config is) (config_faultless is.forms is.read.shallow)

@@ -1,5 +1,5 @@
 -- What is read of forms that can be written can be written: arguments and predicates.
-use Rattle.std.proofs.Common.{◌≡◌, ℕ, zero, suc, ℤ, pos, negsuc, Bool, true, false, cond, ◌||◌, codes, List, [], ◌∷◌, ◌++◌, reverse, Option, Some, None, Result, Ok, Err, refl, ap, sym, ◌∙◌, subst}
+use Rattle.std.proofs.Common.{◌≡◌, ℕ, zero, suc, ℤ, pos, negsuc, Bool, true, false, cond, ◌||◌, codes, List, [], ◌∷◌, ◌++◌, reverse, Option, Some, None, Result, Ok, refl, ap, sym, ◌∙◌, subst}
 use Rattle.std.proofs.lemmas.List.{reverse-append}
 use Rattle.std.specs.List.{find}
 use Rattle.std.specs.Option.{option_map, option_or}
@@ -23,51 +23,13 @@ use Rattle.config_terms.specs.declared.word.RuleWord.TheVariants as rule
 use Rattle.config_terms.specs.Steps.{Fault, ◌>>=◌, start_of, nth, present, argument, at_most, each}
 use Rattle.ev_types.specs.Names.{is_hidden, named_field, protocol_field}
 use Rattle.config_terms.specs.Words.{rule_word, nil_text, true_text, false_text}
-use Rattle.config_terms.specs.Arguments.{Env, bound_value, Argument, Text, Pattern, Number, Keyword, Index, Unbound, Forms, bound_argument, argument_of, fitting, taken, text_in, keyword_in, field_in, number_in, value_in, text_at, keyword_at, field_at, number_at, value_at, ranged, ranged_at, vector_in, map_in, vector_at, map_at}
+use Rattle.config_terms.specs.Arguments.{Env, bound_value, Argument, Text, Pattern, Number, Keyword, Index, Unbound, Forms, bound_argument, argument_of, taken, text_in, keyword_in, field_in, number_in, value_in, text_at, keyword_at, field_at, number_at, value_at, ranged, ranged_at, vector_in, map_in, vector_at, map_at}
 use Rattle.config_terms.specs.Rules.{symbol_rule, known_field, rule_field_at, Head, Word, Field_, Unknown, field_head, symbol_head, rule_head, Readings, with_rule, all_read, joined, first_read, equal_rule, order_rule, like_rule, tagged_rule, sought, field_rule, word_rule, headed_rule, rule_at, rules_in}
+use Rattle.config_terms.proofs.Outcomes.{OkGood, SomeGood, Any_, bind_good, any_good, ok_if, some_if, some_from, fitting_good}
 use Rattle.sexp_config.proofs.RulesRead.{GoodField, GoodValue, GoodRule, GoodRules}
 use Rattle.sexp_config.proofs.KindsRead.{AllGood, within}
 
--- ---- answers
-
-abbrev pub OkGood : {A : Type 0} → (A → Type 0) → Result A Fault → Type 0
-OkGood P (Ok a) = P a
-OkGood P (Err fault) = Unit {0}
-
-abbrev pub SomeGood : {A : Type 0} → (A → Type 0) → Option A → Type 0
-SomeGood P (Some a) = P a
-SomeGood P None = Unit {0}
-
-abbrev pub Any_ : {A : Type 0} → A → Type 0
-Any_ a = Unit {0}
-
-pub bind_good : {A B : Type 0} (P : A → Type 0) (Q : B → Type 0) (read : Result A Fault) (next : A → Result B Fault) → OkGood P read → ((a : A) → P a → OkGood Q (next a)) → OkGood Q (read >>= next)
-bind_good P Q (Ok a) next good then_good = then_good a good
-bind_good P Q (Err fault) next good then_good = tt
-
-pub any_good : {A : Type 0} (read : Result A Fault) → OkGood {A = A} Any_ read
-any_good (Ok a) = tt
-any_good (Err fault) = tt
-
-pub weaker : {A : Type 0} (P Q : A → Type 0) (read : Result A Fault) → ((a : A) → P a → Q a) → OkGood P read → OkGood Q read
-weaker P Q (Ok a) turned good = turned a good
-weaker P Q (Err fault) turned good = tt
-
-pub ok_if : {A : Type 0} (P : A → Type 0) (test : Bool) (x y : Result A Fault) → (test ≡ true → OkGood P x) → (test ≡ false → OkGood P y) → OkGood P (cond test x y)
-ok_if P true x y first second = first refl
-ok_if P false x y first second = second refl
-
-pub some_if : {A : Type 0} (P : A → Type 0) (test : Bool) (x y : Option A) → (test ≡ true → SomeGood P x) → (test ≡ false → SomeGood P y) → SomeGood P (cond test x y)
-some_if P true x y first second = first refl
-some_if P false x y first second = second refl
-
-some_or : {A : Type 0} (P : A → Type 0) (x y : Option A) → SomeGood P x → SomeGood P y → SomeGood P (option_or x y)
-some_or P (Some a) y first second = first
-some_or P None y first second = second
-
-pub some_from : {A : Type 0} (P : A → Type 0) (x : Option A) → ((a : A) → x ≡ Some a → P a) → SomeGood P x
-some_from P (Some a) h = h a refl
-some_from P None h = tt
+-- ---- all of a list
 
 pub all_snoc : {A : Type 0} (P : A → Type 0) (xs : List A) (x : A) → AllGood P xs → P x → AllGood P (xs ++ x ∷ [])
 all_snoc P [] x all one = (one, tt)
@@ -148,10 +110,6 @@ argument_good env e (Single (atom.Number number) start last) w = w
 argument_good env e (Single (atom.Keyword key) start last) w = w
 argument_good env e (Single (atom.Symbol name) start last) w = bound_argument_good name (bound_value name env) (bound_good name env e)
 argument_good env e (Group bracket forms start last) w = w
-
-pub fitting_good : {A : Type 0} (P : A → Type 0) (place : ℕ) (given : Argument) (found : Option A) → SomeGood P found → OkGood P (fitting place given found)
-fitting_good P place given (Some a) good = good
-fitting_good P place given None good = tt
 
 taken_good : {A : Type 0} (P : A → Type 0) (test : Argument → Option A) → ((given : Argument) → GoodArgument given → SomeGood P (test given))
     → (env : Env) → GoodEnv env → (f : FormTree) → Writable f → OkGood P (taken test env f)

@@ -15,12 +15,13 @@ use Rattle.config_terms.specs.declared.fault.ConfigFault.TheVariants.{Refused, M
 use Rattle.config_terms.specs.declared.fault.ConfigWhy.{ConfigWhy}
 use Rattle.config_terms.specs.Steps.{Fault, Gives}
 use Rattle.sexp_config.specs.Config.{config_of, IsConfigOf, IsConfigFault, IsRefusedFor, IsReadAs, IsRefusedAs, why_of, fault_in}
+use Rattle.sexp_config.proofs.GrammarLaws.{configs_are_read, config_read_of}
 
 -- ---- the text is forms
 
 module _ (text : List ℕ) (trees : FormTrees) (read : IsForms text trees) where
   pub config_read : (result : Result Config ConfigFault) → Gives result (config_of trees) → IfOk result (λ config. IsConfigOf text config)
-  config_read (Ok config) gives = record { forms = trees; read = read; stands = gives }
+  config_read (Ok config) gives = record { forms = trees; read = read; stands = (configs_are_read trees config).1 gives }
   config_read (Err fault) gives = tt
 
   pub refused_read : (result : Result Config ConfigFault) → Gives result (config_of trees) → IfErr result (λ fault. IsRefusedFor text fault)
@@ -37,7 +38,7 @@ same_config trees config (Err Memory) gives stands = refl
 pub only_config : (text : List ℕ) (trees : FormTrees) (result : Result Config ConfigFault) → ((others : FormTrees) → IsForms text others → trees ≡ others) →
     Gives result (config_of trees) → (config : Config) → IsConfigOf text config → IsReadAs config result
 only_config text trees result same gives config is =
-    same_config trees config result gives (ap config_of (same is.forms is.read) ∙ is.stands)
+    same_config trees config result gives (ap config_of (same is.forms is.read) ∙ config_read_of text config is)
 
 abbrev pub place_in : Result Config Fault → ℕ
 place_in (Ok config) = 0

@@ -18,7 +18,7 @@ use Rattle.config_terms.specs.Words.{true_text, false_text, nil_text}
 use Rattle.config_terms.specs.Arguments.{Env, Argument, Text, Pattern, Number, Keyword, Index, Unbound, Forms, argument_of, value_at, number_at, text_at}
 use Rattle.config_terms.specs.Rules.{symbol_rule, rule_field_at, Head, Word, Field_, Unknown, rule_head, Readings, with_rule, all_read, joined, first_read, equal_rule, order_rule, like_rule, tagged_rule, sought, field_rule, word_rule, headed_rule, rule_at, rules_in}
 use Rattle.sexp_read.proofs.TokensFew.{tokens_few}
-use Rattle.sexp_config.proofs.ReadGood.{OkGood, Any_, bind_good, any_good, weaker, ok_if}
+use Rattle.config_terms.proofs.Outcomes.{OkGood, Any_, bind_good, any_good, weaker, ok_if}
 
 -- ---- brackets
 

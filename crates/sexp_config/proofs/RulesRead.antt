@@ -23,7 +23,7 @@ use Rattle.config_terms.specs.Words.{rule_text, rule_word, joining_word, compari
 use Rattle.config_terms.specs.Arguments.{argument_of, text_at, field_at, number_at, value_at}
 use Rattle.config_terms.specs.Rules.{Head, Word, Field_, rule_field_at, rule_head, Readings, with_rule, all_read, joined, equal_rule, order_rule, like_rule, tagged_rule, field_rule, word_rule, headed_rule, rule_at, rules_in}
 use Rattle.sexp_config.specs.Canonical.{symbol_form, keyword_form, text_form, number_form, pattern_form, worded_form, value_form, rule_field_form, rule_form, rule_forms}
-use Rattle.sexp_config.proofs.BareForms.{single_of, also_of, none_of, call_of}
+use Rattle.config_terms.proofs.BareForms.{single_of, also_of, none_of, call_of}
 
 -- ---- what can be written
 

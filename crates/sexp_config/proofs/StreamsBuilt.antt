@@ -18,7 +18,7 @@ use Rattle.config_terms.specs.Words.{stream_text, stream_word}
 use Rattle.config_terms.specs.Arguments.{Env, bound_value}
 use Rattle.config_streams.specs.Kinds.{kind_of, leads}
 use Rattle.config_streams.specs.Streams.{Below, nothing, Part, One, Rest, with_stream, stream_of, Readings, ended, next_place, with_part, all_read, is_where, is_where_in, is_else, symbol_by, followed, worded, part_at, parts_in}
-use Rattle.sexp_config.proofs.ReadGood.{OkGood, Any_, bind_good, any_good, weaker, ok_if}
+use Rattle.config_terms.proofs.Outcomes.{OkGood, Any_, bind_good, any_good, weaker, ok_if}
 use Rattle.sexp_config.proofs.KindsBuilt.{InRange, kind_range, MayHaveRest, where_rest}
 
 -- ---- a stream that stands so many streams down, and those below it

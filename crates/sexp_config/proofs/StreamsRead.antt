@@ -19,7 +19,7 @@ use Rattle.config_streams.specs.Sources.{SourceTree, SourceTrees, source}
 use Rattle.config_streams.specs.Sources as sources
 use Rattle.config_streams.specs.Streams.{Located, nowhere, Below, nothing, Part, One, Rest, with_stream, with_one, stream_of, Readings, all_read, is_where, is_where_in, followed, worded, part_at, parts_in}
 use Rattle.sexp_config.specs.Canonical.{symbol_form, text_form, list_form, worded_form, kind_forms, else_forms, stream_form, stream_forms}
-use Rattle.sexp_config.proofs.BareForms.{single_of, also_of, none_of, call_of}
+use Rattle.config_terms.proofs.BareForms.{single_of, also_of, none_of, call_of}
 use Rattle.sexp_config.proofs.KindsRead.{NoMap, GoodKind, word_of, kind_led}
 
 abbrev mutual

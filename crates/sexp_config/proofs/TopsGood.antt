@@ -31,13 +31,15 @@ use Rattle.config_terms.specs.Steps.{Fault, start_of, nth, argument, at_most, ea
 use Rattle.ev_types.specs.Names.{named_field, protocol_field}
 use Rattle.config_terms.specs.Words.{stream_text, top_word, tags_text, keep_text}
 use Rattle.config_terms.specs.Arguments.{Env, Argument, Text, Pattern, Number, Keyword, Index, Unbound, Forms, argument_of, text_at, vector_at, map_at, one_entry}
-use Rattle.sexp_config.specs.Tops.{port_at, Server, default_server, Draft, fresh_draft, once, Listens, or_default, server_of, listen_key_at, with_entry, listens_from, no_listens, server_by, server_in, keep_field, keep_in, keep_at, with_keep, keys_at, default_keys, interval_by, keys_by, expiry_in, name_at, bound_by, index_by, bound_at, names_from, names_in, Step, run, top_by, top_at, tops_in}
+use Rattle.sexp_config.specs.Grammar.{Server}
+use Rattle.sexp_config.specs.Tops.{port_at, default_server, Draft, fresh_draft, once, Listens, or_default, server_of, listen_key_at, with_entry, listens_from, no_listens, server_by, server_in, keep_field, keep_in, keep_at, with_keep, keys_at, default_keys, interval_by, keys_by, expiry_in, name_at, bound_by, index_by, bound_at, names_from, names_in, Step, run, top_by, top_at, tops_in}
 use Rattle.config_streams.specs.Streams.{all_read, parts_in}
 use Rattle.sexp_config.specs.Config.{plan_fault, faultless, checked, config_from, finished, config_of}
 use Rattle.sexp_config.proofs.KindsRead.{AllGood, within}
 use Rattle.sexp_config.proofs.StreamsRead.{GoodStream, GoodStreams}
 use Rattle.sexp_config.proofs.TopsRead.{GoodKeep, GoodExpiry, GoodConfig}
-use Rattle.sexp_config.proofs.ReadGood.{OkGood, SomeGood, Any_, bind_good, any_good, ok_if, some_if, all_snoc, IsText, GoodBound, GoodBinding, GoodEnv, GoodArgument, argument_good, Writable, AreForms, Means, field_means, named_good, text_good, vector_good, map_good, ranged_good, argument_at_good, nth_good, fitting_good, each_good}
+use Rattle.config_terms.proofs.Outcomes.{OkGood, SomeGood, Any_, bind_good, any_good, ok_if, some_if, fitting_good}
+use Rattle.sexp_config.proofs.ReadGood.{all_snoc, IsText, GoodBound, GoodBinding, GoodEnv, GoodArgument, argument_good, Writable, AreForms, Means, field_means, named_good, text_good, vector_good, map_good, ranged_good, argument_at_good, nth_good, each_good}
 use Rattle.sexp_config.proofs.KindsGood.{one_entry_good, HoldsGood, AllHold, GoodBelow, all_read_good, parts_good}
 
 -- ---- a text that is ASCII

@@ -22,11 +22,12 @@ use Rattle.config_terms.specs.Steps.{at_most, each}
 use Rattle.ev_types.specs.Names.{field_name}
 use Rattle.config_terms.specs.Words.{top_text, top_word, tags_text, keep_text, host_text, port_text}
 use Rattle.config_terms.specs.Arguments.{argument_of, text_at, keyword_at, ranged_at, vector_at, map_at, only_key_at, one_entry}
-use Rattle.sexp_config.specs.Tops.{port_at, Server, default_server, or_default, Draft, fresh_draft, listen_key_at, with_entry, listens_from, server_in, keep_at, with_keep, keys_at, expiry_in, Step, run, top_by, top_at, tops_in}
+use Rattle.sexp_config.specs.Grammar.{Server}
+use Rattle.sexp_config.specs.Tops.{port_at, default_server, or_default, Draft, fresh_draft, listen_key_at, with_entry, listens_from, server_in, keep_at, with_keep, keys_at, expiry_in, Step, run, top_by, top_at, tops_in}
 use Rattle.config_streams.specs.Streams.{Located, Below, nothing, all_read, parts_in}
 use Rattle.sexp_config.specs.Config.{fault_for, plan_fault, config_from, config_of}
 use Rattle.sexp_config.specs.Canonical.{keyword_form, text_form, number_form, vector_form, map_form, worded_form, stream_forms, keep_form, server_form, expiry_form, expiry_forms, streams_form, config_forms}
-use Rattle.sexp_config.proofs.BareForms.{single_of, group_of, also_of, none_of, call_of}
+use Rattle.config_terms.proofs.BareForms.{single_of, group_of, also_of, none_of, call_of}
 use Rattle.sexp_config.proofs.RulesRead.{GoodField, text_read}
 use Rattle.sexp_config.proofs.KindsRead.{AllGood, within, ranged_read, each_read, keyword_read}
 use Rattle.sexp_config.proofs.StreamsRead.{GoodStreams, grown, join, join_first, all_done, streams_read}

@@ -4,14 +4,14 @@ use Rattle.std.specs.List.{AllByRecursion}
 use Rattle.stream_plan.specs.declared.fault.PlanWhy.{PlanWhy}
 use Rattle.stream_plan.specs.declared.fault.PlanWhy.TheVariants.{Many, Kind}
 use Rattle.stream_plan.specs.Faults.{preorder_of, first_fault}
-use Rattle.stream_plan.specs.Sound.{StandsShallow, HasStreamsThatMayFollow, IsInRange}
+use Rattle.stream_plan.specs.Sound.{IsShallow, HasStreamsThatMayFollow, IsInRange}
 use Rattle.stream_plan.specs.Tree.{StreamTrees}
 use Rattle.sexp_config.specs.declared.config.Config.{Config}
 use Rattle.sexp_config.specs.Config.{IsConfigOf}
 
 -- no stream is too deep, has streams that may not follow it, or has a number or a set outside its range
 pub record IsWellBuilt (streams : StreamTrees) : Type 0 where
-  pub shallow : AllByRecursion StandsShallow (preorder_of streams)
+  pub shallow : AllByRecursion IsShallow (preorder_of streams)
   pub followed : AllByRecursion HasStreamsThatMayFollow (preorder_of streams)
   pub in_range : AllByRecursion IsInRange (preorder_of streams)
 

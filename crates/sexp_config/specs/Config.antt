@@ -1,5 +1,5 @@
 -- The texts that are configurations, and for what the others are refused.
-use Rattle.std.specs.Prelude.{◌≡◌, ℕ, ◌⊎◌, List, [], Option, Some, None, Result, Ok, Err}
+use Rattle.std.specs.Prelude.{◌≡◌, ◌↔◌, ℕ, ◌⊎◌, List, [], Option, Some, None, Result, Ok, Err}
 use Rattle.std.specs.Option.{option_map, option_or}
 use Rattle.sexp_read.specs.declared.fault.SexpFault.{SexpFault}
 use Rattle.sexp_read.specs.declared.fault.SexpFault.TheVariants as sexp_fault
@@ -7,6 +7,7 @@ use Rattle.sexp_read.specs.declared.fault.SexpWhy.{SexpWhy}
 use Rattle.sexp_read.specs.declared.fault.SexpWhy.TheVariants as sexp
 use Rattle.sexp_read.specs.Grammar.{IsForms, text_fault}
 use Rattle.sexp_read.specs.Tree.{FormTrees}
+use Rattle.sexp_read.specs.Written.{bare_trees}
 use Rattle.stream_plan.specs.declared.fault.PlanWhy.{PlanWhy}
 use Rattle.stream_plan.specs.declared.fault.PlanWhy.TheVariants as plan_why
 use Rattle.stream_plan.specs.Faults as plan
@@ -19,7 +20,8 @@ use Rattle.config_terms.specs.declared.fault.ConfigWhy.TheVariants as why
 use Rattle.config_terms.specs.Steps.{Fault, ◌>>=◌}
 use Rattle.config_streams.specs.Sources.{place_along}
 use Rattle.config_streams.specs.Streams.{Located}
-use Rattle.sexp_config.specs.Tops.{Server, Draft, default_server, fresh_draft, or_default, run, tops_in}
+use Rattle.sexp_config.specs.Grammar.{Server, AreConfig}
+use Rattle.sexp_config.specs.Tops.{Draft, default_server, fresh_draft, or_default, run, tops_in}
 
 -- ---- the streams together
 
@@ -52,9 +54,14 @@ config_from draft server plan = record { host = server.host; port = server.port;
 abbrev pub finished : Draft → Result Config Fault
 finished draft = checked draft.below.children >>= λ plan. Ok (config_from draft (or_default default_server draft.server) plan)
 
--- what the forms of a text represent
+-- What the forms of a text are read as, step by step. Which forms represent a configuration is said by the grammar; this
+-- says in addition where and for what the others are refused.
 unfoldable pub config_of : FormTrees → Result Config Fault
 config_of forms = run [] fresh_draft (tops_in forms) >>= λ draft. finished draft
+
+-- forms are read as a configuration exactly where they represent it
+abbrev pub ConfigsAreRead : Type 0
+ConfigsAreRead = (forms : FormTrees) (config : Config) → AreConfig (bare_trees forms) config ↔ (config_of forms ≡ Ok config)
 
 -- ---- texts
 
@@ -62,7 +69,7 @@ config_of forms = run [] fresh_draft (tops_in forms) >>= λ draft. finished draf
 pub record IsConfigOf (text : List ℕ) (config : Config) : Type 0 where
   pub forms : FormTrees
   pub read : IsForms text forms
-  pub stands : config_of forms ≡ Ok config
+  pub stands : AreConfig (bare_trees forms) config
 
 abbrev pub why_of : SexpWhy → ConfigWhy
 why_of sexp.Long = why.Long

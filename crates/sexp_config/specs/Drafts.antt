@@ -3,7 +3,8 @@ use Rattle.std.specs.Option.{option_map}
 use Rattle.sexp_config.specs.declared.server.Server as code_server
 use Rattle.sexp_config.specs.declared.server.Listens as code_listens
 use Rattle.sexp_config.specs.declared.draft.Draft as code_draft
-use Rattle.sexp_config.specs.Tops.{Server, Listens, Draft}
+use Rattle.sexp_config.specs.Grammar.{Server}
+use Rattle.sexp_config.specs.Tops.{Listens, Draft}
 use Rattle.config_streams.specs.Made.{below_in}
 
 abbrev pub server_made : code_server.Server → Server

@@ -1,3 +1,4 @@
+pub mod Grammar
 pub mod Tops
 pub mod Config
 pub mod Canonical

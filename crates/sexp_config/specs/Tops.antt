@@ -1,4 +1,5 @@
--- The forms of a whole configuration.
+-- How the forms of a whole configuration are read, step by step, and what each step refuses at which place. Which forms
+-- represent a configuration is said by the grammar, apart from these steps (`Grammar.antt`).
 use Rattle.std.specs.Prelude.{ℕ, Bool, true, false, if◌then◌else◌, List, [], ◌∷◌, ◌++◌, drop, codes, Option, Some, None, Result, Ok, Err}
 use Rattle.std.specs.Str.{bytes_eq}
 use Rattle.ev_types.specs.declared.field.Field.{Field}
@@ -24,12 +25,9 @@ use Rattle.config_terms.specs.Words.{stream_text, top_word, tags_text, keep_text
 use Rattle.config_terms.specs.Arguments.{Env, bound_value, Argument, Text, Pattern, Number, Keyword, Index, argument_of, misfit, fitting, keyword_at, text_at, ranged_at, vector_at, map_at, one_entry}
 use Rattle.config_terms.specs.Rules.{no_form}
 use Rattle.config_streams.specs.Streams.{Below, nothing, parts_in, all_read}
+use Rattle.sexp_config.specs.Grammar.{Server}
 
 -- ---- what was read so far
-
-pub record Server : Type 0 where
-  pub host : List ℕ
-  pub port : ℕ
 
 abbrev pub default_server : Server
 default_server = record { host = codes "127.0.0.1"; port = DEFAULT_PORT }

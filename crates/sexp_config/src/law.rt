@@ -1,8 +1,15 @@
 //! What the definition of a configuration owes, apart from how a text is read.
 
 ghost use Rattle.sexp_config.specs.Answer.{TextsAreAnswered, ConfigsAreNotRefused, ConfigsAreOne, RefusalsAreOne};
+ghost use Rattle.sexp_config.specs.Config.{ConfigsAreRead};
 ghost use Rattle.sexp_config.specs.Built.{ReadPlansHaveNoFault};
 ghost use Rattle.sexp_config.specs.ReadBack.{CanonicalIsRead};
+
+/// The forms that are read as a configuration are exactly those that represent it by the grammar. So forms represent one
+/// configuration at most.
+pub fn configs_are_read()
+    ensures { ConfigsAreRead }
+{}
 
 /// What is written of a configuration that was read is read again as that configuration, where it is within the limits
 /// of a text.

@@ -16,6 +16,6 @@ mod write;
 
 pub use config::Config;
 pub use config_terms::{Binding, Bound, ConfigFault, ConfigWhy, RuleWord, StreamWord, TopWord};
-pub use law::{read_plans_have_no_fault, texts_have_one_answer, written_is_read};
+pub use law::{configs_are_read, read_plans_have_no_fault, texts_have_one_answer, written_is_read};
 pub use read::read_config;
 pub use write::write_config;
