@@ -1,10 +1,6 @@
-//! Tests of rules, queries, s-expressions, plans and configurations, by the public calls of their crates.
+//! Tests of rules, queries, s-expressions and plans, by the public calls of their crates.
 #![tactic(auto)]
 
-#[cfg(test)]
-mod canonical;
-#[cfg(test)]
-mod configurations;
 #[cfg(test)]
 mod forms;
 #[cfg(test)]

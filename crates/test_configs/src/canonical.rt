@@ -1,10 +1,17 @@
+//! Texts, each with the canonical text of its configuration.
+
+use crate::answers::{Gap, joined};
 use ev_types::Blob;
 use sexp_config::{read_config, write_config};
 use std::alloc::Global;
+use std::process::Abort;
 use std::test::Fail;
 
+/// A text, and what is written for it.
+pub(crate) type Written<'a> = (&'a str, &'a str);
+
 /// Streams, each with its canonical text.
-const STREAMS: [(&str, &str); 33] = [
+const STREAMS: &[Written<'static>] = &[
     ("(sdo index (sdo))", "(sdo index (sdo))"),
     ("(notice \"\")", "(notice \"\")"),
     ("(with {})", "(with {})"),
@@ -83,10 +90,64 @@ const STREAMS: [(&str, &str); 33] = [
         "(where true (else index (sdo)))",
         "(where true (else index (sdo)))",
     ),
+    (
+        "(where true (else (where nil (else) ) (where nil index (else (index)))))",
+        "(where true (else (where false) (where false index (else index))))",
+    ),
+    ("(where (state \"ok\"))", "(where (= state \"ok\"))"),
+    ("index", "index"),
+    ("(index)", "index"),
+    ("(notice \"a\")", "(notice \"a\")"),
+    (
+        "(notice \"\u{e9} \u{20ac}\")",
+        "(notice \"\u{e9} \u{20ac}\")",
+    ),
+    ("(sdo)", "(sdo)"),
+    ("(tag \"a\" index index)", "(tag [\"a\"] index index)"),
+    ("(by :host index)", "(by [:host] index)"),
+    ("(changed :state)", "(changed :state)"),
+    (
+        "(changed :state {:init \"ok\"} index (sdo))",
+        "(changed :state {:init \"ok\"} index (sdo))",
+    ),
+    ("(default {})", "(default {})"),
+    ("(expired index)", "(where (= state \"expired\") index)"),
+    ("(under 1)", "(where (< metric 1))"),
+    ("(over 007)", "(where (> metric 7))"),
+    ("(over -0)", "(where (> metric 0))"),
+    ("(coalesce 604800)", "(coalesce 604800)"),
+    (
+        "(coalesce (notice \"a\") (smap folds/sum))",
+        "(coalesce 1 (notice \"a\") (smap folds/sum))",
+    ),
+    (
+        "(batch 1 1 (sdo (sdo (smap folds/count (sdo index)))) (notice \"a\"))",
+        "(batch 1 1 (sdo (sdo (smap folds/count (sdo index)))) (notice \"a\"))",
+    ),
+    (
+        "(batch 1 1 (smap folds/maximum (rollup 1 1 (smap folds/minimum))))",
+        "(batch 1 1 (smap folds/maximum (rollup 1 1 (smap folds/minimum))))",
+    ),
+    (
+        "(with {:host \"a\" :service nil :state \"\" :description nil :time -1 :ttl nil :metric 5 :owner \"b\"})",
+        "(with {:host \"a\" :service nil :state \"\" :description nil :time -1 :ttl nil :metric 5 :owner \"b\"})",
+    ),
+    (
+        "(default {:owner nil :metric nil :ttl 16777216 :time 0 :description \"a\" :state nil :service \"b\" :host nil})",
+        "(default {:owner nil :metric nil :ttl 16777216 :time 0 :description \"a\" :state nil :service \"b\" :host nil})",
+    ),
+    ("(with :ttl 0)", "(with {:ttl 0})"),
+    ("(with :time -5)", "(with {:time -5})"),
+    ("(default :Host nil)", "(default {:Host nil})"),
+    ("(with :a-b.c_9 \"x\")", "(with {:a-b.c_9 \"x\"})"),
+    (
+        "(by [:host :service :state :description :time :ttl :metric :metric_sint64 :owner])",
+        "(by [:host :service :state :description :time :ttl :metric :metric :owner])",
+    ),
 ];
 
 /// Predicates, each with its canonical text.
-const PREDICATES: [(&str, &str); 20] = [
+const PREDICATES: &[Written<'static>] = &[
     ("true", "true"),
     ("false", "false"),
     ("nil", "false"),
@@ -113,10 +174,59 @@ const PREDICATES: [(&str, &str); 20] = [
     ("(like :owner \"\")", "(like :owner \"\")"),
     ("(:host #\"a\\\"b\\\\\")", "(host #\"a\\\"b\\\\\")"),
     ("(:owner #\"\")", "(:owner #\"\")"),
+    ("(or true)", "true"),
+    ("(or (and (not false)))", "(not false)"),
+    ("(and (or true nil) true)", "(and (or true false) true)"),
+    ("(tagged \"\")", "(tagged \"\")"),
+    ("(= :metric_sint64 5)", "(= metric 5)"),
+    ("(:metric_sint64 5)", "(= metric 5)"),
+    ("(not= metric nil)", "(not (= metric nil))"),
+    ("(time \"a\")", "(= time \"a\")"),
+    ("(metric #\"a\")", "(metric #\"a\")"),
+    (
+        "(and (host 1) (service 1) (state 1) (description 1) (time 1) (ttl 1) (metric 1))",
+        "(and (= host 1) (= service 1) (= state 1) (= description 1) (= time 1) (= ttl 1) (= metric 1))",
+    ),
+    (
+        "(or (:host nil) (:service nil) (:state nil) (:description nil) (:time nil) (:ttl nil) (:metric nil))",
+        "(or (= host nil) (= service nil) (= state nil) (= description nil) (= time nil) (= ttl nil) (= metric nil))",
+    ),
+    (
+        "(or (< host 1) (<= :service 1) (> state 1) (>= :description 1) (like time \"a\"))",
+        "(or (< host 1) (<= service 1) (> state 1) (>= description 1) (like time \"a\"))",
+    ),
 ];
 
 /// Whole texts, each with the canonical text of its configuration.
-const TEXTS: [(&str, &str); 18] = [
+const TEXTS: &[Written<'static>] = &[
+    (
+        "(tcp-server)",
+        "(tcp-server {:host \"127.0.0.1\" :port 5555})\n(streams)\n",
+    ),
+    (
+        "(tcp-server {}) (streams)",
+        "(tcp-server {:host \"127.0.0.1\" :port 5555})\n(streams)\n",
+    ),
+    (
+        "(tcp-server {:host \"::1\"})",
+        "(tcp-server {:host \"::1\" :port 5555})\n(streams)\n",
+    ),
+    (
+        "(tcp-server {:port 65535})",
+        "(tcp-server {:host \"127.0.0.1\" :port 65535})\n(streams)\n",
+    ),
+    (
+        "(streams) (let [] (streams index)) (streams index (sdo)) (let [] (let [] (tcp-server {:port 0 :host \"\"})))",
+        "(tcp-server {:host \"\" :port 0})\n(streams index index (sdo))\n",
+    ),
+    (
+        ",\t\r\n (,streams\t;(a \"\r )\nindex\r(notice\"a\"),) ;",
+        "(tcp-server {:host \"127.0.0.1\" :port 5555})\n(streams index (notice \"a\"))\n",
+    ),
+    (
+        "(periodically-expire 604800 {:keep-keys[:service :state :description :time :ttl :metric :tags :owner]})",
+        "(tcp-server {:host \"127.0.0.1\" :port 5555})\n(periodically-expire 604800 {:keep-keys [:service :state :description :time :ttl :metric :tags :owner]})\n(streams)\n",
+    ),
     (
         "(tcp-server {:port 0, :host \"a\\\\b\\\"\"})",
         "(tcp-server {:host \"a\\\\b\\\"\" :port 0})\n(streams)\n",
@@ -213,51 +323,58 @@ fn is_written(alloc: Global, text: &[u8], canonical: &[u8]) -> Result<bool, Fail
     Ok(is_canonical(alloc, text, canonical)? && is_canonical(alloc, canonical, canonical)?)
 }
 
-/// The first row whose text is written in another way.
-fn first_other_text(alloc: Global, rows: &[(&str, &str)]) -> Result<Option<usize>, Fail> {
-    for (i, row) in rows.iter().enumerate() {
-        if !is_written(alloc, row.0.as_bytes(), row.1.as_bytes())? {
-            return Ok(Some(i));
-        }
+/// Reads each text, and compares what is written for it.
+fn write_texts<R: AllocGlobal + Abort>(rt: &R, rows: &[Written<'_>]) -> Result<(), Fail> {
+    for row in rows {
+        let written = is_written(rt.alloc(), row.0.as_bytes(), row.1.as_bytes())?;
+        assert!(rt; written, "{}", row.0);
     }
-    Ok(None)
-}
-
-/// The text of the parts.
-fn parted(alloc: Global, parts: [&str; 4]) -> Result<Blob, Fail> {
-    let mut text = Blob::fresh(alloc);
-    for part in parts {
-        text.append(alloc, part.as_bytes())?;
-    }
-    Ok(text)
+    Ok(())
 }
 
 /// Whether the part is written so between the front and the back.
-fn is_part_written<'a>(
+fn is_part_written(
     alloc: Global,
-    part: &'a str,
-    canonical: &'a str,
-    front: &'a str,
-    back: &'a str,
+    (front, back): Gap<'_>,
+    (part, canonical): Written<'_>,
 ) -> Result<bool, Fail> {
-    let text = parted(alloc, [front, part, back, ""])?;
-    let canonical = parted(alloc, [FRONT, front, canonical, back])?;
+    let text = joined(alloc, &[front, part, back, "\n"])?;
+    let canonical = joined(alloc, &[FRONT, front, canonical, back, "\n"])?;
     is_written(alloc, text.as_slice(), canonical.as_slice())
 }
 
-/// The first row whose part is written in another way between the same front and back.
-fn first_other_part(
-    alloc: Global,
-    rows: &[(&str, &str)],
-    front: &str,
-    back: &str,
-) -> Result<Option<usize>, Fail> {
-    for (i, row) in rows.iter().enumerate() {
-        if !is_part_written(alloc, row.0, row.1, front, back)? {
-            return Ok(Some(i));
-        }
+/// Puts each part into the gap, and compares what is written for the text.
+pub(crate) fn write_parts<R: AllocGlobal + Abort>(
+    rt: &R,
+    gap: Gap<'_>,
+    rows: &[Written<'_>],
+) -> Result<(), Fail> {
+    for row in rows {
+        let written = is_part_written(rt.alloc(), gap, *row)?;
+        assert!(rt; written, "{}{}", gap.0, row.0);
     }
-    Ok(None)
+    Ok(())
+}
+
+/// Puts each part into the gap of a canonical text, where it is written as it is.
+fn write_each<R: AllocGlobal + Abort>(rt: &R, gap: Gap<'_>, parts: &[&str]) -> Result<(), Fail> {
+    for part in parts {
+        let written = is_part_written(rt.alloc(), gap, (*part, *part))?;
+        assert!(rt; written, "{}{part}", gap.0);
+    }
+    Ok(())
+}
+
+/// Puts each part into each gap of canonical texts, where it is written as it is.
+pub(crate) fn write_all<R: AllocGlobal + Abort>(
+    rt: &R,
+    gaps: &[Gap<'_>],
+    parts: &[&str],
+) -> Result<(), Fail> {
+    for gap in gaps {
+        write_each(rt, *gap, parts)?;
+    }
+    Ok(())
 }
 
 #[test]
@@ -284,16 +401,20 @@ fn configurations_have_one_canonical_text(rt: HostRuntime) -> Result<(), Fail> {
             "(tcp-server {:host \"127.0.0.1\" :port 5555})\n(streams (where (and (not (= host nil)) (like service \"a%\") (<= ttl 3)) (rollup 2 9 (notice \"v\"))) (moving-time-window 4))\n",
         ),
     ];
-    assert!(rt; first_other_text(rt.alloc(), &rows)?.is_none());
-    Ok(())
+    write_texts(&rt, &rows)
 }
 
 #[test]
-fn each_form_has_one_canonical_text(rt: HostRuntime) -> Result<(), Fail> {
-    let alloc = rt.alloc();
-    assert!(rt; first_other_part(alloc, &STREAMS, "(streams ", ")\n")?.is_none());
-    let wrong = first_other_part(alloc, &PREDICATES, "(streams (where ", " index))\n")?;
-    assert!(rt; wrong.is_none());
-    assert!(rt; first_other_text(alloc, &TEXTS)?.is_none());
-    Ok(())
+fn each_stream_has_one_canonical_text(rt: HostRuntime) -> Result<(), Fail> {
+    write_parts(&rt, ("(streams ", ")"), STREAMS)
+}
+
+#[test]
+fn each_predicate_has_one_canonical_text(rt: HostRuntime) -> Result<(), Fail> {
+    write_parts(&rt, ("(streams (where ", " index))"), PREDICATES)
+}
+
+#[test]
+fn each_text_has_one_canonical_text(rt: HostRuntime) -> Result<(), Fail> {
+    write_texts(&rt, TEXTS)
 }

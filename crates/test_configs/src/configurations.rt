@@ -1,13 +1,10 @@
-use ev_types::{Blob, Expiry, Memory};
+//! Texts that are configurations, and texts that are refused at a place for a cause.
+
+use crate::answers::is_answered;
+use ev_types::{Expiry, Memory};
 use sexp_config::{ConfigFault, ConfigWhy, read_config};
 use std::alloc::Global;
 use std::test::Fail;
-
-/// The most bytes of a text.
-const LONGEST: usize = 1_048_576;
-
-/// The most streams of a configuration.
-const MOST_STREAMS: usize = 4096;
 
 /// Texts that are configurations.
 const ACCEPTED: [&str; 49] = [
@@ -63,7 +60,7 @@ const ACCEPTED: [&str; 49] = [
 ];
 
 /// Texts that are refused, each with the place and the cause.
-const REFUSED: [(&str, usize, ConfigWhy); 104] = [
+const REFUSED: [(&str, usize, ConfigWhy); 107] = [
     ("(let [i (notice)] (streams index))", 8, ConfigWhy::Form),
     ("(streams index", 0, ConfigWhy::Open),
     ("(streams index]", 14, ConfigWhy::Close),
@@ -260,6 +257,9 @@ const REFUSED: [(&str, usize, ConfigWhy); 104] = [
         ConfigWhy::Kind,
     ),
     ("(streams (coalesce index))", 19, ConfigWhy::Kind),
+    ("(streams (by {}))", 13, ConfigWhy::Arguments),
+    ("(streams (changed {}))", 18, ConfigWhy::Arguments),
+    ("(streams (where (or (and true 5) x)))", 30, ConfigWhy::Form),
 ];
 
 /// Forms at the top that are refused, and rows in which the order of faults decides.
@@ -353,163 +353,12 @@ const REFUSED_AT_THE_TOP: [(&str, usize, ConfigWhy); 39] = [
     ("(let (a 1))", 5, ConfigWhy::Form),
 ];
 
-/// Streams whose arguments are refused.
-const REFUSED_STREAMS: [(&str, usize, ConfigWhy); 41] = [
-    ("(streams (notice))", 9, ConfigWhy::Arguments),
-    ("(streams (notice 5))", 17, ConfigWhy::Arguments),
-    ("(streams (tag 5))", 14, ConfigWhy::Arguments),
-    ("(streams (tag [:a]))", 15, ConfigWhy::Arguments),
-    ("(streams (tag [\"a\" x]))", 19, ConfigWhy::Name),
-    ("(streams (with :state))", 9, ConfigWhy::Arguments),
-    ("(streams (with :tags \"a\"))", 15, ConfigWhy::Arguments),
-    ("(streams (with [:state \"a\"]))", 15, ConfigWhy::Arguments),
-    ("(streams (with state \"a\"))", 15, ConfigWhy::Name),
-    ("(streams (with :state 5))", 22, ConfigWhy::Arguments),
-    ("(streams (with :state #\"a\"))", 22, ConfigWhy::Arguments),
-    ("(streams (with :state :ok))", 22, ConfigWhy::Arguments),
-    ("(streams (with :owner 5))", 22, ConfigWhy::Arguments),
-    ("(streams (with :metric \"a\"))", 23, ConfigWhy::Arguments),
-    ("(streams (default {:state 5}))", 26, ConfigWhy::Arguments),
-    ("(streams (default :time))", 9, ConfigWhy::Arguments),
-    ("(streams (by))", 9, ConfigWhy::Arguments),
-    ("(streams (by {}))", 13, ConfigWhy::Arguments),
-    ("(streams (by [:host x]))", 20, ConfigWhy::Name),
-    ("(streams (changed))", 9, ConfigWhy::Arguments),
-    ("(streams (changed state {:init x}))", 18, ConfigWhy::Name),
-    (
-        "(streams (changed :state {:init}))",
-        25,
-        ConfigWhy::Arguments,
-    ),
-    (
-        "(streams (changed :state {:was 1}))",
-        26,
-        ConfigWhy::Arguments,
-    ),
-    ("(streams (changed :state {:init x}))", 32, ConfigWhy::Name),
-    ("(streams (runs 0 :state))", 15, ConfigWhy::Range),
-    ("(streams (runs 5))", 9, ConfigWhy::Arguments),
-    ("(streams (throttle 1 0))", 21, ConfigWhy::Range),
-    ("(streams (throttle 1 604801))", 21, ConfigWhy::Range),
-    ("(streams (throttle \"a\" 1))", 19, ConfigWhy::Arguments),
-    ("(streams (throttle 1 :a))", 21, ConfigWhy::Arguments),
-    ("(streams (rollup :a 1))", 17, ConfigWhy::Arguments),
-    ("(streams (batch 5))", 9, ConfigWhy::Arguments),
-    (
-        "(streams (fixed-event-window \"x\"))",
-        29,
-        ConfigWhy::Arguments,
-    ),
-    ("(streams (moving-event-window))", 9, ConfigWhy::Arguments),
-    (
-        "(streams (fixed-time-window :dt))",
-        28,
-        ConfigWhy::Arguments,
-    ),
-    (
-        "(streams (moving-time-window []))",
-        29,
-        ConfigWhy::Arguments,
-    ),
-    ("(streams (stable :state 5))", 17, ConfigWhy::Arguments),
-    ("(streams (coalesce 0))", 19, ConfigWhy::Range),
-    ("(streams (smap))", 9, ConfigWhy::Arguments),
-    ("(streams (smap \"sum\"))", 15, ConfigWhy::Arguments),
-    ("(streams (smap (sum)))", 15, ConfigWhy::Form),
-];
-
-/// Tests of an event that are refused, those of predicates with them.
-const REFUSED_TESTS: [(&str, usize, ConfigWhy); 40] = [
-    ("(streams (tagged))", 9, ConfigWhy::Arguments),
-    ("(streams (tagged 5))", 17, ConfigWhy::Arguments),
-    ("(streams (tagged \"a\" (else index)))", 21, ConfigWhy::Form),
-    ("(streams (over))", 9, ConfigWhy::Arguments),
-    ("(streams (under))", 9, ConfigWhy::Arguments),
-    ("(streams (over \"x\"))", 15, ConfigWhy::Arguments),
-    ("(streams (under #\"x\"))", 16, ConfigWhy::Arguments),
-    ("(streams (over nil))", 15, ConfigWhy::Name),
-    ("(streams (under k))", 16, ConfigWhy::Name),
-    ("(streams (over 5 (else index)))", 17, ConfigWhy::Form),
-    ("(streams (where 5))", 16, ConfigWhy::Form),
-    ("(streams (where \"ok\"))", 16, ConfigWhy::Form),
-    ("(streams (where [true]))", 16, ConfigWhy::Form),
-    ("(streams (where (foo 1)))", 16, ConfigWhy::Form),
-    ("(streams (where ()))", 16, ConfigWhy::Form),
-    ("(streams (where (and true x)))", 26, ConfigWhy::Name),
-    ("(streams (where (or (and true 5) x)))", 30, ConfigWhy::Form),
-    (
-        "(streams (where (tagged [\"x\"])))",
-        24,
-        ConfigWhy::Arguments,
-    ),
-    ("(streams (where (tagged)))", 16, ConfigWhy::Arguments),
-    (
-        "(streams (where (tagged \"x\" \"y\")))",
-        28,
-        ConfigWhy::Arguments,
-    ),
-    (
-        "(streams (where (= host #\"a\")))",
-        24,
-        ConfigWhy::Arguments,
-    ),
-    ("(streams (where (= host x)))", 24, ConfigWhy::Name),
-    ("(streams (where (= host)))", 16, ConfigWhy::Arguments),
-    ("(streams (where (=)))", 16, ConfigWhy::Arguments),
-    ("(streams (where (not= tags nil)))", 22, ConfigWhy::Name),
-    ("(streams (where (not= host :a)))", 27, ConfigWhy::Arguments),
-    ("(streams (where (not= host)))", 16, ConfigWhy::Arguments),
-    (
-        "(streams (where (not= host 1 2)))",
-        29,
-        ConfigWhy::Arguments,
-    ),
-    ("(streams (where (< time nil)))", 24, ConfigWhy::Name),
-    ("(streams (where (<= time nil)))", 25, ConfigWhy::Name),
-    ("(streams (where (> time nil)))", 24, ConfigWhy::Name),
-    ("(streams (where (>= time nil)))", 25, ConfigWhy::Name),
-    ("(streams (where (> time \"1\")))", 24, ConfigWhy::Arguments),
-    ("(streams (where (< time)))", 16, ConfigWhy::Arguments),
-    ("(streams (where (like host nil)))", 27, ConfigWhy::Name),
-    (
-        "(streams (where (like host #\"a\")))",
-        27,
-        ConfigWhy::Arguments,
-    ),
-    ("(streams (where (like host)))", 16, ConfigWhy::Arguments),
-    ("(streams (where (host)))", 16, ConfigWhy::Arguments),
-    ("(streams (where (host 1 2)))", 24, ConfigWhy::Arguments),
-    ("(streams (where (:owner x)))", 24, ConfigWhy::Name),
-];
-
 /// The configurations that an operator may start from, as `examples/` has them.
 const EXAMPLES: [&str; 3] = [
     "(streams index)",
     "; An index whose events expire, with a notice for each that does.\n(tcp-server {:host \"127.0.0.1\" :port 5555})\n(periodically-expire 10 {:keep-keys [:host :service :tags]})\n\n(streams\n  (default :ttl 60\n    index)\n  (expired\n    (notice \"expired\")))\n",
     "; Notices for each host and service whose metric is too high, at most five vectors an hour.\n(periodically-expire 5)\n\n(let [too-high 90]\n  (streams\n    (default :ttl 120 index)\n    (where (and (service \"cpu\") (> metric 0))\n      (by [:host :service]\n        (over too-high\n          (changed :state {:init \"ok\"}\n            (rollup 5 3600\n              (notice \"too high\"))))))))\n",
 ];
-
-/// Where and why the text is refused, or nothing where it is a configuration.
-fn refusal(alloc: Global, text: &[u8]) -> Result<Option<(usize, ConfigWhy)>, Memory> {
-    match read_config(alloc, text) {
-        Ok(_) => Ok(None),
-        Err(ConfigFault::Refused { place, why }) => Ok(Some((place, why))),
-        Err(ConfigFault::Memory) => Err(Memory),
-    }
-}
-
-/// Whether the text is refused so, or is a configuration where nothing is given.
-fn is_answered(
-    alloc: Global,
-    text: &[u8],
-    wanted: Option<(usize, ConfigWhy)>,
-) -> Result<bool, Memory> {
-    match (refusal(alloc, text)?, wanted) {
-        (Some((place, why)), Some(wanted)) => Ok(place == wanted.0 && why == wanted.1),
-        (None, None) => Ok(true),
-        _ => Ok(false),
-    }
-}
 
 /// The first text that is not accepted.
 fn first_refused(alloc: Global, texts: &[&str]) -> Result<Option<usize>, Memory> {
@@ -531,23 +380,6 @@ fn first_wrong(alloc: Global, rows: &[(&str, usize, ConfigWhy)]) -> Result<Optio
     Ok(None)
 }
 
-/// The text with `count` copies of a part between a front and a back.
-fn repeated(
-    alloc: Global,
-    front: &[u8],
-    part: &[u8],
-    count: usize,
-    back: &[u8],
-) -> Result<Blob, Memory> {
-    let mut text = Blob::fresh(alloc);
-    text.append(alloc, front)?;
-    for _i in 0..count {
-        text.append(alloc, part)?;
-    }
-    text.append(alloc, back)?;
-    Ok(text)
-}
-
 #[test]
 fn configurations_are_accepted(rt: HostRuntime) -> Result<(), Fail> {
     assert!(rt; first_refused(rt.alloc(), &ACCEPTED)?.is_none());
@@ -564,47 +396,6 @@ fn each_refusal_has_its_place_and_cause(rt: HostRuntime) -> Result<(), Fail> {
 #[test]
 fn forms_at_the_top_are_refused_in_order(rt: HostRuntime) -> Result<(), Fail> {
     assert!(rt; first_wrong(rt.alloc(), &REFUSED_AT_THE_TOP)?.is_none());
-    Ok(())
-}
-
-#[test]
-fn arguments_of_streams_are_refused(rt: HostRuntime) -> Result<(), Fail> {
-    assert!(rt; first_wrong(rt.alloc(), &REFUSED_STREAMS)?.is_none());
-    Ok(())
-}
-
-#[test]
-fn tests_of_events_are_refused(rt: HostRuntime) -> Result<(), Fail> {
-    assert!(rt; first_wrong(rt.alloc(), &REFUSED_TESTS)?.is_none());
-    Ok(())
-}
-
-/// Whether the text with `count` copies of the part is answered so.
-fn is_limit(
-    alloc: Global,
-    (front, part, count, back): (&str, &str, usize, &str),
-    wanted: Option<(usize, ConfigWhy)>,
-) -> Result<bool, Memory> {
-    let text = repeated(
-        alloc,
-        front.as_bytes(),
-        part.as_bytes(),
-        count,
-        back.as_bytes(),
-    )?;
-    is_answered(alloc, text.as_slice(), wanted)
-}
-
-#[test]
-fn too_many_streams_are_refused_before_a_kind(rt: HostRuntime) -> Result<(), Fail> {
-    let front = "(streams (smap folds/sum)";
-    for (count, wanted) in [
-        (MOST_STREAMS - 1, (9, ConfigWhy::Kind)),
-        (MOST_STREAMS, (24_596, ConfigWhy::Many)),
-    ] {
-        let text = (front, " index", count, ")");
-        assert!(rt; is_limit(rt.alloc(), text, Some(wanted))?, "{count}");
-    }
     Ok(())
 }
 
@@ -672,34 +463,5 @@ fn causes_have_names(rt: HostRuntime) -> Result<(), Fail> {
     let why = ConfigWhy::Twice;
     let printed = format!(in rt.alloc(); "{}", ConfigFault::Refused { place: 3, why })?;
     assert!(rt; printed.as_str() == "config refused at 3: twice");
-    Ok(())
-}
-
-/// Whether this many streams, each in the one before, are accepted.
-fn is_deepest(alloc: Global, count: usize) -> Result<bool, Memory> {
-    let open = repeated(alloc, b"(streams ", b"(sdo ", count, b"index")?;
-    let closed = repeated(alloc, open.as_slice(), b")", count.saturating_add(1), b"")?;
-    is_answered(alloc, closed.as_slice(), None)
-}
-
-#[test]
-fn limits_are_exact(rt: HostRuntime) -> Result<(), Fail> {
-    let index = "(streams index)";
-    for (text, wanted) in [
-        (("(streams", " index", MOST_STREAMS, ")"), None),
-        (
-            ("(streams", " index", MOST_STREAMS + 1, ")"),
-            Some((24_585, ConfigWhy::Many)),
-        ),
-        (("(streams ", "(sdo ", 64, ""), Some((324, ConfigWhy::Deep))),
-        ((index, " ", LONGEST - 15, ""), None),
-        (
-            (index, " ", LONGEST - 14, ""),
-            Some((LONGEST, ConfigWhy::Long)),
-        ),
-    ] {
-        assert!(rt; is_limit(rt.alloc(), text, wanted)?, "{}", text.2);
-    }
-    assert!(rt; is_deepest(rt.alloc(), 63)?);
     Ok(())
 }
