@@ -11,7 +11,8 @@ use Rattle.event_core.proofs.Moves.{notices-append}
 use Rattle.hub_meaning.specs.Clock.{next_moment}
 use Rattle.hub_meaning.specs.Links.{Link, find_link, is_open}
 use Rattle.hub_meaning.specs.Messages.{posts_of}
-use Rattle.hub_meaning.specs.Runs.{RunState, Step, Talk, after_entry, after_step, all_answered, answered, first_state, is_turn, messages_in, notices_after, occurred, passed, read_by, state_after, state_from, talk_of, turned, with_talk}
+use Rattle.hub_meaning.specs.Runs.{RunState, Step, Talk, after_entry, after_step, all_answered, answered, first_state, messages_in, notices_after, occurred, passed, read_by, state_after, state_from, talk_of, turned, with_talk}
+use Rattle.ports.specs.Playing.{is_turn_answer}
 use Rattle.hub_meaning.specs.Verdicts.{Message, Refusal}
 use Rattle.hub_meaning.proofs.RunLaws.{state_append}
 use Rattle.ports.specs.declared.entry.Entry.{Entry}
@@ -109,7 +110,7 @@ grows_occurred config Failed piece verdicts state = grows_nothing state.arrivals
 grows_occurred config Memory piece verdicts state = grows_nothing state.arrivals
 
 grows_turned : (config : CoreConfig) (turn : Turn) (piece : List ℕ) (verdicts : List (Option Refusal)) (state : RunState) → Grows state.arrivals (turned config turn piece verdicts state).arrivals
-grows_turned config turn piece verdicts state = at_test (is_turn turn.what)
+grows_turned config turn piece verdicts state = at_test (is_turn_answer turn.what)
   where
     at_test : (t : Bool) → Grows state.arrivals (cond t (occurred config turn.what piece verdicts (passed (next_moment state.now turn.secs) state)) state).arrivals
     at_test true =

@@ -7,7 +7,8 @@ use Rattle.event_core.specs.Core.{CoreConfig, Heard, Represents, forks_by, notic
 use Rattle.hub_meaning.specs.Clock.{next_moment}
 use Rattle.hub_meaning.specs.Legal.{AreSettled, IsLegal, IsLegalFrom, VerdictsIf, VerdictsIn, VerdictsOn}
 use Rattle.hub_meaning.specs.Links.{Link, find_link, is_open}
-use Rattle.hub_meaning.specs.Runs.{RunState, Step, after_step, first_state, is_turn, new_frames, notices_after, occurred, passed, plain, state_after, state_from, talk_of}
+use Rattle.hub_meaning.specs.Runs.{RunState, Step, after_step, first_state, new_frames, notices_after, occurred, passed, plain, state_after, state_from, talk_of}
+use Rattle.ports.specs.Playing.{is_turn_answer}
 use Rattle.hub_meaning.specs.Verdicts.{PatternsState, Refusal}
 use Rattle.hub_meaning.proofs.RunLaws.{legal_append, state_append}
 use Rattle.hub_link.proofs.HearLaws.{none_refused}
@@ -27,10 +28,11 @@ use Rattle.conn_core.specs.Occurring.{OccursFrom}
 use Rattle.conn_core.specs.Turning.{GotLines, SinkGot, Turns, longer, turn_step}
 use Rattle.conn_core.specs.declared.hub.Hub.{Hub}
 use Rattle.conn_core.specs.declared.stop.Stop.{Stop}
+use Rattle.conn_core.specs.declared.stop.Stop.TheVariants.{SinkFault, Memory as StopMemory}
 use Rattle.conn_core.proofs.LineLaws.{front_nothing}
 use Rattle.conn_core.proofs.NoticeLaws.{more_notices}
 
-pub turn_is : (what : What) → what ≢ Failed → what ≢ NoMemory → is_turn what ≡ true
+pub turn_is : (what : What) → what ≢ Failed → what ≢ NoMemory → is_turn_answer what ≡ true
 turn_is Idle fails none = refl
 turn_is (Opened number) fails none = refl
 turn_is (Read number count) fails none = refl
@@ -48,6 +50,10 @@ on_ok_from (Err e) fact = tt
 pub none_ok : {T E : Type 0} (P : Type 0) (r : Result T E) → IsErr r → OnOk r P
 none_ok P (Ok x) failed = absurd (cc failed)
 none_ok P (Err e) failed = tt
+
+-- where memory ran out the sink did not fail
+pub no_sink : (stop : Stop) (result : Result (Unit {0}) Stop) → result ≡ Err stop → stop ≡ StopMemory → result ≢ Err SinkFault
+no_sink stop result is memory sink = absurd (cc)
 
 err_front : {T E P : Type 0} (r : Result T E) → P → OnErr r P
 err_front (Ok x) fact = tt
@@ -74,7 +80,7 @@ none_in config Stopped piece state = refl
 none_in config Failed piece state = refl
 none_in config NoMemory piece state = refl
 
-module _ (turn : Turn) (piece : List ℕ) (hub : Hub) (config : CoreConfig) (steps : List Step) (is : is_turn turn.what ≡ true) (follows : Follows hub config steps) where
+module _ (turn : Turn) (piece : List ℕ) (hub : Hub) (config : CoreConfig) (steps : List Step) (is : is_turn_answer turn.what ≡ true) (follows : Follows hub config steps) where
   turned_is : (verdicts : List (Option Refusal)) → after_step config (turn_step (wants_in hub) turn piece verdicts) (state_after config steps)
       ≡ occurred config turn.what piece verdicts (passed (next_moment (state_after config steps).now turn.secs) (state_after config steps))
   turned_is verdicts =
@@ -95,9 +101,9 @@ module _ (turn : Turn) (piece : List ℕ) (hub : Hub) (config : CoreConfig) (ste
       (record { wanted = follows.state.links.wants; settled = follows.settled; verdicts = possible }, subst (IsLegalFrom config (plain run)) (sym (turned_is verdicts)) legal)
 
   -- out of memory while the seconds passed
-  pub turns_unpassed : (hub' : Hub) (patterns : PatternsState) (forks forks' : ℕ) (text : SinkGot) (result : Result (Unit {0}) Stop) → IsErr result
+  pub turns_unpassed : (hub' : Hub) (patterns : PatternsState) (forks forks' : ℕ) (text : SinkGot) (result : Result (Unit {0}) Stop) → IsErr result → result ≢ Err SinkFault
       → Turns turn piece hub hub' patterns patterns forks forks' text text result config steps []
-  turns_unpassed hub' patterns forks forks' text result failed =
+  turns_unpassed hub' patterns forks forks' text result failed no_sink =
       let tells = more_notices config steps (turn_step (wants_in hub) turn piece [] ∷ []) in
       record {
         verdicts = [];
@@ -107,6 +113,7 @@ module _ (turn : Turn) (piece : List ℕ) (hub : Hub) (config : CoreConfig) (ste
         notices = tells.is;
         lines = none_ok _ result failed;
         prefix = err_front result (front_nothing text.text (lines_of tells.made));
+        some = λ sink. absurd (no_sink sink);
         follows = none_ok _ result failed;
         counted = none_ok _ result failed;
       }
@@ -126,11 +133,11 @@ module _ (turn : Turn) (piece : List ℕ) (hub : Hub) (config : CoreConfig) (ste
       }
 
   -- out of memory at its occurrence
-  pub turns_unfinished : (one hub' : Hub) (patterns patterns' : PatternsState) (old new : Told) (forks forks' : ℕ) (text : SinkGot) (result : Result (Unit {0}) Stop) (failure : Result (Unit {0}) Memory) (run : List Entry) → IsErr result
+  pub turns_unfinished : (one hub' : Hub) (patterns patterns' : PatternsState) (old new : Told) (forks forks' : ℕ) (text : SinkGot) (result : Result (Unit {0}) Stop) (failure : Result (Unit {0}) Memory) (run : List Entry) → IsErr result → result ≢ Err SinkFault
       → IsAt one config (passed (next_moment (state_after config steps).now turn.secs) (state_after config steps))
       → OccursFrom turn.what piece one hub' patterns patterns' old new failure run
       → Turns turn piece hub hub' patterns patterns' forks forks' text text result config steps run
-  turns_unfinished one hub' patterns patterns' old new forks forks' text result failure run failed at occurs =
+  turns_unfinished one hub' patterns patterns' old new forks forks' text result failure run failed no_sink at occurs =
       let occurred_so = occurs config (passed (next_moment (state_after config steps).now turn.secs) (state_after config steps)) at follows.settled in
       let tells = more_notices config steps (turn_step (wants_in hub) turn piece occurred_so.verdicts ∷ plain run) in
       record {
@@ -141,6 +148,7 @@ module _ (turn : Turn) (piece : List ℕ) (hub : Hub) (config : CoreConfig) (ste
         notices = tells.is;
         lines = none_ok _ result failed;
         prefix = err_front result (front_nothing text.text (lines_of tells.made));
+        some = λ sink. absurd (no_sink sink);
         follows = none_ok _ result failed;
         counted = none_ok _ result failed;
       }
@@ -150,9 +158,9 @@ module _ (turn : Turn) (piece : List ℕ) (hub : Hub) (config : CoreConfig) (ste
       → ((arrivals : List Arrival) → Represents hub.core arrivals → Arrives hub.core one.core arrivals (replicate (next_moment (now_of hub.core) turn.secs - now_of hub.core) Elapsed) (told [] forks) middle)
       → IsAt one config (passed (next_moment (state_after config steps).now turn.secs) (state_after config steps))
       → OccursFrom turn.what piece one hub' patterns patterns' middle (told notices forks') (Ok tt) run
-      → OnOk result (GotLines text notices text') → OnErr result (GotPrefix text.text (lines_of notices) text'.text)
+      → OnOk result (GotLines text notices text') → OnErr result (GotPrefix text.text (lines_of notices) text'.text) → (result ≡ Err SinkFault → notices ≢ [])
       → Turns turn piece hub hub' patterns patterns' forks forks' text text' result config steps run
-  turns_told one hub' patterns patterns' middle notices forks forks' text text' result run arrives at occurs lines front =
+  turns_told one hub' patterns patterns' middle notices forks forks' text text' result run arrives at occurs lines front some =
       let occurred_so = occurs config (passed (next_moment (state_after config steps).now turn.secs) (state_after config steps)) at follows.settled in
       let verdicts : List (Option Refusal) = occurred_so.verdicts in
       let done = occurred_so.done in
@@ -174,6 +182,7 @@ module _ (turn : Turn) (piece : List ℕ) (hub : Hub) (config : CoreConfig) (ste
         notices = ap (notices_by config) arrivals ∙ both.notices ∙ ap (λ (ns : List Notice). notices_after config steps ++ ns) (sym both.told);
         lines = lines;
         prefix = front;
+        some = some;
         follows = on_ok_from result (record {
           legal = longer_legal verdicts run occurred_so.possible occurred_so.legal;
           state = subst (IsAt hub' config) (sym is) done.at;

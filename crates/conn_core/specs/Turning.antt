@@ -1,5 +1,5 @@
 -- What a turn does.
-use Rattle.std.specs.Prelude.{◌≡◌, ℕ, zero, suc, ◌+◌, List, ◌∷◌, ◌++◌, length, Option, Result, OnOk, OnErr}
+use Rattle.std.specs.Prelude.{◌≡◌, ◌≢◌, ℕ, zero, suc, ◌+◌, List, [], ◌∷◌, ◌++◌, length, Option, Result, Err, OnOk, OnErr}
 use Rattle.std.specs.Option.{option_map}
 use Rattle.ev_types.specs.declared.item.Notice.{Notice}
 use Rattle.event_core.specs.Core.{CoreConfig, forks_by}
@@ -16,6 +16,7 @@ use Rattle.ports.specs.Writing.{Got, GotPrefix}
 use Rattle.conn_core.specs.Hub.{Follows, wants_in}
 use Rattle.conn_core.specs.declared.hub.Hub.{Hub}
 use Rattle.conn_core.specs.declared.stop.Stop.{Stop}
+use Rattle.conn_core.specs.declared.stop.Stop.TheVariants.{SinkFault}
 
 -- what a sink of lines reports: all that it got, and how many puts succeeded
 pub record SinkGot : Type 0 where
@@ -59,6 +60,8 @@ pub record Turns (turn : Turn) (piece : List ℕ) (hub hub' : Hub) (patterns pat
   -- the lines of these notices were written, or a prefix of them
   pub lines : OnOk result (GotLines sink made sink')
   pub prefix : OnErr result (GotPrefix sink.text (lines_of made) sink'.text)
+  -- the sink failed only where there was a line to be written
+  pub some : result ≡ Err SinkFault → made ≢ []
   pub follows : OnOk result (Follows hub' config (longer steps (turn_step (wants_in hub) turn piece verdicts) run))
   pub counted : OnOk result (forks + forks_by config (state_after config (longer steps (turn_step (wants_in hub) turn piece verdicts) run)).arrivals
       ≡ forks' + forks_by config (state_after config steps).arrivals)

@@ -1,4 +1,4 @@
-ghost use Rattle.std.specs.Prelude.{◌≡◌, ◌≤◌, OnErr, OnOk};
+ghost use Rattle.std.specs.Prelude.{◌≡◌, ◌≢◌, ◌≤◌, [], Err, OnErr, OnOk};
 ghost use Rattle.conn_core.specs.Turning.{CountedPuts, GotLines, sink_got};
 ghost use Rattle.notice_sink.specs.Lines.{lines_of, notice_line};
 ghost use Rattle.ports.specs.Counts.{Rose};
@@ -20,6 +20,7 @@ pub(crate) fn write_lines<O: Sink>(
         (sink_got (O.text sink.new) (O.puts sink.new))) }
     ensures prefix { OnErr result (GotPrefix (O.text sink.old) (lines_of notices.now)
         (O.text sink.new)) }
+    ensures some { result ≡ Err Stop.SinkFault → notices.now ≢ [] }
     ensures fault { result ≡ Err Stop.SinkFault → Rose (O.faults sink.old) (O.faults sink.new) }
     ensures memory { result ≡ Err Stop.Memory → O.faults sink.new ≡ O.faults sink.old }
     ensures no_fault { OnOk result (O.faults sink.new ≡ O.faults sink.old) }

@@ -142,7 +142,7 @@ may_send link bytes meant can next some is =
     let outer = and_parts (is_open_status link.status || is_read_closed_status link.status) (not link.blocked && nat_lt 0 (length link.unsent)) can in
     let inner = and_parts (not link.blocked) (nat_lt 0 (length link.unsent)) outer.1 in
     record {
-      stands = ap (λ (s : Status). is_open_status s || is_read_closed_status s) (sym is.status) ∙ outer.0;
+      connected = ap (λ (s : Status). is_open_status s || is_read_closed_status s) (sym is.status) ∙ outer.0;
       free = sym is.blocked ∙ not_true link.blocked inner.0;
       some = some;
       next = next ∙ ap (take (length bytes)) is.unsent;

@@ -6,15 +6,15 @@ use Rattle.hub_meaning.specs.Links.{Link, ReadClosed}
 
 pub late_room_example : LateRoomExample
 late_room_example = (
-  (refl, (_, refl, record { stands = refl; free = refl; some = omega arith; next = refl })),
+  (refl, (_, refl, record { connected = refl; free = refl; some = omega arith; next = refl })),
   (
-    (refl, (_, refl, record { stands = refl; free = refl; some = omega arith; next = refl })),
+    (refl, (_, refl, record { connected = refl; free = refl; some = omega arith; next = refl })),
     (
       record { wanted = refl; settled = ((λ _. refl), tt); verdicts = refl },
       (
         record { wanted = refl; settled = ((omega arith, refl), tt); verdicts = refl },
         (
-          (refl, (_, refl, record { stands = refl; free = refl; some = omega arith; next = refl })),
+          (refl, (_, refl, record { connected = refl; free = refl; some = omega arith; next = refl })),
           ((refl, (_, refl, refl)), tt),
         ),
       ),

@@ -15,7 +15,8 @@ use Rattle.ports.specs.declared.links.What.TheVariants as what
 use Rattle.hub_meaning.specs.Clock.{next_moment}
 use Rattle.hub_meaning.specs.Links.{Link, ReadClosed, Closing, closed, broken, ended, find_link, is_above, is_connected, is_open, new_link, opened, sent, unblocked, unsent, with_status}
 use Rattle.hub_meaning.specs.Replies.{reply_to_oversized}
-use Rattle.hub_meaning.specs.Runs.{RunState, Step, Talk, after_entry, after_step, all_answered, answered, cut_off, first_state, is_oversized, is_turn, messages_in, occurred, passed, read_by, read_from, state_from, talk_of, turned, with_reply, with_talk}
+use Rattle.hub_meaning.specs.Runs.{RunState, Step, Talk, after_entry, after_step, all_answered, answered, cut_off, first_state, is_oversized, messages_in, occurred, passed, read_by, read_from, state_from, talk_of, turned, with_reply, with_talk}
+use Rattle.ports.specs.Playing.{is_turn_answer}
 use Rattle.hub_meaning.specs.Verdicts.{Message, Refusal}
 use Rattle.hub_meaning.specs.Legal.{IsLegalFrom, MayCome, MaySend}
 use Rattle.hub_meaning.specs.Laws.{AreRising, NumbersRise, PrefixesAreSent, SentPrefix}
@@ -105,7 +106,7 @@ sent_number bytes Failed link = refl
 sent_number bytes Memory link = refl
 
 rising_turned : (config : CoreConfig) (turn : Turn) (piece : List ℕ) (verdicts : List (Option Refusal)) (state : RunState) → AreRising state.links → AreRising (turned config turn piece verdicts state).links
-rising_turned config turn piece verdicts state rising = if_turn (is_turn turn.what)
+rising_turned config turn piece verdicts state rising = if_turn (is_turn_answer turn.what)
   where
     if_turn : (t : Bool) → AreRising (cond t (occurred config turn.what piece verdicts (passed (next_moment state.now turn.secs) state)) state).links
     if_turn true = rising_occurred config turn.what piece verdicts (passed (next_moment state.now turn.secs) state) rising
@@ -167,7 +168,7 @@ sent_occurred config what.Memory piece verdicts state all = all
 
 sent_turned : (config : CoreConfig) (turn : Turn) (piece : List ℕ) (verdicts : List (Option Refusal)) (state : RunState) → AllByRecursion SentPrefix state.links
     → AllByRecursion SentPrefix (turned config turn piece verdicts state).links
-sent_turned config turn piece verdicts state all = if_turn (is_turn turn.what)
+sent_turned config turn piece verdicts state all = if_turn (is_turn_answer turn.what)
   where
     if_turn : (t : Bool) → AllByRecursion SentPrefix (cond t (occurred config turn.what piece verdicts (passed (next_moment state.now turn.secs) state)) state).links
     if_turn true = sent_occurred config turn.what piece verdicts (passed (next_moment state.now turn.secs) state) all

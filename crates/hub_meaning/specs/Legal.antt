@@ -65,7 +65,7 @@ VerdictsIn config Memory piece verdicts state = verdicts ≡ []
 
 -- they are those that come next, on a connected link that is not blocked
 pub record MaySend (bytes : List ℕ) (link : Link) : Type 0 where
-  pub stands : is_connected link ≡ true
+  pub connected : is_connected link ≡ true
   pub free : link.blocked ≡ false
   pub some : 0 < length bytes
   pub next : bytes ≡ take (length bytes) (unsent link)

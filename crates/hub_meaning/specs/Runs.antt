@@ -8,6 +8,7 @@ use Rattle.framing.specs.Frames.{frames_of, partial, length_at}
 use Rattle.ports.specs.declared.entry.Entry.{Entry}
 use Rattle.ports.specs.declared.entry.Entry.TheVariants.{Listen, Next, Send, Close}
 use Rattle.ports.specs.declared.links.Turn.{Turn}
+use Rattle.ports.specs.Playing.{is_turn_answer}
 use Rattle.ports.specs.declared.links.What.{What}
 use Rattle.ports.specs.declared.links.What.TheVariants.{Idle, Opened, Read, Ended, Broken, Room, Stopped, Failed, Memory}
 use Rattle.stream_meaning.specs.Arrivals.{Arrival, Elapsed}
@@ -123,22 +124,10 @@ occurred config Stopped piece verdicts state = state
 occurred config Failed piece verdicts state = state
 occurred config Memory piece verdicts state = state
 
--- the answers that are turns
-abbrev pub is_turn : What → Bool
-is_turn Idle = true
-is_turn (Opened number) = true
-is_turn (Read number count) = true
-is_turn (Ended number) = true
-is_turn (Broken number) = true
-is_turn (Room number) = true
-is_turn Stopped = true
-is_turn Failed = false
-is_turn Memory = false
-
 -- a turn: its reading of the clock, and then its occurrence
 abbrev pub turned : CoreConfig → Turn → List ℕ → List (Option Refusal) → RunState → RunState
 turned config turn piece verdicts state =
-    if is_turn turn.what then occurred config turn.what piece verdicts (passed (next_moment state.now turn.secs) state) else state
+    if is_turn_answer turn.what then occurred config turn.what piece verdicts (passed (next_moment state.now turn.secs) state) else state
 
 abbrev pub after_entry : CoreConfig → Entry → List (Option Refusal) → RunState → RunState
 after_entry config (Listen address answer) verdicts state = state

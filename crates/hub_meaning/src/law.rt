@@ -25,7 +25,7 @@ pub fn prefixes_are_sent()
     ensures { PrefixesAreSent }
 {}
 
-/// Links stand in rising order of number.
+/// Links are in rising order of number.
 pub fn numbers_rise()
     ensures { NumbersRise }
 {}

@@ -30,8 +30,8 @@ module _ (setup : Setup) (limit : ℕ) (old new : RunReport) (hub hub' : Hub) (s
   opened_with : (calls : List Entry) → second ≡ calls → first ++ second ≡ opening setup secs ∷ calls
   opened_with calls are = ap (λ (run : List Entry). run ++ second) listens ∙ ap (λ (run : List Entry). opening setup secs ∷ run) are
 
-  stops_short : CutShort (config_at setup secs) limit old new second → StopsShort setup limit old new (first ++ second)
-  stops_short cut = record { secs = secs; turns = cut.turns; last = cut.last; are = opened_with _ cut.are; stops = cut.stops; going = cut.going }
+  stops_short : (fault : RunFault) → CutShort (config_at setup secs) limit fault old new second → StopsShort setup limit fault old new (first ++ second)
+  stops_short fault cut = record { secs = secs; turns = cut.turns; last = cut.last; are = opened_with _ cut.are; stops = cut.stops; going = cut.going }
 
   pub ends_well : TakesAll hub hub' limit old new (Ok tt) second → RunsTo setup limit old new (Ok hub') (first ++ second)
   ends_well takes =
@@ -50,10 +50,10 @@ module _ (setup : Setup) (limit : ℕ) (old new : RunReport) (hub hub' : Hub) (s
     wanted = lost.wanted;
     failed = lost.failed;
   })
-  ends_with Sink cut = stops_short cut
+  ends_with Sink cut = stops_short Sink cut
   ends_with Memory either = elim either [
     | inl gone ↦ inr (inl (record { secs = secs; turns = gone.turns; are = opened_with _ gone.are; takes = gone.takes; going = inr gone.going }))
-    | inr cut ↦ inr (inr (stops_short cut))
+    | inr cut ↦ inr (inr (stops_short Memory cut))
   ]
 
   pub ends_badly : (fault : RunFault) → TakesAll hub hub' limit old new (Err fault) second → RunsTo setup limit old new (Err fault) (first ++ second)

@@ -12,6 +12,7 @@ use Rattle.conn_core.specs.Hub.{Follows, wants_in}
 use Rattle.conn_core.specs.Known.{AreUnclosed}
 use Rattle.conn_core.specs.declared.hub.Hub.{Hub}
 use Rattle.conn_core.specs.declared.stop.Stop.{Stop}
+use Rattle.conn_core.specs.declared.stop.Stop.TheVariants.{SinkFault, Memory as StopMemory}
 use Rattle.hub_run.specs.Runs.{AddsRun, NotBegun, RunReport, TakesTurns}
 use Rattle.hub_run.specs.Taken.{GoesOn, HasEnded, MayGoOn, TakenTurn, entries_of, entries_of_turn, steps_of}
 use Rattle.hub_run.specs.Taking.{AllTaken, CutShort, DoesTurn, HasNoTurn, LinksLost, MemoryGone, StopsAt, TakesAll, TakesTurn, TurnsTo}
@@ -77,8 +78,8 @@ module _ (config : CoreConfig) (hub hub' : Hub) (old mid new : RunReport) (count
         follows = follows_more config old mid new hub hub' took.turns turn one.piece one.calls took.takes one.came one.once does;
       }
 
-  ends_cut : (limit : ℕ) → count < limit → (stop : Stop) → StopsAt hub hub' mid new stop second → CutShort config limit old new (first ++ second)
-  ends_cut limit fewer stop at =
+  ends_cut : (limit : ℕ) → count < limit → (fault : RunFault) (stop : Stop) → (fault ≡ Sink → stop ≡ SinkFault) → StopsAt hub hub' mid new stop second → CutShort config limit fault old new (first ++ second)
+  ends_cut limit fewer fault stop tells at =
       let one = at.cut in
       let does = one.does config (steps_of took.turns) took.follows in
       let last : TakenTurn = taken_turn (wants_in hub) at.turn one.piece does.verdicts one.calls in
@@ -86,7 +87,7 @@ module _ (config : CoreConfig) (hub hub' : Hub) (old mid new : RunReport) (count
         turns = took.turns;
         last = last;
         are = entries_with last one.are;
-        stops = stops_more config old mid new hub hub' took.turns at.turn one.piece one.calls took.takes one.came one.once stop does;
+        stops = stops_more config old mid new hub hub' took.turns at.turn one.piece one.calls took.takes one.came one.once fault stop tells does;
         going = may_go_on limit fewer;
       }
 
@@ -112,10 +113,10 @@ module _ (config : CoreConfig) (hub hub' : Hub) (old mid new : RunReport) (count
 
   ends_failed : (limit : ℕ) → count < limit → (fault : RunFault) → TakesTurn hub hub' mid new (Err fault) second → TurnsTo config limit old new hub' (Err fault) (first ++ second)
   ends_failed limit fewer Links one = ends_lost limit fewer one
-  ends_failed limit fewer Sink one = ends_cut limit fewer _ one
+  ends_failed limit fewer Sink one = ends_cut limit fewer Sink SinkFault (λ _. refl) one
   ends_failed limit fewer Memory one = elim one [
     | inl none ↦ inl (ends_gone limit fewer none)
-    | inr at ↦ inr (ends_cut limit fewer _ at)
+    | inr at ↦ inr (ends_cut limit fewer Memory StopMemory (λ is. absurd (cc is)) at)
   ]
 
 -- as many turns were taken as may be

@@ -8,7 +8,8 @@ use Rattle.ev_types.specs.declared.item.Notice.{Notice}
 use Rattle.event_core.specs.Core.{CoreConfig, forks_by}
 use Rattle.hub_link.specs.Added.{IsSendOrClose}
 use Rattle.hub_meaning.specs.Legal.{IsLegal}
-use Rattle.hub_meaning.specs.Runs.{Step, is_turn, notices_after, state_after}
+use Rattle.ports.specs.Playing.{is_turn_answer}
+use Rattle.hub_meaning.specs.Runs.{Step, notices_after, state_after}
 use Rattle.hub_meaning.specs.Verdicts.{AfterVerdicts, PatternsState, Refusal, is_refused, refused_text, texts_refused}
 use Rattle.list_laws.specs.Counts.{Rose}
 use Rattle.msg_replies.proofs.VerdictLaws.{appended_twice, no_verdicts}
@@ -22,6 +23,9 @@ use Rattle.conn_core.specs.Hub.{Follows, wants_in}
 use Rattle.conn_core.specs.Turning.{CountedPuts, GotLines, SinkGot, Turns, longer, puts_after, turn_step}
 use Rattle.conn_core.specs.declared.hub.Hub.{Hub}
 use Rattle.conn_core.specs.declared.stop.Stop.{Stop}
+use Rattle.conn_core.specs.declared.stop.Stop.TheVariants.{SinkFault}
+use Rattle.hub_run.specs.declared.fault.RunFault.{RunFault}
+use Rattle.hub_run.specs.declared.fault.RunFault.TheVariants.{Sink}
 use Rattle.conn_core.proofs.LineLaws.{counted_nothing, got_nothing, got_then}
 use Rattle.hub_run.specs.Runs.{RunReport, StopsIn, TakesTurns}
 use Rattle.hub_run.specs.Taken.{IsOneTurn, TakenTurn, entries_of, entries_of_turn, steps_of, steps_of_turn, verdicts_of, verdicts_of_turn}
@@ -108,7 +112,7 @@ abbrev pub taken_turn : List Want → Turn → List ℕ → List (Option Refusal
 taken_turn wants turn piece verdicts calls = record { wants = wants; turn = turn; piece = piece; verdicts = verdicts; calls = calls }
 
 module _ (config : CoreConfig) (old mid new : RunReport) (hub hub' : Hub) (turns : List TakenTurn) (turn : Turn) (piece : List ℕ) (calls : List Entry)
-    (takes : TakesTurns config old mid turns) (came : is_turn turn.what ≡ true) (once : AllByRecursion IsSendOrClose calls) where
+    (takes : TakesTurns config old mid turns) (came : is_turn_answer turn.what ≡ true) (once : AllByRecursion IsSendOrClose calls) where
   -- the turn was done
   pub follows_more : (does : Turns turn piece hub hub' mid.patterns new.patterns mid.forks new.forks mid.sink new.sink (Ok tt) config (steps_of turns) calls)
       → Follows hub' config (steps_of (turns ++ taken_turn (wants_in hub) turn piece does.verdicts calls ∷ []))
@@ -135,9 +139,9 @@ module _ (config : CoreConfig) (old mid new : RunReport) (hub hub' : Hub) (turns
       }
 
   -- the hub stopped in the middle of it
-  pub stops_more : (stop : Stop) → (does : Turns turn piece hub hub' mid.patterns new.patterns mid.forks new.forks mid.sink new.sink (Err stop) config (steps_of turns) calls)
-      → StopsIn config old new turns (taken_turn (wants_in hub) turn piece does.verdicts calls)
-  stops_more stop does =
+  pub stops_more : (fault : RunFault) (stop : Stop) → (fault ≡ Sink → stop ≡ SinkFault) → (does : Turns turn piece hub hub' mid.patterns new.patterns mid.forks new.forks mid.sink new.sink (Err stop) config (steps_of turns) calls)
+      → StopsIn config fault old new turns (taken_turn (wants_in hub) turn piece does.verdicts calls)
+  stops_more fault stop tells does =
       let last : TakenTurn = taken_turn (wants_in hub) turn piece does.verdicts calls in
       let is = steps_more turns last in
       record {
@@ -151,4 +155,5 @@ module _ (config : CoreConfig) (old mid new : RunReport) (hub hub' : Hub) (turns
         count = does.prefix.0;
         lines = got_then old.sink.text mid.sink.text new.sink.text (lines_of (notices_after config (steps_of turns))) (take does.prefix.0 (lines_of does.made))
             takes.lines.text does.prefix.1;
+        some = λ is. does.some (ap Err (tells is));
       }

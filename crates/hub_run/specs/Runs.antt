@@ -1,5 +1,5 @@
 -- What a run of a server comes to.
-use Rattle.std.specs.Prelude.{◌≡◌, ℕ, ◌+◌, ◌⊎◌, List, [], ◌∷◌, ◌++◌, take, Option, Result, Ok, Err}
+use Rattle.std.specs.Prelude.{◌≡◌, ◌≢◌, ℕ, ◌+◌, ◌⊎◌, List, [], ◌∷◌, ◌++◌, take, Option, Result, Ok, Err}
 use Rattle.std.specs.List.{AllByRecursion}
 use Rattle.conn_core.specs.Hub.{Follows}
 use Rattle.conn_core.specs.Turning.{GotLines, SinkGot}
@@ -59,9 +59,9 @@ pub record TakesTurns (config : CoreConfig) (old new : RunReport) (turns : List 
   pub lines : GotLines old.sink (notices_after config (steps_of turns)) new.sink
   pub forks : new.forks ≡ old.forks + forks_by config (state_after config (steps_of turns)).arrivals
 
--- Whole turns, and then one that was not finished. The lines of the whole turns were written, and a prefix of those of
--- the last.
-pub record StopsIn (config : CoreConfig) (old new : RunReport) (turns : List TakenTurn) (last : TakenTurn) : Type 0 where
+-- Whole turns, and then one that was not finished for this fault. The lines of the whole turns were written, and a prefix
+-- of those of the last. The sink failed only where the last had one.
+pub record StopsIn (config : CoreConfig) (fault : RunFault) (old new : RunReport) (turns : List TakenTurn) (last : TakenTurn) : Type 0 where
   pub legal : IsLegal config (steps_of (turns ++ last ∷ []))
   pub settled : AreSettled (state_after config (steps_of turns)).links
   pub each : AllByRecursion IsOneTurn (turns ++ last ∷ [])
@@ -70,6 +70,7 @@ pub record StopsIn (config : CoreConfig) (old new : RunReport) (turns : List Tak
   pub notices : notices_after config (steps_of (turns ++ last ∷ [])) ≡ notices_after config (steps_of turns) ++ made
   pub count : ℕ
   pub lines : Got old.sink.text (lines_of (notices_after config (steps_of turns)) ++ take count (lines_of made)) new.sink.text
+  pub some : fault ≡ Sink → made ≢ []
 
 -- ---- how a run ends
 
@@ -102,13 +103,13 @@ pub record LosesLinks (setup : Setup) (limit : ℕ) (old new : RunReport) (run :
   pub wanted : wants ≡ wants_of (state_after (config_at setup secs) (steps_of turns)).links
   pub failed : turn.what ≡ Failed
 
--- a turn was not finished
-pub record StopsShort (setup : Setup) (limit : ℕ) (old new : RunReport) (run : List Entry) : Type 0 where
+-- a turn was not finished for this fault
+pub record StopsShort (setup : Setup) (limit : ℕ) (fault : RunFault) (old new : RunReport) (run : List Entry) : Type 0 where
   pub secs : ℕ
   pub turns : List TakenTurn
   pub last : TakenTurn
   pub are : run ≡ opening setup secs ∷ entries_of (turns ++ last ∷ [])
-  pub stops : StopsIn (config_at setup secs) old new turns last
+  pub stops : StopsIn (config_at setup secs) fault old new turns last
   pub going : MayGoOn limit turns
 
 -- memory ran out before the first turn was asked for, or when a turn was
@@ -127,5 +128,5 @@ pub record NotBegun (old new : RunReport) (run : List Entry) : Type 0 where
 abbrev pub RunsTo : Setup → ℕ → RunReport → RunReport → Result Hub RunFault → List Entry → Type 0
 RunsTo setup limit old new (Ok hub) run = Finishes setup limit old new hub run
 RunsTo setup limit old new (Err Links) run = CannotListen setup old new run ⊎ LosesLinks setup limit old new run
-RunsTo setup limit old new (Err Sink) run = StopsShort setup limit old new run
-RunsTo setup limit old new (Err Memory) run = NotBegun old new run ⊎ (RunsOut setup limit old new run ⊎ StopsShort setup limit old new run)
+RunsTo setup limit old new (Err Sink) run = StopsShort setup limit Sink old new run
+RunsTo setup limit old new (Err Memory) run = NotBegun old new run ⊎ (RunsOut setup limit old new run ⊎ StopsShort setup limit Memory old new run)

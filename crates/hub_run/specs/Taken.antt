@@ -3,7 +3,8 @@ use Rattle.std.specs.Prelude.{◌≡◌, ◌≢◌, ℕ, ◌<◌, ◌⊎◌, tru
 use Rattle.std.specs.List.{AllByRecursion, flat_map}
 use Rattle.conn_core.specs.Turning.{turn_step}
 use Rattle.hub_link.specs.Added.{IsSendOrClose}
-use Rattle.hub_meaning.specs.Runs.{Step, is_turn, plain}
+use Rattle.hub_meaning.specs.Runs.{Step, plain}
+use Rattle.ports.specs.Playing.{is_turn_answer}
 use Rattle.hub_meaning.specs.Verdicts.{Refusal}
 use Rattle.ports.specs.declared.entry.Entry.{Entry}
 use Rattle.ports.specs.declared.entry.Entry.TheVariants.{Next}
@@ -42,7 +43,7 @@ verdicts_of turns = flat_map verdicts_of_turn turns
 
 -- What came is a turn, and neither that the links failed nor that memory ran out. Within it no other was asked for.
 pub record IsOneTurn (taken : TakenTurn) : Type 0 where
-  pub came : is_turn taken.turn.what ≡ true
+  pub came : is_turn_answer taken.turn.what ≡ true
   pub once : AllByRecursion IsSendOrClose taken.calls
 
 -- ---- when a run is over

@@ -9,7 +9,8 @@ use Rattle.conn_core.specs.declared.stop.Stop.TheVariants.{SinkFault, Memory as 
 use Rattle.event_core.specs.Core.{CoreConfig}
 use Rattle.hub_link.specs.Added.{IsSendOrClose}
 use Rattle.hub_meaning.specs.Links.{wants_of}
-use Rattle.hub_meaning.specs.Runs.{is_turn, state_after}
+use Rattle.hub_meaning.specs.Runs.{state_after}
+use Rattle.ports.specs.Playing.{is_turn_answer}
 use Rattle.ports.specs.Links.{piece_of}
 use Rattle.ports.specs.declared.entry.Entry.{Entry}
 use Rattle.ports.specs.declared.entry.Entry.TheVariants.{Listen, Next}
@@ -51,7 +52,7 @@ pub record DoesTurn (hub hub' : Hub) (old new : RunReport) (result : Result (Uni
   pub piece : List ℕ
   pub calls : List Entry
   pub are : run ≡ Next (wants_in hub) turn piece ∷ calls
-  pub came : is_turn turn.what ≡ true
+  pub came : is_turn_answer turn.what ≡ true
   pub once : AllByRecursion IsSendOrClose calls
   pub does : TurnsFrom turn piece hub hub' old.patterns new.patterns old.forks new.forks old.sink new.sink result calls
 
@@ -89,11 +90,11 @@ pub record LinksLost (config : CoreConfig) (limit : ℕ) (old new : RunReport) (
   pub wanted : wants ≡ wants_of (state_after config (steps_of turns)).links
   pub failed : turn.what ≡ Failed
 
-pub record CutShort (config : CoreConfig) (limit : ℕ) (old new : RunReport) (run : List Entry) : Type 0 where
+pub record CutShort (config : CoreConfig) (limit : ℕ) (fault : RunFault) (old new : RunReport) (run : List Entry) : Type 0 where
   pub turns : List TakenTurn
   pub last : TakenTurn
   pub are : run ≡ entries_of (turns ++ last ∷ [])
-  pub stops : StopsIn config old new turns last
+  pub stops : StopsIn config fault old new turns last
   pub going : MayGoOn limit turns
 
 pub record MemoryGone (config : CoreConfig) (limit : ℕ) (old new : RunReport) (run : List Entry) : Type 0 where
@@ -105,8 +106,8 @@ pub record MemoryGone (config : CoreConfig) (limit : ℕ) (old new : RunReport) 
 abbrev pub TurnsTo : CoreConfig → ℕ → RunReport → RunReport → Hub → Result (Unit {0}) RunFault → List Entry → Type 0
 TurnsTo config limit old new hub (Ok done) run = AllTaken config limit old new hub run
 TurnsTo config limit old new hub (Err Links) run = LinksLost config limit old new run
-TurnsTo config limit old new hub (Err Sink) run = CutShort config limit old new run
-TurnsTo config limit old new hub (Err Memory) run = MemoryGone config limit old new run ⊎ CutShort config limit old new run
+TurnsTo config limit old new hub (Err Sink) run = CutShort config limit Sink old new run
+TurnsTo config limit old new hub (Err Memory) run = MemoryGone config limit old new run ⊎ CutShort config limit Memory old new run
 
 abbrev pub TakesAll : Hub → Hub → ℕ → RunReport → RunReport → Result (Unit {0}) RunFault → List Entry → Type 0
 TakesAll hub hub' limit old new result run = (config : CoreConfig) → Follows hub config [] → TurnsTo config limit old new hub' result run

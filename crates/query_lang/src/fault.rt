@@ -1,6 +1,7 @@
 ghost use Rattle.std.specs.Prelude.{◌≡◌};
 ghost use Rattle.query_lang.specs.declared.fault.QueryFault.TheVariants.{Memory as out_of_memory};
 
+use crate::MAX_BYTES;
 use ev_types::Memory;
 use thiserror::Error;
 
@@ -8,7 +9,7 @@ use thiserror::Error;
 #[derive(Clone, Copy, Debug, PartialEq, Eq, Error)]
 pub enum QueryFault {
     /// The text has `length` bytes, which are more than 4,096.
-    #[error("query of {length} bytes over 4096")]
+    #[error("query of {length} bytes over {most}", most = MAX_BYTES)]
     TooLong { length: usize },
     /// No query goes on as the text does at `place`, counted in bytes from its start: there is a token that may
     /// not come here, or no token, or the text ends, and then `place` is its length.

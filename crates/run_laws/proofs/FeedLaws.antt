@@ -22,7 +22,7 @@ use Rattle.hub_meaning.specs.Clock.{next_moment}
 use Rattle.hub_meaning.specs.Laws.{AreRising, SentPrefix}
 use Rattle.hub_meaning.specs.Legal.{AreSettled, IsLegal, IsLegalFrom, MayCome}
 use Rattle.hub_meaning.specs.Links.{Link, changed, find_link, sent, unsent}
-use Rattle.hub_meaning.specs.Runs.{RunState, Step, after_entry, after_step, entry_of, first_state, is_turn, occurred, passed, state_after, state_from, turned}
+use Rattle.hub_meaning.specs.Runs.{RunState, Step, after_entry, after_step, entry_of, first_state, occurred, passed, state_after, state_from, turned}
 use Rattle.hub_meaning.specs.Verdicts.{Refusal}
 use Rattle.hub_meaning.proofs.LinkLaws.{all_found}
 use Rattle.hub_meaning.proofs.PrefixLaws.{prefixes_are_sent_lem, rising_entry}
@@ -81,20 +81,9 @@ took_all play link bytes answer quiet is = is ∙ ap (λ (r : SendRule). send_an
 
 -- ---- one call
 
-answer_succeeded : (happened : What) → is_turn happened ≡ true → is_turn_answer happened ≡ true
-answer_succeeded what.Idle is = refl
-answer_succeeded (what.Opened number) is = refl
-answer_succeeded (what.Read number count) is = refl
-answer_succeeded (what.Ended number) is = refl
-answer_succeeded (what.Broken number) is = refl
-answer_succeeded (what.Room number) is = refl
-answer_succeeded what.Stopped is = refl
-answer_succeeded what.Failed is = absurd (cc is)
-answer_succeeded what.Memory is = absurd (cc is)
-
 free_turned : (config : CoreConfig) (turn : Turn) (piece : List ℕ) (verdicts : List (Option Refusal)) (state : RunState) (play : Playing) → IsQuiet play
     → (is_turn_answer turn.what ≡ true → turn ≡ (first_turn play.steps play.secs).turn) → AreFree state.links → AreFree (turned config turn piece verdicts state).links
-free_turned config turn piece verdicts state play quiet answered all = by (is_turn turn.what) (answer_succeeded turn.what)
+free_turned config turn piece verdicts state play quiet answered all = by (is_turn_answer turn.what) (λ is. is)
   where
     by : (t : Bool) → (t ≡ true → is_turn_answer turn.what ≡ true)
         → AreFree (cond t (occurred config turn.what piece verdicts (passed (next_moment state.now turn.secs) state)) state).links

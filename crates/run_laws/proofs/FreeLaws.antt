@@ -65,7 +65,7 @@ free_unblocked link old = choice (is_connected link) (record link { blocked = fa
 free_sent : (bytes : List ℕ) (link : Link) → MaySend bytes link → IsFree (sent bytes (Took (length bytes)) link)
 free_sent bytes link may = record {
   free = ne_eqb (length bytes) 0 (λ none. omega (arith, may.some, none));
-  whole = connected_whole (unsent (sent bytes (Took (length bytes)) link)) link.status may.stands;
+  whole = connected_whole (unsent (sent bytes (Took (length bytes)) link)) link.status may.connected;
 }
 
 free_closed : (link : Link) → MayClose link → IsFree link → IsFree (closed link)

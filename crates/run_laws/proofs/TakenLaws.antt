@@ -5,7 +5,7 @@ use Rattle.std.specs.Option.{option_map}
 use Rattle.std.proofs.lemmas.Bool.{eqb-true, eq-eqb}
 use Rattle.event_core.specs.Core.{CoreConfig}
 use Rattle.framing.specs.Frames.{length_at, partial}
-use Rattle.ports.specs.Playing.{bytes_taken, taken_by, taken_by_send}
+use Rattle.ports.specs.Playing.{bytes_taken, is_turn_answer, taken_by, taken_by_send}
 use Rattle.ports.specs.declared.entry.Entry.{Entry}
 use Rattle.ports.specs.declared.entry.Entry.TheVariants.{Listen, Next, Send, Close}
 use Rattle.ports.specs.declared.links.SendAnswer.{SendAnswer}
@@ -18,7 +18,7 @@ use Rattle.hub_meaning.specs.Legal.{IsLegalFrom, MayCome}
 use Rattle.hub_meaning.specs.declared.status.Status.TheVariants.{ReadClosed, Closing}
 use Rattle.hub_meaning.specs.Links.{Link, changed, closed, broken, ended, find_link, has_number, is_above, is_connected, is_open, new_link, opened, sent, unblocked, with_status}
 use Rattle.hub_meaning.specs.Replies.{reply_to_oversized}
-use Rattle.hub_meaning.specs.Runs.{RunState, Step, Talk, after_entry, after_step, all_answered, answered, cut_off, entry_of, is_oversized, is_turn, messages_in, occurred, passed, read_by, read_from, state_from, talk_of, turned, with_reply, with_talk}
+use Rattle.hub_meaning.specs.Runs.{RunState, Step, Talk, after_entry, after_step, all_answered, answered, cut_off, entry_of, is_oversized, messages_in, occurred, passed, read_by, read_from, state_from, talk_of, turned, with_reply, with_talk}
 use Rattle.hub_meaning.specs.Verdicts.{Message, Refusal}
 use Rattle.hub_meaning.proofs.LinkLaws.{KeepsNumber, broken_number, ended_number, found_number, unblocked_number}
 use Rattle.run_laws.specs.Taking.{taken_of, taken_on}
@@ -199,7 +199,7 @@ taken_occurred config what.Memory piece verdicts state number = refl
 
 taken_turned : (config : CoreConfig) (turn : Turn) (piece : List ℕ) (verdicts : List (Option Refusal)) (state : RunState) (number : ℕ)
     → taken_on number (turned config turn piece verdicts state).links ≡ taken_on number state.links
-taken_turned config turn piece verdicts state number = by (is_turn turn.what)
+taken_turned config turn piece verdicts state number = by (is_turn_answer turn.what)
   where
     by : (t : Bool) → taken_on number (cond t (occurred config turn.what piece verdicts (passed (next_moment state.now turn.secs) state)) state).links ≡ taken_on number state.links
     by true = taken_occurred config turn.what piece verdicts (passed (next_moment state.now turn.secs) state) number

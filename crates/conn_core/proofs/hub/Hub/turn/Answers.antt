@@ -1,4 +1,4 @@
-use Rattle.std.proofs.Common.{◌-◌, List, [], replicate, Ok, Err, refl, subst}
+use Rattle.std.proofs.Common.{◌∙◌, ◌-◌, List, [], replicate, Ok, Err, refl, subst}
 use Rattle.std.proofs.lemmas.Result.{err_from_is_err_and}
 use Rattle.ev_types.specs.declared.item.Notice.{Notice}
 use Rattle.event_core.specs.Core.{Represents, now_of}
@@ -13,7 +13,7 @@ use Rattle.conn_core.specs.Occurring.{OccursFrom}
 use Rattle.conn_core.specs.Turning.{GotLines, TurnsFrom, sink_got}
 use Rattle.conn_core.specs.declared.hub.Hub.{Hub}
 use Rattle.conn_core.proofs.KnownLaws.{opened_by}
-use Rattle.conn_core.proofs.TurnLaws.{passed_at, turn_is, turns_told, turns_unfinished, turns_unpassed}
+use Rattle.conn_core.proofs.TurnLaws.{no_sink, passed_at, turn_is, turns_told, turns_unfinished, turns_unpassed}
 use Rattle.conn_core.proofs.hub.Hub.turn.Goals as goal
 
 pub occur-requires-clause-opened : goal.occur-requires-clause-opened
@@ -29,7 +29,7 @@ returns-in_err-pass-clause-turns g c =
     rw p.1 (added_nothing (g.L.Links.log c.args.links.now)
     (TurnsFrom c.args.turn c.args.piece.now hub hub' patterns patterns c.args.steps.now.forks c.pass.new.steps.forks text text (Err p.0))
     (λ config steps follows. turns_unpassed c.args.turn c.args.piece.now hub config steps (turn_is c.args.turn.what c.requires.failed c.requires.memory) follows
-    hub' patterns c.args.steps.now.forks c.pass.new.steps.forks text (Err p.0) refl))
+    hub' patterns c.args.steps.now.forks c.pass.new.steps.forks text (Err p.0) refl (no_sink p.0 (Err p.0) refl p.2)))
 
 pub returns-in_err-occur-clause-turns : goal.returns-in_err-occur-clause-turns
 returns-in_err-occur-clause-turns g c =
@@ -50,7 +50,7 @@ returns-in_err-occur-clause-turns g c =
     (TurnsFrom c.args.turn c.args.piece.now hub hub' patterns patterns' forks forks' text text (Err p.0))
     (λ run occurs config steps follows.
     let is = turn_is c.args.turn.what c.requires.failed c.requires.memory in
-    turns_unfinished c.args.turn c.args.piece.now hub config steps is follows one hub' patterns patterns' middle after forks forks' text (Err p.0) (Err c.in_err-occur.field-0.0) run refl
+    turns_unfinished c.args.turn c.args.piece.now hub config steps is follows one hub' patterns patterns' middle after forks forks' text (Err p.0) (Err c.in_err-occur.field-0.0) run refl (no_sink p.0 (Err p.0) refl p.2)
     (passed_at c.args.turn c.args.piece.now hub config steps is follows c.pass.new.core (told c.fresh-notices.result forks) middle c.in_ok-pass.ensures.now c.in_ok-pass.ensures.arrives) occurs)
     c.in_err-occur.ensures.occurs)
 
@@ -77,7 +77,7 @@ returns-in_err-write_lines-clause-turns g c =
     (λ run occurs config steps follows.
     let is = turn_is c.args.turn.what c.requires.failed c.requires.memory in
     turns_told c.args.turn c.args.piece.now hub config steps is follows one hub' patterns patterns' middle notices forks forks' text text' (Err p.0) run arrives
-    (passed_at c.args.turn c.args.piece.now hub config steps is follows c.pass.new.core (told [] forks) middle c.in_ok-pass.ensures.now arrives) occurs tt front)
+    (passed_at c.args.turn c.args.piece.now hub config steps is follows c.pass.new.core (told [] forks) middle c.in_ok-pass.ensures.now arrives) occurs tt front (λ is none. let same = p.2 in c.in_err-write_lines.ensures.some (cc) (c.as_slice.ensures ∙ none)))
     c.in_ok-occur.ensures.occurs)
 
 pub returns-clause-turns : goal.returns-clause-turns
@@ -102,5 +102,5 @@ returns-clause-turns g c =
     (λ run occurs config steps follows.
     let is = turn_is c.args.turn.what c.requires.failed c.requires.memory in
     turns_told c.args.turn c.args.piece.now hub config steps is follows one hub' patterns patterns' middle notices forks forks' text text' (Ok tt) run arrives
-    (passed_at c.args.turn c.args.piece.now hub config steps is follows c.pass.new.core (told [] forks) middle c.in_ok-pass.ensures.now arrives) occurs lines tt)
+    (passed_at c.args.turn c.args.piece.now hub config steps is follows c.pass.new.core (told [] forks) middle c.in_ok-pass.ensures.now arrives) occurs lines tt (λ bad. absurd (cc bad)))
     c.in_ok-occur.ensures.occurs
