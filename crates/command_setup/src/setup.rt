@@ -37,9 +37,11 @@ pub fn fetch_setup<S: Store, P: Patterns>(
     ensures reads { IfErr result (λ ending. Reads (name.now ∷ []) (IsReadOnce ending)
         (S.reads store.old) (S.reads store.new) ending) }
     ensures quiet { OnOk result (S.faults store.new ≡ S.faults store.old) }
-    ensures same { OnOk result (patterns_state (P.refusals patterns.new) (P.refused patterns.new) ≡
+    ensures same { OnOk result
+        (patterns_state (P.refusals patterns.new) (P.refused patterns.new) ≡
         patterns_state (P.refusals patterns.old) (P.refused patterns.old)) }
-    ensures unasked { IfErr result (λ ending. HasNoConfig ending → patterns.new ≡ patterns.old) }
+    ensures unasked { IfErr result (λ ending. HasNoConfig ending →
+        patterns.new ≡ patterns.old) }
     ensures held { S.held store.new ≡ S.held store.old }
     ensures taken { S.taken store.old ≤ S.taken store.new }
 {

@@ -20,13 +20,14 @@ use std::marker::Model;
 use std::str::from_utf8;
 use thiserror::Error;
 
+// A text that is read or copied takes no memory where it has at most this many bytes.
+const SHORT: usize = 24;
+
 /// A text, which contracts see as its bytes. They are UTF-8. Texts are ordered by their bytes.
-///
-/// A text of at most 24 bytes takes no memory of its own.
 #[derive(Drop)]
 pub struct Text {
     // The bytes are in `long` where it has any, and else in `short`.
-    short: ArrayString<24>,
+    short: ArrayString<SHORT>,
     long: String,
 }
 
@@ -59,6 +60,7 @@ impl Model for Text {
 
 impl Text {
     /// The text that the bytes spell.
+    #[inline]
     pub fn read(alloc: Global, bytes: &[u8]) -> Result<Text, TextFault>
         ensures text { IfOk result (λ text. IsUtf8 bytes.now × (text ≡ bytes.now)) }
         ensures fault { IfErr result (IsNoText bytes.now) }
@@ -71,17 +73,20 @@ impl Text {
         }
     }
 
-    /// A text of the same characters.
+    /// A text of the same characters. At most 24 bytes take no memory.
+    #[inline]
     pub fn from_str(alloc: Global, chars: &str) -> Result<Text, Memory>
         ensures { IfOk result (λ text. text ≡ chars.now) }
     {
-        if let Ok(short) = ArrayString::from(chars) {
-            return Ok(Text {
-                short,
-                long: String::new(alloc),
-            });
+        if chars.len() > SHORT {
+            return Ok(Text::from_string(String::from_str(alloc, chars)?));
         }
-        Ok(Text::from_string(String::from_str(alloc, chars)?))
+        let mut short = ArrayString::new();
+        short.push_str(chars);
+        Ok(Text {
+            short,
+            long: String::new(alloc),
+        })
     }
 
     /// The text of these characters, with no copy.

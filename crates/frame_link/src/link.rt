@@ -153,7 +153,7 @@ impl FrameLink {
     }
 }
 
-/// Reads the length at the start, where four bytes stand, and compares it with what follows.
+/// Reads the length at the start, where there are four bytes, and compares it with what follows.
 #[tactic(auto, unfolding(framing::specs::Frames::length_at))]
 fn look_at(bytes: &[u8]) -> Look
     ensures { Sees bytes.now result }

@@ -199,7 +199,8 @@ impl HubLink {
 
     /// Whether the link is to be closed: it does not work, it is one too many, or no more is read of it and all was sent.
     pub fn is_over(&self) -> bool
-        ensures { (meant : Link) → RepresentsLink self.now meant → IsTrue result ↔ MayClose meant }
+        ensures { (meant : Link) → RepresentsLink self.now meant →
+            IsTrue result ↔ MayClose meant }
     {
         is_over_as(self.status, self.unsent.len())
     }

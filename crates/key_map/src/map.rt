@@ -43,8 +43,8 @@ impl KeyMap {
 
     /// The number of the key. It takes no memory.
     pub fn get(&self, host: Option<&Text>, service: Option<&Text>) -> Option<usize>
-        ensures number { result ≡ number_at (option_copied host.entry, option_copied service.entry)
-            self.now }
+        ensures number { result
+            ≡ number_at (option_copied host.entry, option_copied service.entry) self.now }
         ensures rising { IsRising self.now }
     {
         match host {
@@ -74,8 +74,8 @@ impl KeyMap {
 
     /// Removes the key, if it has a number, and gives that. It takes no memory.
     pub fn remove(&mut self, host: Option<&Text>, service: Option<&Text>) -> Option<usize>
-        ensures number { result ≡ number_at (option_copied host.entry, option_copied service.entry)
-            self.old }
+        ensures number { result
+            ≡ number_at (option_copied host.entry, option_copied service.entry) self.old }
         ensures removed { Sets self.old self.new
             (option_copied host.entry, option_copied service.entry)
             None }

@@ -3,6 +3,10 @@ ghost use Rattle.std.specs.Prelude.{◌≡◌, ◌<◌, List, [], ◌∷◌, ◌
 use crate::Memory;
 use std::alloc::Global;
 use std::marker::Model;
+use std::mem::size_of_val;
+
+// An item of more bytes than this is large.
+const LARGE: usize = 64;
 
 /// A growing list, which contracts see as the list of its items.
 #[derive(Drop)]
@@ -62,12 +66,13 @@ impl<T: Drop> Items<T> {
         &self.items[i]
     }
 
-    /// Adds the item at the end. A list takes room for one item first, since most lists have no more.
+    /// Adds the item at the end. A list of large items takes room for one first, since most such lists have no more.
+    #[inline]
     pub fn push(&mut self, _alloc: Global, item: T) -> Result<(), Memory>
         ensures ok { OnOk result (self.new ≡ self.old ++ item ∷ []) }
         ensures err { OnErr result (self.new ≡ self.old) }
     {
-        if self.items.capacity() == 0 {
+        if size_of_val(&item) > LARGE && self.items.capacity() == 0 {
             self.items.reserve_exact(1)?;
         }
         self.items.push(item)?;

@@ -398,7 +398,8 @@ fn due_moment(event: &Event) -> Option<u64>
 
 /// Whether the event is late from this moment on, or never where there is none.
 fn is_late_from(event: &Event, due: Option<u64>) -> bool
-    ensures { result ≡ true → (now : ℕ) → now ≤ 2 ^ 40 → is_by now due ≡ is_late now event.now }
+    ensures { result ≡ true → (now : ℕ) → now ≤ 2 ^ 40 →
+        is_by now due ≡ is_late now event.now }
 {
     due_moment(event) == due
 }

@@ -68,7 +68,8 @@ impl Sockets {
         requires { length buf.old ≡ PIECE_LIMIT }
         ensures within { IfOk result (IsPieceWithin PIECE_LIMIT) }
         ensures given { IfOk result IsGiven }
-        ensures link { IfOk result (λ what. OfLink what (λ link. has_link self.new link ≡ true)) }
+        ensures link { IfOk result
+            (λ what. OfLink what (λ link. has_link self.new link ≡ true)) }
         ensures opens { IfOk result (OpensAt next_link) }
     {
         if self.queue.left() == 0 {

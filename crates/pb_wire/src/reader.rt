@@ -83,8 +83,10 @@ impl<'a> FieldReader<'a> {
     #[inline(always)]
     pub fn next(&mut self) -> Next
         ensures answer { result ≡ next_at self.old.bytes self.old.place }
-        ensures moves { self.new
-            ≡ record { bytes = self.old.bytes; place = next_place self.old.bytes self.old.place } }
+        ensures moves { self.new ≡ record {
+          bytes = self.old.bytes;
+          place = next_place self.old.bytes self.old.place;
+        } }
         ensures steps { Steps self.old result self.new }
     {
         let (next, place) = step(self.bytes, self.place);

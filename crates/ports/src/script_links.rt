@@ -177,8 +177,8 @@ impl Place {
         ensures rest { OnOk result (drop self.new.next self.old.script.steps
             ≡ (first_turn (drop self.old.next self.old.script.steps) self.old.secs).rest) }
         ensures secs { IfOk result (λ turn. self.new.secs ≡ turn.secs) }
-        ensures rules { OnOk result (rules_in self.new.rules
-            ≡ rules_at_turn (drop self.old.next self.old.script.steps) (rules_in self.old.rules)) }
+        ensures rules { OnOk result (rules_in self.new.rules ≡ rules_at_turn
+            (drop self.old.next self.old.script.steps) (rules_in self.old.rules)) }
     {
         let (_, steps) = self.script.steps.as_slice().split_at(self.next);
         let count = apply_rules(steps, &mut self.rules)?;

@@ -151,8 +151,8 @@ fn put_tagged(alloc: Global, tag: &Text, out: &mut Blob) -> Result<(), Memory>
 }
 
 fn put_equal(alloc: Global, field: &Field, value: &Value, out: &mut Blob) -> Result<(), Memory>
-    ensures ok { OnOk result
-        (out.new ≡ out.old ++ (field_name field.now ++ (codes " = " ++ value_spelling value.now))) }
+    ensures ok { OnOk result (out.new ≡ out.old
+        ++ (field_name field.now ++ (codes " = " ++ value_spelling value.now))) }
     ensures err { OnErr result (IsPrefix out.old out.new) }
 {
     out.append(alloc, field.name().as_bytes())?;

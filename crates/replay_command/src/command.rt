@@ -42,7 +42,8 @@ pub fn replay<S: Store, O: Sink, E: Sink, P: Patterns, G: Ledger>(
         (patterns.new ≡ patterns.old) result }
     ensures read_fault { result ≡ Status.ReadFault →
         Rose (S.faults store.old) (S.faults store.new) }
-    ensures sink_fault { result ≡ Status.SinkFault → Rose (O.faults out.old) (O.faults out.new) }
+    ensures sink_fault { result ≡ Status.SinkFault →
+        Rose (O.faults out.old) (O.faults out.new) }
     ensures links_work { result ≢ Status.LinkFault }
     ensures untouched { IsRefusal result → out.new ≡ out.old }
     ensures no_line { HasNoLine result → err.new ≡ err.old }

@@ -51,7 +51,8 @@ pub fn riemann<S: Store, L: Links, O: Sink, E: Sink, P: Patterns, G: Ledger>(
     // What holds of all commands. No command matches the words exactly where the status says so.
     ensures usage { (result ≡ Status.Usage) ↔ IsUsage words.now }
     ensures command { result ≢ Status.Usage → IsCommand words.now }
-    ensures idle { result ≡ Status.Usage → (store.new ≡ store.old) × (links.new ≡ links.old) ×
+    ensures idle { result ≡ Status.Usage →
+        (store.new ≡ store.old) × (links.new ≡ links.old) ×
         (patterns.new ≡ patterns.old) × (steps.new ≡ steps.old) × GotLineOf usage_line
         (sink_report (E.text err.old) (E.puts err.old) (E.faults err.old))
         (sink_report (E.text err.new) (E.puts err.new) (E.faults err.new)) }

@@ -42,7 +42,8 @@ pub fn serve<S: Store, L: Links, O: Sink, E: Sink, P: Patterns, G: Ledger>(
         (patterns.new ≡ patterns.old) result }
     ensures read_fault { result ≡ Status.ReadFault →
         Rose (S.faults store.old) (S.faults store.new) }
-    ensures sink_fault { result ≡ Status.SinkFault → Rose (O.faults out.old) (O.faults out.new) }
+    ensures sink_fault { result ≡ Status.SinkFault →
+        Rose (O.faults out.old) (O.faults out.new) }
     ensures link_fault { result ≡ Status.LinkFault →
         Rose (L.faults links.old) (L.faults links.new) }
     ensures untouched { IsRefusal result → (out.new ≡ out.old) × (links.new ≡ links.old) }

@@ -43,8 +43,8 @@ fn place_along(sources: &[Source], path: &[usize]) -> usize
 
 /// The source of a number: the children's come first.
 fn follow<'a>(children: &'a [Source], otherwise: &'a [Source], number: usize) -> Option<&'a Source>
-    ensures { option_map (λ found. source_tree found.now) result
-        ≡ nth_source number (with_sources (source_list children.now) (source_list otherwise.now)) }
+    ensures { option_map (λ found. source_tree found.now) result ≡ nth_source number
+        (with_sources (source_list children.now) (source_list otherwise.now)) }
 {
     if number < children.len() {
         return Some(&children[number]);

@@ -39,7 +39,8 @@ impl State {
     /// becomes the number after them. A `by` has none of its own: those of its children begin at `next`, which is left
     /// there.
     pub fn fresh(alloc: Global, kind: &Kind, next: &mut usize, start: u64) -> Result<State, Memory>
-        ensures represents { IfOk result (λ state. (before after : List (List ℕ)) (h : History) →
+        ensures represents { IfOk result (λ state.
+            (before after : List (List ℕ)) (h : History) →
             TicksAlone h → begun h ≡ start → is_in_range (kind_tree kind.now) ≡ true →
             length before ≡ next.old →
             length (kind_patterns (kind_tree kind.now)) ≤ greatest →

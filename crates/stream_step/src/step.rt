@@ -107,14 +107,14 @@ fn advance_kept(
     now: u64,
 ) -> Result<Passed, Memory>
     ensures represents { OnOk result ((kind : KindTree) (h : History) →
-        KeptRepresents kind kept.old h → moment_of (h ▸ entry.now) ≡ now → now ≤ 2 ^ 40 →
-        KeptRepresents kind kept.new (h ▸ entry.now)) }
+        KeptRepresents kind kept.old h → moment_of (h ▸ entry.now) ≡ now →
+        now ≤ 2 ^ 40 → KeptRepresents kind kept.new (h ▸ entry.now)) }
     ensures passes { IfOk result (λ passed. (kind : KindTree) (h : History) →
-        KeptRepresents kind kept.old h → moment_of (h ▸ entry.now) ≡ now → now ≤ 2 ^ 40 →
-        emissions_meant passed entry.now ≡ emissions kind (h ▸ entry.now)) }
+        KeptRepresents kind kept.old h → moment_of (h ▸ entry.now) ≡ now →
+        now ≤ 2 ^ 40 → emissions_meant passed entry.now ≡ emissions kind (h ▸ entry.now)) }
     ensures quiet { (kind : KindTree) (h : History) → KeptRepresents kind kept.old h →
-        entry.now ≡ Tick → moment_of (h ▸ Tick) ≡ now → emissions kind (h ▸ Tick) ≡ [] →
-        IsOk result }
+        entry.now ≡ Tick → moment_of (h ▸ Tick) ≡ now →
+        emissions kind (h ▸ Tick) ≡ [] → IsOk result }
 {
     match entry {
         Entry::Tick => Ok(tick_kept(alloc, kept, now)?),

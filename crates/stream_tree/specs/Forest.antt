@@ -89,7 +89,7 @@ pub record PlainRepresents (Means Beside : Meaning) (received : Branch → Histo
   pub is_table : IsTable below.forks
   pub no_forks : table_keys below.forks ≡ []
 
--- what is below a `by`: its forks represent what they have received, and stand in the table and nowhere beside it
+-- what is below a `by`: its forks represent what they have received, and are in the table and nowhere else
 pub record ForkedRepresents (texts : List (List ℕ)) (children : StreamTrees) (first : ℕ) (Means : Meaning) (keys : List (List Value)) (received : Branch → History) (below : Below) : Type 0 where
   pub can_fork : CanFork texts children first
   pub forks : ForksRepresent Means (plan_deadline children) keys (λ key. received (Fork key)) below.forks
