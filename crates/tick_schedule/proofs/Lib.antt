@@ -1,2 +1,3 @@
+pub mod MomentLaws
 pub mod QueueLaws
 pub mod ScheduleLaws

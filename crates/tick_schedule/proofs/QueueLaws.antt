@@ -1,20 +1,19 @@
 -- Laws of queues of due moments.
-use Rattle.std.proofs.Common.{◌≡◌, ◌≢◌, ℕ, suc, zero, ◌<◌, ◌≤◌, Bool, true, false, not, cond, ◌&&◌, ◌||◌, eqb, nat_le, nat_lt, List, [], ◌∷◌, ◌++◌, map, filter, Option, None, Some, arith, refl, sym, ◌∙◌, ap, inl, inr}
+use Rattle.std.proofs.Common.{◌≡◌, ℕ, Bool, true, false, not, cond, ◌&&◌, ◌||◌, eqb, nat_le, List, [], ◌∷◌, ◌++◌, map, filter, Option, None, Some, arith, refl, sym, ◌∙◌, ap}
 use Rattle.std.specs.List.{All, list_any, AllByRecursion, Contains}
 use Rattle.std.specs.List.Sorted.{IsStrictlySortedBy}
-use Rattle.std.specs.Map.{lookup, keys_of, values_of, remove_entry}
-use Rattle.std.specs.Ordering.{nat_cmp, is_eq, ordering_then, eq_by_cmp}
-use Rattle.std.specs.Cmp.{nat_cmp_is, tied_then, nat_cmp_total, eq_by_cmp_equiv}
-use Rattle.std.specs.declared.cmp.Ordering.{Ordering}
-use Rattle.std.specs.declared.cmp.Ordering.TheVariants.{Less, Equal, Greater}
+use Rattle.std.specs.Map.{keys_of}
+use Rattle.std.specs.Ordering.{nat_cmp, is_eq}
+use Rattle.std.specs.Cmp.{tied_then, nat_cmp_total, eq_by_cmp_equiv}
+use Rattle.std.specs.declared.cmp.Ordering.TheVariants.{Less}
 use Rattle.std.specs.BTreeMap.{is_at}
-use Rattle.std.proofs.lemmas.Bool.Decides.{nat_tests, leb_tells}
+use Rattle.std.proofs.lemmas.Bool.Decides.{nat_tests}
 use Rattle.std.proofs.lemmas.List.Elements.{All-head, All-tail, All-weaker, All-contains_itself}
 use Rattle.std.proofs.lemmas.List.Folds.{list_any-append}
 use Rattle.std.proofs.lemmas.Map.Keys.{IsDistinct-from_sorted}
 use Rattle.std.proofs.lemmas.Map.Views.{lookup-from_Contains}
 use Rattle.tick_schedule.specs.Queue.{moment_at, IsRising, due_ids, due_later, without}
-use Rattle.tick_schedule.specs.Schedule.{pair_cmp, is_moment}
+use Rattle.tick_schedule.specs.Schedule.{pair_cmp}
 
 -- ---- tests of ids and pairs
 pub at-eqb : (q k : ℕ) → is_at (nat_cmp q) k ≡ eqb q k
@@ -60,24 +59,12 @@ absent q p (e ∷ es) h =
     elim (p e) as (λ b. list_any (is_at (nat_cmp q)) (map (λ (x : ℕ × ℕ). x.0) (cond b (e ∷ filter p es) (filter p es))) ≡ false)
     [ true ↦ rw (at-less q e.0 h.0) (absent q p es h.1) | false ↦ absent q p es h.1 ]
 
-keeps_all : (q : ℕ) (es : List (ℕ × ℕ)) → AllByRecursion (λ k. nat_cmp q k ≡ Less) (keys_of es)
+pub keeps_all : (q : ℕ) (es : List (ℕ × ℕ)) → AllByRecursion (λ k. nat_cmp q k ≡ Less) (keys_of es)
     → filter (λ e. not (eqb e.0 q)) es ≡ es
 keeps_all q [] h = refl
 keeps_all q (e ∷ es) h =
     let differ : eqb e.0 q ≡ false = eqb-comm e.0 q ∙ sym (at-eqb q e.0) ∙ at-less q e.0 h.0 in
     rw (differ, keeps_all q es h.1) refl
-
--- the first entry with the id is the only one
-pub remove-without : (id : ℕ) (es : List (ℕ × ℕ)) → IsRising es → remove_entry (is_at (nat_cmp id)) es ≡ without id es
-remove-without id [] s = refl
-remove-without id (e ∷ es) s =
-    elim (eqb e.0 id) as (λ b. eqb e.0 id ≡ b → cond (is_at (nat_cmp id) e.0) es (e ∷ remove_entry (is_at (nat_cmp id)) es)
-    ≡ cond (not b) (e ∷ without id es) (without id es)) [
-      | true ↦ λ h. rw (at-eqb id e.0 ∙ eqb-comm id e.0 ∙ h)
-          (let same : e.0 ≡ id = grind (arith, nat_tests) in
-          sym (keeps_all id es (rw (sym same) (rising-first e es s))))
-      | false ↦ λ h. rw (at-eqb id e.0 ∙ eqb-comm id e.0 ∙ h, remove-without id es (rising-rest e es s)) refl
-    ] refl
 
 -- ---- the moment of an id
 -- whether the moment is at or before `now`

@@ -1,5 +1,5 @@
 -- A queue of due moments, as contracts see it: pairs of an id and its moment, by rising id.
-use Rattle.std.specs.Prelude.{◌≡◌, ℕ, ◌≤◌, Bool, not, nat_le, eqb, List, [], map, filter, Option, if◌then◌else◌, MatchOption, Contains}
+use Rattle.std.specs.Prelude.{◌≡◌, ℕ, ◌≤◌, not, nat_le, eqb, List, [], map, filter, Option, if◌then◌else◌, MatchOption, Contains}
 use Rattle.std.specs.List.{All}
 use Rattle.std.specs.List.Sorted.{IsStrictlySortedBy}
 use Rattle.std.specs.Map.{lookup, keys_of, values_of}

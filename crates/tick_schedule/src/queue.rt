@@ -9,17 +9,18 @@ ghost use Rattle.step_count.specs.Count.{more_by};
 ghost use Rattle.tick_schedule.specs.Queue.{IsRising, Sets, due_ids, due_later, without, IsNext};
 ghost use Rattle.tick_schedule.specs.Schedule.{IsTied, IsFirst, pair_cmp};
 
+use crate::moments::Moments;
 use list_laws::{Ids, Memory};
 use std::alloc::{AllocError, Global};
-use std::collections::{BTreeMap, BTreeSet};
+use std::collections::BTreeSet;
 use std::marker::Model;
 use step_count::{Ledger, Steps};
 
-/// The moments at which ids are due. An id has one moment at most.
+/// The moments at which ids are due. An id has one moment at most. It takes 16 bytes for each number up to the greatest
+/// id that had one.
 #[derive(Drop)]
 pub struct DueQueue {
-    moments: BTreeMap<usize, u64>,
-
+    moments: Moments,
     // The same as pairs of a moment and an id, and the least moment.
     order: BTreeSet<(u64, usize)>,
     next: Option<u64>,
@@ -31,9 +32,9 @@ impl Model for DueQueue {
 
     ghost Value = { List (ℕ × ℕ) };
 
-    ghost view = { λ queue. queue.moments.entries };
+    ghost view = { λ queue. queue.moments };
 
-    ghost invariant = { λ queue. IsSchedule queue.moments.entries queue.order.keys queue.next };
+    ghost invariant = { λ queue. IsSchedule queue.moments queue.order.keys queue.next };
 }
 
 impl DueQueue {
@@ -42,7 +43,7 @@ impl DueQueue {
         ensures { result ≡ [] }
     {
         DueQueue {
-            moments: BTreeMap::new(alloc),
+            moments: Moments::fresh(alloc),
             order: BTreeSet::new(alloc),
             next: None,
         }
@@ -65,7 +66,7 @@ impl DueQueue {
         ensures rest { self.new ≡ without id self.old }
         ensures rising { IsRising self.new }
     {
-        let Some(due) = self.moments.remove(&id) else {
+        let Some(due) = self.moments.remove(id) else {
             return;
         };
         self.order.remove(&(due, id));
@@ -194,16 +195,16 @@ fn first_moment(order: &BTreeSet<(u64, usize)>) -> Option<u64>
 
 /// Sets the moment of the id, and changes the pairs with it.
 fn schedule(
-    moments: &mut BTreeMap<usize, u64>,
+    moments: &mut Moments,
     order: &mut BTreeSet<(u64, usize)>,
     id: usize,
     due: u64,
 ) -> Result<(), Memory>
-    ensures tied { IsTied moments.old.entries order.old.keys →
-        IsTied moments.new.entries order.new.keys }
-    ensures ok { OnOk result (Sets moments.old.entries moments.new.entries id (Some due)) }
-    ensures err { OnErr result (moments.new.entries ≡ moments.old.entries) }
-    ensures rising { IsRising moments.old.entries → IsRising moments.new.entries }
+    ensures tied { IsTied moments.old order.old.keys →
+        IsTied moments.new order.new.keys }
+    ensures ok { OnOk result (Sets moments.old moments.new id (Some due)) }
+    ensures err { OnErr result (moments.new ≡ moments.old) }
+    ensures rising { IsRising moments.old → IsRising moments.new }
 {
     order.insert((due, id))?;
     let Ok(previous) = moments.insert(id, due) else {

@@ -5,6 +5,6 @@ use Rattle.tick_schedule.proofs.queue.DueQueue.due_ids.Goals as goal
 
 pub returns : goal.returns
 returns c =
-    due-set c.args.now c.self.inside.moments.entries c.self.inside.order.keys c.in_ok-ids_until.field-0
+    due-set c.args.now c.self.inside.moments c.self.inside.order.keys c.in_ok-ids_until.field-0
     c.in_ok-ids_until.ensures.rising c.self.invariant.rising c.self.invariant.tied c.in_ok-ids_until.ensures.ids
     ∙ ap (due_ids c.args.now) c.self.view_is

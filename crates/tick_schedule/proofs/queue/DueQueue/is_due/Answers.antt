@@ -3,12 +3,12 @@ use Rattle.tick_schedule.proofs.queue.DueQueue.is_due.Goals as goal
 
 pub returns-in-Some-clause-none : goal.returns-in-Some-clause-none
 returns-in-Some-clause-none c late =
-    none_due c.args.now c.in-Some.next c.self.inside.moments.entries c.args.self.now c.self.inside.next c.self.view_is c.in-Some.is c.self.invariant.next late
+    none_due c.args.now c.in-Some.next c.self.inside.moments c.args.self.now c.self.inside.next c.self.view_is c.in-Some.is c.self.invariant.next late
 
 pub returns-in-Some-clause-some : goal.returns-in-Some-clause-some
 returns-in-Some-clause-some c due =
-    some_due c.args.now c.in-Some.next c.self.inside.moments.entries c.args.self.now c.self.inside.next c.self.view_is c.in-Some.is c.self.invariant.next due
+    some_due c.args.now c.in-Some.next c.self.inside.moments c.args.self.now c.self.inside.next c.self.view_is c.in-Some.is c.self.invariant.next due
 
 pub returns-in-None-clause-none : goal.returns-in-None-clause-none
 returns-in-None-clause-none c same =
-    never_due c.args.now c.self.inside.moments.entries c.args.self.now c.self.inside.next c.self.view_is c.in-None.is c.self.invariant.next
+    never_due c.args.now c.self.inside.moments c.args.self.now c.self.inside.next c.self.view_is c.in-None.is c.self.invariant.next

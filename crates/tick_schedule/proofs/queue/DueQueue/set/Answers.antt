@@ -8,6 +8,6 @@ invariant_of-self-2 c =
     record {
       rising = rising;
       tied = tied;
-      next = next-first c.schedule.new.moments.entries c.schedule.new.order.keys c.first_moment-self-inside.result
+      next = next-first c.schedule.new.moments c.schedule.new.order.keys c.first_moment-self-inside.result
           rising tied c.first_moment-self-inside.ensures;
     }
