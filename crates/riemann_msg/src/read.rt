@@ -1,6 +1,6 @@
 //! Reading messages, field by field.
 
-ghost use Rattle.std.specs.Prelude.{◌≡◌, ℕ, ◌+◌, ◌^◌, ◌<◌, List, length, Option, OnOk, IfOk, IfErr, None, pos};
+ghost use Rattle.std.specs.Prelude.{◌≡◌, ℕ, ◌+◌, ◌^◌, ◌<◌, ◌++◌, ◌∷◌, [], List, length, Option, OnOk, IfOk, IfErr, None, pos};
 ghost use Rattle.std.specs.List.{fold};
 ghost use Rattle.std.specs.Option.{option_map};
 ghost use Rattle.pb_wire.specs.Fields.{FieldAt, LiesWithin, fields_of};
@@ -289,18 +289,26 @@ impl Draft for EventDraft {
     }
 }
 
-/// Reads the bytes, which begin at `base` in the whole message, as an event. One without a time gets `now`.
+/// Reads the bytes, which begin at `base` in the whole message, as an event, and adds it to the events. One without a
+/// time gets `now`.
 #[tactic(auto, unfolding(crate::specs::Fault::event_fault))]
-fn read_event(alloc: Global, now: i64, bytes: &[u8], base: usize) -> Result<Event, MsgFault>
+fn read_event(
+    alloc: Global,
+    now: i64,
+    bytes: &[u8],
+    base: usize,
+    events: &mut Events,
+) -> Result<(), MsgFault>
     requires { base + length bytes.now < 2 ^ 64 }
-    ensures { Reads (option_map (moved base) (event_fault bytes.now))
-        (event_of now bytes.now) result }
+    ensures { Puts (option_map (moved base) (event_fault bytes.now))
+        (events.old ++ event_of now bytes.now ∷ []) result events.new }
 {
     let mut draft = EventDraft::fresh(alloc);
     read_fields(alloc, bytes, base, &mut draft)?;
     let EventDraft { time, mut event } = draft;
     event.time = time_of(now, event.time_micros, time);
-    Ok(event)
+    events.push(alloc, event)?;
+    Ok(())
 }
 
 /// The time of an event, in seconds: that in microseconds rounded down where there is one, else the time in seconds,
@@ -358,10 +366,7 @@ impl MsgDraft {
                 read_fields(alloc, bytes, base, &mut query)?;
                 self.msg.query = Some(query);
             }
-            EVENTS => {
-                let event = read_event(alloc, self.now, bytes, base)?;
-                self.msg.events.push(alloc, event)?;
-            }
+            EVENTS => read_event(alloc, self.now, bytes, base, &mut self.msg.events)?,
             _ => {}
         }
         Ok(())
