@@ -205,7 +205,7 @@ new_field place sets one = if has_field one sets then Err (place, why.Twice) els
 unfoldable pub new_field_at : Env → List Set → FormTree → Result Field Fault
 new_field_at env sets f = field_at env f >>= new_field (start_of f) sets
 
--- fields and values by turns, in a map that starts at the place
+-- fields and values alternately, in a map that starts at the place
 unfoldable pub sets_from : ℕ → Env → List Set → FormTrees → Result (List Set) Fault
 sets_from place env sets none = Ok sets
 sets_from place env sets (also key none) = new_field_at env sets key >>= λ one. Err (place, why.Arguments)
@@ -228,7 +228,7 @@ abbrev pub held : {A : Type 0} → ℕ → Option A → Result A Fault
 held place None = Err (place, why.Arguments)
 held place (Some a) = Ok a
 
--- keys and values by turns, of a map that starts at the place: what was found, and the rest
+-- keys and values alternately, of a map that starts at the place: what was found, and the rest
 unfoldable pub one_entry : {A : Type 0} → List ℕ → (Env → FormTree → Result A Fault) → ℕ → Env → Option A → FormTrees → Result A Fault
 one_entry wanted read place env found none = held place found
 one_entry wanted read place env found (also key none) = only_key_at wanted (is_some found) env key >>= λ known. Err (place, why.Arguments)

@@ -56,7 +56,7 @@ argument_in (given.List forms) = Forms Round (form_trees forms.now)
 argument_in (given.Vector forms) = Forms Square (form_trees forms.now)
 argument_in (given.Map forms) = Forms Curly (form_trees forms.now)
 
--- the forms are those of a map, where there are any
+-- the forms between the braces, where the form is a map
 abbrev pub map_in : FormTree → Option FormTrees
 map_in (Group Curly forms start last) = Some forms
 map_in _ = None

@@ -19,7 +19,7 @@ use Rattle.config_terms.specs.Arguments.{Env, bound_value, Argument, Pattern, ar
 
 -- ---- a predicate of one word
 
--- a symbol that is bound is no predicate, and one that is not has no meaning
+-- a symbol that is bound is not a predicate, and one that is not bound has no meaning
 abbrev pub no_form : ℕ → Option Bound → Fault
 no_form place None = (place, why.Name)
 no_form place (Some bound) = (place, why.Form)

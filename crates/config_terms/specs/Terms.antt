@@ -64,7 +64,7 @@ abbrev pub IsUnset : Field → List Set → Type 0
 IsUnset one [] = Unit {0}
 IsUnset one (set ∷ sets) = (set.field ≢ one) × IsUnset one sets
 
--- fields and values by turns, each field once
+-- fields and values alternately, each field once
 pub data AreSets : Env → BareTrees → List Set → Type 0 where
   no_sets : {env : Env} → AreSets env no_trees []
   more_sets : {env : Env} {f v : BareTree} {forms : BareTrees} {one : Field} {set : Set} {sets : List Set} → IsField env f one → IsSet env one v set → AreSets env forms sets → IsUnset one sets

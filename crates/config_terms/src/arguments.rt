@@ -85,7 +85,8 @@ pub(crate) fn misfit(argument: Argument<'_>) -> ConfigWhy
     }
 }
 
-/// The refusal of the argument, which is the form.
+/// The refusal of the argument, which is the form, at its start. The cause is Form for a list or the stream that writes
+/// the index, Name for a symbol that is bound to nothing, and Arguments for any other.
 #[tactic(auto, using(crate::proofs::FormLaws::start_of_form))]
 pub fn unfit(form: &Form, argument: Argument<'_>) -> ConfigFault
     ensures { result ≡ ConfigFault.Refused (start_of (form_tree form.now))
@@ -161,7 +162,7 @@ fn value_in(alloc: Global, argument: Argument<'_>) -> Result<Option<Value>, Memo
     }
 }
 
-/// The text that the form is.
+/// The text that the form is. Any other argument is refused as [`unfit`] says. `Memory`: out of memory.
 #[tactic(auto, unfolding(crate::specs::Arguments::text_at))]
 pub fn text_at(alloc: Global, env: &[Binding], form: &Form) -> Result<Text, ConfigFault>
     ensures { Gives result (text_from env.now (form_tree form.now)) }
@@ -173,7 +174,7 @@ pub fn text_at(alloc: Global, env: &[Binding], form: &Form) -> Result<Text, Conf
     }
 }
 
-/// The name of the keyword that the form is.
+/// The name of the keyword that the form is. Any other argument is refused as [`unfit`] says.
 #[tactic(auto, unfolding(crate::specs::Arguments::keyword_at))]
 pub fn keyword_at<'a>(env: &'a [Binding], form: &'a Form) -> Result<&'a Text, ConfigFault>
     ensures { GivesAs (λ key. key.now) result (keyword_from env.now (form_tree form.now)) }
@@ -185,7 +186,7 @@ pub fn keyword_at<'a>(env: &'a [Binding], form: &'a Form) -> Result<&'a Text, Co
     }
 }
 
-/// The number that the form is.
+/// The number that the form is. Any other argument is refused as [`unfit`] says.
 #[tactic(auto, unfolding(crate::specs::Arguments::number_at))]
 pub fn number_at(env: &[Binding], form: &Form) -> Result<i64, ConfigFault>
     ensures { Gives result (number_from env.now (form_tree form.now)) }
@@ -197,7 +198,8 @@ pub fn number_at(env: &[Binding], form: &Form) -> Result<i64, ConfigFault>
     }
 }
 
-/// The number that the form is, where it is not out of its range.
+/// The number that the form is, from `least` to `most`. One outside this range is refused at its start (Range), and any
+/// other argument as [`unfit`] says.
 #[tactic(auto, using(crate::proofs::FormLaws::start_of_form), unfolding(crate::specs::Arguments::ranged_at))]
 pub fn ranged_at(env: &[Binding], form: &Form, least: u32, most: u32) -> Result<u32, ConfigFault>
     ensures gives { Gives result (ranged_from least most env.now (form_tree form.now)) }
@@ -210,7 +212,8 @@ pub fn ranged_at(env: &[Binding], form: &Form, least: u32, most: u32) -> Result<
     Ok(number as u32)
 }
 
-/// The field that the form names by a keyword.
+/// The field that the form names by a keyword. Any other argument is refused as [`unfit`] says. `Memory`: out of
+/// memory.
 #[tactic(auto, unfolding(crate::specs::Arguments::field_at))]
 pub fn field_at(alloc: Global, env: &[Binding], form: &Form) -> Result<Field, ConfigFault>
     ensures { Gives result (field_from env.now (form_tree form.now)) }
@@ -222,7 +225,8 @@ pub fn field_at(alloc: Global, env: &[Binding], form: &Form) -> Result<Field, Co
     }
 }
 
-/// The value that the form is: a text, a number or `nil`.
+/// The value that the form is: a text, a number or `nil`. Any other argument is refused as [`unfit`] says. `Memory`:
+/// out of memory.
 #[tactic(auto, unfolding(crate::specs::Arguments::value_at))]
 pub(crate) fn value_at(alloc: Global, env: &[Binding], form: &Form) -> Result<Value, ConfigFault>
     ensures { Gives result (value_from env.now (form_tree form.now)) }
@@ -234,7 +238,7 @@ pub(crate) fn value_at(alloc: Global, env: &[Binding], form: &Form) -> Result<Va
     }
 }
 
-/// The forms in the vector that the form is.
+/// The forms in the vector that the form is. Any other argument is refused as [`unfit`] says.
 #[tactic(auto, unfolding(crate::specs::Arguments::vector_at))]
 pub fn vector_at<'a>(env: &'a [Binding], form: &'a Form) -> Result<&'a [Form], ConfigFault>
     ensures { GivesAs (λ forms. form_trees forms.now) result
@@ -247,7 +251,7 @@ pub fn vector_at<'a>(env: &'a [Binding], form: &'a Form) -> Result<&'a [Form], C
     }
 }
 
-/// The forms in the map that the form is.
+/// The forms in the map that the form is. Any other argument is refused as [`unfit`] says.
 #[tactic(auto, unfolding(crate::specs::Arguments::map_at))]
 pub fn map_at<'a>(env: &'a [Binding], form: &'a Form) -> Result<&'a [Form], ConfigFault>
     ensures { GivesAs (λ forms. form_trees forms.now) result

@@ -17,7 +17,7 @@ pub enum ConfigFault {
     Memory,
 }
 
-/// For what a text is refused. The first eight are those of texts that are no forms.
+/// For what a text is refused. The first eight are those of texts that are not forms.
 #[derive(Clone, Copy, Debug, PartialEq, Eq, Error)]
 pub enum ConfigWhy {
     /// The text has more than 1,048,576 bytes.
@@ -29,7 +29,7 @@ pub enum ConfigWhy {
     /// A bracket, string or pattern that begins at the place is unclosed at the end of the text.
     #[error("open")]
     Open,
-    /// A closing bracket without an opening one of its kind before it.
+    /// A closing bracket where no bracket is open, or the innermost open one is of another kind.
     #[error("close")]
     Close,
     /// A run of bytes that is not a number, a keyword or a symbol, or a `#` without a quote after it.
@@ -53,7 +53,7 @@ pub enum ConfigWhy {
     /// A number outside its range.
     #[error("range")]
     Range,
-    /// A symbol that is bound to nothing, and no word of its place.
+    /// A symbol that is bound to nothing, and is not a word of its place.
     #[error("name")]
     Name,
     /// A form, key or field that may come once comes again.

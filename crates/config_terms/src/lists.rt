@@ -15,7 +15,8 @@ use ev_types::{Field, Fields, Set, Sets, Text, Texts, Value, fits};
 use sexp_read::Form;
 use std::alloc::Global;
 
-/// The texts of the vector that the form is, or the one text that it is.
+/// The texts of the vector that the form is, or the one text that it is. Any other argument is refused as [`unfit`]
+/// says, and so is the first one in the vector that is not a text. `Memory`: out of memory.
 #[tactic(auto, unfolding(crate::specs::Arguments::texts_at))]
 pub fn texts_at(alloc: Global, env: &[Binding], form: &Form) -> Result<Texts, ConfigFault>
     ensures { Gives result (texts_from env.now (form_tree form.now)) }
@@ -50,7 +51,9 @@ fn texts_in(alloc: Global, env: &[Binding], forms: &[Form]) -> Result<Texts, Con
     Ok(texts)
 }
 
-/// The fields of the vector that the form is, or the one field that it is.
+/// The fields of the vector that the form is, or the one field that it is. An empty vector is refused at its start
+/// (Arguments). Any other argument is refused as [`unfit`] says, and so is the first one in the vector that is not a
+/// field. `Memory`: out of memory.
 #[tactic(auto, using(crate::proofs::FormLaws::start_of_form), unfolding(crate::specs::Arguments::fields_at))]
 pub fn fields_at(alloc: Global, env: &[Binding], form: &Form) -> Result<Fields, ConfigFault>
     ensures { Gives result (fields_from env.now (form_tree form.now)) }
@@ -105,7 +108,9 @@ fn is_number(value: &Value) -> bool
     matches!(value, Value::Number(_))
 }
 
-/// The set of the field to the value that the form is.
+/// The set of the field to the value that the form is. A form that is not a value is refused as [`unfit`] says. A value
+/// that does not fit the field is refused at its start: for Range where it is a number and the field is the ttl, else
+/// for Arguments. `Memory`: out of memory.
 #[tactic(auto, using(crate::proofs::FormLaws::start_of_form), unfolding(crate::specs::Arguments::set_at))]
 pub fn set_at(alloc: Global, env: &[Binding], field: Field, form: &Form) -> Result<Set, ConfigFault>
     ensures { Gives result (set_from env.now field (form_tree form.now)) }
@@ -152,7 +157,9 @@ fn new_field_at(
     Ok(field)
 }
 
-/// The sets of a map that starts at `place`.
+/// The sets of a map that starts at `place`: fields and values alternately. A field that comes again is refused at its
+/// start (Twice), and one without a value at `place` (Arguments). A key that is not a field is refused as [`unfit`]
+/// says, and a value as [`set_at`] says. `Memory`: out of memory.
 #[tactic(auto, unfolding(crate::specs::Arguments::sets_from))]
 pub fn sets_from(
     alloc: Global,
@@ -176,7 +183,8 @@ pub fn sets_from(
     Ok(sets)
 }
 
-/// Refuses a key that is not `wanted`, and one that was read before.
+/// Refuses, at its start, a key that is not `wanted` (Arguments) and, where `twice` holds, one that is (Twice). A form
+/// that is not a keyword is refused as [`unfit`] says.
 #[tactic(auto, using(crate::proofs::FormLaws::start_of_form), unfolding(crate::specs::Arguments::only_key_at))]
 pub fn only_key_at(
     env: &[Binding],
@@ -197,7 +205,9 @@ pub fn only_key_at(
     Ok(())
 }
 
-/// The value of the one key of a map that starts at `place`.
+/// The value of the one key, `:init`, of a map that starts at `place`. A map without the key, or with a key without a
+/// value, is refused at `place` (Arguments). A key is refused as [`only_key_at`] says, and a form that is not a value
+/// as [`unfit`] says. `Memory`: out of memory.
 #[tactic(auto, unfolding(crate::specs::Arguments::one_entry))]
 pub fn init_from(
     alloc: Global,

@@ -18,7 +18,8 @@ use pred_eval::{Ordering, Rule, Rules};
 use sexp_read::Form;
 use std::alloc::Global;
 
-/// The refusal of a symbol that is not a form of its place.
+/// The refusal at `place` of a symbol that is not a form of its place: for Name where it is bound to nothing, else for
+/// Form.
 pub fn no_form(env: &[Binding], name: &Text, place: usize) -> ConfigFault
     ensures { result ≡ ConfigFault.Refused (no_form_at place (bound_value name.now env.now)).0
         (no_form_at place (bound_value name.now env.now)).1 }

@@ -29,7 +29,7 @@ event_at time = record {
   attributes = [];
 }
 
--- a text or nothing fits a text
+-- a text or nil fits a text
 abbrev pub fits_text : Value → Bool
 fits_text Nil = true
 fits_text (Number n) = false
@@ -41,13 +41,13 @@ fits_time Nil = false
 fits_time (Number n) = true
 fits_time (Text t) = false
 
--- nothing, or as many seconds as every ttl can be spelled up to
+-- nil or a number of seconds from 0 to MAX_TTL fits the ttl
 abbrev pub fits_ttl : Value → Bool
 fits_ttl Nil = true
 fits_ttl (Number n) = int_le (pos 0) n && int_le n MAX_TTL
 fits_ttl (Text t) = false
 
--- a number or nothing fits the metric
+-- a number or nil fits the metric
 abbrev pub fits_metric : Value → Bool
 fits_metric Nil = true
 fits_metric (Number n) = true

@@ -1,4 +1,4 @@
--- The value of a field: nothing, a number or a text.
+-- The value of a field: nil, a number or a text.
 use Rattle.std.specs.Prelude.{◌≡◌, ◌↔◌, IsTrue, ℕ, ℤ, Bool, List, [], ◌++◌, Option, Some, None}
 use Rattle.std.specs.Str.{bytes_eq}
 use Rattle.std.specs.Hash as fed
@@ -24,11 +24,11 @@ text_of Nil = None
 text_of (Number n) = None
 text_of (Text t) = Some t
 
--- the same number or the same bytes; nothing equals nothing, and a number never equals a text
+-- the same number or the same bytes; nil equals nil, and a number never equals a text
 abbrev pub same_value : Value → Value → Bool
 same_value = eq_of_both (on text_of (option_eq bytes_eq)) (on number_of (option_eq int_eq))
 
--- what is no text before the texts, those by their bytes, and nothing before the numbers
+-- nil and numbers before the texts, which are ordered by their bytes, and nil before the numbers
 abbrev pub value_cmp : Value → Value → Ordering
 value_cmp = then_cmp (on text_of (option_cmp (slice_cmp nat_cmp))) (on number_of (option_cmp int_cmp))
 
@@ -54,7 +54,7 @@ value_input value = text_input (text_of value) ++ number_input (number_of value)
 abbrev pub SameValuesAreEqual : Type 0
 SameValuesAreEqual = (a b : Value) → IsTrue (same_value a b) ↔ (a ≡ b)
 
--- nothing, then numbers, then texts by their bytes
+-- nil, then numbers, then texts by their bytes
 pub record ValuesAreOrdered : Type 0 where
   pub number_after_nothing : (n : ℤ) → value_cmp Nil (Number n) ≡ Less
   pub text_after_nothing : (t : List ℕ) → value_cmp Nil (Text t) ≡ Less

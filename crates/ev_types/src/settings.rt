@@ -14,7 +14,7 @@ pub type KeepKeys = Items<KeepKey>;
 /// How an index looks for expired events.
 #[derive(Drop)]
 pub struct Expiry {
-    /// The seconds from one look to the next.
+    /// The seconds from one look to the next. In a configuration they are from 1 to 604,800.
     pub interval: u32,
     /// What the events that are found keep.
     pub keep: KeepKeys,

@@ -34,7 +34,7 @@ pub struct Text {
 /// A list of texts.
 pub type Texts = Items<Text>;
 
-/// Why bytes are no [`Text`].
+/// Why bytes are not a [`Text`].
 #[derive(Debug, Drop, Error)]
 pub enum TextFault {
     /// The bytes are not UTF-8: their longest prefix that is has `place` bytes.

@@ -5,7 +5,8 @@ use ev_types::{Event, Memory, Set, Sets, Tags, Value, field_is};
 use std::alloc::Global;
 
 /// The event with all sets made, in order. A later set of a field replaces what an earlier one gave it; a value that
-/// does not fit its field changes nothing. The event is changed in place, and nothing of it is copied.
+/// does not fit its field changes nothing. The event is changed in place. A set of an attribute copies the event's
+/// other attributes, and nothing else of it is copied. `Memory`: out of memory.
 pub fn apply_sets(alloc: Global, sets: &Sets, event: Event) -> Result<Event, Memory>
     ensures { IfOk result (λ changed. changed ≡ with_sets sets.now event) }
 {
@@ -17,8 +18,9 @@ pub fn apply_sets(alloc: Global, sets: &Sets, event: Event) -> Result<Event, Mem
     Ok(changed)
 }
 
-/// The event with each set made whose field holds nothing by then, in order; a value that does not fit its field
-/// changes nothing. The event is changed in place, and nothing of it is copied.
+/// The event with each set made whose field holds nil by then, in order; a value that does not fit its field changes
+/// nothing. The event is changed in place. A set of an attribute copies the event's other attributes, and nothing else
+/// of it is copied. `Memory`: out of memory.
 pub fn apply_defaults(alloc: Global, sets: &Sets, event: Event) -> Result<Event, Memory>
     ensures { IfOk result (λ changed. changed ≡ with_defaults sets.now event) }
 {
@@ -43,7 +45,7 @@ pub fn apply_tags(alloc: Global, tags: &Tags, event: Event) -> Result<Event, Mem
     Ok(changed)
 }
 
-// Makes the set where its field holds nothing.
+// Makes the set where its field holds nil.
 fn apply_default(alloc: Global, set: &Set, event: &mut Event) -> Result<(), Memory>
     ensures { OnOk result (event.new ≡ with_default event.old set.now) }
 {

@@ -5,7 +5,7 @@ use Rattle.frame_link.specs.declared.link.FirstFrame.TheVariants.{Whole as first
 use Rattle.frame_link.specs.declared.link.Taken.{Taken}
 use Rattle.frame_link.specs.declared.link.Taken.TheVariants.{Whole, NotYet, TooLong, Memory}
 
--- the bytes that came and are no frame handed out, and whether a length over the limit was met
+-- the bytes that were not handed out as frames yet, and whether a length over the limit was met
 pub record Held : Type 0 where
   pub bytes : List ℕ
   pub stopped : Bool

@@ -1,4 +1,4 @@
-//! The bytes of one link that are not a whole frame yet, over `bytes`.
+//! The bytes of one link that were not handed out as frames yet, over `bytes`.
 #![tactic(auto)]
 
 mod link;

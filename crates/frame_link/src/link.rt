@@ -9,8 +9,8 @@ use framing::BODY_LIMIT;
 use std::alloc::Global;
 use std::marker::Model;
 
-/// The bytes of one link that were not handed out yet as a frame's body. Contracts see them, and whether there was a
-/// length over the limit: from then on nothing more is taken in or handed out.
+/// The bytes of one link that were not handed out as frames yet. Contracts see them, and whether there was a length
+/// over the limit: from then on nothing more is taken in or handed out.
 #[derive(Drop)]
 pub struct FrameLink {
     bytes: BytesMut,
@@ -26,7 +26,7 @@ pub enum Taken {
     NotYet,
     /// The next frame's length in bytes, which is over [`BODY_LIMIT`].
     TooLong { length: u32 },
-    /// The first frame is whole, and there is no memory for its body. The frame stays.
+    /// The first frame is whole, and copying its body is out of memory. The frame stays.
     Memory,
 }
 
@@ -77,7 +77,7 @@ impl FrameLink {
         }
     }
 
-    /// Takes in the piece that came next. Where there is no memory for it, nothing changes. Once [`FrameLink::take`]
+    /// Takes in the piece that came next. `Memory`: out of memory, and nothing has changed. Once [`FrameLink::take`]
     /// answered [`Taken::TooLong`], each piece is left out.
     pub fn push(&mut self, _alloc: Global, piece: &[u8]) -> Result<(), Memory>
         ensures ok { OnOk result (self.new ≡ pushed piece.now self.old) }
@@ -90,7 +90,7 @@ impl FrameLink {
         Ok(())
     }
 
-    /// How many bytes are held that are no frame handed out.
+    /// How many bytes are held, which are those that were not handed out as frames yet. They are fewer than 2^63.
     pub fn len(&self) -> usize
         ensures value { result ≡ length self.now.bytes }
         ensures bound { result < 2 ^ 63 }
@@ -121,8 +121,8 @@ impl FrameLink {
     }
 
     /// Hands out the first frame's body, if that frame is whole. A frame is a length of four big-endian bytes, at
-    /// most [`BODY_LIMIT`], and then that many bytes of body. Only a body takes memory, and where there is none for
-    /// it, nothing changes. Once the answer was [`Taken::TooLong`], it is from then on.
+    /// most [`BODY_LIMIT`], and then that many bytes of body. Only a body takes memory, and after [`Taken::Memory`]
+    /// nothing has changed. Once the answer was [`Taken::TooLong`], it is from then on.
     pub fn take(&mut self, alloc: Global) -> Taken
         ensures takes { Takes self.old result self.new }
         ensures keeps { KeepsOnTake self.old result self.new }

@@ -3,8 +3,8 @@
 
 ghost use Rattle.index_log.specs.Live.{LiveEventsAreKept, LiveEventsRise, ReapsAreLive, ReapsEndExpired, WritesAreLive};
 
-/// One more write changes what is live at its place alone, and one more reap ends what is late at its moment, which
-/// of live events is what is expired.
+/// One more write changes what is live of its key alone. One more reap removes the live events that are late at its
+/// moment, which are those that have expired by then.
 pub fn logs_are_live()
     ensures writes { WritesAreLive }
     ensures reaps { ReapsAreLive }
@@ -12,7 +12,7 @@ pub fn logs_are_live()
 {}
 
 /// After every log the live events are in strictly rising key order: by host and then by service, absent before
-/// present, and at most one at each.
+/// present, and at most one of each key.
 pub fn live_events_rise()
     ensures { LiveEventsRise }
 {}

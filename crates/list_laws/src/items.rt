@@ -14,7 +14,7 @@ pub struct Items<T> {
     items: Vec<T>,
 }
 
-/// A list of numbers of places.
+/// A list of numbers by which a table knows its entries.
 pub type Ids = Items<usize>;
 
 impl<T> Model for Items<T> {

@@ -15,7 +15,7 @@ use Rattle.riemann_msg.specs.Spelling.{spelling}
 abbrev pub number_after : ℕ → ℕ
 number_after number = (number * MULTIPLIER + INCREMENT) % 2 ^ 64
 
--- the number that it reaches from this one in so many steps
+-- the number that it reaches from this one in i steps
 abbrev pub number_at : ℕ → ℕ → ℕ
 number_at start zero = start
 number_at start (suc i) = number_after (number_at start i)

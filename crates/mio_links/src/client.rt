@@ -29,7 +29,7 @@ pub(crate) struct Client {
 /// Where a client waits for its next turn.
 #[derive(Clone, Copy, Debug, PartialEq, Eq)]
 pub(crate) enum Place {
-    /// Nothing is to be told of it until the system reports something.
+    /// It has no turn until the system reports something of it.
     Nowhere,
     /// In the queue.
     Queued,
@@ -131,7 +131,7 @@ impl Client {
         }
     }
 
-    /// The link broke, and nothing more is told of it.
+    /// The link broke. It has no other turn unless the system reports something of it.
     fn break_off(&mut self, link: u64) -> What
         ensures { result ≡ What.Broken link }
     {

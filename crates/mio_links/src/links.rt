@@ -21,7 +21,7 @@ const EVENTS_AT_ONCE: usize = 256;
 pub struct MioLinks<'a, R: Net + Clock> {
     rt: &'a R,
     events: Events,
-    /// What was listened on last.
+    /// The sockets of the last call of [`Links::listen`] that succeeded.
     pub sockets: Option<Sockets>,
     /// How many links opened so far.
     pub opened: u64,

@@ -11,10 +11,15 @@ use ev_types::{Attr, Blob, Event, Item, Memory, Text};
 use itoa::Buffer;
 use std::alloc::Global;
 
-/// Appends the item. An event is `{`, its present fields with single spaces between them, and `}`: the host, service,
-/// state and description, quoted, the time, ttl and metric, the tags, and each attribute as `@`, its quoted key, and
-/// `=` and its quoted value. A vector is `[`, its events with single spaces between them, and `]`. The time in
-/// microseconds and the raw metrics are left out. After `Memory`, `out` begins with what it had.
+/// Appends the item. An event is `{`, its present parts with single spaces between them, and `}`. The parts are, in
+/// this order:
+/// - `host=`, `service=`, `state=` and `description=`, each with the quoted text;
+/// - `time=`, `ttl=` and `metric=`, each with the decimal number, the time and the ttl in seconds;
+/// - `tags=[`, the quoted tags with single spaces between them, and `]`, where there are any;
+/// - for each attribute `@`, its quoted key, and `=` and its quoted value where it has one.
+///
+/// The time in microseconds and the raw metrics are left out. A vector is `[`, its events with single spaces between
+/// them, and `]`. After `Memory`, `out` begins with what it had.
 pub fn put_item(alloc: Global, item: &Item, out: &mut Blob) -> Result<(), Memory>
     ensures ok { OnOk result (out.new ≡ out.old ++ item_text item.now) }
     ensures err { OnErr result (IsPrefix out.old out.new) }

@@ -56,7 +56,8 @@ pub fn put_field(
     Ok(())
 }
 
-/// Appends the tag and the length of a field of `length` bytes, which the bytes themselves are to follow.
+/// Appends the tag and the length of a field of `length` bytes, which the bytes themselves are to follow. Its number is
+/// from 1 to 2^29 - 1. Once out of memory, `out` still begins with what it had.
 #[tactic(auto, unfolding(crate::specs::Spelling::bytes_head))]
 pub fn put_tag_and_length(
     alloc: Global,

@@ -2,7 +2,7 @@
 use Rattle.std.specs.Prelude.{◌≡◌, ℕ, ◌+◌, ◌<◌, ◌≤◌, min}
 pub use Rattle.list_laws.specs.Counts.{Rose, greatest}
 
--- the count rose by as many as are named
+-- the count rose by at least `by`, or is at its greatest number
 abbrev pub RoseBy : ℕ → ℕ → ℕ → Type 0
 RoseBy by old new = new < greatest → old + by ≤ new
 

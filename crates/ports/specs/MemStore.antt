@@ -8,12 +8,12 @@ use Rattle.ports.specs.declared.mem_store.MemStore.{MemStore}
 use Rattle.ports.specs.declared.store.ReadAnswer.{ReadAnswer}
 use Rattle.ports.specs.declared.store.ReadAnswer.TheVariants.{Bytes, Failed, TooLong, Memory}
 
--- the answer for the file of a name, where there is memory for it
+-- the answer for the file of a name, unless the read is out of memory
 abbrev pub answer_for : ℕ → Option (List ℕ) → ReadAnswer
 answer_for limit None = Failed
 answer_for limit (Some bytes) = if nat_lt limit (length bytes) then TooLong else Bytes bytes
 
--- what a read of the store answers, where there is memory for it
+-- what a read of the store answers, unless it is out of memory
 abbrev pub answer_of : MemStore → List ℕ → ℕ → ReadAnswer
 answer_of store name limit =
     if list_any (λ number. number == store.calls) store.failing.items then Failed
@@ -26,7 +26,7 @@ taken_for limit Failed = 0
 taken_for limit TooLong = limit + 1
 taken_for limit Memory = 0
 
--- the store after a read that gave this answer: as before where memory was wanted
+-- the store after a read that gave this answer: as before where it is out of memory
 abbrev pub store_after : MemStore → List ℕ → ℕ → ReadAnswer → MemStore
 store_after store name limit Memory = store
 store_after store name limit (Bytes bytes) = record store {

@@ -5,7 +5,7 @@ use Rattle.ports.specs.declared.script.Script.{Script}
 use Rattle.ports.specs.declared.script.Step.{Step}
 use Rattle.ports.specs.declared.script.Step.TheVariants.{Turn}
 
--- at most so many pieces of the bytes
+-- the first n pieces of the bytes, or all where they are fewer
 unfoldable pub pieces_within : ℕ → ℕ → List ℕ → List (List ℕ)
 pieces_within limit zero bytes = []
 pieces_within limit (suc n) bytes =

@@ -28,7 +28,7 @@ HasCause content limit faults faults' taken taken' TooLong =
     (IsOverLimit content limit) × (RoseBy (limit + 1) taken taken') × (faults' ≡ faults)
 HasCause content limit faults faults' taken taken' Memory = (faults' ≡ faults) × (taken' ≡ taken)
 
--- the reads that one call adds to those made: none where memory was wanted
+-- the reads that one call adds to those made: none where it is out of memory
 abbrev pub reads_made : List ℕ → ReadAnswer → List StoreRead
 reads_made name (Bytes blob) = record { name = name; failed = false } ∷ []
 reads_made name Failed = record { name = name; failed = true } ∷ []

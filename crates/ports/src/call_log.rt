@@ -13,7 +13,7 @@ use std::marker::Model;
 /// program runs.
 #[derive(Drop)]
 pub(crate) struct CallLog {
-    // A log is a list that only proofs see, and has no bytes.
+    // A `Log` is a ghost list: it has no bytes when the program runs.
     marks: Log<Mark, u8>,
 }
 

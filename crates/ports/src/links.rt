@@ -8,7 +8,7 @@ use std::alloc::Global;
 /// How many bytes one read of a link gives at most, and how long the buffer of [`Links::next`] is.
 pub const PIECE_LIMIT: usize = 65_536;
 
-/// The links to clients, and the clock. One turn is one event: a reading of the clock, and what happened on one link.
+/// The links to clients, and the clock. A turn is a reading of the clock and what happened on one link, or nothing.
 pub trait Links {
     ghost use Rattle.std.specs.Prelude.{ℕ, List, Option};
     ghost use Rattle.ports.specs.declared.entry.Entry.{Entry};
@@ -34,7 +34,7 @@ pub trait Links {
         ensures plays { Plays (script self.old) (log self.old) →
             Plays (script self.new) (log self.new) };
 
-    /// Waits for the next turn. `wants` has one entry for each connected link, by rising number. The bytes of a read
+    /// Waits for the next turn. `wants` has one want for each connected link, by rising number. The bytes of a read
     /// are the first ones of `buf`.
     fn next(&mut self, alloc: Global, wants: &Wants, buf: &mut [u8]) -> Turn
         requires { length buf.old ≡ PIECE_LIMIT }
@@ -78,7 +78,7 @@ pub enum ListenAnswer {
     Memory,
 }
 
-/// One event: a reading of the clock, and what happened.
+/// A reading of the clock, and what happened on one link, or nothing.
 #[derive(Clone, Copy, Debug, PartialEq, Eq)]
 pub struct Turn {
     /// The reading of the clock, in seconds since 1970.

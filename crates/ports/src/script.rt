@@ -10,7 +10,7 @@ use std::marker::Model;
 /// What links in memory play: turns, and rules for the sends between them.
 #[derive(Drop)]
 pub struct Script {
-    /// The first reading of the clock, in seconds.
+    /// The first reading of the clock, in seconds since 1970.
     pub start: u64,
     pub steps: Steps,
 }
@@ -18,7 +18,7 @@ pub struct Script {
 /// One line of a script.
 #[derive(Drop)]
 pub enum Step {
-    /// A turn, with its reading of the clock in seconds.
+    /// A turn, with its reading of the clock in seconds since 1970.
     Turn { secs: u64, event: LinkEvent },
     /// From here on the link takes `count` more bytes, and then answers [`crate::SendAnswer::Later`].
     Take { link: u64, count: u64 },

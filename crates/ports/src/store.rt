@@ -23,7 +23,7 @@ pub trait Store {
     /// How many reads failed so far.
     ghost faults: { Self → ℕ };
 
-    /// Reads the whole file of that name, if it has at most `limit` bytes.
+    /// Reads the whole file of that name, if it has at most `limit` bytes. The limit is less than 2^63.
     fn read(&mut self, alloc: Global, name: &Text, limit: u64) -> ReadAnswer
         requires { limit < 2 ^ 63 }
         ensures held { held self.new ≡ held self.old }
@@ -41,11 +41,11 @@ pub trait Store {
 pub enum ReadAnswer {
     /// All bytes of the file.
     Bytes(Blob),
-    /// Nothing could be read there.
+    /// There is no such file, or reading it failed.
     Failed,
     /// The file has more bytes than the limit.
     TooLong,
-    /// There was no memory for the bytes. The store is as before.
+    /// Out of memory. The store is as before.
     Memory,
 }
 

@@ -69,8 +69,8 @@ impl Pred {
         rule_holds(alloc, &self.rule, self.patterns.as_slice(), event)
     }
 
-    /// The host that an event needs to meet the rule: `v` of `host = v`, or of the first such part of an `and`. Another
-    /// rule tells none.
+    /// The host that an event needs to meet the rule: `v` of `host = v`, or of the first such part of an `and`. `None`
+    /// for any other rule.
     pub fn asked_host(&self) -> Option<&Value>
         ensures asked { option_copied result ≡ asked_host self.now }
         ensures needs { IfSome (option_copied result) (NeedsHost self.now) }

@@ -67,7 +67,7 @@ IsAnswer text (Err (Refused place)) = (length text ≤ MAX_BYTES) × IsRefusedAt
 IsAnswer text (Err (TooDeep place)) = (length text ≤ MAX_BYTES) × IsTooDeepAt text place
 IsAnswer text (Err Memory) = ⊥
 
--- a call answers so, or wants memory
+-- a call answers so, or is out of memory
 abbrev pub Says : Result Rule QueryFault → Result Tree QueryFault → Type 0
 Says (Ok rule) answer = answer ≡ Ok (tree_of rule)
 Says (Err Memory) answer = Unit {0}

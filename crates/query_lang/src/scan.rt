@@ -31,7 +31,7 @@ impl From<Memory> for ScanFault {
     }
 }
 
-/// The bytes from the first one on that is no blank.
+/// The bytes from the first one on that is not a blank.
 pub(crate) fn past_blanks(bytes: &[u8]) -> &[u8]
     ensures { result.now ≡ past_blanks bytes.now }
 {

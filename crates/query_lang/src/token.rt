@@ -16,7 +16,7 @@ pub(crate) enum Token {
     Nil,
     Tagged,
     Operator(Operator),
-    /// A name that is no word.
+    /// A name that is not one of the words above.
     Name(Text),
     Number(i64),
     /// What a string in double quotes holds.

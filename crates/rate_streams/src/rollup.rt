@@ -143,7 +143,7 @@ impl RollupState {
         self.waiting.len() > 0 && self.windows.number(now) != self.window
     }
 
-    // Turns to the window in which an event comes.
+    // Moves on to the window in which an event comes.
     fn enter(&mut self, window: u64)
         ensures { self.new ≡ record self.old { window = window; room = room_in self.old window } }
     {
@@ -170,7 +170,7 @@ impl RollupState {
         passes
     }
 
-    // Turns to the window that begins at the moment `now`, of which the events that wait are the first vector.
+    // Moves on to the window that begins at the moment `now`, of which the events that wait are the first vector.
     fn roll(&mut self, alloc: Global, now: u64) -> Events
         ensures rolled { result ≡ self.old.waiting }
         ensures turned { self.new ≡ record self.old {

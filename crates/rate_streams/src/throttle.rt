@@ -123,7 +123,7 @@ impl ThrottleState {
         None
     }
 
-    // Turns to the window in which an event comes.
+    // Moves on to the window in which an event comes.
     fn enter(&mut self, window: u64)
         ensures { self.new ≡
             record self.old { window = window; passed = passed_in self.old window } }

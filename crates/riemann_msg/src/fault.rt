@@ -12,7 +12,7 @@ pub enum MsgFault {
     /// The message is refused at `place`, counted in bytes from its start.
     #[error("message refused at {place}: {why}")]
     Refused { place: usize, why: MsgWhy },
-    /// There is no memory left.
+    /// Out of memory.
     #[error("out of memory")]
     Memory,
 }

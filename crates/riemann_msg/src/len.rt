@@ -12,8 +12,8 @@ use crate::zigzag::zigzag;
 use ev_types::{Attr, Event, Memory, Text};
 use pb_wire::varint_len;
 
-/// How many bytes the spelling of a message has. Where they are more than a `usize` can count, there is no memory
-/// for them.
+/// How many bytes the spelling of a message has. `Memory`: they are 2^64 or more, which is more than a `usize` can
+/// count.
 #[tactic(auto, using(crate::proofs::Lengths::message_length))]
 pub fn msg_len(msg: &Msg) -> Result<usize, Memory>
     ensures ok { IfOk result (λ n. n ≡ length (spelling msg.now)) }

@@ -403,8 +403,9 @@ impl Draft for MsgDraft {
     }
 }
 
-/// Reads the bytes as a message, at the moment `now` in seconds. An event without a time gets `now`. `Refused` comes
-/// for the first fault in the order of the fields, and then nothing was read.
+/// Reads the bytes as a message, at the moment `now` in seconds since 1970, which is less than 2^63. An event without a
+/// time gets `now`. `Refused` comes for the first fault in the order of the fields, and then nothing was read.
+/// `Memory`: out of memory.
 #[tactic(auto, unfolding(crate::specs::Fault::first_fault))]
 pub fn read_msg(alloc: Global, body: &[u8], now: u64) -> Result<Msg, MsgFault>
     requires { now < 2 ^ 63 }

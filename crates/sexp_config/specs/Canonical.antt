@@ -95,7 +95,7 @@ abbrev mutual
 
 -- ---- streams
 
--- fields and values by turns
+-- fields and values alternately
 abbrev pub set_forms : List Set → List BareTree
 set_forms [] = []
 set_forms (set ∷ sets) = field_form set.field ∷ value_form set.value ∷ set_forms sets

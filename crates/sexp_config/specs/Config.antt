@@ -85,7 +85,7 @@ abbrev pub fault_in : SexpFault → ConfigFault
 fault_in (sexp_fault.Refused place cause) = Refused place (why_of cause)
 fault_in sexp_fault.Memory = Memory
 
--- the text is no forms, for this cause at the place
+-- the text is not forms, for this cause at the place
 pub record IsFormsFault (text : List ℕ) (place : ℕ) (why : ConfigWhy) : Type 0 where
   pub cause : SexpWhy
   pub fault : text_fault text ≡ Some (place, cause)

@@ -4,6 +4,6 @@ use Rattle.std.specs.Option.{ForSome}
 use Rattle.ev_types.specs.declared.settings.Expiry.{Expiry}
 use Rattle.stream_plan.specs.declared.kinds.TheConstants.{MAX_SECS}
 
--- at least every so many seconds, and at most once a second
+-- from 1 second to MAX_SECS seconds
 abbrev pub IsInterval : Option Expiry → Type 0
 IsInterval expiry = ForSome expiry (λ set. (1 ≤ set.interval) × (set.interval ≤ MAX_SECS))

@@ -168,7 +168,7 @@ unfoldable pub bound_at : Env → FormTree → Result Bound Fault
 bound_at env (Group Round (also (Single (form.Symbol name) begin end) forms) start last) = index_by name start forms
 bound_at env f = bound_by f (argument_of env f)
 
--- names and values by turns, in a vector that starts at the place; each value knows the names before it
+-- names and values alternately, in a vector that starts at the place; each value knows the names before it
 unfoldable pub names_from : ℕ → Env → FormTrees → Result Env Fault
 names_from place env none = Ok env
 names_from place env (also name none) = name_at name >>= λ known. Err (place, why.Arguments)

@@ -18,8 +18,9 @@ use std::alloc::Global;
 /// A text is refused for the first of these that it has:
 /// - what [`read_forms`] refuses texts for, at its place;
 /// - in reading order, in each list the head first and then its arguments: a form of a kind that is not allowed there, at
-///   its start (Form); a symbol that is bound to nothing and no word of its place, at the symbol (Name); an argument
-///   that does not fit, at that argument, or one that is missing, at the bracket of the form that lacks it (Arguments);
+///   its start (Form); a symbol that is bound to nothing and is not a word of its place, at the symbol (Name); an
+///   argument that does not fit, at that argument, or one that is missing, at the bracket of the form that lacks it
+///   (Arguments);
 ///   a number outside its range, at the number (Range); a `tcp-server` or `periodically-expire` that comes again, at
 ///   its bracket, or a key or field of a map that the map has already, at the key (Twice);
 /// - stream number 4,097, at its form, a stream before those below it (Many);
@@ -41,7 +42,7 @@ pub fn read_config(alloc: Global, text: &[u8]) -> Result<Config, ConfigFault>
     }
 }
 
-/// The refusal of a text that is no forms.
+/// The refusal of a text that is not forms.
 fn forms_fault(fault: SexpFault) -> ConfigFault
     ensures { result ≡ fault_in fault }
 {

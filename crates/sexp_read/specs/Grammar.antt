@@ -73,7 +73,8 @@ open_after [] (Closed bracket last ∷ tokens) = []
 open_after (innermost ∷ stack) (Closed bracket last ∷ tokens) = open_after stack tokens
 open_after stack (Stood atom start last ∷ tokens) = open_after stack tokens
 
--- the first closing bracket that closes none of its kind, or the first opening one too many
+-- the first closing bracket where no bracket is open or the innermost open one is of another kind, or the first
+-- opening one with which more than `deepest` are open
 abbrev pub bracket_fault : Brackets → List Token → Option Fault
 bracket_fault stack [] = None
 bracket_fault stack (Opened bracket place ∷ tokens) =

@@ -29,7 +29,7 @@ pub enum SexpWhy {
     /// A bracket, string or pattern that begins at the place is unclosed at the end of the text.
     #[error("open")]
     Open,
-    /// A closing bracket without an opening one of its kind before it.
+    /// A closing bracket where no bracket is open, or the innermost open one is of another kind.
     #[error("close")]
     Close,
     /// A run of bytes that is not a number, a keyword or a symbol, or a `#` without a quote after it.

@@ -28,9 +28,10 @@ pub const LONGEST: usize = 1_048_576;
 /// A text is refused for the first of these that it has:
 /// - Long: it has more than 1,048,576 bytes; the place is 1,048,576.
 /// - Utf8: it is not UTF-8; the place is the length of its longest prefix that is.
-/// - At the first place in the text: a closing bracket that closes none of its kind (Close), a run that begins as a
-///   number and is not one (Number), another run that is neither a keyword nor a symbol (Token), a backslash in a string before
-///   another byte than `"` `\\` `n` `r` `t` (Escape), or the 65th bracket that is open at once (Deep).
+/// - At the first place in the text: a closing bracket where no bracket is open, or the innermost open one is of
+///   another kind (Close), a run that begins as a number and is not one (Number), another run that is neither a
+///   keyword nor a symbol (Token), a backslash in a string before another byte than `"` `\\` `n` `r` `t` (Escape), or
+///   the 65th bracket that is open at once (Deep).
 /// - Open: at its end a string or pattern is unclosed, at its place, or a bracket, at that of the innermost.
 ///
 /// `Memory`: out of memory.

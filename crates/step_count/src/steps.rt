@@ -11,7 +11,7 @@ use std::marker::Model;
 pub struct Steps<G: Ledger> {
     ledger: G,
 
-    // A log is a list that only proofs see, and has no bytes: each has one element a step.
+    // A `Log` is a ghost list, which has no bytes when the program runs. Each has one element a step.
     forks: Log<(), ()>,
     entries: Log<(), ()>,
 }

@@ -5,7 +5,7 @@ use Rattle.stream_plan.specs.Tree.{StreamTrees}
 use Rattle.stream_meaning.specs.History.{begun, moment_of}
 use Rattle.stream_meaning.specs.Arrivals.{Arrival, Elapsed, Post, state_from, state_after}
 
--- what comes later comes to what was there
+-- the state after two lists of arrivals is the state after the second, from that after the first
 abbrev pub ArrivalsComeInOrder : Type 0
 ArrivalsComeInOrder = (plan : StreamTrees) (expiry : Option Expiry) (start : ℕ) (first more : List Arrival) →
     state_after plan expiry start (first ++ more) ≡ state_from plan expiry more (state_after plan expiry start first)

@@ -102,7 +102,7 @@ abbrev pub SumExample : Type 0
 SumExample = Gives (alone (above (MovingEvent 2) (noticing (Smap Sum)))) 0 (Wait 1 ∷ Comes (measuring 5 1) ∷ Wait 1 ∷ Comes (measuring 7 2) ∷ [])
     (of_one 1 (measuring 5 1) ∷ of_one 2 (measuring 12 1) ∷ [])
 
--- the first of the events with the least metric, whatever has none
+-- the first of the events with the least metric; events without a metric do not count
 abbrev pub LeastExample : Type 0
 LeastExample = folded Minimum (bare 1 ∷ measuring 5 2 ∷ measuring 3 3 ∷ measuring 3 4 ∷ []) ≡ Some (measuring 3 3)
 

@@ -101,7 +101,7 @@ abbrev pub WindowsAreMultiples : Type 0
 WindowsAreMultiples = (secs : ℕ) (h : History) → 0 < secs →
     window_of secs (h ▸ Tick) ≡ (if (moment_of (h ▸ Tick) - begun h) % secs == 0 then window_of secs h + 1 else window_of secs h)
 
--- an item that is no empty vector
+-- an item that is not an empty vector
 abbrev pub IsNotEmpty : Item → Type 0
 IsNotEmpty (One event) = Unit {0}
 IsNotEmpty (Many []) = ⊥
@@ -111,7 +111,7 @@ abbrev pub AreNotEmpty : List Emission → Type 0
 AreNotEmpty [] = Unit {0}
 AreNotEmpty (emission ∷ more) = IsNotEmpty emission.item × AreNotEmpty more
 
--- the last entry is no empty vector
+-- the last entry is not an empty vector
 abbrev pub EndsWell : History → Type 0
 EndsWell (since start) = Unit {0}
 EndsWell (h ▸ Tick) = Unit {0}

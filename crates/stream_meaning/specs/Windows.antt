@@ -59,7 +59,7 @@ time_of event = event.time
 abbrev pub latest_time : List Event → Event → ℤ
 latest_time before event = greatest event.time (map time_of before)
 
--- the event's time is within `secs` seconds of the latest
+-- the event's time is less than `secs` seconds before the latest
 abbrev pub is_recent : ℕ → ℤ → Event → Bool
 is_recent secs latest event = int_lt (latest -ℤ pos secs) event.time
 

@@ -43,8 +43,8 @@ pub fn forks_have_their_events()
     ensures unseen { UnseenForksHaveTicks }
 {}
 
-/// A moment is a second for each tick after the first one, in every branch alike; a window begins where the seconds
-/// passed are a multiple of its length.
+/// The moment of an entry is the first moment plus the number of ticks, in every branch alike. A window begins where
+/// the seconds passed are a multiple of its length.
 pub fn windows_follow_moments()
     ensures moments { MomentsAreCounted }
     ensures branches { BranchesKeepMoments }
@@ -56,7 +56,8 @@ pub fn vectors_are_not_empty()
     ensures { VectorsAreNotEmpty }
 {}
 
-/// Where only ticks follow, a stream passes something on next at its deadline, and never where it has none.
+/// Where only ticks follow, a stream passes something on next at its deadline, and never where it has none. This is so
+/// where the stream's numbers are in their ranges.
 pub fn deadlines_are_first()
     ensures ahead { DeadlinesLieAhead }
     ensures met { DeadlinesAreMet }
@@ -65,7 +66,8 @@ pub fn deadlines_are_first()
 {}
 
 /// Where only ticks follow, some stream of a plan passes something on next at the plan's deadline, the least of those of
-/// its streams in all forks. A fork is due exactly where some stream in it passes something on.
+/// its streams in all forks. This is so where the streams' numbers are in their ranges. A fork is due exactly where
+/// some stream in it passes something on.
 pub fn deadlines_of_plans_are_first()
     ensures due { TicksActByEmissions }
     ensures ahead { PlanDeadlinesLieAhead }
@@ -73,7 +75,8 @@ pub fn deadlines_of_plans_are_first()
     ensures stay { PlanDeadlinesStay }
 {}
 
-/// Arrivals come one after another; a moment is a second for each that has passed, whatever is posted or comes again.
+/// Arrivals come one after another. The moment is the first moment plus the number of seconds that have passed,
+/// whatever is posted or comes again.
 pub fn arrivals_come_in_order()
     ensures order { ArrivalsComeInOrder }
     ensures moments { ArrivalsAreMoments }

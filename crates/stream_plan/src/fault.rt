@@ -30,7 +30,7 @@ pub enum PlanWhy {
     /// It is below 64 others.
     #[error("deep")]
     Deep,
-    /// It is an `Index` or a `Notice` and has children, or it has streams in `otherwise` and is no `Where`.
+    /// It is an `Index` or a `Notice` and has children, or it has streams in `otherwise` and is not a `Where`.
     #[error("children")]
     Children,
     /// A count or a number of seconds is out of its range, or a field is set to a value that does not fit it.

@@ -44,7 +44,7 @@ impl Model for ReadyPlan {
 }
 
 impl ReadyPlan {
-    /// The plan, which was checked. Its regular expressions fit into memory.
+    /// The plan, which was checked. It has at most 2^64 - 1 regular expressions.
     #[tactic(auto, using(crate::proofs::SoundLaws::faultless_is_sound, pred_eval::proofs::SearchLaws::read_length))]
     pub fn plan(&self) -> &Plan
         ensures same { plan_tree result.now ≡ self.now }

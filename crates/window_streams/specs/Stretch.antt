@@ -1,4 +1,4 @@
--- Stretches of time that are counted from a first moment on. What lies before it is in none.
+-- Stretches of event time, numbered from 0 from the first event's time on. A time before that is in none.
 use Rattle.std.specs.Prelude.{ℕ, ℤ, pos, negsuc, max, Bool, false, nat_lt, ◌==◌, Option, Some, None}
 
 abbrev pub stretch_from : ℤ → Option ℕ
