@@ -16,7 +16,20 @@ use pred_eval::{BuildFault, Patterns};
 use sexp_config::{Config, write_config};
 use std::alloc::Global;
 
-/// Carries out `check CONFIG`. The line of the ending goes to `err`.
+/// Carries out `check CONFIG`: it reads the configuration, builds its patterns, and writes its canonical text to `out`.
+///
+/// The line of the ending goes to `err`. A write of it that fails cuts it, and does not change the status.
+///
+/// | Status | When | Line on `err` |
+/// |---|---|---|
+/// | `Done` | the text is written | no |
+/// | `SinkFault` | the text could not be written; `out` got a prefix of it | no |
+/// | `Config` | the configuration is not valid, or a pattern of it is refused | yes |
+/// | `ReadFault` | the file could not be read | yes |
+/// | `TooLong` | the file has over [`CONFIG_LIMIT`] bytes | yes |
+/// | `Memory` | out of memory | yes |
+///
+/// After the last four `out` gets nothing.
 pub fn check<S: Store, O: Sink, E: Sink, P: Patterns>(
     alloc: Global,
     config: &Text,

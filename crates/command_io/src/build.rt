@@ -8,7 +8,8 @@ use pred_eval::{BuildFault, Patterns};
 use std::alloc::Global;
 use stream_plan::{CheckedPlan, ReadyPlan, build_plan};
 
-/// Builds the patterns of a plan, of which there are at most as many as a configuration has bytes.
+/// Builds the patterns of a plan, at most [`CONFIG_LIMIT`] of them. An error is the number, from 0, of the pattern that
+/// was refused, or out of memory.
 #[tactic(auto, using(crate::proofs::BuildLaws::refused_pattern))]
 pub fn build_ready<P: Patterns>(
     alloc: Global,

@@ -14,9 +14,9 @@ pub enum Ending {
     Unread(Source),
     /// The file is longer than its limit.
     OverLimit(Source),
-    /// It did all that it had to, and so many bytes were left after the last whole frame.
+    /// It did all that it had to, and `count` bytes, at least one, were left after the last whole frame.
     BytesLeft { count: usize },
-    /// A write of what it was to write failed.
+    /// A notice line or the result of the command could not be written. The line of the ending does not count.
     WriteFailed,
     /// The links failed.
     LinksFailed,
@@ -30,7 +30,7 @@ pub enum Ending {
 pub enum ConfigRefusal {
     /// The text is not a configuration, for this cause at the place.
     Refused { place: usize, why: ConfigWhy },
-    /// The pattern of this number was refused.
+    /// The pattern of this number, from 0, was refused.
     Pattern { number: u32 },
 }
 

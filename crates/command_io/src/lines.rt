@@ -14,7 +14,7 @@ use itoa::Buffer;
 use ports::{Failed, Sink};
 use sexp_config::ConfigWhy;
 
-/// The line where no command matches the words.
+/// The line where no command matches the arguments.
 pub const USAGE: &str =
     "riemann: usage: feed CONFIG FILE, check CONFIG, replay CONFIG SCRIPT, serve CONFIG [--turns N], load CONFIG N START\n";
 

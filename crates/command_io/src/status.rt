@@ -5,13 +5,13 @@ ghost use Rattle.std.specs.Prelude.{◌≡◌};
 pub enum Status {
     /// The command was carried out.
     Done,
-    /// No command matches the words.
+    /// No command matches the arguments.
     Usage,
     /// The configuration was refused.
     Config,
     /// A file could not be read.
     ReadFault,
-    /// A write of what the command was to write failed.
+    /// A notice line or the result of the command could not be written. The line of the ending does not count.
     SinkFault,
     /// The links failed.
     LinkFault,

@@ -12,7 +12,8 @@ use Rattle.stream_meaning.specs.Arrivals.{Arrival}
 use Rattle.conn_core.specs.Hub.{IsAt}
 use Rattle.conn_core.specs.declared.hub.Hub.{Hub}
 
--- the hub is at the state after these calls, in which all links are settled, and the notices were told
+-- The hub is at the state after these calls, in which all links are settled. The notices of the new arrivals were
+-- appended, and the forks counted.
 pub record Done (hub : Hub) (config : CoreConfig) (state after : RunState) (old new : Told) : Type 0 where
   pub at : IsAt hub config after
   pub settled : AreSettled after.links

@@ -18,7 +18,22 @@ use pred_eval::Patterns;
 use std::alloc::Global;
 use step_count::{Ledger, Steps};
 
-/// Carries out `feed CONFIG FILE`.
+/// Carries out `feed CONFIG FILE`: it runs a server over link 0, which sends the bytes of the file.
+///
+/// In the run a line for each notice goes to `err`. After it all replies to link 0 go to `out`, and then the line of
+/// the ending to `err`. A write of that line that fails cuts it, and does not change the status.
+///
+/// | Status | When | Line on `err` |
+/// |---|---|---|
+/// | `Done` | all is written, and no byte is left after the last whole frame | no |
+/// | `Truncated` | all is written, and bytes are left after the last whole frame | yes |
+/// | `SinkFault` | a notice line could not be written, and `out` gets nothing; or `out` got only a prefix of the replies | no |
+/// | `Config` | the configuration is not valid, or a pattern of it is refused | yes |
+/// | `ReadFault` | one of the two files could not be read | yes |
+/// | `TooLong` | the configuration has over `command_io::CONFIG_LIMIT` bytes, or the file over `command_io::FILE_LIMIT` | yes |
+/// | `Memory` | out of memory; `out` gets nothing, and `err` may have got notice lines | yes |
+///
+/// After `Config`, `ReadFault` and `TooLong` nothing is run, and only that line is written.
 pub fn feed<S: Store, O: Sink, E: Sink, P: Patterns, G: Ledger>(
     alloc: Global,
     config: &Text,

@@ -52,7 +52,7 @@ can_send link = (is_open_status link.status || is_read_closed_status link.status
 abbrev pub sendable : HubLink → ℕ
 sendable link = if can_send link then length link.unsent else 0
 
--- a link of this status is to be closed while so many bytes are unsent
+-- whether a link of this status is to be closed while `count` bytes are unsent
 abbrev pub is_over_as : Status → ℕ → Bool
 is_over_as Open count = false
 is_over_as ReadClosed count = count == 0

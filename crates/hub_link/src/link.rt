@@ -292,7 +292,7 @@ fn first_status(has_room: bool) -> Status
     }
 }
 
-/// Whether a link of this status is to be closed while so many bytes are unsent.
+/// Whether a link of this status is to be closed while `unsent` bytes are unsent.
 fn is_over_as(status: Status, unsent: usize) -> bool
     ensures { result ≡ is_over_as status unsent }
 {

@@ -13,14 +13,15 @@ use std::marker::Model;
 use std::mem;
 use step_count::{Ledger, Steps};
 
-/// Replies that were not sent yet. Contracts see the bytes that were not taken. No byte is moved once it is appended.
+/// Replies that were not sent yet. Contracts see the bytes that were not taken. Removing bytes at the front moves
+/// none of the others.
 #[derive(Drop)]
 pub(crate) struct Unsent {
     /// The replies that are sent next.
     first: Blob,
     /// How many bytes of `first` were taken.
     taken: usize,
-    /// The replies that came since `first` is sent.
+    /// The replies after those in `first`. New ones are appended here.
     later: Blob,
 }
 

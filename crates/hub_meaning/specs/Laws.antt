@@ -8,7 +8,7 @@ use Rattle.hub_meaning.specs.Links.{Link}
 use Rattle.hub_meaning.specs.Runs.{RunState, Step, new_frames, state_from, state_after}
 use Rattle.hub_meaning.specs.Legal.{IsLegal, IsLegalFrom}
 
--- what comes later comes to what was there
+-- later steps go on from the state after the first ones
 abbrev pub StepsComeInOrder : Type 0
 StepsComeInOrder = (config : CoreConfig) (first more : List Step) (state : RunState) →
     state_from config (first ++ more) state ≡ state_from config more (state_from config first state)

@@ -30,7 +30,7 @@ AreSettled (link ∷ links) = IsSettled link × AreSettled links
 
 -- ---- the verdicts on the messages of a turn
 
--- only a pattern that is built is refused
+-- each refusal is of a pattern of the rule that is asked
 abbrev pub ArePossible : CoreConfig → ℕ → List Message → Talk → Type 0
 ArePossible config now [] talk = Unit {0}
 ArePossible config now (message ∷ messages) talk =

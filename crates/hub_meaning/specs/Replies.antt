@@ -1,4 +1,4 @@
--- What each message is answered. A reply is a message too, in a frame of its own.
+-- The reply to each message. A reply is a message too, in a frame of its own.
 use Rattle.std.specs.Prelude.{ℕ, true, false, nat_le, if◌then◌else◌, List, [], ◌++◌, filter, length, codes, Option, Some, None, Result, Ok, Err}
 use Rattle.std.specs.Fmt.{decimal}
 use Rattle.ev_types.specs.declared.event.Event.{Event}
@@ -45,7 +45,7 @@ limited msg = if nat_le (length (spelling msg)) BODY_LIMIT then msg else refused
 unfoldable pub message_refusal : ℕ → MsgWhy → List ℕ
 message_refusal place why = codes "message refused at " ++ (decimal place ++ (codes ": " ++ why_name why))
 
--- the reason for which a query is not answered while so many bytes are unsent
+-- the reason for which a query is refused as busy, while at least BODY_LIMIT bytes are unsent
 unfoldable pub busy : ℕ → List ℕ
 busy unsent = codes "busy: " ++ (decimal unsent ++ codes " bytes unsent")
 

@@ -24,7 +24,7 @@ judged [] verdicts = []
 judged (body ∷ bodies) [] = record { body = body; refusal = None } ∷ judged bodies []
 judged (body ∷ bodies) (verdict ∷ verdicts) = record { body = body; refusal = verdict } ∷ judged bodies verdicts
 
--- a query is not answered while so many bytes are unsent
+-- a query is refused as busy while at least BODY_LIMIT bytes are unsent
 abbrev pub is_busy : ℕ → Bool
 is_busy unsent = nat_le BODY_LIMIT unsent
 
@@ -36,7 +36,7 @@ built_rule now unsent body = if is_busy unsent then None else rule_of now body
 abbrev pub IsOfRule : Option Tree → Refusal → Type 0
 IsOfRule asked refusal = (rule : Tree) × (asked ≡ Some rule) × (slice_get (searches rule) refusal.number ≡ Some refusal.text)
 
--- only a pattern that is built is refused
+-- a refusal is of a pattern of the rule that is asked
 abbrev pub IsPossible : ℕ → ℕ → Message → Type 0
 IsPossible now unsent message = IfSome message.refusal (IsOfRule (built_rule now unsent message.body))
 

@@ -7,14 +7,14 @@ ghost use Rattle.hub_meaning.specs.Laws.{
   NumbersRise,
 };
 
-/// A run comes to what its later steps make of what its first ones come to, and it is legal where both parts are.
+/// The later steps of a run go on from the state after its first ones. The run is legal where both parts are.
 pub fn steps_come_in_order()
     ensures order { StepsComeInOrder }
     ensures legal { LegalInOrder }
 {}
 
-/// Each frame of a link is whole with just one of its pieces, and is then one of what was left before the piece, and the
-/// piece.
+/// A piece that is read of a link adds frames after the earlier ones. They are the frames of the bytes that were left
+/// after the last whole frame, followed by the piece.
 pub fn messages_come_whole()
     ensures whole { MessagesComeWhole }
     ensures rest { NewFramesAreOfTheRest }

@@ -1,5 +1,5 @@
-//! What the links, messages and replies of a server mean: what a run of calls comes to, which calls it may make, and what
-//! each message is answered. Nothing here runs; contracts above cite it.
+//! What the links, messages and replies of a server mean: the state after a run of calls, which calls it may make, and
+//! the reply to each message. These are definitions and laws for the contracts of the crates above.
 #![tactic(auto)]
 
 mod example;

@@ -1,5 +1,5 @@
 -- How a run ends, from its first call on.
-use Rattle.std.proofs.Common.{◌≡◌, ℕ, ◌⊎◌, inl, inr, List, [], ◌∷◌, ◌++◌, Result, Ok, Err, refl, ap, sym, ◌∙◌, subst, arith}
+use Rattle.std.proofs.Common.{◌≡◌, ℕ, inl, inr, List, [], ◌∷◌, ◌++◌, Ok, Err, refl, ap, sym, ◌∙◌, subst, arith}
 use Rattle.std.specs.Prelude.{Option}
 use Rattle.ports.specs.declared.entry.Entry.{Entry}
 use Rattle.ports.specs.declared.links.Want.{Want}
@@ -7,7 +7,7 @@ use Rattle.conn_core.specs.Hub.{Follows}
 use Rattle.conn_core.specs.Known.{AreUnclosed}
 use Rattle.conn_core.specs.declared.hub.Hub.{Hub}
 use Rattle.hub_run.specs.Runs.{RunReport, RunsTo, StopsShort, config_at, opening}
-use Rattle.hub_run.specs.Taking.{AllTaken, CutShort, LinksLost, ListensOn, MemoryGone, TakesAll, TurnsTo}
+use Rattle.hub_run.specs.Taking.{CutShort, ListensOn, TakesAll, TurnsTo}
 use Rattle.hub_run.specs.declared.fault.RunFault.{RunFault}
 use Rattle.hub_run.specs.declared.fault.RunFault.TheVariants.{Links, Sink, Memory}
 use Rattle.hub_run.specs.declared.setup.Setup.{Setup}

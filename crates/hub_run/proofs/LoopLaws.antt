@@ -1,11 +1,10 @@
 -- How a run goes on, turn after turn, and how it ends.
-use Rattle.std.proofs.Common.{◌≡◌, ◌≢◌, ◌↔◌, ℕ, Bool, true, false, ◌+◌, ◌<◌, ◌⊎◌, inl, inr, List, [], ◌∷◌, ◌++◌, length, Result, Ok, Err, refl, ap, sym, ◌∙◌, subst, arith, append-nil, length-append}
+use Rattle.std.proofs.Common.{◌≡◌, ◌≢◌, ◌↔◌, ℕ, Bool, true, false, ◌+◌, ◌<◌, inl, inr, List, [], ◌∷◌, ◌++◌, length, Ok, Err, refl, ap, sym, ◌∙◌, subst, arith, append-nil, length-append}
 use Rattle.std.specs.Prelude.{IsTrue, Option}
 use Rattle.std.proofs.lemmas.Bool.{false≢true}
 use Rattle.std.specs.List.{AllByRecursion}
 use Rattle.event_core.specs.Core.{CoreConfig}
 use Rattle.ports.specs.declared.entry.Entry.{Entry}
-use Rattle.ports.specs.declared.entry.Entry.TheVariants.{Next}
 use Rattle.ports.specs.declared.links.Turn.{Turn}
 use Rattle.ports.specs.declared.links.What.TheVariants.{Stopped}
 use Rattle.conn_core.specs.Hub.{Follows, wants_in}
@@ -14,14 +13,14 @@ use Rattle.conn_core.specs.declared.hub.Hub.{Hub}
 use Rattle.conn_core.specs.declared.stop.Stop.{Stop}
 use Rattle.conn_core.specs.declared.stop.Stop.TheVariants.{SinkFault, Memory as StopMemory}
 use Rattle.hub_run.specs.Runs.{AddsRun, NotBegun, RunReport, TakesTurns}
-use Rattle.hub_run.specs.Taken.{GoesOn, HasEnded, MayGoOn, TakenTurn, entries_of, entries_of_turn, steps_of}
+use Rattle.hub_run.specs.Taken.{GoesOn, MayGoOn, TakenTurn, entries_of, entries_of_turn, steps_of}
 use Rattle.hub_run.specs.Taking.{AllTaken, CutShort, DoesTurn, HasNoTurn, LinksLost, MemoryGone, StopsAt, TakesAll, TakesTurn, TurnsTo}
 use Rattle.hub_run.specs.declared.fault.RunFault.{RunFault}
 use Rattle.hub_run.specs.declared.fault.RunFault.TheVariants.{Links, Sink, Memory}
 use Rattle.hub_run.proofs.AddsLaws.{adds_nothing, adds_then, adds_weaken}
 use Rattle.hub_run.proofs.TakenLaws.{all_more, entries_more, follows_more, stops_more, taken_turn, takes_more, takes_nothing}
 
--- so many whole turns, none of them the last
+-- `count` whole turns, none of them the last
 pub record Took (config : CoreConfig) (hub : Hub) (old new : RunReport) (count : ℕ) (run : List Entry) : Type 0 where
   pub turns : List TakenTurn
   pub are : run ≡ entries_of turns

@@ -1,15 +1,13 @@
 -- How a turn is asked for, and then taken.
-use Rattle.std.proofs.Common.{◌≡◌, ◌≢◌, ℕ, ◌⊎◌, inl, inr, true, List, [], ◌∷◌, ◌++◌, Result, Ok, Err, refl, ap, sym, ◌∙◌, subst}
+use Rattle.std.proofs.Common.{◌≡◌, ◌≢◌, ℕ, inl, inr, List, [], ◌∷◌, ◌++◌, Result, Ok, Err, refl, ap, sym, ◌∙◌, subst}
 use Rattle.std.specs.Prelude.{Option, Some, None}
 use Rattle.hub_link.specs.Added.{Added}
-use Rattle.ports.specs.Playing.{is_turn_answer}
 use Rattle.ports.specs.declared.entry.Entry.{Entry}
 use Rattle.ports.specs.declared.entry.Entry.TheVariants.{Next}
 use Rattle.ports.specs.declared.links.Turn.{Turn}
 use Rattle.ports.specs.declared.links.Want.{Want}
 use Rattle.ports.specs.declared.links.What.{What}
 use Rattle.ports.specs.declared.links.What.TheVariants.{Idle, Opened, Read, Ended, Broken, Room, Stopped, Failed, Memory as NoMemory}
-use Rattle.ports.specs.Counts.{Rose}
 use Rattle.ports.specs.Links.{HasNextCause, entries_of_turn, grown, next_entries, piece_of}
 use Rattle.conn_core.specs.Hub.{wants_in}
 use Rattle.conn_core.specs.Known.{Answered, AreUnclosed, EndsWith}

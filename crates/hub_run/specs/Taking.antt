@@ -25,7 +25,7 @@ use Rattle.hub_run.specs.declared.fault.RunFault.TheVariants.{Links, Sink, Memor
 
 -- ---- one call
 
--- the calls of links where it was listened on the address, or why not
+-- the call of `listen` on the address, which succeeded or failed; none where memory ran out
 abbrev pub ListensOn : List ℕ → Result ℕ RunFault → List Entry → Type 0
 ListensOn address (Ok secs) run = run ≡ Listen address (listen.Ready secs) ∷ []
 ListensOn address (Err Links) run = run ≡ Listen address listen.Failed ∷ []

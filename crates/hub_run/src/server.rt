@@ -64,7 +64,7 @@ pub fn run<L: Links, O: Sink, P: Patterns, G: Ledger>(
     Ok(hub)
 }
 
-/// Takes turns until one is the last, or until so many were taken.
+/// Takes turns until one is the last, or until `turns` of them were taken.
 fn take_turns<L: Links, O: Sink, P: Patterns, G: Ledger>(
     alloc: Global,
     hub: &mut Hub,

@@ -30,19 +30,19 @@ previous_at slots key = previous_of key (value_at slots key)
 abbrev pub kind_at : List (Option Node) → ℕ → Option Bool
 kind_at slots key = kind_of (value_at slots key)
 
--- the key, where its node is not a head
+-- the slot number, where its node is not a head
 abbrev pub id_of : Option Bool → ℕ → Option ℕ
 id_of None key = None
 id_of (Some true) key = None
 id_of (Some false) key = Some key
 
 -- ---- rings
--- each key is the previous one of its next one, and the other way round
+-- each number is the previous one of its next one, and the next one of its previous one
 pub record AreMutual (next previous : ℕ → ℕ) : Type 0 where
   pub back : (key : ℕ) → previous (next key) ≡ key
   pub forth : (key : ℕ) → next (previous key) ≡ key
 
--- from the key on, the links lead through the ids to the end
+-- from the number on, the links lead through the ids to the end
 abbrev pub Leads : (ℕ → ℕ) → ℕ → List ℕ → ℕ → Type 0
 Leads next key [] end = next key ≡ end
 Leads next key (id ∷ ids) end = (next key ≡ id) × Leads next id ids end
@@ -79,13 +79,13 @@ pub record KeepsNodes (old new : Slab Node) : Type 0 where
   pub len : slab_len new ≡ slab_len old
   pub capacity : new.capacity ≡ old.capacity
 
--- the node at the key has this next one now
+-- the node at the slot number has this next one now
 pub record SetsNext (old new : Slab Node) (at next : ℕ) : Type 0 where
   pub next_is : (key : ℕ) → next_at new.slots key ≡ (if eqb key at then next else next_at old.slots key)
   pub previous_kept : (key : ℕ) → previous_at new.slots key ≡ previous_at old.slots key
   pub rest : KeepsNodes old new
 
--- the node at the key has this previous one now
+-- the node at the slot number has this previous one now
 pub record SetsPrevious (old new : Slab Node) (at previous : ℕ) : Type 0 where
   pub previous_is : (key : ℕ) → previous_at new.slots key ≡ (if eqb key at then previous else previous_at old.slots key)
   pub next_kept : (key : ℕ) → next_at new.slots key ≡ next_at old.slots key
@@ -99,7 +99,7 @@ pub record Cuts (old new : Slab Node) (id : ℕ) : Type 0 where
       ≡ (if eqb key id then id else if eqb key (next_at old.slots id) then previous_at old.slots id else previous_at old.slots key)
   pub rest : KeepsNodes old new
 
--- the id is between the key `after` and the one that was previous to it
+-- the id is between the slot number `after` and the one that was previous to it
 pub record Ties (old new : Slab Node) (id after : ℕ) : Type 0 where
   pub next_is : (key : ℕ) → next_at new.slots key
       ≡ (if eqb key id then after else if eqb key (previous_at old.slots after) then id else next_at old.slots key)

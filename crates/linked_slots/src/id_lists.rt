@@ -13,7 +13,7 @@ use std::marker::Model;
 /// no memory.
 #[derive(Drop)]
 pub struct Lists {
-    // Each list is a ring of nodes: its head, and then its ids in order. An id is the key of its node.
+    // Each list is a ring of nodes: its head, and then its ids in order. An id is the slot number of its node.
     nodes: Slab<Node>,
     heads: Vec<usize>,
 

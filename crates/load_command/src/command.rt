@@ -17,8 +17,8 @@ use pred_eval::Patterns;
 use std::alloc::Global;
 use step_count::{Ledger, Steps};
 
-/// Carries out `load CONFIG N START`, with `count` for N: it runs a server over a generated load of so many events. What
-/// the load came to goes to `out`, and the line of the ending to `err`.
+/// Carries out `load CONFIG N START`, with `count` for N: it runs a server over a generated load of `count` events.
+/// What the load came to goes to `out`, and the line of the ending to `err`.
 pub fn load<S: Store, O: Sink, E: Sink, P: Patterns, G: Ledger>(
     alloc: Global,
     config: &Text,

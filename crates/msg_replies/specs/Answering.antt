@@ -41,7 +41,7 @@ pub record Replies (body : List ℕ) (unsent : ℕ) (refusal : Option Refusal) (
   pub reply : replies' ≡ replies ++ reply_to (now_of core) (state_by (config_of core) (arrivals ++ posts_of (now_of core) body)).log unsent
       (record { body = body; refusal = refusal })
 
--- a message was answered, where so many bytes were unsent
+-- a message was answered, where `unsent` bytes were unsent
 pub record AnswersMessage (body : List ℕ) (unsent : ℕ) (core core' : Core) (patterns patterns' : PatternsState) (replies replies' : List ℕ) (old new : Told)
     (result : Result (Unit {0}) Memory) : Type 0 where
   pub refusal : Option Refusal

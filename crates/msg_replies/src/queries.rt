@@ -172,7 +172,7 @@ fn over_limit(alloc: Global, size: usize) -> Result<String, AllocError>
     format!(in alloc; "reply of {size} bytes over {BODY_LIMIT}")
 }
 
-/// Appends a reply that so many bytes are unsent.
+/// Appends a reply that the query is refused as busy, with `unsent` bytes unsent.
 #[tactic(auto, using(crate::proofs::Lengths::busy_length))]
 fn refuse_busy(alloc: Global, unsent: usize, replies: &mut Blob) -> Result<(), Memory>
     ensures { OnOk result (replies.new ≡ replies.old ++ framed (refused (busy unsent))) }

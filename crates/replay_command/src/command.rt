@@ -17,7 +17,23 @@ use pred_eval::Patterns;
 use std::alloc::Global;
 use step_count::{Ledger, Steps};
 
-/// Carries out `replay CONFIG SCRIPT`.
+/// Carries out `replay CONFIG SCRIPT`: it runs a server over links that play the script.
+///
+/// In the run a line for each notice goes to `out`. After it goes a line for each link that the script opens, with the
+/// bytes that the link was sent. The line of the ending goes to `err`. A write of it that fails cuts it, and does not
+/// change the status.
+///
+/// | Status | When | Line on `err` |
+/// |---|---|---|
+/// | `Done` | the script was played to its end, and all is written | no |
+/// | `SinkFault` | a line could not be written; `out` got a prefix of the lines | no |
+/// | `Config` | the configuration is not valid, or a pattern of it is refused | yes |
+/// | `Script` | the script is not valid | yes |
+/// | `ReadFault` | one of the two files could not be read | yes |
+/// | `TooLong` | the configuration has over `command_io::CONFIG_LIMIT` bytes, or the script over `command_io::FILE_LIMIT` | yes |
+/// | `Memory` | out of memory; `out` may have got lines | yes |
+///
+/// After `Config`, `Script`, `ReadFault` and `TooLong` nothing is run, and `out` gets nothing.
 pub fn replay<S: Store, O: Sink, E: Sink, P: Patterns, G: Ledger>(
     alloc: Global,
     config: &Text,

@@ -1,4 +1,4 @@
--- A command that ran was named by the words, and its status says so.
+-- A command that ran matches the arguments, and its status says so.
 use Rattle.std.proofs.Common.{◌≡◌, ℕ, List}
 use Rattle.command_io.specs.declared.ending.Ending.{Ending}
 use Rattle.command_io.specs.declared.ending.Ending.TheVariants.{Finished, ConfigRefused, Unread, OverLimit, BytesLeft, WriteFailed, LinksFailed, ScriptRefused, OutOfMemory}

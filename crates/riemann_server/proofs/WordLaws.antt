@@ -1,4 +1,4 @@
--- Lists of two and of four words are their words.
+-- A list of two or of four items is those items.
 use Rattle.std.proofs.Common.{◌≡◌, ◌<◌, ◌≤◌, List, [], ◌∷◌, length, arith}
 use Rattle.std.specs.Prelude.{slice_index_or}
 

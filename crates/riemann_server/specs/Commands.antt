@@ -1,10 +1,10 @@
--- The command that words name.
+-- The command that matches the arguments.
 use Rattle.std.specs.Prelude.{◌≡◌, ℕ, List}
 use Rattle.riemann_server.specs.declared.command.Command.{Command}
 use Rattle.riemann_server.specs.declared.command.Command.TheVariants.{Feed, Check, Replay, Serve, Load}
 use Rattle.riemann_server.specs.Words.{IsLoad, IsServe, check_words, feed_words, replay_words}
 
--- the words are those of the command
+-- the arguments are those of the command
 abbrev pub IsCommandOf : List (List ℕ) → Command → Type 0
 IsCommandOf words (Feed config file) = words ≡ feed_words config.now file.now
 IsCommandOf words (Check config) = words ≡ check_words config.now
@@ -12,6 +12,6 @@ IsCommandOf words (Replay config script) = words ≡ replay_words config.now scr
 IsCommandOf words (Serve config turns) = IsServe words config.now turns
 IsCommandOf words (Load config count start) = IsLoad words config.now count start
 
--- a command matches the words
+-- a command matches the arguments
 abbrev pub IsCommand : List (List ℕ) → Type 0
 IsCommand words = (command : Command) × IsCommandOf words command

@@ -1,4 +1,4 @@
--- The words of the command line.
+-- The arguments of the command line.
 use Rattle.std.specs.Prelude.{◌≡◌, ℕ, ◌≤◌, ◌⊎◌, List, [], ◌∷◌, codes, Some}
 use Rattle.load_command.specs.declared.play.TheConstants.{EVENT_LIMIT}
 use Rattle.ports.specs.Counts.{greatest}
@@ -19,7 +19,7 @@ serve_words config = codes "serve" ∷ (config ∷ [])
 abbrev pub serve_turns_words : List ℕ → List ℕ → List (List ℕ)
 serve_turns_words config number = codes "serve" ∷ (config ∷ (codes "--turns" ∷ (number ∷ [])))
 
--- the words are `serve CONFIG --turns N` with this number, or `serve CONFIG` and it is the greatest one
+-- the arguments are `serve CONFIG --turns N` with this number, or `serve CONFIG` and it is the greatest one
 abbrev pub IsServe : List (List ℕ) → List ℕ → ℕ → Type 0
 IsServe words config turns = ((words ≡ serve_words config) × (turns ≡ greatest))
     ⊎ ((number : List ℕ) × (words ≡ serve_turns_words config number) × (number_of number ≡ Some turns))
@@ -27,7 +27,7 @@ IsServe words config turns = ((words ≡ serve_words config) × (turns ≡ great
 abbrev pub load_words : List ℕ → List ℕ → List ℕ → List (List ℕ)
 load_words config count start = codes "load" ∷ (config ∷ (count ∷ (start ∷ [])))
 
--- the words are `load CONFIG N START` with these numbers, and N is within its limit
+-- the arguments are `load CONFIG N START` with these numbers, and N is within its limit
 pub record IsLoad (words : List (List ℕ)) (config : List ℕ) (count start : ℕ) : Type 0 where
   pub first : List ℕ
   pub second : List ℕ
@@ -36,7 +36,7 @@ pub record IsLoad (words : List (List ℕ)) (config : List ℕ) (count start : �
   pub few : count ≤ EVENT_LIMIT
   pub starts : number_of second ≡ Some start
 
--- ---- facts of the names, where the words are those of the command
+-- ---- facts of the names, where the arguments are those of the command
 
 abbrev pub OnFeed : List (List ℕ) → (List ℕ → List ℕ → Type 0) → Type 0
 OnFeed words P = (config file : List ℕ) → words ≡ feed_words config file → P config file
@@ -53,7 +53,7 @@ OnServe words P = (config : List ℕ) (turns : ℕ) → IsServe words config tur
 abbrev pub OnLoad : List (List ℕ) → (List ℕ → ℕ → ℕ → Type 0) → Type 0
 OnLoad words P = (config : List ℕ) (count start : ℕ) → IsLoad words config count start → P config count start
 
--- no command matches the words
+-- no command matches the arguments
 abbrev pub IsUsage : List (List ℕ) → Type 0
 IsUsage words = OnFeed words (λ config file. ⊥) × OnCheck words (λ config. ⊥)
     × OnReplay words (λ config script. ⊥) × OnServe words (λ config turns. ⊥) × OnLoad words (λ config count start. ⊥)

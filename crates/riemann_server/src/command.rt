@@ -20,7 +20,7 @@ pub(crate) enum Command<'a> {
         config: &'a Text,
         script: &'a Text,
     },
-    /// It takes at most so many turns.
+    /// It takes at most `turns` turns.
     Serve {
         config: &'a Text,
         turns: u64,
@@ -32,7 +32,7 @@ pub(crate) enum Command<'a> {
     },
 }
 
-/// The command that matches the words.
+/// The command that matches the arguments.
 pub(crate) fn command_of<'a>(words: &'a [Text]) -> Option<Command<'a>>
     ensures { MatchOption result (IsUsage words.now) (λ command. IsCommandOf words.now command) }
 {
@@ -44,7 +44,7 @@ pub(crate) fn command_of<'a>(words: &'a [Text]) -> Option<Command<'a>>
     }
 }
 
-/// The command of two words.
+/// The command of two arguments.
 fn command_on_one<'a>(command: &'a Text, config: &'a Text) -> Option<Command<'a>>
     ensures { MatchOption result (IsUsage (command.now ∷ (config.now ∷ [])))
         (λ found. IsCommandOf (command.now ∷ (config.now ∷ [])) found) }
@@ -61,7 +61,7 @@ fn command_on_one<'a>(command: &'a Text, config: &'a Text) -> Option<Command<'a>
     }
 }
 
-/// The command of three words.
+/// The command of three arguments.
 fn command_on_two<'a>(command: &'a Text, config: &'a Text, file: &'a Text) -> Option<Command<'a>>
     ensures { MatchOption result (IsUsage (command.now ∷ (config.now ∷ (file.now ∷ []))))
         (λ found. IsCommandOf (command.now ∷ (config.now ∷ (file.now ∷ []))) found) }
@@ -78,7 +78,7 @@ fn command_on_two<'a>(command: &'a Text, config: &'a Text, file: &'a Text) -> Op
     }
 }
 
-/// The command of four words.
+/// The command of four arguments.
 fn command_on_three<'a>(
     command: &'a Text,
     config: &'a Text,

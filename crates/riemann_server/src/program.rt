@@ -31,14 +31,14 @@ options:
   --version               write the version
 ";
 
-/// Why the words of the command line could not be read.
+/// Why the arguments of the command line could not be read.
 pub(crate) enum WordsFault {
     /// One of them is not UTF-8.
     NoText,
     Memory,
 }
 
-/// The words of the command line after the program's name.
+/// The arguments of the command line after the program's name.
 pub(crate) fn words<R: Env + AllocGlobal>(rt: &R) -> Result<Vec<Text>, WordsFault> {
     let all = env::args(rt).map_err(fault_of)?;
     let mut words = Vec::new(rt.alloc());

@@ -25,9 +25,9 @@ use serve_command::serve;
 use std::alloc::Global;
 use step_count::{Ledger, Steps};
 
-/// Carries out the command that the words name, and says how it ended.
+/// Carries out the command that matches the arguments, and gives how it ended.
 ///
-/// | Words | What it does |
+/// | Arguments | What it does |
 /// |---|---|
 /// | `feed CONFIG FILE` | runs a server over one link that sends the bytes of the file; notice lines go to `err`, and then the replies to `out` |
 /// | `check CONFIG` | reads a configuration, builds its patterns, and writes its canonical text to `out` |
@@ -48,7 +48,7 @@ pub fn riemann<S: Store, L: Links, O: Sink, E: Sink, P: Patterns, G: Ledger>(
     patterns: &mut P,
     steps: &mut Steps<G>,
 ) -> Status
-    // What holds of all commands. No command matches the words exactly where the status says so.
+    // What holds of all commands. The status is `Usage` exactly where no command matches the arguments.
     ensures usage { (result ≡ Status.Usage) ↔ IsUsage words.now }
     ensures command { result ≢ Status.Usage → IsCommand words.now }
     ensures idle { result ≡ Status.Usage →

@@ -46,7 +46,7 @@ const NOTHING_FAILS: Failing<'static> = Failing {
 
 const PLAIN: &[u8] = b"(streams index)";
 
-/// The words, each with its own text.
+/// The arguments, each as a text of its own.
 fn owned_words<R: AllocGlobal>(rt: &R, words: &[&str]) -> Result<Vec<Text>, Fail> {
     let mut texts = Vec::new(rt.alloc());
     for word in words {
@@ -83,7 +83,7 @@ fn sink<R: AllocGlobal>(rt: &R, failing: &[u64]) -> Result<MemSink, Fail> {
     Ok(MemSink::fresh(rt.alloc(), 1 << 20, failing)?)
 }
 
-/// Carries out the words over a store with these files.
+/// Carries out the command of these arguments over a store with these files.
 fn run<R: AllocGlobal>(
     rt: &R,
     words: &[&str],

@@ -6,7 +6,7 @@ pub fn sends_are_taken()
     ensures prefix { PrefixesAreTaken }
 {}
 
-/// A file that is fed to a server is answered whole: once its links are settled, all replies were taken of link 0.
+/// Where bytes are fed to a server on link 0, all its replies to that link are taken once the links are settled.
 pub fn feeds_are_answered()
     ensures { FeedsAreAnswered }
 {}

@@ -1,4 +1,5 @@
-//! Laws of runs: what was taken of links, and that it is what they were replied. Nothing here runs.
+//! Laws of runs: the bytes that were taken of a link are a prefix of its replies, and all of them where bytes were fed.
+//! Nothing here runs.
 #![tactic(auto)]
 
 mod law;

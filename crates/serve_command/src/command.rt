@@ -15,8 +15,8 @@ use pred_eval::Patterns;
 use std::alloc::Global;
 use step_count::{Ledger, Steps};
 
-/// Carries out `serve CONFIG --turns N`, with `turns` for N: it runs a server over the links, for at most so many turns.
-/// Notice lines go to `out`, and the line of the ending to `err`.
+/// Carries out `serve CONFIG --turns N`, with `turns` for N: it runs a server over the links, for at most `turns`
+/// turns. Notice lines go to `out`, and the line of the ending to `err`.
 pub fn serve<S: Store, L: Links, O: Sink, E: Sink, P: Patterns, G: Ledger>(
     alloc: Global,
     config: &Text,

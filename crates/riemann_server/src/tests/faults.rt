@@ -12,7 +12,7 @@ const NO_CONFIG: &str = "riemann: cannot read c\n";
 
 const NO_FILE: &str = "riemann: cannot read f\n";
 
-/// Words that no command matches.
+/// Arguments that no command matches.
 const WRONG_WORDS: &[&[&str]] = &[
     &[],
     &["feed"],
@@ -59,7 +59,8 @@ const CUT: &[(u64, &str)] = &[
     (2, "riemann: cannot read f"),
 ];
 
-/// Carries out the words, and compares the status, the line and how many files were read. No reply is written.
+/// Carries out the command of these arguments, and compares the status, the line and how many files were read. No reply
+/// is written.
 fn check<R: AllocGlobal + Abort>(
     rt: &R,
     words: &[&str],

@@ -166,7 +166,7 @@ fn spelled<R: AllocGlobal + Abort>(rt: &R, parts: &[&str]) -> Result<Vec<u8>, Fa
     Ok(spelled)
 }
 
-/// The bytes that the digits spell, so many times.
+/// The bytes that the digits spell, `count` times.
 fn repeated<R: AllocGlobal + Abort>(rt: &R, digits: &str, count: usize) -> Result<Vec<u8>, Fail> {
     let once = bytes(rt, digits)?;
     let mut all = Vec::new(rt.alloc());

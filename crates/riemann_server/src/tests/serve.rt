@@ -34,7 +34,7 @@ const ALL: &str = "101 \"r\" [{host=\"a\" time=101}]
 120 \"r\" [{host=\"a\" time=113}]
 ";
 
-/// Numbers of turns, and the lines that are written in so many.
+/// Numbers of turns, and the lines that are written in that number of turns.
 const TURNS: &[(&str, &str)] = &[("0", ""), ("1", ""), ("2", FIRST), ("99", ALL)];
 
 /// A link that is written to breaks at a send; another one breaks by itself. The third is answered.
@@ -48,7 +48,7 @@ fail 0
 1 read 2 000000053203220162
 ";
 
-/// Carries out `serve` over the words, the configuration and what the links do, and compares how it ends.
+/// Carries out `serve` with the arguments, the configuration and what the links do, and compares how it ends.
 fn check<R: AllocGlobal + Abort>(
     rt: &R,
     words: &[&str],

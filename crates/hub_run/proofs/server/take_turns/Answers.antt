@@ -1,4 +1,4 @@
-use Rattle.std.proofs.Common.{Ok, Err, refl, ap, sym, ◌∙◌, arith, rules}
+use Rattle.std.proofs.Common.{refl, ◌∙◌, arith}
 use Rattle.std.proofs.lemmas.Result.{err_from_is_err_and}
 use Rattle.conn_core.specs.Turning.{sink_got}
 use Rattle.hub_meaning.specs.Verdicts.{patterns_state}
