@@ -19,7 +19,7 @@ use Rattle.command_io.specs.declared.status.Status.TheVariants.{ReadFault, SinkF
 use Rattle.check_command.specs.Building.{EndsCheck}
 use Rattle.check_command.specs.Checks.{CheckCause, CheckWrites}
 use Rattle.command_io.specs.Configs.{RefusesConfig}
-use Rattle.command_io.specs.Endings.{IsComplete, IsDoneOrMemory, IsReadOnce, Reads, TookMore, status_of}
+use Rattle.command_io.specs.Endings.{IsComplete, IsDoneOrMemory, IsReadOnce, ReadsFiles, TookMore, status_of}
 use Rattle.command_io.specs.Fetches.{IsFetchFault, ending_of_fetch}
 use Rattle.command_io.specs.Files.{ReadMore, good_read}
 use Rattle.command_io.specs.Reports.{SinkReport}
@@ -161,7 +161,7 @@ check_complete content text read patterns patterns' out out' reads reads' (Scrip
 -- ---- what it read
 
 pub check_reads : (old new : Option (List StoreRead)) (name : List ℕ) (config : Config) (patterns patterns' : PatternsState) (out out' : SinkReport) (ending : Ending)
-    → EndsCheck config patterns patterns' out out' ending → ReadMore (good_read name ∷ []) old new → Reads (name ∷ []) (IsReadOnce ending) old new ending
+    → EndsCheck config patterns patterns' out out' ending → ReadMore (good_read name ∷ []) old new → ReadsFiles (name ∷ []) (IsReadOnce ending) old new ending
 check_reads old new name config patterns patterns' out out' Finished ends grew = read_alone _ old new name _ grew refl (refl, tt)
 check_reads old new name config patterns patterns' out out' (ConfigRefused refusal) ends grew = read_alone _ old new name _ grew refl (refl, tt)
 check_reads old new name config patterns patterns' out out' (Unread source) ends grew = absurd ends

@@ -13,7 +13,7 @@ use Rattle.command_io.specs.declared.limits.TheConstants.{CONFIG_LIMIT}
 use Rattle.command_io.specs.declared.status.Status.{Status}
 use Rattle.command_io.specs.Building.{AreBuilt}
 use Rattle.command_io.specs.Configs.{ForConfig, RefusesConfig}
-use Rattle.command_io.specs.Endings.{HasNoConfig, IsComplete, IsDoneOrMemory, IsReadOnce, Reads, Says, TookMore, status_of}
+use Rattle.command_io.specs.Endings.{HasNoConfig, IsComplete, IsDoneOrMemory, IsReadOnce, ReadsFiles, Says, TookMore, status_of}
 use Rattle.command_io.specs.Reports.{Reports, SinkReport}
 use Rattle.hub_meaning.specs.Verdicts.{PatternsState}
 
@@ -55,7 +55,7 @@ pub record Checks (config : List ℕ) (old new : Reports) (Unasked : Type 0) (st
   -- why it ended so
   pub cause : CheckCause (old.store.held config) ending
   -- what it read, and what it wrote
-  pub reads : Reads (config ∷ []) (IsReadOnce ending) old.store.reads new.store.reads ending
+  pub reads : ReadsFiles (config ∷ []) (IsReadOnce ending) old.store.reads new.store.reads ending
   pub taken : TookMore ending old.store.taken new.store.taken
   pub writes : CheckWrites (old.store.held config) old.patterns new.patterns old.out new.out ending
   -- patterns are asked for once there is a configuration

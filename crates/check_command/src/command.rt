@@ -3,7 +3,7 @@ ghost use Rattle.ports.specs.Counts.{Rose};
 ghost use Rattle.stream_plan.specs.Ready.{plan_patterns};
 ghost use Rattle.check_command.specs.Building.{BuildsText, EndsCheck};
 ghost use Rattle.check_command.specs.Checks.{CheckCause, CheckWrites, Checks};
-ghost use Rattle.command_io.specs.Endings.{HasNoConfig, HasNoLine, IsComplete, IsReadOnce, IsRefusalOrMemory, Reads, TookMore, status_of};
+ghost use Rattle.command_io.specs.Endings.{HasNoConfig, HasNoLine, IsComplete, IsReadOnce, IsRefusalOrMemory, ReadsFiles, TookMore, status_of};
 ghost use Rattle.command_io.specs.Reports.{LinksReport, reports, sink_report, store_report};
 ghost use Rattle.hub_meaning.specs.Verdicts.{patterns_state};
 
@@ -71,7 +71,7 @@ fn check_file<S: Store, O: Sink, P: Patterns>(
     patterns: &mut P,
 ) -> Ending
     ensures cause { CheckCause (S.held store.old config.now) result }
-    ensures reads { Reads (config.now ∷ []) (IsReadOnce result) (S.reads store.old)
+    ensures reads { ReadsFiles (config.now ∷ []) (IsReadOnce result) (S.reads store.old)
         (S.reads store.new) result }
     ensures taken { TookMore result (S.taken store.old) (S.taken store.new) }
     ensures writes { CheckWrites (S.held store.old config.now)

@@ -7,19 +7,19 @@ use Rattle.command_io.specs.declared.ending.Ending.TheVariants.{Finished, Config
 use Rattle.command_io.specs.declared.fetch.FetchFault.{FetchFault}
 use Rattle.command_io.specs.declared.fetch.FetchFault.TheVariants.{Refused, File, Memory}
 use Rattle.command_io.specs.declared.read.FileFault.TheVariants as file
-use Rattle.command_io.specs.Endings.{HaveFailed, IsReadOnce, Reads}
+use Rattle.command_io.specs.Endings.{HaveFailed, IsReadOnce, ReadsFiles}
 use Rattle.command_io.specs.Fetches.{ending_of_fetch, fetch_reads}
 use Rattle.command_io.specs.Files.{LastFailed, ReadMore, bad_read, good_read, read_name}
 use Rattle.command_io.proofs.Sinks.{appended_twice}
 
 -- one good read, of the only file
 pub read_alone : (C : ℕ → Type 0) (old new : Option (List StoreRead)) (name : List ℕ) (ending : Ending) → ReadMore (good_read name ∷ []) old new → C 1
-    → HaveFailed ending (good_read name ∷ []) → Reads (name ∷ []) C old new ending
+    → HaveFailed ending (good_read name ∷ []) → ReadsFiles (name ∷ []) C old new ending
 read_alone C old new name ending grew counted failed = record { made = good_read name ∷ []; grew = grew; named = refl; counted = counted; failed = failed }
 
 -- the reads of a configuration that there is not
 pub fetch_reads_once : (old new : Option (List StoreRead)) (name : List ℕ) (fault : FetchFault) → ReadMore (fetch_reads name (Err fault)) old new
-    → Reads (name ∷ []) (IsReadOnce (ending_of_fetch fault)) old new (ending_of_fetch fault)
+    → ReadsFiles (name ∷ []) (IsReadOnce (ending_of_fetch fault)) old new (ending_of_fetch fault)
 fetch_reads_once old new name (Refused place why) grew = record { made = good_read name ∷ []; grew = grew; named = refl; counted = refl; failed = (refl, tt) }
 fetch_reads_once old new name (File file.Unread) grew = record { made = bad_read name ∷ []; grew = grew; named = refl; counted = refl; failed = refl }
 fetch_reads_once old new name (File file.TooLong) grew = record { made = good_read name ∷ []; grew = grew; named = refl; counted = refl; failed = (refl, tt) }
@@ -28,7 +28,7 @@ fetch_reads_once old new name Memory grew = record { made = good_read name ∷ [
 
 -- one good read, of the first of two files
 pub read_first : (C : ℕ → Type 0) (old new : Option (List StoreRead)) (name other : List ℕ) (ending : Ending) → ReadMore (good_read name ∷ []) old new → C 1
-    → HaveFailed ending (good_read name ∷ []) → Reads (name ∷ (other ∷ [])) C old new ending
+    → HaveFailed ending (good_read name ∷ []) → ReadsFiles (name ∷ (other ∷ [])) C old new ending
 read_first C old new name other ending grew counted failed = record { made = good_read name ∷ []; grew = grew; named = refl; counted = counted; failed = failed }
 
 -- the names of reads that are the first of one file are the first of it and another
@@ -39,7 +39,7 @@ first_of_more (read ∷ (next ∷ made)) f a b named = absurd cc
 
 -- what was read of the only file was read as the first of two
 pub reads_first : (C D : ℕ → Type 0) (old new : Option (List StoreRead)) (name other : List ℕ) (ending : Ending) → ((count : ℕ) → C count → D count)
-    → Reads (name ∷ []) C old new ending → Reads (name ∷ (other ∷ [])) D old new ending
+    → ReadsFiles (name ∷ []) C old new ending → ReadsFiles (name ∷ (other ∷ [])) D old new ending
 reads_first C D old new name other ending more reads = record {
   made = reads.made;
   grew = reads.grew;
@@ -65,7 +65,7 @@ failed_after name OutOfMemory made failed = (refl, failed)
 
 -- the first file was read, and then the other one
 pub reads_both : (C D : ℕ → Type 0) (old mid new : Option (List StoreRead)) (name other : List ℕ) (ending : Ending) → ReadMore (good_read name ∷ []) old mid
-    → ((count : ℕ) → C count → D (suc count)) → Reads (other ∷ []) C mid new ending → Reads (name ∷ (other ∷ [])) D old new ending
+    → ((count : ℕ) → C count → D (suc count)) → ReadsFiles (other ∷ []) C mid new ending → ReadsFiles (name ∷ (other ∷ [])) D old new ending
 reads_both C D old mid new name other ending first more second = record {
   made = good_read name ∷ second.made;
   grew = second.grew ∙ (rw first (appended_twice old (good_read name ∷ []) second.made));

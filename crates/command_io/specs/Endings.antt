@@ -122,7 +122,7 @@ IsReadOnce OutOfMemory count = Unit {0}
 IsReadOnce _ count = count ≡ 1
 
 -- What a command read: the first of these files, in order, each once, and as many of them as its ending says.
-pub record Reads (files : List (List ℕ)) (Counted : ℕ → Type 0) (old new : Option (List StoreRead)) (ending : Ending) : Type 0 where
+pub record ReadsFiles (files : List (List ℕ)) (Counted : ℕ → Type 0) (old new : Option (List StoreRead)) (ending : Ending) : Type 0 where
   pub made : List StoreRead
   pub grew : ReadMore made old new
   pub named : map read_name made ≡ take (length made) files

@@ -2,7 +2,7 @@ ghost use Rattle.std.specs.Prelude.{◌≡◌, ◌≤◌, [], ◌∷◌, length,
 ghost use Rattle.hub_meaning.specs.Verdicts.{patterns_state};
 ghost use Rattle.sexp_config.specs.Expiry.{IsInterval};
 ghost use Rattle.stream_plan.specs.Ready.{plan_patterns};
-ghost use Rattle.command_io.specs.Endings.{HasNoConfig, IsReadOnce, Reads};
+ghost use Rattle.command_io.specs.Endings.{HasNoConfig, IsReadOnce, ReadsFiles};
 ghost use Rattle.command_io.specs.Files.{ReadMore, good_read};
 ghost use Rattle.command_io.specs.Reports.{store_report};
 ghost use Rattle.command_setup.specs.Setups.{MakesSetup, RefusesSetup, SetsUp, address_text};
@@ -34,7 +34,7 @@ pub fn fetch_setup<S: Store, P: Patterns>(
         (patterns_state (P.refusals patterns.new) (P.refused patterns.new)) ending) }
     ensures read { OnOk result (ReadMore (good_read name.now ∷ []) (S.reads store.old)
         (S.reads store.new)) }
-    ensures reads { IfErr result (λ ending. Reads (name.now ∷ []) (IsReadOnce ending)
+    ensures reads { IfErr result (λ ending. ReadsFiles (name.now ∷ []) (IsReadOnce ending)
         (S.reads store.old) (S.reads store.new) ending) }
     ensures quiet { OnOk result (S.faults store.new ≡ S.faults store.old) }
     ensures same { OnOk result

@@ -176,11 +176,11 @@ one_dropped may_else env f forms = ap (drop 1) (parts_of may_else env f forms)
 two_dropped : (may_else : Bool) (env : Env) (f g : FormTree) (forms : FormTrees) → drop 2 (parts_in may_else env (also f (also g forms))) ≡ parts_in may_else env forms
 two_dropped may_else env f g forms = ap (drop 2) (parts_of may_else env f (also g forms)) ∙ ap (drop 1) (parts_of may_else env g forms)
 
-abbrev Reads : Env → StreamWord → KindTree → FormTrees → ℕ → Type 0
-Reads env from one forms n = ((start : ℕ) → kind_of env from start forms ≡ Ok one) × (leads env from forms ≡ n)
+abbrev ReadsKind : Env → StreamWord → KindTree → FormTrees → ℕ → Type 0
+ReadsKind env from one forms n = ((start : ℕ) → kind_of env from start forms ≡ Ok one) × (leads env from forms ≡ n)
 
 -- a kind of no arguments, of one and of two
-none_led : (env : Env) (from : StreamWord) (one : KindTree) (forms : FormTrees) (more : BareTrees) → is_else from ≡ false → Reads env from one forms 0 → bare_trees forms ≡ more → Led env (stream_text from) one forms more
+none_led : (env : Env) (from : StreamWord) (one : KindTree) (forms : FormTrees) (more : BareTrees) → is_else from ≡ false → ReadsKind env from one forms 0 → bare_trees forms ≡ more → Led env (stream_text from) one forms more
 none_led env from one forms more not_else reads h =
     record {
       from = from;
@@ -193,7 +193,7 @@ none_led env from one forms more not_else reads h =
     }
 
 one_led : (env : Env) (from : StreamWord) (one : KindTree) (forms : FormTrees) (a : BareTree) (more : BareTrees) → is_else from ≡ false
-    → ((f : FormTree) (rest : FormTrees) → bare_tree f ≡ a → bare_trees rest ≡ more → Reads env from one (also f rest) 1) → bare_trees forms ≡ and_trees a more → Led env (stream_text from) one forms more
+    → ((f : FormTree) (rest : FormTrees) → bare_tree f ≡ a → bare_trees rest ≡ more → ReadsKind env from one (also f rest) 1) → bare_trees forms ≡ and_trees a more → Led env (stream_text from) one forms more
 one_led env from one forms a more not_else reads h =
     let first = also_of forms a more h in
     let known = reads first.first first.rest first.first_is first.rest_are in
@@ -209,7 +209,7 @@ one_led env from one forms a more not_else reads h =
     }
 
 two_led : (env : Env) (from : StreamWord) (one : KindTree) (forms : FormTrees) (a b : BareTree) (more : BareTrees) → is_else from ≡ false
-    → ((f g : FormTree) (rest : FormTrees) → bare_tree f ≡ a → bare_tree g ≡ b → Reads env from one (also f (also g rest)) 2) → bare_trees forms ≡ and_trees a (and_trees b more)
+    → ((f g : FormTree) (rest : FormTrees) → bare_tree f ≡ a → bare_tree g ≡ b → ReadsKind env from one (also f (also g rest)) 2) → bare_trees forms ≡ and_trees a (and_trees b more)
     → Led env (stream_text from) one forms more
 two_led env from one forms a b more not_else reads h =
     let first = also_of forms a (and_trees b more) h in
@@ -229,15 +229,15 @@ two_led env from one forms a b more not_else reads h =
 
 -- ---- kinds of no arguments
 
-sdo_none : (env : Env) (forms : FormTrees) → Reads env word.Sdo plan.Sdo forms 0
+sdo_none : (env : Env) (forms : FormTrees) → ReadsKind env word.Sdo plan.Sdo forms 0
 unfolding kind_of leads
 sdo_none env forms = ((λ start. refl), refl)
 
-expired_none : (env : Env) (forms : FormTrees) → Reads env word.Expired (plan.Where (pred.Equal field.State (value.Text (codes "expired")))) forms 0
+expired_none : (env : Env) (forms : FormTrees) → ReadsKind env word.Expired (plan.Where (pred.Equal field.State (value.Text (codes "expired")))) forms 0
 unfolding kind_of counting_kind window_kind leads
 expired_none env forms = ((λ start. refl), refl)
 
-coalesce_none : (env : Env) (forms : FormTrees) → has_secs env forms ≡ false → Reads env word.Coalesce (plan.Coalesce 1) forms 0
+coalesce_none : (env : Env) (forms : FormTrees) → has_secs env forms ≡ false → ReadsKind env word.Coalesce (plan.Coalesce 1) forms 0
 unfolding kind_of counting_kind coalesce_secs leads
 coalesce_none env forms is = ((λ start. rw is refl), rw is refl)
 
@@ -247,43 +247,43 @@ no_secs env forms is = is
 
 -- ---- kinds of one argument
 
-where_one : (env : Env) (f : FormTree) (rest : FormTrees) (rule : Tree) → rule_at env f ≡ Ok rule → Reads env word.Where (plan.Where rule) (also f rest) 1
+where_one : (env : Env) (f : FormTree) (rest : FormTrees) (rule : Tree) → rule_at env f ≡ Ok rule → ReadsKind env word.Where (plan.Where rule) (also f rest) 1
 unfolding kind_of where_kind leads argument
 where_one env f rest rule is = ((λ start. rw is refl), refl)
 
-tag_one : (env : Env) (f : FormTree) (rest : FormTrees) (tags : List (List ℕ)) → texts_at env f ≡ Ok tags → Reads env word.Tag (plan.Tag tags) (also f rest) 1
+tag_one : (env : Env) (f : FormTree) (rest : FormTrees) (tags : List (List ℕ)) → texts_at env f ≡ Ok tags → ReadsKind env word.Tag (plan.Tag tags) (also f rest) 1
 unfolding kind_of tag_kind leads argument
 tag_one env f rest tags is = ((λ start. rw is refl), refl)
 
-by_one : (env : Env) (f : FormTree) (rest : FormTrees) (fields : List Field) → fields_at env f ≡ Ok fields → Reads env word.By (plan.By fields) (also f rest) 1
+by_one : (env : Env) (f : FormTree) (rest : FormTrees) (fields : List Field) → fields_at env f ≡ Ok fields → ReadsKind env word.By (plan.By fields) (also f rest) 1
 unfolding kind_of by_kind leads argument
 by_one env f rest fields is = ((λ start. rw is refl), refl)
 
-smap_one : (env : Env) (f : FormTree) (rest : FormTrees) (one : Fold) → fold_at env f ≡ Ok one → Reads env word.Smap (plan.Smap one) (also f rest) 1
+smap_one : (env : Env) (f : FormTree) (rest : FormTrees) (one : Fold) → fold_at env f ≡ Ok one → ReadsKind env word.Smap (plan.Smap one) (also f rest) 1
 unfolding kind_of counting_kind smap_kind leads argument
 smap_one env f rest one is = ((λ start. rw is refl), refl)
 
-fixed_event_one : (env : Env) (f : FormTree) (rest : FormTrees) (count : ℕ) → count_at env f ≡ Ok count → Reads env word.FixedEvent (plan.FixedEvent count) (also f rest) 1
+fixed_event_one : (env : Env) (f : FormTree) (rest : FormTrees) (count : ℕ) → count_at env f ≡ Ok count → ReadsKind env word.FixedEvent (plan.FixedEvent count) (also f rest) 1
 unfolding kind_of counting_kind window_kind leads argument
 fixed_event_one env f rest count is = ((λ start. rw is refl), refl)
 
-moving_event_one : (env : Env) (f : FormTree) (rest : FormTrees) (count : ℕ) → count_at env f ≡ Ok count → Reads env word.MovingEvent (plan.MovingEvent count) (also f rest) 1
+moving_event_one : (env : Env) (f : FormTree) (rest : FormTrees) (count : ℕ) → count_at env f ≡ Ok count → ReadsKind env word.MovingEvent (plan.MovingEvent count) (also f rest) 1
 unfolding kind_of counting_kind window_kind leads argument
 moving_event_one env f rest count is = ((λ start. rw is refl), refl)
 
-fixed_time_one : (env : Env) (f : FormTree) (rest : FormTrees) (secs : ℕ) → secs_at env f ≡ Ok secs → Reads env word.FixedTime (plan.FixedTime secs) (also f rest) 1
+fixed_time_one : (env : Env) (f : FormTree) (rest : FormTrees) (secs : ℕ) → secs_at env f ≡ Ok secs → ReadsKind env word.FixedTime (plan.FixedTime secs) (also f rest) 1
 unfolding kind_of counting_kind window_kind leads argument
 fixed_time_one env f rest secs is = ((λ start. rw is refl), refl)
 
-moving_time_one : (env : Env) (f : FormTree) (rest : FormTrees) (secs : ℕ) → secs_at env f ≡ Ok secs → Reads env word.MovingTime (plan.MovingTime secs) (also f rest) 1
+moving_time_one : (env : Env) (f : FormTree) (rest : FormTrees) (secs : ℕ) → secs_at env f ≡ Ok secs → ReadsKind env word.MovingTime (plan.MovingTime secs) (also f rest) 1
 unfolding kind_of counting_kind window_kind leads argument
 moving_time_one env f rest secs is = ((λ start. rw is refl), refl)
 
-over_one : (env : Env) (f : FormTree) (rest : FormTrees) (number : ℤ) → number_at env f ≡ Ok number → Reads env word.Over (plan.Where (Order field.Metric Greater number)) (also f rest) 1
+over_one : (env : Env) (f : FormTree) (rest : FormTrees) (number : ℤ) → number_at env f ≡ Ok number → ReadsKind env word.Over (plan.Where (Order field.Metric Greater number)) (also f rest) 1
 unfolding kind_of counting_kind window_kind order_kind leads argument
 over_one env f rest number is = ((λ start. rw is refl), refl)
 
-under_one : (env : Env) (f : FormTree) (rest : FormTrees) (number : ℤ) → number_at env f ≡ Ok number → Reads env word.Under (plan.Where (Order field.Metric Less number)) (also f rest) 1
+under_one : (env : Env) (f : FormTree) (rest : FormTrees) (number : ℤ) → number_at env f ≡ Ok number → ReadsKind env word.Under (plan.Where (Order field.Metric Less number)) (also f rest) 1
 unfolding kind_of counting_kind window_kind order_kind leads argument
 under_one env f rest number is = ((λ start. rw is refl), refl)
 
@@ -295,7 +295,7 @@ pub all_tags_are : (tag : List ℕ) (tags : List (List ℕ)) → all_tagged (tag
 all_tags_are tag [] = refl
 all_tags_are tag (second ∷ tags) = ap (λ (rules : Trees). All (pred.also (Tagged tag) (pred.also (Tagged second) rules))) (each_tag_is tags)
 
-tagged_one : (env : Env) (f : FormTree) (rest : FormTrees) (tag : List ℕ) (tags : List (List ℕ)) → texts_at env f ≡ Ok (tag ∷ tags) → Reads env word.Tagged (plan.Where (all_of (Tagged tag) (each_tag tags))) (also f rest) 1
+tagged_one : (env : Env) (f : FormTree) (rest : FormTrees) (tag : List ℕ) (tags : List (List ℕ)) → texts_at env f ≡ Ok (tag ∷ tags) → ReadsKind env word.Tagged (plan.Where (all_of (Tagged tag) (each_tag tags))) (also f rest) 1
 unfolding kind_of counting_kind window_kind tagged_kind leads argument
 tagged_one env f rest tag tags is = ((λ start. rw is (ap (λ (rule : Tree). Ok (plan.Where rule)) (all_tags_are tag tags))), refl)
 
@@ -303,7 +303,7 @@ has_number : (env : Env) (dt : BareTree) (secs : ℕ) → AreSecs env dt secs �
 unfolding has_secs
 has_number env dt secs (a_ranged is low high) f rest h = rw (literal_read env dt (bound.Number (pos secs)) is f h) refl
 
-coalesce_one : (env : Env) (f : FormTree) (rest : FormTrees) (secs : ℕ) → has_secs env (also f rest) ≡ true → secs_at env f ≡ Ok secs → Reads env word.Coalesce (plan.Coalesce secs) (also f rest) 1
+coalesce_one : (env : Env) (f : FormTree) (rest : FormTrees) (secs : ℕ) → has_secs env (also f rest) ≡ true → secs_at env f ≡ Ok secs → ReadsKind env word.Coalesce (plan.Coalesce secs) (also f rest) 1
 unfolding kind_of counting_kind coalesce_secs leads argument
 coalesce_one env f rest secs has is = ((λ start. rw (has, is) refl), rw has refl)
 
@@ -314,7 +314,7 @@ no_init env (Some (Group Round forms start last)) h = refl
 no_init env (Some (Group Square forms start last)) h = refl
 no_init env (Some (Group Curly forms start last)) h = cc
 
-changed_one : (env : Env) (f : FormTree) (rest : FormTrees) (one : Field) → is_map_in (nth 0 rest) ≡ false → field_at env f ≡ Ok one → Reads env word.Changed (plan.Changed one None) (also f rest) 1
+changed_one : (env : Env) (f : FormTree) (rest : FormTrees) (one : Field) → is_map_in (nth 0 rest) ≡ false → field_at env f ≡ Ok one → ReadsKind env word.Changed (plan.Changed one None) (also f rest) 1
 unfolding kind_of counting_kind changed_kind init_of leads argument
 changed_one env f rest one no_map is = ((λ start. rw (is, no_init env (nth 0 rest) no_map) refl), rw no_map refl)
 
@@ -339,20 +339,20 @@ two_sets : (env : Env) (start : ℕ) (f g : FormTree) (rest : FormTrees) (sets :
 unfolding sets_of argument
 two_sets env start f g rest sets no_map is = no_map_of_sets env start (also f (also g rest)) f no_map ∙ is
 
-with_reads_one : (env : Env) (f : FormTree) (rest : FormTrees) (sets : List Set) → is_map f ≡ true → ((start : ℕ) → sets_of env start (also f rest) ≡ Ok sets) → Reads env word.With (plan.With sets) (also f rest) 1
+with_reads_one : (env : Env) (f : FormTree) (rest : FormTrees) (sets : List Set) → is_map f ≡ true → ((start : ℕ) → sets_of env start (also f rest) ≡ Ok sets) → ReadsKind env word.With (plan.With sets) (also f rest) 1
 unfolding kind_of leads
 with_reads_one env f rest sets map is = ((λ start. rw (is start) refl), rw map refl)
 
-with_reads_two : (env : Env) (f g : FormTree) (rest : FormTrees) (sets : List Set) → is_map f ≡ false → ((start : ℕ) → sets_of env start (also f (also g rest)) ≡ Ok sets) → Reads env word.With (plan.With sets) (also f (also g rest)) 2
+with_reads_two : (env : Env) (f g : FormTree) (rest : FormTrees) (sets : List Set) → is_map f ≡ false → ((start : ℕ) → sets_of env start (also f (also g rest)) ≡ Ok sets) → ReadsKind env word.With (plan.With sets) (also f (also g rest)) 2
 unfolding kind_of leads
 with_reads_two env f g rest sets map is = ((λ start. rw (is start) refl), rw map refl)
 
-default_reads_one : (env : Env) (f : FormTree) (rest : FormTrees) (sets : List Set) → is_map f ≡ true → ((start : ℕ) → sets_of env start (also f rest) ≡ Ok sets) → Reads env word.Default (plan.Default sets) (also f rest) 1
+default_reads_one : (env : Env) (f : FormTree) (rest : FormTrees) (sets : List Set) → is_map f ≡ true → ((start : ℕ) → sets_of env start (also f rest) ≡ Ok sets) → ReadsKind env word.Default (plan.Default sets) (also f rest) 1
 unfolding kind_of leads
 default_reads_one env f rest sets map is = ((λ start. rw (is start) refl), rw map refl)
 
 default_reads_two : (env : Env) (f g : FormTree) (rest : FormTrees) (sets : List Set) → is_map f ≡ false → ((start : ℕ) → sets_of env start (also f (also g rest)) ≡ Ok sets)
-    → Reads env word.Default (plan.Default sets) (also f (also g rest)) 2
+    → ReadsKind env word.Default (plan.Default sets) (also f (also g rest)) 2
 unfolding kind_of leads
 default_reads_two env f g rest sets map is = ((λ start. rw (is start) refl), rw map refl)
 
@@ -368,25 +368,25 @@ unfolding count_and_secs argument
 both_are env start f g rest count secs first second = rw (first, second) refl
 
 throttle_two : (env : Env) (f g : FormTree) (rest : FormTrees) (count secs : ℕ) → ((start : ℕ) → count_and_secs env start (also f (also g rest)) ≡ Ok (count, secs))
-    → Reads env word.Throttle (plan.Throttle count secs) (also f (also g rest)) 2
+    → ReadsKind env word.Throttle (plan.Throttle count secs) (also f (also g rest)) 2
 unfolding kind_of counting_kind leads
 throttle_two env f g rest count secs is = ((λ start. rw (is start) refl), refl)
 
 rollup_two : (env : Env) (f g : FormTree) (rest : FormTrees) (count secs : ℕ) → ((start : ℕ) → count_and_secs env start (also f (also g rest)) ≡ Ok (count, secs))
-    → Reads env word.Rollup (plan.Rollup count secs) (also f (also g rest)) 2
+    → ReadsKind env word.Rollup (plan.Rollup count secs) (also f (also g rest)) 2
 unfolding kind_of counting_kind leads
 rollup_two env f g rest count secs is = ((λ start. rw (is start) refl), refl)
 
 batch_two : (env : Env) (f g : FormTree) (rest : FormTrees) (count secs : ℕ) → ((start : ℕ) → count_and_secs env start (also f (also g rest)) ≡ Ok (count, secs))
-    → Reads env word.Batch (plan.Batch count secs) (also f (also g rest)) 2
+    → ReadsKind env word.Batch (plan.Batch count secs) (also f (also g rest)) 2
 unfolding kind_of counting_kind leads
 batch_two env f g rest count secs is = ((λ start. rw (is start) refl), refl)
 
-runs_two : (env : Env) (f g : FormTree) (rest : FormTrees) (count : ℕ) (one : Field) → count_at env f ≡ Ok count → field_at env g ≡ Ok one → Reads env word.Runs (plan.Runs count one) (also f (also g rest)) 2
+runs_two : (env : Env) (f g : FormTree) (rest : FormTrees) (count : ℕ) (one : Field) → count_at env f ≡ Ok count → field_at env g ≡ Ok one → ReadsKind env word.Runs (plan.Runs count one) (also f (also g rest)) 2
 unfolding kind_of counting_kind runs_kind leads argument
 runs_two env f g rest count one first second = ((λ start. rw (first, second) refl), refl)
 
-stable_two : (env : Env) (f g : FormTree) (rest : FormTrees) (secs : ℕ) (one : Field) → secs_at env f ≡ Ok secs → field_at env g ≡ Ok one → Reads env word.Stable (plan.Stable secs one) (also f (also g rest)) 2
+stable_two : (env : Env) (f g : FormTree) (rest : FormTrees) (secs : ℕ) (one : Field) → secs_at env f ≡ Ok secs → field_at env g ≡ Ok one → ReadsKind env word.Stable (plan.Stable secs one) (also f (also g rest)) 2
 unfolding kind_of counting_kind stable_kind leads argument
 stable_two env f g rest secs one first second = ((λ start. rw (first, second) refl), refl)
 
@@ -398,7 +398,7 @@ map_init env row held is f h =
     (ap (λ (one : FormTree). init_by env (Some one)) group.is ∙ read, ap is_map group.is)
 
 changed_two : (env : Env) (f g : FormTree) (rest : FormTrees) (one : Field) (held : Value) → field_at env f ≡ Ok one → init_by env (Some g) ≡ Ok (Some held) → is_map g ≡ true
-    → Reads env word.Changed (plan.Changed one (Some held)) (also f (also g rest)) 2
+    → ReadsKind env word.Changed (plan.Changed one (Some held)) (also f (also g rest)) 2
 unfolding kind_of counting_kind changed_kind init_of leads argument
 changed_two env f g rest one held first second map = ((λ start. rw (first, second) refl), rw map refl)
 

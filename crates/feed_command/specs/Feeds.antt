@@ -1,6 +1,6 @@
 -- What `feed CONFIG FILE` promises.
 use Rattle.std.specs.Prelude.{◌≡◌, ◌≢◌, ℕ, ◌≤◌, ◌⊎◌, List, [], ◌∷◌, length, Err}
-use Rattle.command_io.specs.Endings.{HasNoConfig, IsComplete, Reads, Says, status_of}
+use Rattle.command_io.specs.Endings.{HasNoConfig, IsComplete, ReadsFiles, Says, status_of}
 use Rattle.command_io.specs.Reports.{IsIdle, Reports, SinkReport}
 use Rattle.command_io.specs.declared.ending.Ending.{Ending}
 use Rattle.command_io.specs.declared.ending.Ending.TheVariants.{Finished, BytesLeft, WriteFailed, OutOfMemory}
@@ -100,7 +100,7 @@ pub record Feeds (config file : List ℕ) (old new : Reports) (Unasked : Type 0)
   pub ends : FeedEnds (old.store.held config) (old.store.held file) old (record new { err = before }) ending
   -- the links that were handed in were not called
   pub untouched : new.links ≡ old.links
-  pub reads : Reads (config ∷ (file ∷ [])) (ReadCounts (old.store.held config) ending) old.store.reads new.store.reads ending
+  pub reads : ReadsFiles (config ∷ (file ∷ [])) (ReadCounts (old.store.held config) ending) old.store.reads new.store.reads ending
   -- patterns are asked for once there is a configuration
   pub unasked : HasNoConfig ending → Unasked
   -- where it did all that it had to, no read failed, and no write of a notice line or of the replies

@@ -1,6 +1,6 @@
 ghost use Rattle.std.specs.Prelude.{◌≡◌, ◌≢◌, ◌≤◌, ◌⊎◌, [], ◌∷◌};
 ghost use Rattle.std.specs.Option.{ForSome};
-ghost use Rattle.command_io.specs.Endings.{HasNoConfig, IsComplete, IsRefusalOrMemory, Reads, status_of};
+ghost use Rattle.command_io.specs.Endings.{HasNoConfig, IsComplete, IsRefusalOrMemory, ReadsFiles, status_of};
 ghost use Rattle.command_io.specs.Reports.{LinksReport, reports, sink_report, store_report};
 ghost use Rattle.feed_command.specs.Feeds.{FeedEnds, Feeds, FileEnds};
 ghost use Rattle.file_run.specs.Files.{OtherReads, ReadCounts};
@@ -91,7 +91,7 @@ fn feed_files<S: Store, O: Sink, E: Sink, P: Patterns, G: Ledger>(
         (sink_report (E.text err.new) (E.puts err.new) (E.faults err.new))
         (patterns_state (P.refusals patterns.new) (P.refused patterns.new)) steps.new.forks)
         result }
-    ensures reads { Reads (config.now ∷ (file.now ∷ []))
+    ensures reads { ReadsFiles (config.now ∷ (file.now ∷ []))
         (ReadCounts (S.held store.old config.now) result) (S.reads store.old)
         (S.reads store.new) result }
     ensures quiet { IsComplete result → (S.faults store.new ≡ S.faults store.old) ×

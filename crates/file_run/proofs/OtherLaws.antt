@@ -2,7 +2,7 @@
 use Rattle.std.proofs.Common.{◌≡◌, ℕ, suc, ◌≤◌, List, [], ◌∷◌, length, map, take, refl, ap, ◌∙◌, arith}
 use Rattle.std.specs.Prelude.{Option}
 use Rattle.command_io.proofs.Sinks.{appended_twice}
-use Rattle.command_io.specs.Endings.{HasNoConfig, HaveFailed, IsComplete, IsReadOnce, IsRefusal, Reads, status_of}
+use Rattle.command_io.specs.Endings.{HasNoConfig, HaveFailed, IsComplete, IsReadOnce, IsRefusal, ReadsFiles, status_of}
 use Rattle.command_io.specs.Files.{IsFileFault, LastFailed, ReadMore, bad_read, good_read, read_name, reads_of_fault}
 use Rattle.command_io.specs.Fetches.{ending_of_file}
 use Rattle.command_io.specs.Reports.{StoreReport}
@@ -166,7 +166,7 @@ counted_after content OutOfMemory count setup sets counted = (tt, λ _. (setup, 
 -- the configuration was accepted, and then the other file was read
 pub both_read : (old mid new : Option (List StoreRead)) (config other : List ℕ) (content : Content) (ending : Ending) (setup : Setup)
     → ReadMore (good_read config ∷ []) old mid → SetsUp content setup → OtherReads other mid new ending
-    → Reads (config ∷ (other ∷ [])) (ReadCounts content ending) old new ending
+    → ReadsFiles (config ∷ (other ∷ [])) (ReadCounts content ending) old new ending
 both_read old mid new config other content ending setup first sets second = record {
   made = good_read config ∷ second.made;
   grew = second.grew ∙ (rw first (appended_twice old (good_read config ∷ []) second.made));
@@ -206,7 +206,7 @@ first_counted content store store' patterns patterns' (ScriptRefused line) count
 -- where the configuration was refused, the other file was not read
 pub first_read : (old new : Option (List StoreRead)) (config other : List ℕ) (content : Content) (store store' : StoreReport)
     (patterns patterns' : PatternsState) (ending : Ending) → RefusesSetup content store store' patterns patterns' ending
-    → Reads (config ∷ []) (IsReadOnce ending) old new ending → Reads (config ∷ (other ∷ [])) (ReadCounts content ending) old new ending
+    → ReadsFiles (config ∷ []) (IsReadOnce ending) old new ending → ReadsFiles (config ∷ (other ∷ [])) (ReadCounts content ending) old new ending
 first_read old new config other content store store' patterns patterns' ending refuses first = record {
   made = first.made;
   grew = first.grew;

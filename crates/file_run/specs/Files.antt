@@ -1,6 +1,6 @@
 -- What a command reads: its configuration, and then its other file.
 use Rattle.std.specs.Prelude.{◌≡◌, ℕ, ◌+◌, ◌≤◌, List, [], ◌∷◌, length, Option, Result, Ok, Err}
-use Rattle.command_io.specs.Endings.{Reads, of_source}
+use Rattle.command_io.specs.Endings.{ReadsFiles, of_source}
 use Rattle.command_io.specs.Files.{ForHeld, ReadMore, good_read}
 use Rattle.command_io.specs.Reports.{StoreReport}
 use Rattle.command_io.specs.declared.ending.Ending.{Ending}
@@ -41,7 +41,7 @@ IsOtherCount OutOfMemory count = Unit {0}
 IsOtherCount _ count = count ≡ 1
 
 abbrev pub OtherReads : List ℕ → Option (List StoreRead) → Option (List StoreRead) → Ending → Type 0
-OtherReads name old new ending = Reads (name ∷ []) (IsOtherCount ending) old new ending
+OtherReads name old new ending = ReadsFiles (name ∷ []) (IsOtherCount ending) old new ending
 
 -- the same of a read that may go on
 abbrev pub ReadsOther : {T : Type 0} → List ℕ → Option (List StoreRead) → Option (List StoreRead) → Result T Ending → Type 0

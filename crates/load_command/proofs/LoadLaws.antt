@@ -12,7 +12,7 @@ use Rattle.command_io.specs.declared.ending.Ending.{Ending}
 use Rattle.command_io.specs.declared.ending.Ending.TheVariants.{Finished, ConfigRefused, Unread, OverLimit, BytesLeft, WriteFailed, LinksFailed, ScriptRefused, OutOfMemory}
 use Rattle.command_io.specs.declared.limits.TheConstants.{CONFIG_LIMIT}
 use Rattle.command_io.specs.declared.status.Status.TheVariants.{ReadFault, SinkFault, LinkFault}
-use Rattle.command_io.specs.Endings.{IsComplete, IsDoneOrMemory, IsReadOnce, Reads, status_of}
+use Rattle.command_io.specs.Endings.{IsComplete, IsDoneOrMemory, IsReadOnce, ReadsFiles, status_of}
 use Rattle.command_io.specs.Files.{ReadMore, good_read}
 use Rattle.command_io.specs.Reports.{Reports as Reporting, SinkReport}
 use Rattle.command_io.proofs.ReadLaws.{read_alone}
@@ -48,7 +48,7 @@ ends_after_run setup count start patterns patterns' forks forks' out out' ending
 ]
 
 pub reads_after_run : (old new : Option (List StoreRead)) (name : List ℕ) (out out' : SinkReport) (ending : Ending) → AfterRun out out' ending
-    → ReadMore (good_read name ∷ []) old new → Reads (name ∷ []) (IsReadOnce ending) old new ending
+    → ReadMore (good_read name ∷ []) old new → ReadsFiles (name ∷ []) (IsReadOnce ending) old new ending
 reads_after_run old new name out out' Finished after grew = read_alone _ old new name _ grew refl (refl, tt)
 reads_after_run old new name out out' (ConfigRefused refusal) after grew = absurd after
 reads_after_run old new name out out' (Unread source) after grew = absurd after

@@ -11,7 +11,7 @@ use Rattle.command_io.specs.declared.ending.Ending.{Ending}
 use Rattle.command_io.specs.declared.ending.Ending.TheVariants.{Finished, WriteFailed, OutOfMemory}
 use Rattle.command_io.specs.declared.limits.TheConstants.{CONFIG_LIMIT}
 use Rattle.command_io.specs.declared.status.Status.{Status}
-use Rattle.command_io.specs.Endings.{HasNoConfig, IsComplete, IsDoneOrMemory, IsReadOnce, Reads, Says, status_of}
+use Rattle.command_io.specs.Endings.{HasNoConfig, IsComplete, IsDoneOrMemory, IsReadOnce, ReadsFiles, Says, status_of}
 use Rattle.command_io.specs.Reports.{IsIdle, Reports, SinkReport}
 use Rattle.command_setup.specs.Setups.{RefusesSetup, SetsUp}
 use Rattle.load_command.specs.Summaries.{IsCutOff, IsPlayed, summary_line}
@@ -57,7 +57,7 @@ pub record Loads (config : List ℕ) (count start : ℕ) (old new : Reports) (Un
   -- the links that were handed in were not called
   pub untouched : new.links ≡ old.links
   -- what it read
-  pub reads : Reads (config ∷ []) (IsReadOnce ending) old.store.reads new.store.reads ending
+  pub reads : ReadsFiles (config ∷ []) (IsReadOnce ending) old.store.reads new.store.reads ending
   -- patterns are asked for once there is a configuration
   pub unasked : HasNoConfig ending → Unasked
   -- where it did all that it had to, nothing failed

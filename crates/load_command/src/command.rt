@@ -2,7 +2,7 @@ ghost use Rattle.std.specs.Prelude.{◌≡◌, ◌≢◌, ◌≤◌, [], ◌∷�
 ghost use Rattle.std.specs.Option.{ForSome};
 ghost use Rattle.hub_meaning.specs.Verdicts.{patterns_state};
 ghost use Rattle.ports.specs.Counts.{Rose};
-ghost use Rattle.command_io.specs.Endings.{HasNoConfig, HasNoLine, IsComplete, IsReadOnce, IsRefusalOrMemory, Reads, status_of};
+ghost use Rattle.command_io.specs.Endings.{HasNoConfig, HasNoLine, IsComplete, IsReadOnce, IsRefusalOrMemory, ReadsFiles, status_of};
 ghost use Rattle.command_io.specs.Reports.{LinksReport, SinkReport, reports, sink_report, store_report};
 ghost use Rattle.load_command.specs.Loads.{LoadEnds, Loads, RunEnds, WritesSummary};
 
@@ -78,7 +78,7 @@ fn load_config<S: Store, O: Sink, P: Patterns, G: Ledger>(
         (sink_report (O.text out.new) (O.puts out.new) (O.faults out.new)) err'
         (patterns_state (P.refusals patterns.new) (P.refused patterns.new)) steps.new.forks)
         result }
-    ensures reads { Reads (config.now ∷ []) (IsReadOnce result) (S.reads store.old)
+    ensures reads { ReadsFiles (config.now ∷ []) (IsReadOnce result) (S.reads store.old)
         (S.reads store.new) result }
     ensures quiet { IsComplete result → (S.faults store.new ≡ S.faults store.old) ×
         (O.faults out.new ≡ O.faults out.old) }

@@ -23,12 +23,12 @@ pub(crate) struct Client {
     // There may be room since then.
     roomy: bool,
     /// Where it waits for its next turn.
-    pub place: Place,
+    pub waiting: Waiting,
 }
 
 /// Where a client waits for its next turn.
 #[derive(Clone, Copy, Debug, PartialEq, Eq)]
-pub(crate) enum Place {
+pub(crate) enum Waiting {
     /// It has no turn until the system reports something of it.
     Nowhere,
     /// In the queue.
@@ -47,7 +47,7 @@ impl Client {
             failed: false,
             blocked: false,
             roomy: false,
-            place: Place::Nowhere,
+            waiting: Waiting::Nowhere,
         }
     }
 
@@ -68,13 +68,13 @@ impl Client {
     }
 
     /// Where it has to wait, by what the server waits for.
-    pub(crate) fn next_place(&self, want: &Want) -> Place {
+    pub(crate) fn next_waiting(&self, want: &Want) -> Waiting {
         if self.has_room() && want.room || self.readable && want.read || self.failed {
-            Place::Queued
+            Waiting::Queued
         } else if self.has_room() || self.readable {
-            Place::HeldBack
+            Waiting::HeldBack
         } else {
-            Place::Nowhere
+            Waiting::Nowhere
         }
     }
 

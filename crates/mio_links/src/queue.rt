@@ -1,4 +1,4 @@
-use crate::client::{Client, Place};
+use crate::client::{Client, Waiting};
 use crate::fault::LinksFault;
 use ports::Want;
 use std::alloc::Global;
@@ -59,12 +59,12 @@ impl Queue {
     }
 
     /// Has the link wait where it has to.
-    pub(crate) fn place(&mut self, client: &mut Client, want: &Want) -> Result<(), LinksFault> {
-        client.place = client.next_place(want);
-        match client.place {
-            Place::Queued => self.sources.push_back(Source::Link(want.link))?,
-            Place::HeldBack => self.held_back.push_back(want.link)?,
-            Place::Nowhere => {}
+    pub(crate) fn enter(&mut self, client: &mut Client, want: &Want) -> Result<(), LinksFault> {
+        client.waiting = client.next_waiting(want);
+        match client.waiting {
+            Waiting::Queued => self.sources.push_back(Source::Link(want.link))?,
+            Waiting::HeldBack => self.held_back.push_back(want.link)?,
+            Waiting::Nowhere => {}
         }
         Ok(())
     }

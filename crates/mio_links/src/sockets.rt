@@ -2,7 +2,7 @@ ghost use Rattle.std.specs.Prelude.{◌≡◌, length, true, IfOk, IfSome, OnOk}
 ghost use Rattle.ports.specs.Links.{IsPieceWithin, IsWithin};
 ghost use Rattle.mio_links.specs.Turns.{IsGiven, IsOn, OfLink, OpensAt};
 
-use crate::client::{Client, Place};
+use crate::client::{Client, Waiting};
 use crate::fault::LinksFault;
 use crate::queue::{Queue, Source};
 use ev_types::Text;
@@ -109,7 +109,7 @@ impl Sockets {
                 break;
             };
             if let Some(client) = self.clients.get_mut(&link) {
-                self.queue.place(client, &want_of(wants, link))?;
+                self.queue.enter(client, &want_of(wants, link))?;
             }
         }
         Ok(())
@@ -126,8 +126,8 @@ impl Sockets {
             return Ok(());
         };
         client.note(event);
-        if client.place == Place::Nowhere {
-            client.place = Place::Queued;
+        if client.waiting == Waiting::Nowhere {
+            client.waiting = Waiting::Queued;
             self.queue.push(Source::Link(link))?;
         }
         Ok(())
@@ -189,7 +189,7 @@ impl Sockets {
         };
         let want = want_of(wants, link);
         let what = client.turn(link, &want, buf);
-        self.queue.place(client, &want)?;
+        self.queue.enter(client, &want)?;
         Ok(what)
     }
 
@@ -242,8 +242,8 @@ impl Sockets {
             return SendAnswer::Failed;
         };
         let answer = client.send(bytes);
-        if answer == SendAnswer::Later && client.has_room() && client.place == Place::Nowhere {
-            client.place = Place::Queued;
+        if answer == SendAnswer::Later && client.has_room() && client.waiting == Waiting::Nowhere {
+            client.waiting = Waiting::Queued;
             if self.queue.push(Source::Link(link)).is_err() {
                 return SendAnswer::Memory;
             }

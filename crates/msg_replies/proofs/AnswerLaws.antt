@@ -11,7 +11,7 @@ use Rattle.pred_eval.specs.Tree.{Tree}
 use Rattle.query_lang.specs.declared.fault.QueryFault.{QueryFault}
 use Rattle.query_lang.specs.declared.fault.QueryFault.TheVariants.{TooLong, Refused as QueryRefused, TooDeep, Memory as NoMemory}
 use Rattle.query_lang.specs.Answer.{query_of}
-use Rattle.query_lang.specs.Queries.{Says}
+use Rattle.query_lang.specs.Queries.{Agrees}
 use Rattle.riemann_msg.specs.declared.fault.MsgWhy.{MsgWhy}
 use Rattle.riemann_msg.specs.declared.msg.Msg.{Msg}
 use Rattle.riemann_msg.specs.Fault.{Fault, fault_at, first_fault}
@@ -164,7 +164,7 @@ answers_nothing body unsent core core' patterns replies replies' old new memory 
 
 -- ---- a query
 
-says_fault : (fault : QueryFault) (answer : Result Tree QueryFault) → fault ≢ NoMemory → Says (Err fault) answer → answer ≡ Err fault
+says_fault : (fault : QueryFault) (answer : Result Tree QueryFault) → fault ≢ NoMemory → Agrees (Err fault) answer → answer ≡ Err fault
 says_fault (TooLong size) answer other says = says
 says_fault (QueryRefused place) answer other says = says
 says_fault (TooDeep place) answer other says = says
@@ -172,7 +172,7 @@ says_fault NoMemory answer other says = absurd (other refl)
 
 -- a text that is not a query is refused
 pub answers_fault : (text : List ℕ) (fault : QueryFault) (core : Core) (patterns : PatternsState) (replies replies' : List ℕ) (result : Result (Unit {0}) Memory)
-    → Says (Err fault) (query_of text) → OnOk result (fault ≢ NoMemory) → OnOk result (replies' ≡ replies ++ framed (refused (query_refusal fault)))
+    → Agrees (Err fault) (query_of text) → OnOk result (fault ≢ NoMemory) → OnOk result (replies' ≡ replies ++ framed (refused (query_refusal fault)))
     → AnswersQuery (rule_read (query_of text)) core patterns patterns replies replies' (λ log refusal. answer_to_text log refusal (query_of text)) result
 answers_fault text fault core patterns replies replies' (Ok done) says other wrote = record {
   refusal = None;

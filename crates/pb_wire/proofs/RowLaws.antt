@@ -10,7 +10,7 @@ use Rattle.pb_wire.specs.declared.reader.Next.TheVariants.{End, Field, Refused}
 use Rattle.pb_wire.specs.declared.reader.WireWhy.{WireWhy}
 use Rattle.pb_wire.specs.declared.reader.WireWhy.TheVariants.{Short}
 use Rattle.pb_wire.specs.Varint.{varint_at}
-use Rattle.pb_wire.specs.Fields.{FieldAt, varint_from, tag_from, field_from, next_at, next_place, fields_within, end_within, fields_from, fields_end, fault_in, fault_from, fields_of, fields_fault, Cursor, LiesWithin, Steps}
+use Rattle.pb_wire.specs.Fields.{FieldAt, varint_from, tag_from, field_from, next_at, next_place, fields_within, end_within, fields_from, fields_end, fault_in, fault_from, fields_of, fields_fault, Cursor, LiesWithin, Advances}
 use Rattle.pb_wire.specs.Cause.{IsCause}
 use Rattle.pb_wire.specs.InRow.{EndsAt, IsFieldAt, AreInRow}
 use Rattle.pb_wire.proofs.FieldLaws.{cases_read, field_found, field_at_is_read}
@@ -116,7 +116,7 @@ pub record IsStep (bytes : List ℕ) (place : ℕ) (next : Next) (after : ℕ) :
   pub answer : next ≡ next_at bytes place
   pub moves : after ≡ next_place bytes place
   pub within : after ≤ length bytes
-  pub steps : Steps (cursor bytes place) next (cursor bytes after)
+  pub steps : Advances (cursor bytes place) next (cursor bytes after)
 
 pub reads_end : (bytes : List ℕ) (place : ℕ) → place ≡ length bytes → IsStep bytes place End place
 unfolding next_at fault_from

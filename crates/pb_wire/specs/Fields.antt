@@ -155,8 +155,8 @@ pub record Stays (old : Cursor) (fault : Option (ℕ × WireWhy)) (new : Cursor)
   pub fault_is : fault_from old.bytes old.place ≡ fault
 
 -- what an answer says of the fields that are left
-abbrev pub Steps : Cursor → Next → Cursor → Type 0
-Steps old End new = Stays old None new × (old.place ≡ length old.bytes)
-Steps old (Field number body place) new = Passes old (record { number = number; body = body; place = place }) new
-Steps old (Refused place why) new = Stays old (Some (place, why)) new × (place ≡ old.place) × (place < length old.bytes)
+abbrev pub Advances : Cursor → Next → Cursor → Type 0
+Advances old End new = Stays old None new × (old.place ≡ length old.bytes)
+Advances old (Field number body place) new = Passes old (record { number = number; body = body; place = place }) new
+Advances old (Refused place why) new = Stays old (Some (place, why)) new × (place ≡ old.place) × (place < length old.bytes)
     × IsCause (drop place old.bytes) why

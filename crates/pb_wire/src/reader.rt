@@ -1,7 +1,7 @@
 //! Reading fields, one after the other.
 
 ghost use Rattle.std.specs.Prelude.{◌≡◌, ◌<◌, ◌≤◌, length, IfOk};
-ghost use Rattle.pb_wire.specs.Fields.{Steps, next_at, next_place, varint_from, tag_from, body_from, eight_body, four_body, bytes_body, field_from};
+ghost use Rattle.pb_wire.specs.Fields.{Advances, next_at, next_place, varint_from, tag_from, body_from, eight_body, four_body, bytes_body, field_from};
 
 use crate::varint::varint_at;
 use std::marker::Model;
@@ -87,7 +87,7 @@ impl<'a> FieldReader<'a> {
           bytes = self.old.bytes;
           place = next_place self.old.bytes self.old.place;
         } }
-        ensures steps { Steps self.old result self.new }
+        ensures steps { Advances self.old result self.new }
     {
         let (next, place) = step(self.bytes, self.place);
         self.place = place;
@@ -102,7 +102,7 @@ fn step(bytes: &[u8], place: usize) -> (Next, usize)
     ensures answer { result.0 ≡ next_at bytes.now place }
     ensures moves { result.1 ≡ next_place bytes.now place }
     ensures within { result.1 ≤ length bytes.now }
-    ensures steps { Steps (record { bytes = bytes.now; place = place }) result.0
+    ensures steps { Advances (record { bytes = bytes.now; place = place }) result.0
         (record { bytes = bytes.now; place = result.1 }) }
 {
     if place == bytes.len() {

@@ -18,7 +18,7 @@ use std::marker::Model;
 /// call that can answer so does.
 #[derive(Drop)]
 pub struct ScriptLinks {
-    place: Place,
+    state: ScriptState,
     taken: HashMap<u64, Blob>,
     // What was taken from a link that took nothing.
     nothing: Blob,
@@ -28,7 +28,7 @@ pub struct ScriptLinks {
 
 /// Where a script is: the number of lines played, the last reading, and the rules of the links.
 #[derive(Drop)]
-pub(crate) struct Place {
+pub(crate) struct ScriptState {
     pub script: Script,
     pub next: usize,
     pub secs: u64,
@@ -42,10 +42,10 @@ impl Model for ScriptLinks {
 
     ghost Value = { ScriptedCalls };
 
-    ghost view = { λ links. record { script = links.place.script; log = links.log } };
+    ghost view = { λ links. record { script = links.state.script; log = links.log } };
 
-    ghost invariant = { λ links. IsPlaying links.place.script links.log
-        links.place.next links.place.secs (rules_in links.place.rules) (taken_in links.taken)
+    ghost invariant = { λ links. IsPlaying links.state.script links.log
+        links.state.next links.state.secs (rules_in links.state.rules) (taken_in links.taken)
         links.nothing links.poisoned };
 }
 
@@ -57,7 +57,7 @@ impl ScriptLinks {
     {
         let secs = script.start;
         ScriptLinks {
-            place: Place {
+            state: ScriptState {
                 script,
                 next: 0,
                 secs,
@@ -74,7 +74,7 @@ impl ScriptLinks {
     pub fn script(&self) -> &Script
         ensures { result.now ≡ self.now.script }
     {
-        &self.place.script
+        &self.state.script
     }
 
     /// The bytes that were taken from the link, in order.
@@ -104,7 +104,7 @@ impl ScriptLinks {
             return Err(Memory);
         }
         self.poisoned = true;
-        let turn = self.place.advance(buf)?;
+        let turn = self.state.advance(buf)?;
         let count = count_read(turn.what);
         self.log.turned(wants, turn, &buf[..count]);
         self.poisoned = false;
@@ -126,7 +126,7 @@ impl ScriptLinks {
             return Err(Memory);
         }
         self.poisoned = true;
-        let answer = self.place.send(link, bytes.len())?;
+        let answer = self.state.send(link, bytes.len())?;
         let count = count_taken(answer);
         add_taken(alloc, &mut self.taken, link, &bytes[..count])?;
         self.log.sent(link, bytes, answer);
@@ -154,7 +154,7 @@ impl ScriptLinks {
         ensures plays { Plays (Some self.new.script) (Some self.new.log) }
     {
         let turn = Turn {
-            secs: self.place.secs,
+            secs: self.state.secs,
             what: What::Failed,
         };
         self.log.turned(wants, turn, &[]);
@@ -162,7 +162,7 @@ impl ScriptLinks {
     }
 }
 
-impl Place {
+impl ScriptState {
     /// Plays the lines up to the next turn, and that turn. The bytes of a read are written to the start of `buf`.
     #[tactic(auto, using(crate::proofs::RuleLemmas::from_turn_twice, crate::proofs::RuleLemmas::first_turn_later, crate::proofs::RuleLemmas::after_turn))]
     fn advance(&mut self, buf: &mut [u8]) -> Result<Turn, Memory>
@@ -264,7 +264,7 @@ impl Links for ScriptLinks {
             return ListenAnswer::Memory;
         }
         let answer = ListenAnswer::Ready {
-            secs: self.place.secs,
+            secs: self.state.secs,
         };
         self.log.listened(address, answer);
         answer

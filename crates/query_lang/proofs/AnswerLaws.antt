@@ -10,8 +10,8 @@ use Rattle.query_lang.specs.declared.fault.QueryFault.TheVariants.{TooLong, Refu
 use Rattle.query_lang.specs.declared.token.Token.{Token}
 use Rattle.query_lang.specs.Tokens.{token_at}
 use Rattle.query_lang.specs.Grammar.{IsQuery, IsQueryPrefix}
-use Rattle.query_lang.specs.Queries.{Begins, openings, Stops, StopsAtToken, IsQueryText, IsRefusedAt, IsTooDeepAt, IsAnswer, Says}
-use Rattle.query_lang.specs.Reading.{Reads}
+use Rattle.query_lang.specs.Queries.{Begins, openings, Stops, StopsAtToken, IsQueryText, IsRefusedAt, IsTooDeepAt, IsAnswer, Agrees}
+use Rattle.query_lang.specs.Reading.{Parses}
 use Rattle.query_lang.proofs.ParserLaws.{one_tree, append_nil}
 use Rattle.query_lang.proofs.CountLaws.{openings_append}
 
@@ -168,18 +168,18 @@ one_answer text a b is also_is = ⊎_elim
 -- a call that gives an answer gives the only one
 
 pub says_only : (text : List ℕ) (result : Result Rule QueryFault) → IfOk result (λ rule. IsAnswer text (Ok (tree_of rule))) → IfErr result (λ fault. fault ≢ Memory → IsAnswer text (Err fault))
-    → (answer : Result Tree QueryFault) → IsAnswer text answer → Says result answer
+    → (answer : Result Tree QueryFault) → IsAnswer text answer → Agrees result answer
 says_only text (Ok rule) ok err answer is = one_answer text answer (Ok (tree_of rule)) is ok
 says_only text (Err Memory) ok err answer is = tt
 says_only text (Err (TooLong size)) ok err answer is = one_answer text answer (Err (TooLong size)) is (err (λ same. cc))
 says_only text (Err (Refused place)) ok err answer is = one_answer text answer (Err (Refused place)) is (err (λ same. cc))
 says_only text (Err (TooDeep place)) ok err answer is = one_answer text answer (Err (TooDeep place)) is (err (λ same. cc))
 
-pub reads_ok : (text : List ℕ) (result : Result Rule QueryFault) → length text ≤ MAX_BYTES → Reads text result → IfOk result (λ rule. IsAnswer text (Ok (tree_of rule)))
+pub reads_ok : (text : List ℕ) (result : Result Rule QueryFault) → length text ≤ MAX_BYTES → Parses text result → IfOk result (λ rule. IsAnswer text (Ok (tree_of rule)))
 reads_ok text (Ok rule) short reads = (short, reads)
 reads_ok text (Err fault) short reads = tt
 
-pub reads_err : (text : List ℕ) (result : Result Rule QueryFault) → length text ≤ MAX_BYTES → Reads text result → IfErr result (λ fault. fault ≢ Memory → IsAnswer text (Err fault))
+pub reads_err : (text : List ℕ) (result : Result Rule QueryFault) → length text ≤ MAX_BYTES → Parses text result → IfErr result (λ fault. fault ≢ Memory → IsAnswer text (Err fault))
 reads_err text (Ok rule) short reads = tt
 reads_err text (Err (Refused place)) short reads = λ other. (short, reads)
 reads_err text (Err (TooDeep place)) short reads = λ other. (short, reads)

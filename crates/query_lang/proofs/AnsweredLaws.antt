@@ -16,7 +16,7 @@ use Rattle.query_lang.specs.Answer.{ended_at, and_then, answer_within, query_of}
 use Rattle.query_lang.specs.Grammar.{test_of, any_of, all_of, listed, IsAny, IsAll, IsOne, one_alternative, more_alternatives, one_part, more_parts, negated, grouped, always, never, nothing, tagged, test}
 use Rattle.query_lang.specs.Parsing.{State, start, step, finish, within_limit}
 use Rattle.query_lang.specs.Queries.{Begins, IsAnswer}
-use Rattle.query_lang.specs.Reading.{taken, with_rest, Reads}
+use Rattle.query_lang.specs.Reading.{taken, with_rest, Parses}
 use Rattle.query_lang.specs.Tokens.{past_blanks, token_at}
 use Rattle.query_lang.proofs.AnswerLaws.{reads_err}
 use Rattle.query_lang.proofs.ParserLaws.{parsed_is_query, ended}

@@ -14,7 +14,7 @@ use Rattle.query_lang.specs.Tokens.{past_blanks, token_at}
 use Rattle.query_lang.specs.Grammar.{IsQueryPrefix, is_opening}
 use Rattle.query_lang.specs.Parsing.{State, start, step, finish, within_limit, Ends}
 use Rattle.query_lang.specs.Queries.{Begins, openings, Stops, StopsAtToken, IsRefusedAt, IsTooDeepAt}
-use Rattle.query_lang.specs.Reading.{with_rest, taken, Takes, Reads}
+use Rattle.query_lang.specs.Reading.{with_rest, taken, Takes, Parses}
 use Rattle.query_lang.proofs.ParserLaws.{reached, reached_more, parsed_is_query, taken_is_front, refused_is_none, ended, unended}
 use Rattle.query_lang.proofs.ScanLaws.{after_shorter, blanks_shorter}
 use Rattle.query_lang.proofs.CountLaws.{Counted, step_counts, openings_more}
@@ -41,7 +41,7 @@ begins_more text [] rest after t begins read = (after, subst (λ (bytes : List �
 begins_more text (first ∷ tokens) rest after t (middle, here, begins) read = (middle, here, begins_more middle tokens rest after t begins read)
 
 -- the parser's answer at a token, by cases
-pub record Next (place : ℕ) (state : State) (found : Option (Token × List ℕ)) (next : State) (rest : List ℕ) : Type 0 where
+pub record NextToken (place : ℕ) (state : State) (found : Option (Token × List ℕ)) (next : State) (rest : List ℕ) : Type 0 where
   pub token : Token
   pub after : List ℕ
   pub read : found ≡ Some (token, after)
@@ -56,7 +56,7 @@ at_most : (n : ℕ) → ltb MAX_OPENINGS n ≡ false → n ≤ MAX_OPENINGS
 at_most n over = grind (arith, nat_tests)
 
 next_at_limit : (place : ℕ) (state next : State) (token : Token) (after rest : List ℕ) (middle : State) (test : Bool) → step state token ≡ Some middle → ltb MAX_OPENINGS middle.openings ≡ test
-    → with_rest (past_blanks after) (cond test (Err (TooDeep place)) (Ok middle)) ≡ Ok (next, rest) → Next place state (Some (token, after)) next rest
+    → with_rest (past_blanks after) (cond test (Err (TooDeep place)) (Ok middle)) ≡ Ok (next, rest) → NextToken place state (Some (token, after)) next rest
 next_at_limit place state next token after rest middle true is over e = cc
 next_at_limit place state next token after rest middle false is over e =
     let pair : (middle, past_blanks after) ≡ (next, rest) = ok_same e in
@@ -65,11 +65,11 @@ next_at_limit place state next token after rest middle false is over e =
     record { token = token; after = after; read = refl; step_is = is ∙ ap (λ (s : State). Some s) same; few = subst (λ (s : State). s.openings ≤ MAX_OPENINGS) same few; rest_is = ap (λ (p : State × List ℕ). p.1) pair }
 
 next_at_step : (place : ℕ) (state next : State) (token : Token) (after rest : List ℕ) (stepped : Option State) → step state token ≡ stepped
-    → with_rest (past_blanks after) (within_limit place stepped) ≡ Ok (next, rest) → Next place state (Some (token, after)) next rest
+    → with_rest (past_blanks after) (within_limit place stepped) ≡ Ok (next, rest) → NextToken place state (Some (token, after)) next rest
 next_at_step place state next token after rest None is e = cc
 next_at_step place state next token after rest (Some middle) is e = next_at_limit place state next token after rest middle (ltb MAX_OPENINGS middle.openings) is refl e
 
-next_at : (place : ℕ) (state next : State) (found : Option (Token × List ℕ)) (rest : List ℕ) → taken place state found ≡ Ok (next, rest) → Next place state found next rest
+next_at : (place : ℕ) (state next : State) (found : Option (Token × List ℕ)) (rest : List ℕ) → taken place state found ≡ Ok (next, rest) → NextToken place state found next rest
 next_at place state next None rest e = cc
 next_at place state next (Some found) rest e = next_at_step place state next found.0 found.1 rest (step state found.0) refl e
 
@@ -129,7 +129,7 @@ opening_once false = omega arith
 
 fault_at_limit : (text rest : List ℕ) (place : ℕ) (state : State) (so : SoFar text rest state) → place + length rest ≡ length text → (token : Token) (after : List ℕ) → token_at rest ≡ Some (token, after)
     → (fault : QueryFault) (middle : State) (test : Bool) → step state token ≡ Some middle → ltb MAX_OPENINGS middle.openings ≡ test
-    → with_rest (past_blanks after) (cond test (Err (TooDeep place)) (Ok middle)) ≡ Err fault → Reads text (Err fault)
+    → with_rest (past_blanks after) (cond test (Err (TooDeep place)) (Ok middle)) ≡ Err fault → Parses text (Err fault)
 fault_at_limit text rest place state so at token after read fault middle false is over e = cc
 fault_at_limit text rest place state so at token after read fault middle true is over e =
     let above : MAX_OPENINGS < middle.openings = grind (arith, nat_tests) in
@@ -148,34 +148,34 @@ fault_at_limit text rest place state so at token after read fault middle true is
       full = omega (arith, so.few, so.count, counts.openings_are);
       deep = omega (arith, so.few, so.count, counts.openings_are);
     } in
-    let Claim : QueryFault → Type 0 = λ fault. Reads text (Err fault) in
+    let Claim : QueryFault → Type 0 = λ fault. Parses text (Err fault) in
     subst Claim (err_same e) deep
 
 fault_at_step : (text rest : List ℕ) (place : ℕ) (state : State) (so : SoFar text rest state) → place + length rest ≡ length text → 0 < length rest
     → (token : Token) (after : List ℕ) → token_at rest ≡ Some (token, after) → (fault : QueryFault) (stepped : Option State) → step state token ≡ stepped
-    → with_rest (past_blanks after) (within_limit place stepped) ≡ Err fault → Reads text (Err fault)
+    → with_rest (past_blanks after) (within_limit place stepped) ≡ Err fault → Parses text (Err fault)
 fault_at_step text rest place state so at some token after read fault None is e =
     let none : IsQueryPrefix (so.tokens ++ token ∷ []) → ⊥ = refused_is_none (so.tokens ++ token ∷ []) (reached_step text rest state so token ∙ is) in
     let stops : StopsAtToken so.tokens (token_at rest) = subst (λ (found : Option (Token × List ℕ)). StopsAtToken so.tokens found) (sym read) none in
-    let Claim : QueryFault → Type 0 = λ fault. Reads text (Err fault) in
+    let Claim : QueryFault → Type 0 = λ fault. Parses text (Err fault) in
     subst Claim (err_same e) (refused_at text rest place state so at (stops_at so.tokens rest some stops))
 fault_at_step text rest place state so at some token after read fault (Some middle) is e =
     fault_at_limit text rest place state so at token after read fault middle (ltb MAX_OPENINGS middle.openings) is refl e
 
 fault_at : (text rest : List ℕ) (place : ℕ) (state : State) (so : SoFar text rest state) → place + length rest ≡ length text → 0 < length rest
-    → (found : Option (Token × List ℕ)) → token_at rest ≡ found → (fault : QueryFault) → taken place state found ≡ Err fault → Reads text (Err fault)
+    → (found : Option (Token × List ℕ)) → token_at rest ≡ found → (fault : QueryFault) → taken place state found ≡ Err fault → Parses text (Err fault)
 fault_at text rest place state so at some None read fault e =
     let stops : StopsAtToken so.tokens (token_at rest) = subst (λ (found : Option (Token × List ℕ)). StopsAtToken so.tokens found) (sym read) tt in
-    let Claim : QueryFault → Type 0 = λ fault. Reads text (Err fault) in
+    let Claim : QueryFault → Type 0 = λ fault. Parses text (Err fault) in
     subst Claim (err_same e) (refused_at text rest place state so at (stops_at so.tokens rest some stops))
 fault_at text rest place state so at some (Some found) read fault e = fault_at_step text rest place state so at some found.0 found.1 read fault (step state found.0) refl e
 
 pub so_far_fault : (text rest : List ℕ) (place : ℕ) (state : State) → SoFar text rest state → place + length rest ≡ length text → 0 < length rest
-    → (fault : QueryFault) → taken place state (token_at rest) ≡ Err fault → Reads text (Err fault)
+    → (fault : QueryFault) → taken place state (token_at rest) ≡ Err fault → Parses text (Err fault)
 so_far_fault text rest place state so at some fault e = fault_at text rest place state so at some (token_at rest) refl fault e
 
 -- the end of the text
-pub so_far_end : (text : List ℕ) (state : State) → SoFar text [] state → (result : Result Rule QueryFault) → Ends result (length text) (finish state) → Reads text result
+pub so_far_end : (text : List ℕ) (state : State) → SoFar text [] state → (result : Result Rule QueryFault) → Ends result (length text) (finish state) → Parses text result
 so_far_end text state so (Ok rule) e = record {
   tokens = so.tokens;
   text_is = so.begins;
@@ -194,13 +194,13 @@ some_not_none : (rest : List ℕ) → eqb (suc (length rest)) 0 ≡ true → ⊥
 some_not_none rest e = let other = eqb-suc-zero (length rest) in cc
 
 pub so_far_err : (text rest : List ℕ) (place : ℕ) (state next : State) (empty : Bool) → SoFar text rest state → empty ≡ eqb (length rest) 0 → empty ≡ false → place ≡ length text - length rest
-    → (fault : QueryFault) → Takes (Err fault) next (taken place state (token_at rest)) → Reads text (Err fault)
+    → (fault : QueryFault) → Takes (Err fault) next (taken place state (token_at rest)) → Parses text (Err fault)
 so_far_err text rest place state next empty so test some at Memory e = tt
 so_far_err text rest place state next empty so test some at (TooLong size) e = so_far_fault text rest place state so (omega (arith, so.within)) (some_left rest empty test some) (TooLong size) e
 so_far_err text rest place state next empty so test some at (Refused refused) e = so_far_fault text rest place state so (omega (arith, so.within)) (some_left rest empty test some) (Refused refused) e
 so_far_err text rest place state next empty so test some at (TooDeep deep) e = so_far_fault text rest place state so (omega (arith, so.within)) (some_left rest empty test some) (TooDeep deep) e
 
 pub all_read : (text rest : List ℕ) (state : State) (empty : Bool) → SoFar text rest state → empty ≡ eqb (length rest) 0 → empty ≡ true
-    → (result : Result Rule QueryFault) → Ends result (length text) (finish state) → Reads text result
+    → (result : Result Rule QueryFault) → Ends result (length text) (finish state) → Parses text result
 all_read text [] state empty so test is result e = so_far_end text state so result e
 all_read text (b ∷ rest) state empty so test is result e = absurd (some_not_none rest (sym test ∙ is))

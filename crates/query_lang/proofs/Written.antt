@@ -226,23 +226,23 @@ open_read : (rest : List ℕ) → token_at (40 ∷ 32 ∷ rest) ≡ Some (token.
 unfolding token_at long_symbol short_symbol
 open_read rest = refl
 
-Reads : List ℕ → Token → Type 0
-Reads word t = (rest : List ℕ) → Separated rest → token_at (past_blanks (word ++ rest)) ≡ Some (t, rest)
+ReadsAs : List ℕ → Token → Type 0
+ReadsAs word t = (rest : List ℕ) → Separated rest → token_at (past_blanks (word ++ rest)) ≡ Some (t, rest)
 
-ends_apart : (word : List ℕ) (t : Token) → token_at (past_blanks (word ++ [])) ≡ Some (t, []) → ((bytes : List ℕ) → token_at (past_blanks (word ++ 32 ∷ bytes)) ≡ Some (t, 32 ∷ bytes)) → Reads word t
-unfolding Reads
+ends_apart : (word : List ℕ) (t : Token) → token_at (past_blanks (word ++ [])) ≡ Some (t, []) → ((bytes : List ℕ) → token_at (past_blanks (word ++ 32 ∷ bytes)) ≡ Some (t, 32 ∷ bytes)) → ReadsAs word t
+unfolding ReadsAs
 ends_apart word t alone before [] ends = alone
 ends_apart word t alone before (b ∷ rest) ends = subst (λ (b : ℕ). token_at (past_blanks (word ++ b ∷ rest)) ≡ Some (t, b ∷ rest)) (sym ends) (before rest)
 
-true_read : Reads (codes "true") token.True
+true_read : ReadsAs (codes "true") token.True
 unfolding token_at name_at word_of
 true_read = ends_apart (codes "true") token.True refl (λ bytes. refl)
 
-false_read : Reads (codes "false") token.False
+false_read : ReadsAs (codes "false") token.False
 unfolding token_at name_at word_of
 false_read = ends_apart (codes "false") token.False refl (λ bytes. refl)
 
-nil_read : Reads (codes "nil") token.Nil
+nil_read : ReadsAs (codes "nil") token.Nil
 unfolding token_at name_at word_of
 nil_read = ends_apart (codes "nil") token.Nil refl (λ bytes. refl)
 
@@ -274,7 +274,7 @@ field_read field.Metric bytes good = refl
 field_read (field.Attribute key) bytes good = begins_name key (32 ∷ bytes) good.0 refl
 
 value_read : (v : Value) (rest : List ℕ) → GoodValue v → Separated rest → token_at (past_blanks (value_spelling v ++ rest)) ≡ Some (value_token v, rest)
-unfolding Reads
+unfolding ReadsAs
 value_read value.Nil rest good ends = nil_read rest ends
 value_read (value.Number number) rest good ends = begins_number number rest good ends
 value_read (value.Text text) rest good ends = begins_string text rest good
@@ -329,8 +329,8 @@ grouped_spells true text tokens spells rest more last ends begins =
     (32 ∷ (text ++ 32 ∷ 41 ∷ rest), open_read (text ++ 32 ∷ 41 ∷ rest), begins_blank (text ++ 32 ∷ 41 ∷ rest) (tokens (token.Close ∷ more)) last inner) in
     subst (λ (all : List ℕ). Begins all (token.Open ∷ tokens (token.Close ∷ more)) last) (sym whole) opening
 
-word_spells : (word : List ℕ) (t : Token) → Reads word t → Spells word (λ more. t ∷ more)
-unfolding Reads
+word_spells : (word : List ℕ) (t : Token) → ReadsAs word t → Spells word (λ more. t ∷ more)
+unfolding ReadsAs
 word_spells word t read rest more last ends begins = (rest, read rest ends, begins)
 
 not_spells : (text : List ℕ) (tokens : List Token → List Token) → Spells text tokens → Spells (codes "not " ++ text) (λ more. token.Not ∷ tokens more)

@@ -68,7 +68,7 @@ IsAnswer text (Err (TooDeep place)) = (length text ≤ MAX_BYTES) × IsTooDeepAt
 IsAnswer text (Err Memory) = ⊥
 
 -- a call answers so, or is out of memory
-abbrev pub Says : Result Rule QueryFault → Result Tree QueryFault → Type 0
-Says (Ok rule) answer = answer ≡ Ok (tree_of rule)
-Says (Err Memory) answer = Unit {0}
-Says (Err fault) answer = answer ≡ Err fault
+abbrev pub Agrees : Result Rule QueryFault → Result Tree QueryFault → Type 0
+Agrees (Ok rule) answer = answer ≡ Ok (tree_of rule)
+Agrees (Err Memory) answer = Unit {0}
+Agrees (Err fault) answer = answer ≡ Err fault

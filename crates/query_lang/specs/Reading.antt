@@ -26,9 +26,9 @@ Takes (Err Memory) state wanted = Unit {0}
 Takes (Err fault) state wanted = wanted ≡ Err fault
 
 -- what a call answers to a text that is not too long
-abbrev pub Reads : List ℕ → Result Rule QueryFault → Type 0
-Reads text (Ok rule) = IsQueryText text (tree_of rule)
-Reads text (Err (Refused place)) = IsRefusedAt text place
-Reads text (Err (TooDeep place)) = IsTooDeepAt text place
-Reads text (Err (TooLong size)) = ⊥
-Reads text (Err Memory) = Unit {0}
+abbrev pub Parses : List ℕ → Result Rule QueryFault → Type 0
+Parses text (Ok rule) = IsQueryText text (tree_of rule)
+Parses text (Err (Refused place)) = IsRefusedAt text place
+Parses text (Err (TooDeep place)) = IsTooDeepAt text place
+Parses text (Err (TooLong size)) = ⊥
+Parses text (Err Memory) = Unit {0}

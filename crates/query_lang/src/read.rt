@@ -3,8 +3,8 @@
 ghost use Rattle.std.specs.Prelude.{◌≡◌, ◌≢◌, ◌≤◌, length, Result, Ok, Err, IfOk, IfErr};
 ghost use Rattle.pred_eval.specs.Tree.{Tree, tree_of};
 ghost use Rattle.query_lang.specs.Parsing.{state_of};
-ghost use Rattle.query_lang.specs.Queries.{IsAnswer, Says};
-ghost use Rattle.query_lang.specs.Reading.{taken, Takes, Reads};
+ghost use Rattle.query_lang.specs.Queries.{IsAnswer, Agrees};
+ghost use Rattle.query_lang.specs.Reading.{taken, Takes, Parses};
 ghost use Rattle.query_lang.specs.Tokens.{token_at};
 ghost use Rattle.query_lang.specs.declared.parser.TheConstants.{MAX_OPENINGS};
 ghost use Rattle.query_lang.specs.declared.fault.QueryFault.{QueryFault};
@@ -25,7 +25,7 @@ pub fn read_query(alloc: Global, text: &[u8]) -> Result<Rule, QueryFault>
     ensures fault { IfErr result (λ fault. fault ≢ QueryFault.Memory →
         IsAnswer text.now (Err fault)) }
     ensures only { (answer : Result Tree QueryFault) → IsAnswer text.now answer →
-        Says result answer }
+        Agrees result answer }
 {
     if text.len() > MAX_BYTES {
         return Err(QueryFault::TooLong { length: text.len() });
@@ -35,7 +35,7 @@ pub fn read_query(alloc: Global, text: &[u8]) -> Result<Rule, QueryFault>
 
 /// The same of a text that is not too long.
 fn read_short(alloc: Global, text: &[u8]) -> Result<Rule, QueryFault>
-    ensures { Reads text.now result }
+    ensures { Parses text.now result }
 {
     let mut parser = Parser::fresh(alloc);
     let mut rest = past_blanks(text);

@@ -1,6 +1,6 @@
 -- What `replay CONFIG SCRIPT` promises.
 use Rattle.std.specs.Prelude.{◌≡◌, ℕ, ◌≤◌, ◌⊎◌, List, [], ◌∷◌, length, Option, Ok, Err}
-use Rattle.command_io.specs.Endings.{HasNoConfig, IsComplete, IsDoneOrMemory, Reads, Says, status_of}
+use Rattle.command_io.specs.Endings.{HasNoConfig, IsComplete, IsDoneOrMemory, ReadsFiles, Says, status_of}
 use Rattle.command_io.specs.Reports.{IsIdle, Reports, SinkReport}
 use Rattle.command_io.specs.declared.ending.Ending.{Ending}
 use Rattle.command_io.specs.declared.ending.Ending.TheVariants.{Finished, WriteFailed, OutOfMemory}
@@ -84,7 +84,7 @@ pub record Replays (config script : List ℕ) (old new : Reports) (Unasked : Typ
   pub ends : ReplayEnds (old.store.held config) (old.store.held script) old new ending
   -- the links that were handed in were not called
   pub untouched : new.links ≡ old.links
-  pub reads : Reads (config ∷ (script ∷ [])) (ReadCounts (old.store.held config) ending) old.store.reads new.store.reads ending
+  pub reads : ReadsFiles (config ∷ (script ∷ [])) (ReadCounts (old.store.held config) ending) old.store.reads new.store.reads ending
   -- patterns are asked for once there is a configuration
   pub unasked : HasNoConfig ending → Unasked
   -- where it did all that it had to, no read and no write of its lines failed

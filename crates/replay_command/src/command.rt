@@ -1,6 +1,6 @@
 ghost use Rattle.std.specs.Prelude.{◌≡◌, ◌≢◌, ◌≤◌, [], ◌∷◌};
 ghost use Rattle.std.specs.Option.{ForSome};
-ghost use Rattle.command_io.specs.Endings.{HasNoConfig, HasNoLine, IsComplete, IsRefusal, Reads, status_of};
+ghost use Rattle.command_io.specs.Endings.{HasNoConfig, HasNoLine, IsComplete, IsRefusal, ReadsFiles, status_of};
 ghost use Rattle.command_io.specs.Reports.{LinksReport, SinkReport, reports, sink_report, store_report};
 ghost use Rattle.file_run.specs.Files.{OtherReads, ReadCounts};
 ghost use Rattle.hub_meaning.specs.Verdicts.{patterns_state};
@@ -89,7 +89,7 @@ fn replay_files<S: Store, O: Sink, P: Patterns, G: Ledger>(
         (sink_report (O.text out.new) (O.puts out.new) (O.faults out.new)) err'
         (patterns_state (P.refusals patterns.new) (P.refused patterns.new)) steps.new.forks)
         result }
-    ensures reads { Reads (config.now ∷ (script.now ∷ []))
+    ensures reads { ReadsFiles (config.now ∷ (script.now ∷ []))
         (ReadCounts (S.held store.old config.now) result) (S.reads store.old)
         (S.reads store.new) result }
     ensures quiet { IsComplete result → (S.faults store.new ≡ S.faults store.old) ×

@@ -125,6 +125,6 @@ IsRefusedFor fault (Refused place why) = fault ≡ Some (fault_at place why)
 IsRefusedFor fault Memory = Unit {0}
 
 -- a value is read where there is no fault, and then this one
-abbrev pub Reads : {A : Type 0} → Option Fault → A → Result A MsgFault → Type 0
-Reads fault value (Ok read) = (fault ≡ None) × (read ≡ value)
-Reads fault value (Err refusal) = IsRefusedFor fault refusal
+abbrev pub Decodes : {A : Type 0} → Option Fault → A → Result A MsgFault → Type 0
+Decodes fault value (Ok read) = (fault ≡ None) × (read ≡ value)
+Decodes fault value (Err refusal) = IsRefusedFor fault refusal

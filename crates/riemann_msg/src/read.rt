@@ -6,7 +6,7 @@ ghost use Rattle.std.specs.Option.{option_map};
 ghost use Rattle.pb_wire.specs.Fields.{FieldAt, LiesWithin, fields_of};
 ghost use Rattle.pb_wire.specs.Spelling.{Varint, Eight, Bytes, Four};
 ghost use Rattle.riemann_msg.specs.Value.{event_of, attribute_of, time_from, message_of};
-ghost use Rattle.riemann_msg.specs.Fault.{Fault, moved, first_by, IsRefusedFor, Reads, attribute_field_fault, event_field_fault, query_field_fault, message_field_fault, attribute_fault, event_fault, first_fault};
+ghost use Rattle.riemann_msg.specs.Fault.{Fault, moved, first_by, IsRefusedFor, Decodes, attribute_field_fault, event_field_fault, query_field_fault, message_field_fault, attribute_fault, event_fault, first_fault};
 ghost use Rattle.riemann_msg.specs.Spelling.{field, IsSpellable};
 ghost use Rattle.riemann_msg.specs.Draft.{Puts, field_at, value_at, attribute_with, query_with, event_with, message_with, fresh_event, fresh_message, utf8_fault, four_fault, bytes_fault, part_fault};
 
@@ -85,7 +85,7 @@ fn read_fields<D: Draft>(
 
 /// The bytes as a text. Where they are not UTF-8, the fault is at `place` in the whole message.
 fn text_of(alloc: Global, bytes: &[u8], place: usize) -> Result<Text, MsgFault>
-    ensures { Reads (utf8_fault place bytes.now) bytes.now result }
+    ensures { Decodes (utf8_fault place bytes.now) bytes.now result }
 {
     match Text::read(alloc, bytes) {
         Ok(text) => Ok(text),
@@ -134,7 +134,7 @@ impl Draft for AttrDraft {
 /// Reads the bytes, which begin at `base` in the whole message, as an attribute.
 fn read_attribute(alloc: Global, bytes: &[u8], base: usize) -> Result<Attr, MsgFault>
     requires { base + length bytes.now < 2 ^ 64 }
-    ensures { Reads (option_map (moved base) (attribute_fault bytes.now))
+    ensures { Decodes (option_map (moved base) (attribute_fault bytes.now))
         (attribute_of bytes.now) result }
 {
     let mut draft = AttrDraft {
@@ -409,7 +409,7 @@ impl Draft for MsgDraft {
 #[tactic(auto, unfolding(crate::specs::Fault::first_fault))]
 pub fn read_msg(alloc: Global, body: &[u8], now: u64) -> Result<Msg, MsgFault>
     requires { now < 2 ^ 63 }
-    ensures reads { Reads (first_fault body.now) (message_of now body.now) result }
+    ensures reads { Decodes (first_fault body.now) (message_of now body.now) result }
     ensures spellable { IfOk result IsSpellable }
 {
     let mut draft = MsgDraft::fresh(alloc, now);

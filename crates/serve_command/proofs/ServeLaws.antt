@@ -14,7 +14,7 @@ use Rattle.command_io.specs.declared.ending.Ending.{Ending}
 use Rattle.command_io.specs.declared.ending.Ending.TheVariants.{Finished, ConfigRefused, Unread, OverLimit, BytesLeft, WriteFailed, LinksFailed, ScriptRefused, OutOfMemory}
 use Rattle.command_io.specs.declared.limits.TheConstants.{CONFIG_LIMIT}
 use Rattle.command_io.specs.declared.status.Status.TheVariants.{ReadFault, SinkFault, LinkFault}
-use Rattle.command_io.specs.Endings.{HasNoConfig, IsComplete, IsDoneOrMemory, IsReadOnce, IsRefusal, Reads, status_of}
+use Rattle.command_io.specs.Endings.{HasNoConfig, IsComplete, IsDoneOrMemory, IsReadOnce, IsRefusal, ReadsFiles, status_of}
 use Rattle.command_io.specs.Files.{ReadMore, good_read}
 use Rattle.command_io.specs.Reports.{IsIdle, Reports as Reporting}
 use Rattle.command_io.proofs.ReadLaws.{read_alone}
@@ -41,7 +41,7 @@ run_has_config (Err Sink) refused = refused
 run_has_config (Err Memory) refused = refused
 
 pub served_reads : (old new : Option (List StoreRead)) (name : List ℕ) (ran : Result Hub RunFault) → ReadMore (good_read name ∷ []) old new
-    → Reads (name ∷ []) (IsReadOnce (ending_of_run ran)) old new (ending_of_run ran)
+    → ReadsFiles (name ∷ []) (IsReadOnce (ending_of_run ran)) old new (ending_of_run ran)
 served_reads old new name (Ok hub) grew = read_alone _ old new name _ grew refl (refl, tt)
 served_reads old new name (Err Links) grew = read_alone _ old new name _ grew refl (refl, tt)
 served_reads old new name (Err Sink) grew = read_alone _ old new name _ grew refl (refl, tt)

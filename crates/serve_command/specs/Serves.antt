@@ -13,7 +13,7 @@ use Rattle.command_io.specs.declared.ending.Ending.{Ending}
 use Rattle.command_io.specs.declared.ending.Ending.TheVariants.{Finished, WriteFailed, LinksFailed, OutOfMemory}
 use Rattle.command_io.specs.declared.limits.TheConstants.{CONFIG_LIMIT}
 use Rattle.command_io.specs.declared.status.Status.{Status}
-use Rattle.command_io.specs.Endings.{HasNoConfig, IsComplete, IsDoneOrMemory, IsReadOnce, Reads, Says, status_of}
+use Rattle.command_io.specs.Endings.{HasNoConfig, IsComplete, IsDoneOrMemory, IsReadOnce, ReadsFiles, Says, status_of}
 use Rattle.command_io.specs.Reports.{IsIdle, Reports}
 use Rattle.command_setup.specs.Setups.{RefusesSetup, SetsUp, run_report_of}
 
@@ -60,7 +60,7 @@ pub record Serves (config : List ℕ) (turns : ℕ) (old new : Reports) (Unasked
   -- the run, or why there was none
   pub ends : ServeEnds (old.store.held config) turns old new ending
   -- what it read
-  pub reads : Reads (config ∷ []) (IsReadOnce ending) old.store.reads new.store.reads ending
+  pub reads : ReadsFiles (config ∷ []) (IsReadOnce ending) old.store.reads new.store.reads ending
   -- patterns are asked for once there is a configuration
   pub unasked : HasNoConfig ending → Unasked
   -- where it did all that it had to, nothing failed

@@ -1,7 +1,7 @@
 ghost use Rattle.std.specs.Prelude.{◌≡◌, [], ◌∷◌};
 ghost use Rattle.hub_meaning.specs.Verdicts.{patterns_state};
 ghost use Rattle.ports.specs.Counts.{Rose};
-ghost use Rattle.command_io.specs.Endings.{HasNoConfig, HasNoLine, IsComplete, IsReadOnce, IsRefusal, Reads, status_of};
+ghost use Rattle.command_io.specs.Endings.{HasNoConfig, HasNoLine, IsComplete, IsReadOnce, IsRefusal, ReadsFiles, status_of};
 ghost use Rattle.command_io.specs.Reports.{SinkReport, links_report, reports, sink_report, store_report};
 ghost use Rattle.serve_command.specs.Serves.{ServeEnds, Serves, ending_of_run};
 
@@ -74,7 +74,7 @@ fn serve_links<S: Store, L: Links, O: Sink, P: Patterns, G: Ledger>(
         (sink_report (O.text out.new) (O.puts out.new) (O.faults out.new)) err'
         (patterns_state (P.refusals patterns.new) (P.refused patterns.new)) steps.new.forks)
         result }
-    ensures reads { Reads (config.now ∷ []) (IsReadOnce result) (S.reads store.old)
+    ensures reads { ReadsFiles (config.now ∷ []) (IsReadOnce result) (S.reads store.old)
         (S.reads store.new) result }
     ensures quiet { IsComplete result → (S.faults store.new ≡ S.faults store.old) ×
         (L.faults links.new ≡ L.faults links.old) × (O.faults out.new ≡ O.faults out.old) }

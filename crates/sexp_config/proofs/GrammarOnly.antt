@@ -284,7 +284,7 @@ unfolding keep_at
 keep_means env f = taken_means (IsKey env (bare_tree f)) keep_in env f (keep_in_means env (bare_tree f))
 
 -- one key more
-record Next (env : Env) (form : BareTree) (before keys : List KeepKey) : Type 0 where
+record NextKey (env : Env) (form : BareTree) (before keys : List KeepKey) : Type 0 where
   key : KeepKey
   are : keys ≡ before ++ key ∷ []
   is : IsKey env form key
@@ -301,8 +301,8 @@ keys_mean env before none = record { later = []; is = sym (append-nil before); a
 keys_mean env before (also f forms) =
     let Q = Keys env (bare_trees (also f forms)) before in
     let step = with_keep env before f in
-    bind_good (Next env (bare_tree f) before) Q step (λ keys. each (with_keep env) keys forms)
-    (bind_good (IsKey env (bare_tree f)) (Next env (bare_tree f) before) (keep_at env f) (λ key. Ok (before ++ key ∷ [])) (keep_means env f) (λ key is. record { key = key; are = refl; is = is })) (λ keys next.
+    bind_good (NextKey env (bare_tree f) before) Q step (λ keys. each (with_keep env) keys forms)
+    (bind_good (IsKey env (bare_tree f)) (NextKey env (bare_tree f) before) (keep_at env f) (λ key. Ok (before ++ key ∷ [])) (keep_means env f) (λ key is. record { key = key; are = refl; is = is })) (λ keys next.
     weaker (Keys env (bare_trees forms) keys) Q (each (with_keep env) keys forms)
     (λ all known. record {
       later = next.key ∷ known.later;

@@ -29,12 +29,12 @@ Ends [] = Unit {0}
 Ends (b ∷ bytes) = runs_on (class_of b) ≡ false
 
 -- these tokens stand at the front, and others behind the bytes
-pub record Reads (place : ℕ) (text rest : List ℕ) (tokens : List Token) : Type 0 where
+pub record ReadsBack (place : ℕ) (text rest : List ℕ) (tokens : List Token) : Type 0 where
   pub is : lexed_from place place (text ++ rest) ≡ with_tokens tokens (lexed_from (place + length text) (place + length text) rest)
 
 -- a piece at the front
 pub piece_read : (place b : ℕ) (more rest : List ℕ) (piece : Piece) → piece_at place b (more ++ rest) ≡ Ok (piece, place + length (b ∷ more))
-    → Reads place (b ∷ more) rest (tokens_in place piece (place + length (b ∷ more)))
+    → ReadsBack place (b ∷ more) rest (tokens_in place piece (place + length (b ∷ more)))
 unfolding lexed_from
 piece_read place b more rest piece e =
     let last = place + length (b ∷ more) in
@@ -76,11 +76,11 @@ run_piece_is : (place first : ℕ) (more rest : List ℕ) (atom : Atom) → clas
 unfolding piece_at run_at
 run_piece_is place first more rest atom begins goes is ends = rw (begins, run_is (first ∷ more) rest goes ends, is) refl
 
-run_read : (run : List ℕ) (atom : Atom) → IsRun run atom → (place : ℕ) (rest : List ℕ) → Ends rest → Reads place run rest (Stood atom place (place + length run) ∷ [])
+run_read : (run : List ℕ) (atom : Atom) → IsRun run atom → (place : ℕ) (rest : List ℕ) → Ends rest → ReadsBack place run rest (Stood atom place (place + length run) ∷ [])
 run_read run atom h place rest ends =
     let goes = subst (λ (text : List ℕ). list_all goes_on text ≡ true) h.run_as h.goes in
     let is = subst (λ (text : List ℕ). atom_of text ≡ Ok atom) h.run_as h.is in
-    subst (λ (text : List ℕ). Reads place text rest (Stood atom place (place + length text) ∷ [])) (sym h.run_as)
+    subst (λ (text : List ℕ). ReadsBack place text rest (Stood atom place (place + length text) ∷ [])) (sym h.run_as)
     (piece_read place h.first h.more rest (Whole atom) (run_piece_is place h.first h.more rest atom h.begins goes is ends))
 
 all_go : (p : ℕ → Bool) → ((b : ℕ) → p b ≡ true → goes_on b ≡ true) → (bytes : List ℕ) → list_all p bytes ≡ true → list_all goes_on bytes ≡ true
@@ -316,7 +316,7 @@ pattern_piece text rest place h =
     ∙ ap (λ (n : ℕ). Ok (Whole (Pattern text), n)) (omega (arith, length-append text (34 ∷ [])))
 
 -- any atom
-pub atom_read : (atom : Atom) → IsWritable atom → (place : ℕ) (rest : List ℕ) → Ends rest → Reads place (atom_text atom) rest (Stood atom place (place + length (atom_text atom)) ∷ [])
+pub atom_read : (atom : Atom) → IsWritable atom → (place : ℕ) (rest : List ℕ) → Ends rest → ReadsBack place (atom_text atom) rest (Stood atom place (place + length (atom_text atom)) ∷ [])
 atom_read (Text text) w place rest ends = piece_read place 34 (flat_map byte_text text ++ 34 ∷ []) rest (Whole (Text text)) (text_piece text rest place)
 atom_read (Pattern text) w place rest ends = piece_read place 35 (34 ∷ (text ++ 34 ∷ [])) rest (Whole (Pattern text)) (pattern_piece text rest place w.1)
 atom_read (Number number) w place rest ends = run_read (signed_decimal number) (Number number) (number_run number w) place rest ends

@@ -16,14 +16,14 @@ use Rattle.string_literals.specs.Literals.{escape as byte_text}
 use Rattle.sexp_read.specs.Written.{BareTree, BareTrees, Leaf, Branch, no_trees, and_trees, bare_tree, bare_trees, bare_tree_depth, bare_depth, atom_text, opening, closing, tree_text, between_text, later_text, lines_text, IsWithin64, IsWritable, IsWritableTree, AreWritable, IsReadBack}
 use Rattle.sexp_read.proofs.Ascii.{symbol_is_utf8, keyword_is_utf8}
 use Rattle.sexp_read.proofs.QuotedText.{before_ascii, behind_ascii}
-use Rattle.sexp_read.proofs.WrittenAtoms.{Ends, Reads, piece_read, atom_read}
+use Rattle.sexp_read.proofs.WrittenAtoms.{Ends, ReadsBack, piece_read, atom_read}
 
 -- one behind another
 
 with_both : (a b : List Token) (l : Lexed) → with_tokens a (with_tokens b l) ≡ with_tokens (a ++ b) l
 with_both a b l = ap (λ (tokens : List Token). record { tokens = tokens; fault = l.fault }) (sym (append_assoc a b l.tokens))
 
-reads_both : (place next : ℕ) (a b rest : List ℕ) (s t : List Token) → next ≡ place + length a → Reads place a (b ++ rest) s → Reads next b rest t → Reads place (a ++ b) rest (s ++ t)
+reads_both : (place next : ℕ) (a b rest : List ℕ) (s t : List Token) → next ≡ place + length a → ReadsBack place a (b ++ rest) s → ReadsBack next b rest t → ReadsBack place (a ++ b) rest (s ++ t)
 reads_both place next a b rest s t at first second =
     let size : next + length b ≡ place + length (a ++ b) = omega (arith, length-append a b) in
     let behind = subst (λ (n : ℕ). lexed_from n n (b ++ rest) ≡ with_tokens t (lexed_from (next + length b) (next + length b) rest)) at second.is in
@@ -33,26 +33,26 @@ reads_both place next a b rest s t at first second =
           ∙ ap (λ (n : ℕ). with_tokens (s ++ t) (lexed_from n n rest)) size;
     }
 
-reads_nothing : (place : ℕ) (rest : List ℕ) → Reads place [] rest []
+reads_nothing : (place : ℕ) (rest : List ℕ) → ReadsBack place [] rest []
 reads_nothing place rest = record { is = ap (λ (n : ℕ). lexed_from n n rest) (omega arith) }
 
-opening_piece : (bracket : Bracket) (place : ℕ) (rest : List ℕ) → Reads place (opening bracket ∷ []) rest (Opened bracket place ∷ [])
+opening_piece : (bracket : Bracket) (place : ℕ) (rest : List ℕ) → ReadsBack place (opening bracket ∷ []) rest (Opened bracket place ∷ [])
 unfolding piece_at
 opening_piece Round place rest = piece_read place 40 [] rest (Opening Round) refl
 opening_piece Square place rest = piece_read place 91 [] rest (Opening Square) refl
 opening_piece Curly place rest = piece_read place 123 [] rest (Opening Curly) refl
 
-closing_piece : (bracket : Bracket) (place : ℕ) (rest : List ℕ) → Reads place (closing bracket ∷ []) rest (Closed bracket (place + 1) ∷ [])
+closing_piece : (bracket : Bracket) (place : ℕ) (rest : List ℕ) → ReadsBack place (closing bracket ∷ []) rest (Closed bracket (place + 1) ∷ [])
 unfolding piece_at
 closing_piece Round place rest = piece_read place 41 [] rest (Closing Round) refl
 closing_piece Square place rest = piece_read place 93 [] rest (Closing Square) refl
 closing_piece Curly place rest = piece_read place 125 [] rest (Closing Curly) refl
 
-blank_piece : (place : ℕ) (rest : List ℕ) → Reads place (32 ∷ []) rest []
+blank_piece : (place : ℕ) (rest : List ℕ) → ReadsBack place (32 ∷ []) rest []
 unfolding piece_at
 blank_piece place rest = piece_read place 32 [] rest Blank refl
 
-line_piece : (place : ℕ) (rest : List ℕ) → Reads place (10 ∷ []) rest []
+line_piece : (place : ℕ) (rest : List ℕ) → ReadsBack place (10 ∷ []) rest []
 unfolding piece_at
 line_piece place rest = piece_read place 10 [] rest Blank refl
 
@@ -70,12 +70,12 @@ behind_ends (and_trees tree trees) rest ends = refl
 record TreeRead (place : ℕ) (rest : List ℕ) (tree : BareTree) : Type 0 where
   form : FormTree
   same : bare_tree form ≡ tree
-  read : Reads place (tree_text tree) rest (form_spelling form)
+  read : ReadsBack place (tree_text tree) rest (form_spelling form)
 
 record TreesRead (place : ℕ) (text rest : List ℕ) (trees : BareTrees) : Type 0 where
   forms : FormTrees
   same : bare_trees forms ≡ trees
-  read : Reads place text rest (spelling forms)
+  read : ReadsBack place text rest (spelling forms)
 
 none_read : (place : ℕ) (rest : List ℕ) → TreesRead place [] rest no_trees
 none_read place rest = record { forms = none; same = refl; read = reads_nothing place rest }
@@ -89,7 +89,7 @@ and_read place text rest tree trees first others = record {
 }
 
 -- behind a byte that is no token
-behind_read : (place b : ℕ) (text rest : List ℕ) (trees : BareTrees) → Reads place (b ∷ []) (text ++ rest) [] → TreesRead (place + 1) text rest trees → TreesRead place (b ∷ text) rest trees
+behind_read : (place b : ℕ) (text rest : List ℕ) (trees : BareTrees) → ReadsBack place (b ∷ []) (text ++ rest) [] → TreesRead (place + 1) text rest trees → TreesRead place (b ∷ text) rest trees
 behind_read place b text rest trees blank others = record {
   forms = others.forms;
   same = others.same;

@@ -5,7 +5,7 @@ use Rattle.ports.proofs.script_links.ScriptLinks.play_turn.Goals as goal
 
 pub invariant_of-self-2 : goal.invariant_of-self-2
 invariant_of-self-2 c =
-    let within : c.advance.new.self.next ≤ length c.self.inside.place.script.steps =
+    let within : c.advance.new.self.next ≤ length c.self.inside.state.script.steps =
     rw (← c.in_ok-turn.ensures.script) c.advance.new.self.within in
     rw (c.turned.ensures, c.in_ok-turn.ensures.script)
     (playing_turned _ _ _ _ _ _ _ _ c.self.invariant c.if-self.false c.args.wants.now c.in_ok-turn.turn
