@@ -1,4 +1,4 @@
-ghost use Rattle.std.specs.Prelude.{◌≡◌, List, [], ◌∷◌, ◌++◌, OnErr, OnOk};
+ghost use Rattle.std.specs.Prelude.{◌≡◌, true, false, List, [], ◌∷◌, ◌++◌, IfOk, OnErr, OnOk};
 ghost use Rattle.list_laws.specs.Prefix.{IsPrefix};
 ghost use Rattle.ev_types.specs.declared.item.Notice.{Notice as StoredNotice};
 ghost use Rattle.index_log.specs.Live.{IndexLog};
@@ -22,10 +22,33 @@ pub(crate) fn handle(
     ensures notices { OnOk result (out.new ≡ out.old ++ notices_among outputs) }
     ensures prefix { IsPrefix out.old out.new }
 {
-    for output in outputs.into_vec() {
+    let mut outputs = outputs.into_vec();
+    if outputs.len() == 1 && write_one(alloc, &mut outputs[0], index)? {
+        return Ok(());
+    }
+    for output in outputs {
         handle_one(alloc, output, index, out)?;
     }
     Ok(())
+}
+
+/// Moves the event of a write out into the index, and says whether the output is a write. A notice stays as it is.
+fn write_one(alloc: Global, output: &mut Output, index: &mut LiveIndex) -> Result<bool, Memory>
+    ensures written { IfOk result (λ is_write. is_write ≡ true → (log : IndexLog)
+        → Represents index.old log
+        → Represents index.new (log ++ writes_among (output.old ∷ []))) }
+    ensures silent { IfOk result (λ is_write. is_write ≡ true
+        → notices_among (output.old ∷ []) ≡ []) }
+    ensures index { IfOk result (λ is_write. is_write ≡ false → index.new ≡ index.old) }
+    ensures output { IfOk result (λ is_write. is_write ≡ false → output.new ≡ output.old) }
+{
+    match output {
+        Output::Write(event) => {
+            index.put(alloc, event)?;
+            Ok(true)
+        }
+        Output::Notice(_) => Ok(false),
+    }
 }
 
 fn handle_one(

@@ -79,13 +79,13 @@ impl<T: Drop> StepTable<T> {
         &mut self.values[number]
     }
 
-    /// Puts a value in place of the one at the number, and gives that one. It takes no memory and counts nothing.
-    pub fn replace(&mut self, number: usize, value: T) -> T
+    /// Swaps the value with the one at the number. It takes no memory and counts nothing.
+    pub fn swap(&mut self, number: usize, value: &mut T)
         requires { IsLive self.old number }
-        ensures value { value_at self.old number ≡ Some result }
-        ensures replaced { Changes self.old self.new number (Some value) }
+        ensures given { value_at self.old number ≡ Some value.new }
+        ensures swapped { Changes self.old self.new number (Some value.old) }
     {
-        mem::replace(&mut self.values[number], value)
+        mem::swap(&mut self.values[number], value);
     }
 
     /// Takes the value at the number out.

@@ -11,7 +11,7 @@ use Rattle.tick_schedule.specs.Queue.{moment_at}
 use Rattle.live_index.specs.Store.{key_of, is_by, is_late_in, IsStored}
 use Rattle.live_index.proofs.CountLaws.{one_less, one_more_key}
 use Rattle.live_index.proofs.StoreLaws.{end-linked, put-linked, replace-linked}
-use Rattle.live_index.proofs.TimedLaws.{timed-kept, timed-set}
+use Rattle.live_index.proofs.TimedLaws.{timed-set}
 
 none-at : (n : ℕ) → value_at {T = Event} [] n ≡ None
 none-at n = get_or_past {X = Option Event} [] n None (omega arith)
@@ -65,16 +65,5 @@ replace-stored numbers table table' due due' count event n moment stored at curr
   linked = replace-linked numbers table table' event n stored.linked at current changes;
   timed = timed-set table table' due due' n (Some event) moment stored.timed changes scheduled late;
   ordered = ordered;
-  counted = stored.counted;
-}
-
--- likewise where both events are late from one moment on
-pub replace-kept : (numbers : Numbers) (table table' : List (Option Event)) (due : List (ℕ × ℕ)) (count : ℕ) (event previous : Event) (n : ℕ) (moment : Option ℕ) → IsStored numbers table due count
-    → number_at (key_of event) numbers ≡ Some n → is_over event ≡ false → value_at table n ≡ Some previous → Changes table table' n (Some event)
-    → ((now : ℕ) → now ≤ 2 ^ 40 → is_by now moment ≡ is_late now event) → ((now : ℕ) → now ≤ 2 ^ 40 → is_by now moment ≡ is_late now previous) → IsStored numbers table' due count
-replace-kept numbers table table' due count event previous n moment stored at current was changes late before = record {
-  linked = replace-linked numbers table table' event n stored.linked at current changes;
-  timed = timed-kept table table' due n event previous stored.timed was changes (λ now h. sym (late now h) ∙ before now h);
-  ordered = stored.ordered;
   counted = stored.counted;
 }

@@ -19,14 +19,3 @@ timed-set table table' due due' n slot moment timed changes sets there number no
     timed_by false apart =
         ap (is_by now) (sets number ∙ ap (λ b. cond b moment (moment_at number due)) apart) ∙ timed number now h
         ∙ sym (ap (is_late_in now) (changes.others number (eqb-false number n apart)))
-
--- a number has another event now, which is late exactly where the one before it was
-pub timed-kept : (table table' : List (Option Event)) (due : List (ℕ × ℕ)) (n : ℕ) (event previous : Event)
-    → IsTimed table due → value_at table n ≡ Some previous → Changes table table' n (Some event) → ((now : ℕ) → now ≤ 2 ^ 40 → is_late now event ≡ is_late now previous) → IsTimed table' due
-timed-kept table table' due n event previous timed was changes alike number now h = timed_by (eqb number n) refl
-  where
-    timed_by : (b : Bool) → eqb number n ≡ b → is_by now (moment_at number due) ≡ is_late_in now (value_at table' number)
-    timed_by true is =
-        timed number now h ∙ ap (is_late_in now) (ap (value_at table) (eqb-true number n is) ∙ was) ∙ sym (alike now h)
-        ∙ sym (ap (is_late_in now) (ap (value_at table') (eqb-true number n is) ∙ changes.changed))
-    timed_by false apart = timed number now h ∙ sym (ap (is_late_in now) (changes.others number (eqb-false number n apart)))

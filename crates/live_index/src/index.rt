@@ -60,6 +60,17 @@ impl LiveIndex {
         ensures err { OnErr result (IsTrue self.new.poisoned) }
         ensures poisoned { IsTrue self.old.poisoned → IsErr result }
     {
+        let mut event = event;
+        self.put(alloc, &mut event)
+    }
+
+    /// The same for an event that is moved out of where it lies. It is not said what is left there.
+    pub fn put(&mut self, alloc: Global, event: &mut Event) -> Result<(), Memory>
+        ensures ok { OnOk result ((log : IndexLog) → Represents self.old log →
+            Represents self.new (log ++ Write event.old ∷ [])) }
+        ensures err { OnErr result (IsTrue self.new.poisoned) }
+        ensures poisoned { IsTrue self.old.poisoned → IsErr result }
+    {
         if self.poisoned {
             return Err(Memory);
         }

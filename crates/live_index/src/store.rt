@@ -11,6 +11,7 @@ ghost use Rattle.pred_eval.specs.Truth.{holds};
 ghost use Rattle.live_index.specs.Index.{visited};
 ghost use Rattle.live_index.specs.Store.{key_of, events_in, events_at, event_of, slot_of, is_by, AreLive, IsLinked, IsStored, IsTaking, Puts, numbers_of_value};
 
+use crate::hints::{Hints, hash_of};
 use crate::keyed::KeyedEvent;
 use ev_types::{Event, Events, Memory, Text, Value};
 use key_map::KeyMap;
@@ -19,7 +20,8 @@ use list_laws::Ids;
 use pred_eval::Pred;
 use std::alloc::Global;
 use std::collections::BTreeSet;
-use step_count::{Ledger, Steps};
+use std::mem;
+use step_count::{Ledger, NoLedger, Steps};
 use tick_schedule::DueQueue;
 
 // After how many seconds an event without a ttl expires, and the greatest moment.
@@ -35,6 +37,8 @@ pub(crate) struct Store {
     events: StepTable<Event>,
     due: DueQueue,
     count: usize,
+    // A write looks here for the number of its key first.
+    hints: Hints,
 }
 
 impl Store {
@@ -47,15 +51,17 @@ impl Store {
             events: StepTable::fresh(alloc),
             due: DueQueue::fresh(alloc),
             count: 0,
+            hints: Hints::fresh(alloc),
         }
     }
 
-    /// Puts an event in place of the one of its host and service. One whose state is "expired" only ends that one.
-    pub(crate) fn write(&mut self, alloc: Global, event: Event) -> Result<(), Memory>
+    /// Moves an event out into the place of the one of its host and service. One whose state is "expired" stays, and only
+    /// ends that one.
+    pub(crate) fn write(&mut self, alloc: Global, event: &mut Event) -> Result<(), Memory>
         requires { IsStored self.old.numbers self.old.events self.old.due self.old.count }
         ensures stored { OnOk result
             (IsStored self.new.numbers self.new.events self.new.due self.new.count) }
-        ensures puts { OnOk result (Puts (key_of event) (slot_of event)
+        ensures puts { OnOk result (Puts (key_of event.old) (slot_of event.old)
             self.old.numbers self.old.events self.new.numbers self.new.events) }
     {
         if event.is_over() {
@@ -66,45 +72,69 @@ impl Store {
         Ok(())
     }
 
-    /// Puts an event, which is not over, in place of the one of its host and service.
-    fn enter(&mut self, alloc: Global, event: Event) -> Result<(), Memory>
+    /// Moves an event, which is not over, out into the place of the one of its host and service.
+    fn enter(&mut self, alloc: Global, event: &mut Event) -> Result<(), Memory>
         requires stored { IsStored self.old.numbers self.old.events self.old.due self.old.count }
-        requires current { is_over event ≡ false }
+        requires current { is_over event.old ≡ false }
         ensures stored { OnOk result
             (IsStored self.new.numbers self.new.events self.new.due self.new.count) }
-        ensures puts { OnOk result (Puts (key_of event) (Some event)
+        ensures puts { OnOk result (Puts (key_of event.old) (Some event.old)
             self.old.numbers self.old.events self.new.numbers self.new.events) }
     {
-        match self.number_of(&event) {
-            Some(number) => self.replace(alloc, number, event),
-            None => self.put(alloc, event),
+        let hash = hash_of(event);
+        match self.number_of(hash, event) {
+            Some(number) => {
+                self.hints.note(hash, number);
+                self.replace(alloc, number, event)
+            }
+            None => self.put(alloc, hash, mem::replace(event, Event::at(alloc, 0))),
         }
     }
 
-    /// The number of the event's host and service.
-    fn number_of(&self, event: &Event) -> Option<usize>
+    /// The number of the event's host and service, which have this hash.
+    fn number_of(&self, hash: u64, event: &Event) -> Option<usize>
+        requires { IsLinked self.now.numbers self.now.events }
         ensures { result ≡ number_at (key_of event.now) self.now.numbers }
     {
-        self.numbers
-            .get(event.host.as_ref(), event.service.as_ref())
+        match self.hinted(hash, event) {
+            Some(number) => Some(number),
+            None => self
+                .numbers
+                .get(event.host.as_ref(), event.service.as_ref()),
+        }
     }
 
-    /// Puts an event in place of the one with this number, which is of the same host and service. Where both expire at the
-    /// same moment it takes no memory.
-    fn replace(&mut self, alloc: Global, number: usize, event: Event) -> Result<(), Memory>
+    /// The number that the hints have for the hash, if it is that of the event's host and service.
+    fn hinted(&self, hash: u64, event: &Event) -> Option<usize>
+        requires { IsLinked self.now.numbers self.now.events }
+        ensures { IfSome result (λ number.
+            number_at (key_of event.now) self.now.numbers ≡ Some number) }
+    {
+        let number = self.hints.number(hash)?;
+        if !self.events.contains(number) {
+            return None;
+        }
+        let mut uncounted = Steps::fresh(NoLedger);
+        if has_same_key(self.events.read(number, &mut uncounted), event) {
+            Some(number)
+        } else {
+            None
+        }
+    }
+
+    /// Swaps an event with the one of this number, which is of the same host and service. Where both expire at the same
+    /// moment it takes no memory.
+    fn replace(&mut self, alloc: Global, number: usize, event: &mut Event) -> Result<(), Memory>
         requires stored { IsStored self.old.numbers self.old.events self.old.due self.old.count }
-        requires known { number_at (key_of event) self.old.numbers ≡ Some number }
-        requires current { is_over event ≡ false }
+        requires known { number_at (key_of event.old) self.old.numbers ≡ Some number }
+        requires current { is_over event.old ≡ false }
         ensures stored { OnOk result
             (IsStored self.new.numbers self.new.events self.new.due self.new.count) }
-        ensures puts { OnOk result (Puts (key_of event) (Some event)
+        ensures puts { OnOk result (Puts (key_of event.old) (Some event.old)
             self.old.numbers self.old.events self.new.numbers self.new.events) }
     {
-        let due = due_moment(&event);
-        let previous = self.events.replace(number, event);
-        if is_late_from(&previous, due) {
-            return Ok(());
-        }
+        let due = due_moment(event);
+        self.events.swap(number, event);
         set_due(alloc, &mut self.due, number, due)?;
         Ok(())
     }
@@ -126,8 +156,8 @@ impl Store {
         self.count -= 1;
     }
 
-    /// Adds an event whose host and service have none.
-    fn put(&mut self, alloc: Global, event: Event) -> Result<(), Memory>
+    /// Adds an event whose host and service, which have this hash, have none.
+    fn put(&mut self, alloc: Global, hash: u64, event: Event) -> Result<(), Memory>
         requires stored { IsStored self.old.numbers self.old.events self.old.due self.old.count }
         requires absent { number_at (key_of event) self.old.numbers ≡ None }
         requires current { is_over event ≡ false }
@@ -145,6 +175,8 @@ impl Store {
         let number = self.events.add(alloc, event)?;
         self.numbers.insert(alloc, host, service, number)?;
         self.count = count;
+        self.hints.reserve(alloc, count);
+        self.hints.note(hash, number);
         set_due(alloc, &mut self.due, number, due)?;
         Ok(())
     }
@@ -396,12 +428,23 @@ fn due_moment(event: &Event) -> Option<u64>
     Some(due as u64)
 }
 
-/// Whether the event is late from this moment on, or never where there is none.
-fn is_late_from(event: &Event, due: Option<u64>) -> bool
-    ensures { result ≡ true → (now : ℕ) → now ≤ 2 ^ 40 →
-        is_by now due ≡ is_late now event.now }
+/// Whether the events are of one host and service.
+fn has_same_key(a: &Event, b: &Event) -> bool
+    ensures { result ≡ true → key_of a.now ≡ key_of b.now }
 {
-    due_moment(event) == due
+    is_same_text(a.host.as_ref(), b.host.as_ref())
+        && is_same_text(a.service.as_ref(), b.service.as_ref())
+}
+
+/// Whether both texts are absent, or both are present with the same bytes.
+fn is_same_text(a: Option<&Text>, b: Option<&Text>) -> bool
+    ensures { result ≡ true → option_copied a.entry ≡ option_copied b.entry }
+{
+    match (a, b) {
+        (None, None) => true,
+        (Some(a), Some(b)) => a.is(b.as_bytes()),
+        _ => false,
+    }
 }
 
 fn copy_text(alloc: Global, text: Option<&Text>) -> Result<Option<Text>, Memory>

@@ -32,6 +32,16 @@ impl Moments {
         }
     }
 
+    /// The moment of the id, if it has one.
+    pub(crate) fn get(&self, id: usize) -> Option<u64>
+        ensures { result ≡ moment_at id self.now }
+    {
+        if id >= self.by_id.len() {
+            return None;
+        }
+        self.by_id[id]
+    }
+
     /// Sets the moment of the id, and gives the one that it had.
     pub(crate) fn insert(&mut self, id: usize, moment: u64) -> Result<Option<u64>, Memory>
         ensures previous { IfOk result (λ previous. previous ≡ moment_at id self.old) }

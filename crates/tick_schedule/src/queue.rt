@@ -55,6 +55,9 @@ impl DueQueue {
         ensures err { OnErr result (self.new ≡ self.old) }
         ensures rising { IsRising self.new }
     {
+        if self.moments.get(id) == Some(due) {
+            return Ok(());
+        }
         schedule(&mut self.moments, &mut self.order, id, due)?;
         self.next = first_moment(&self.order);
         Ok(())

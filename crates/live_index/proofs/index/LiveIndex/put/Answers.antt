@@ -1,7 +1,7 @@
 use Rattle.std.proofs.Common.{refl, ap, ◌∙◌}
 use Rattle.live_index.proofs.StoreLaws.{not_poisoned}
 use Rattle.live_index.proofs.WriteLaws.{puts-represent}
-use Rattle.live_index.proofs.index.LiveIndex.write.Goals as goal
+use Rattle.live_index.proofs.index.LiveIndex.put.Goals as goal
 
 pub write-requires : goal.write-requires
 write-requires c = c.self.invariant c.if-self.false
@@ -9,7 +9,7 @@ write-requires c = c.self.invariant c.if-self.false
 pub returns-clause-ok : goal.returns-clause-ok
 returns-clause-ok c = λ log before. record {
   sound = refl;
-  live = puts-represent c.args.event c.self.inside.store.numbers c.write.new.self.numbers c.self.inside.store.events c.write.new.self.events
+  live = puts-represent c.args.event.now c.self.inside.store.numbers c.write.new.self.numbers c.self.inside.store.events c.write.new.self.events
       (c.self.invariant c.if-self.false).linked c.in_ok-write.ensures.stored.linked c.in_ok-write.ensures.puts log
       (not_poisoned c.self.inside.poisoned c.self.inside.store.numbers c.self.inside.store.events c.if-self.false ∙ ap (λ index. index.events) c.self.view_is ∙ before.live);
 }
