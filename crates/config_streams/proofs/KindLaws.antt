@@ -1,4 +1,4 @@
--- Kinds of streams, by what stands in their forms.
+-- Kinds of streams, by what is in their forms.
 use Rattle.std.proofs.Common.{◌≡◌, ◌≢◌, ◌<◌, ◌+◌, take, get_or, ℕ, List, [], ◌∷◌, ◌++◌, length, Vec, Global, Option, Some, None, Result, Ok, refl, ap, sym, ◌∙◌, arith}
 use Rattle.std.specs.Option.{is_some}
 use Rattle.ev_types.specs.declared.settings.Fold.{Fold}

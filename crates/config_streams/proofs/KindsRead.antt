@@ -147,7 +147,7 @@ word_read word.Tagged = refl
 word_read word.Over = refl
 word_read word.Under = refl
 
--- ---- what stands before the streams
+-- ---- what comes before the streams
 
 -- the first of the forms is neither a number nor a map
 abbrev pub IsPlain : Env → FormTrees → Type 0

@@ -97,16 +97,16 @@ pub parts_more : (may_else : Bool) (env : Env) (below more : Below) (left forms 
     all_read below (parts_in may_else env left) ≡ all_read more (parts_in may_else env forms)
 unfolding all_read parts_in
 parts_more m env below more left forms form one next at read is put =
-    let told : with_part below one (next_place (parts_in m env forms)) ≡ Ok more = rw (next_of_parts m env forms, sym is) put in
-    rw (at, read, told) refl
+    let reported : with_part below one (next_place (parts_in m env forms)) ≡ Ok more = rw (next_of_parts m env forms, sym is) put in
+    rw (at, read, reported) refl
 
 pub parts_fail : (may_else : Bool) (env : Env) (below : Below) (left forms : FormTrees) (form : FormTree) (one : Part) (next : Option ℕ) (fault : Fault) →
     left ≡ also form forms → part_at may_else env form ≡ Ok one → next ≡ next_of forms → with_part below one next ≡ Err fault →
     all_read below (parts_in may_else env left) ≡ Err fault
 unfolding all_read parts_in
 parts_fail m env below left forms form one next fault at read is put =
-    let told : with_part below one (next_place (parts_in m env forms)) ≡ Err fault = rw (next_of_parts m env forms, sym is) put in
-    rw (at, read, told) refl
+    let reported : with_part below one (next_place (parts_in m env forms)) ≡ Err fault = rw (next_of_parts m env forms, sym is) put in
+    rw (at, read, reported) refl
 
 -- ---- a stream and a source that are put together
 

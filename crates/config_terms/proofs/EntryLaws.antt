@@ -17,4 +17,4 @@ pub entry_more : {A : Type 0} (wanted : List ℕ) (read : Env → FormTree → R
     left ≡ also key rest → rest ≡ also form forms → twice ≡ is_some found → only_key_at wanted twice env key ≡ Ok tt → read env form ≡ Ok a →
     one_entry wanted read place env found left ≡ one_entry wanted read place env (Some a) forms
 unfolding one_entry
-entry_more wanted read place env found left rest forms key form a twice at later is known taken = let told = rw is at known in rw (at, later, told, taken) refl
+entry_more wanted read place env found left rest forms key form a twice at later is known taken = let reported = rw is at known in rw (at, later, reported, taken) refl

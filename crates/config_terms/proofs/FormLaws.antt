@@ -44,7 +44,7 @@ nth_past [] n past = refl
 nth_past (form ∷ forms) zero past = absurd (omega arith)
 nth_past (form ∷ forms) (suc n) past = nth_past forms n (omega arith)
 
--- a list looks the same wherever it stands
+-- a list looks the same wherever it is
 look_of_group : (forms : FormTrees) (start last : ℕ) → look_of (Group Round forms 0 0) ≡ look_of (Group Round forms start last)
 unfolding look_of
 look_of_group none start last = refl

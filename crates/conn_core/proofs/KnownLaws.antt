@@ -99,8 +99,8 @@ opened_by log turn answered = by_what turn.what refl
   where
     by_what : (what : What) → turn.what ≡ what → IsOpenedBy log what
     by_what Idle is = tt
-    by_what (Opened number) is = λ entries told.
-        let ends : EndsWith turn entries = answered entries told in
+    by_what (Opened number) is = λ entries reported.
+        let ends : EndsWith turn entries = answered entries reported in
         let last : unclosed entries ≡ number ∷ unclosed ends.before =
         ap unclosed ends.is ∙ unclosed_grown ends.before (Next ends.wants turn ends.piece ∷ []) ∙ ap (unclosed_after_turn (unclosed ends.before)) is in
         subst (λ (ls : List ℕ). IsTrue (list_any (λ (o : ℕ). o == number) ls)) (sym last)

@@ -18,7 +18,7 @@ use Rattle.hub_link.specs.Hearing as hearing
 use Rattle.hub_link.specs.HubLink.{RepresentsLink}
 use Rattle.link_table.specs.Kept.{IsAbsent, IsAt as IsAtPlace, Kept}
 use Rattle.list_laws.specs.declared.memory.Memory.{Memory}
-use Rattle.msg_replies.specs.Arriving.{Told}
+use Rattle.msg_replies.specs.Arriving.{Reported}
 use Rattle.msg_replies.proofs.AnswerLaws.{heard_nothing}
 use Rattle.msg_replies.proofs.VerdictLaws.{no_verdicts}
 use Rattle.ports.specs.declared.entry.Entry.{Entry}
@@ -29,7 +29,7 @@ use Rattle.conn_core.specs.Occurring.{Done, Occurs, OccursFrom}
 use Rattle.conn_core.specs.Reaching.{Changes, Ends, Focus, Settles, links_after}
 use Rattle.conn_core.specs.declared.hub.Hub.{Hub}
 use Rattle.conn_core.proofs.FocusLaws.{focus_change, focus_changed, focus_found}
-use Rattle.conn_core.proofs.ReachLaws.{absent_gone, none_ok, read_closed_stands}
+use Rattle.conn_core.proofs.ReachLaws.{absent_gone, none_ok, read_closed_holds}
 
 on_ok : {T E : Type 0} {P Q : Type 0} (r : Result T E) → (P → Q) → OnOk r P → OnOk r Q
 on_ok (Ok x) f p = f p
@@ -85,10 +85,10 @@ nothing_in config Failed piece state other = refl
 nothing_in config NoMemory piece state other = refl
 
 -- only the links changed
-links_done : (hub : Hub) (table' : Kept HubLink) (config : CoreConfig) (state there : RunState) (run : List Entry) (told : Told) → IsAt hub config state → there.now ≡ state.now → there.arrivals ≡ state.arrivals
-    → Ends table' config there run → Done (record hub { table = table' }) config state (state_from config (plain run) there) told told
-links_done hub table' config state there run told at now arrivals ends =
-    subst (λ (after : RunState). Done (record hub { table = table' }) config state after told told) (sym ends.leads) (record {
+links_done : (hub : Hub) (table' : Kept HubLink) (config : CoreConfig) (state there : RunState) (run : List Entry) (reported : Reported) → IsAt hub config state → there.now ≡ state.now → there.arrivals ≡ state.arrivals
+    → Ends table' config there run → Done (record hub { table = table' }) config state (state_from config (plain run) there) reported reported
+links_done hub table' config state there run reported at now arrivals ends =
+    subst (λ (after : RunState). Done (record hub { table = table' }) config state after reported reported) (sym ends.leads) (record {
       at = record {
         arrivals = subst (Represents hub.core) (sym arrivals) at.arrivals;
         config_is = at.config_is;
@@ -98,12 +98,12 @@ links_done hub table' config state there run told at now arrivals ends =
       settled = ends.settled;
       more = [];
       arrivals = arrivals ∙ sym (append-nil state.arrivals);
-      heard = heard_nothing config state.arrivals told;
+      heard = heard_nothing config state.arrivals reported;
     })
 
-pub occurs_changed : (what : What) (piece : List ℕ) (hub : Hub) (table' : Kept HubLink) (patterns : PatternsState) (told : Told) (result : Result (Unit {0}) Memory) (run : List Entry)
-    → IsReadless what → Changes (links_after what) hub.table table' result run → OccursFrom what piece hub (record hub { table = table' }) patterns patterns told told result run
-occurs_changed what piece hub table' patterns told result run other changes config state at settled =
+pub occurs_changed : (what : What) (piece : List ℕ) (hub : Hub) (table' : Kept HubLink) (patterns : PatternsState) (reported : Reported) (result : Result (Unit {0}) Memory) (run : List Entry)
+    → IsReadless what → Changes (links_after what) hub.table table' result run → OccursFrom what piece hub (record hub { table = table' }) patterns patterns reported reported result run
+occurs_changed what piece hub table' patterns reported result run other changes config state at settled =
     let reach = changes config state at.links settled in
     let is = occurred_is config what piece state other in
     record {
@@ -111,8 +111,8 @@ occurs_changed what piece hub table' patterns told result run other changes conf
       reported = no_verdicts patterns;
       possible = nothing_in config what piece state other;
       legal = subst (IsLegalFrom config (plain run)) (sym is) reach.legal;
-      done = on_ok result (λ ends. subst (λ (s : RunState). Done (record hub { table = table' }) config state (state_from config (plain run) s) told told) (sym is)
-          (links_done hub table' config state (with_links (links_after what state.links) state) run told at refl refl ends)) reach.ends;
+      done = on_ok result (λ ends. subst (λ (s : RunState). Done (record hub { table = table' }) config state (state_from config (plain run) s) reported reported) (sym is)
+          (links_done hub table' config state (with_links (links_after what state.links) state) run reported at refl refl ends)) reach.ends;
     }
 
 -- ---- a piece of no connected link
@@ -123,34 +123,34 @@ not_open ReadClosed is = refl
 not_open Closing is = refl
 not_open Closed is = refl
 
-pub occurs_absent : (number count : ℕ) (piece : List ℕ) (hub : Hub) (patterns : PatternsState) (told : Told) → IsAbsent number hub.table
-    → OccursFrom (Read number count) piece hub hub patterns patterns told told (Ok tt) []
-occurs_absent number count piece hub patterns told absent config state at settled =
+pub occurs_absent : (number count : ℕ) (piece : List ℕ) (hub : Hub) (patterns : PatternsState) (reported : Reported) → IsAbsent number hub.table
+    → OccursFrom (Read number count) piece hub hub patterns patterns reported reported (Ok tt) []
+occurs_absent number count piece hub patterns reported absent config state at settled =
     let gone = absent_gone hub.table number state.links at.links absent in
     by_found (find_link number state.links) refl (λ link found. all_found (λ l. l.number ≡ number → is_connected l ≡ false) number state.links link found gone (found_number number state.links link found))
   where
     nothing : (is : occurred config (Read number count) piece [] state ≡ state) → VerdictsIn config (Read number count) piece [] state
-        → Occurs (Read number count) piece hub patterns patterns told told (Ok tt) config state []
+        → Occurs (Read number count) piece hub patterns patterns reported reported (Ok tt) config state []
     nothing is possible = record {
       verdicts = [];
       reported = no_verdicts patterns;
       possible = possible;
       legal = tt;
-      done = subst (λ (s : RunState). Done hub config state s told told) (sym is) (record {
+      done = subst (λ (s : RunState). Done hub config state s reported reported) (sym is) (record {
         at = at;
         settled = settled;
         more = [];
         arrivals = sym (append-nil state.arrivals);
-        heard = heard_nothing config state.arrivals told;
+        heard = heard_nothing config state.arrivals reported;
       });
     }
 
     by_found : (found : Option Link) → find_link number state.links ≡ found → ((link : Link) → find_link number state.links ≡ Some link → is_connected link ≡ false)
-        → Occurs (Read number count) piece hub patterns patterns told told (Ok tt) config state []
-    by_found None is stands =
+        → Occurs (Read number count) piece hub patterns patterns reported reported (Ok tt) config state []
+    by_found None is holds =
         nothing (ap (read_by config piece [] state) is) (subst (VerdictsOn config piece [] state) (sym is) refl)
-    by_found (Some link) is stands =
-        let closed : is_open link ≡ false = not_open link.status (stands link is) in
+    by_found (Some link) is holds =
+        let closed : is_open link ≡ false = not_open link.status (holds link is) in
         nothing (ap (read_by config piece [] state) is
         ∙ ap (λ (t : Bool). cond t (with_talk state (all_answered config state.now (messages_in piece [] link) (talk_of piece state link))) state) closed)
         (subst (VerdictsOn config piece [] state) (sym is) (subst (λ (t : Bool). VerdictsIf t config piece [] state link) (sym closed) refl))
@@ -173,9 +173,9 @@ cut_off_number : (link : Link) → (cut_off link).number ≡ link.number
 cut_off_number link =
     choice (λ l. l.number ≡ link.number) (is_oversized (partial link.came)) (with_status ReadClosed (with_reply (reply_to_oversized (length_at (partial link.came))) link)) link refl refl
 
-cut_off_stands : (link : Link) → link.status ≢ Closed → (cut_off link).status ≢ Closed
-cut_off_stands link stands =
-    choice (λ l. l.status ≢ Closed) (is_oversized (partial link.came)) (with_status ReadClosed (with_reply (reply_to_oversized (length_at (partial link.came))) link)) link read_closed_stands stands
+cut_off_holds : (link : Link) → link.status ≢ Closed → (cut_off link).status ≢ Closed
+cut_off_holds link holds =
+    choice (λ l. l.status ≢ Closed) (is_oversized (partial link.came)) (with_status ReadClosed (with_reply (reply_to_oversized (length_at (partial link.came))) link)) link read_closed_holds holds
 
 module _ (config : CoreConfig) (piece : List ℕ) (verdicts : List (Option Refusal)) (state : RunState) (meant : Link) where
   all_number : (all_answered config state.now (messages_in piece verdicts meant) (talk_of piece state meant)).link.number ≡ meant.number
@@ -190,15 +190,15 @@ module _ (config : CoreConfig) (piece : List ℕ) (verdicts : List (Option Refus
       by_test true = cut_off_number (all_answered config state.now (messages_in piece verdicts meant) (talk_of piece state meant)).link ∙ all_number
       by_test false = refl
 
-  pub after_stands : meant.status ≢ Closed → (talk_after config piece verdicts state meant).link.status ≢ Closed
-  after_stands stands = by_test (is_open meant)
+  pub after_holds : meant.status ≢ Closed → (talk_after config piece verdicts state meant).link.status ≢ Closed
+  after_holds holds = by_test (is_open meant)
     where
       by_test : (t : Bool) → (cond t (record (all_answered config state.now (messages_in piece verdicts meant) (talk_of piece state meant)) {
         link = cut_off (all_answered config state.now (messages_in piece verdicts meant) (talk_of piece state meant)).link;
       }) (record { arrivals = state.arrivals; link = meant })).link.status ≢ Closed
-      by_test true = cut_off_stands (all_answered config state.now (messages_in piece verdicts meant) (talk_of piece state meant)).link
-          (subst (λ (s : Status). s ≢ Closed) (sym (talk_status config state.now (messages_in piece verdicts meant) (talk_of piece state meant))) stands)
-      by_test false = stands
+      by_test true = cut_off_holds (all_answered config state.now (messages_in piece verdicts meant) (talk_of piece state meant)).link
+          (subst (λ (s : Status). s ≢ Closed) (sym (talk_status config state.now (messages_in piece verdicts meant) (talk_of piece state meant))) holds)
+      by_test false = holds
 
   -- the state after the piece
   abbrev pub read_state : ℕ → RunState
@@ -225,7 +225,7 @@ module _ (config : CoreConfig) (piece : List ℕ) (verdicts : List (Option Refus
       }) (all_number ∙ same)
       by_test false = ap (λ (ls : List Link). with_links ls state) (sym still)
 
-module _ (number count place : ℕ) (piece : List ℕ) (hub : Hub) (core' : Core) (value value' : HubLink) (patterns patterns' : PatternsState) (old new : Told)
+module _ (number count place : ℕ) (piece : List ℕ) (hub : Hub) (core' : Core) (value value' : HubLink) (patterns patterns' : PatternsState) (old new : Reported)
     (at_place : IsAtPlace number hub.table place) (at_value : (other : HubLink) → get_or hub.table.values place other ≡ value) where
   is_at : (config : CoreConfig) (state : RunState) → IsAt hub config state → (meant : Link) → Focus hub.table number place state.links meant → hearing.IsAt hub.core value state meant
   is_at config state at meant focus =
@@ -268,7 +268,7 @@ module _ (number count place : ℕ) (piece : List ℕ) (hub : Hub) (core' : Core
       let is : occurred config (Read number count) piece verdicts state ≡ read =
       ap (read_by config piece verdicts state) found.found ∙ read_is config piece verdicts state meant number found.focus.number_is still in
       let focus = focus_changed hub.table number place state.links meant found.focus (λ _. talk.link) value' (after_number config piece verdicts state meant)
-      (after_stands config piece verdicts state meant found.focus.stands) heard.link in
+      (after_holds config piece verdicts state meant found.focus.holds) heard.link in
       let reach = settles config read talk.link focus in
       record {
         verdicts = verdicts;

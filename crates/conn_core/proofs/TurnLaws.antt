@@ -13,7 +13,7 @@ use Rattle.hub_meaning.specs.Verdicts.{PatternsState, Refusal}
 use Rattle.hub_meaning.proofs.RunLaws.{legal_append, state_append}
 use Rattle.hub_link.proofs.HearLaws.{none_refused}
 use Rattle.list_laws.specs.declared.memory.Memory.{Memory}
-use Rattle.msg_replies.specs.Arriving.{Arrives, Told, told}
+use Rattle.msg_replies.specs.Arriving.{Arrives, Reported, reported}
 use Rattle.msg_replies.proofs.AnswerLaws.{heard_then}
 use Rattle.msg_replies.proofs.VerdictLaws.{no_verdicts}
 use Rattle.notice_sink.specs.Lines.{lines_of}
@@ -119,7 +119,7 @@ module _ (turn : Turn) (piece : List ℕ) (hub : Hub) (config : CoreConfig) (ste
       }
 
   -- the hub once the seconds have passed
-  pub passed_at : (core' : Core) (old new : Told) → now_of core' ≡ next_moment (now_of hub.core) turn.secs
+  pub passed_at : (core' : Core) (old new : Reported) → now_of core' ≡ next_moment (now_of hub.core) turn.secs
       → ((arrivals : List Arrival) → Represents hub.core arrivals → Arrives hub.core core' arrivals (replicate (next_moment (now_of hub.core) turn.secs - now_of hub.core) Elapsed) old new)
       → IsAt (record hub { core = core' }) config (passed (next_moment (state_after config steps).now turn.secs) (state_after config steps))
   passed_at core' old new now arrives =
@@ -133,7 +133,7 @@ module _ (turn : Turn) (piece : List ℕ) (hub : Hub) (config : CoreConfig) (ste
       }
 
   -- out of memory at its occurrence
-  pub turns_unfinished : (one hub' : Hub) (patterns patterns' : PatternsState) (old new : Told) (forks forks' : ℕ) (text : SinkGot) (result : Result (Unit {0}) Stop) (failure : Result (Unit {0}) Memory) (run : List Entry) → IsErr result → result ≢ Err SinkFault
+  pub turns_unfinished : (one hub' : Hub) (patterns patterns' : PatternsState) (old new : Reported) (forks forks' : ℕ) (text : SinkGot) (result : Result (Unit {0}) Stop) (failure : Result (Unit {0}) Memory) (run : List Entry) → IsErr result → result ≢ Err SinkFault
       → IsAt one config (passed (next_moment (state_after config steps).now turn.secs) (state_after config steps))
       → OccursFrom turn.what piece one hub' patterns patterns' old new failure run
       → Turns turn piece hub hub' patterns patterns' forks forks' text text result config steps run
@@ -154,13 +154,13 @@ module _ (turn : Turn) (piece : List ℕ) (hub : Hub) (config : CoreConfig) (ste
       }
 
   -- all was done but the lines
-  pub turns_told : (one hub' : Hub) (patterns patterns' : PatternsState) (middle : Told) (notices : List Notice) (forks forks' : ℕ) (text text' : SinkGot) (result : Result (Unit {0}) Stop) (run : List Entry)
-      → ((arrivals : List Arrival) → Represents hub.core arrivals → Arrives hub.core one.core arrivals (replicate (next_moment (now_of hub.core) turn.secs - now_of hub.core) Elapsed) (told [] forks) middle)
+  pub turns_reported : (one hub' : Hub) (patterns patterns' : PatternsState) (middle : Reported) (notices : List Notice) (forks forks' : ℕ) (text text' : SinkGot) (result : Result (Unit {0}) Stop) (run : List Entry)
+      → ((arrivals : List Arrival) → Represents hub.core arrivals → Arrives hub.core one.core arrivals (replicate (next_moment (now_of hub.core) turn.secs - now_of hub.core) Elapsed) (reported [] forks) middle)
       → IsAt one config (passed (next_moment (state_after config steps).now turn.secs) (state_after config steps))
-      → OccursFrom turn.what piece one hub' patterns patterns' middle (told notices forks') (Ok tt) run
+      → OccursFrom turn.what piece one hub' patterns patterns' middle (reported notices forks') (Ok tt) run
       → OnOk result (GotLines text notices text') → OnErr result (GotPrefix text.text (lines_of notices) text'.text) → (result ≡ Err SinkFault → notices ≢ [])
       → Turns turn piece hub hub' patterns patterns' forks forks' text text' result config steps run
-  turns_told one hub' patterns patterns' middle notices forks forks' text text' result run arrives at occurs lines front some =
+  turns_reported one hub' patterns patterns' middle notices forks forks' text text' result run arrives at occurs lines front some =
       let occurred_so = occurs config (passed (next_moment (state_after config steps).now turn.secs) (state_after config steps)) at follows.settled in
       let verdicts : List (Option Refusal) = occurred_so.verdicts in
       let done = occurred_so.done in
@@ -170,7 +170,7 @@ module _ (turn : Turn) (piece : List ℕ) (hub : Hub) (config : CoreConfig) (ste
       subst (λ (n : ℕ). Heard config state.arrivals (replicate (next_moment n turn.secs - n) Elapsed) [] forks middle.notices middle.forks) follows.state.now
       (subst (λ (c : CoreConfig). Heard c state.arrivals (replicate (next_moment (now_of hub.core) turn.secs - now_of hub.core) Elapsed) [] forks middle.notices middle.forks) follows.state.config_is
       (arrives state.arrivals follows.state.arrivals).heard) in
-      let both : Heard config state.arrivals (seconds ++ done.more) [] forks notices forks' = heard_then config state.arrivals seconds done.more (told [] forks) middle (told notices forks') first done.heard in
+      let both : Heard config state.arrivals (seconds ++ done.more) [] forks notices forks' = heard_then config state.arrivals seconds done.more (reported [] forks) middle (reported notices forks') first done.heard in
       let is = longer_is verdicts run in
       let arrivals : (state_after config (longer steps (turn_step (wants_in hub) turn piece verdicts) run)).arrivals ≡ state.arrivals ++ (seconds ++ done.more) =
       ap (λ (s : RunState). s.arrivals) is ∙ done.arrivals ∙ append_assoc state.arrivals seconds done.more in
@@ -179,7 +179,7 @@ module _ (turn : Turn) (piece : List ℕ) (hub : Hub) (config : CoreConfig) (ste
         reported = occurred_so.reported;
         legal = longer_legal verdicts run occurred_so.possible occurred_so.legal;
         made = notices;
-        notices = ap (notices_by config) arrivals ∙ both.notices ∙ ap (λ (ns : List Notice). notices_after config steps ++ ns) (sym both.told);
+        notices = ap (notices_by config) arrivals ∙ both.notices ∙ ap (λ (ns : List Notice). notices_after config steps ++ ns) (sym both.reported);
         lines = lines;
         prefix = front;
         some = some;

@@ -5,7 +5,7 @@ use Rattle.hub_meaning.specs.Legal.{AreSettled, IsLegalFrom, VerdictsIn}
 use Rattle.hub_meaning.specs.Runs.{RunState, occurred, plain, state_from}
 use Rattle.hub_meaning.specs.Verdicts.{AfterVerdicts, PatternsState, Refusal}
 use Rattle.list_laws.specs.declared.memory.Memory.{Memory}
-use Rattle.msg_replies.specs.Arriving.{Told}
+use Rattle.msg_replies.specs.Arriving.{Reported}
 use Rattle.ports.specs.declared.entry.Entry.{Entry}
 use Rattle.ports.specs.declared.links.What.{What}
 use Rattle.stream_meaning.specs.Arrivals.{Arrival}
@@ -14,7 +14,7 @@ use Rattle.conn_core.specs.declared.hub.Hub.{Hub}
 
 -- The hub is at the state after these calls, in which all links are settled. The notices of the new arrivals were
 -- appended, and the forks counted.
-pub record Done (hub : Hub) (config : CoreConfig) (state after : RunState) (old new : Told) : Type 0 where
+pub record Done (hub : Hub) (config : CoreConfig) (state after : RunState) (old new : Reported) : Type 0 where
   pub at : IsAt hub config after
   pub settled : AreSettled after.links
   pub more : List Arrival
@@ -22,7 +22,7 @@ pub record Done (hub : Hub) (config : CoreConfig) (state after : RunState) (old 
   pub heard : Heard config state.arrivals more old.notices old.forks new.notices new.forks
 
 -- the occurrence, with these verdicts on its messages, and then these calls
-pub record Occurs (what : What) (piece : List ℕ) (hub : Hub) (patterns patterns' : PatternsState) (old new : Told)
+pub record Occurs (what : What) (piece : List ℕ) (hub : Hub) (patterns patterns' : PatternsState) (old new : Reported)
     (result : Result (Unit {0}) Memory) (config : CoreConfig) (state : RunState) (run : List Entry) : Type 0 where
   pub verdicts : List (Option Refusal)
   pub reported : AfterVerdicts patterns patterns' verdicts
@@ -30,7 +30,7 @@ pub record Occurs (what : What) (piece : List ℕ) (hub : Hub) (patterns pattern
   pub legal : IsLegalFrom config (plain run) (occurred config what piece verdicts state)
   pub done : OnOk result (Done hub config state (state_from config (plain run) (occurred config what piece verdicts state)) old new)
 
-abbrev pub OccursFrom : What → List ℕ → Hub → Hub → PatternsState → PatternsState → Told → Told → Result (Unit {0}) Memory → List Entry → Type 0
+abbrev pub OccursFrom : What → List ℕ → Hub → Hub → PatternsState → PatternsState → Reported → Reported → Result (Unit {0}) Memory → List Entry → Type 0
 OccursFrom what piece hub hub' patterns patterns' old new result run =
     (config : CoreConfig) (state : RunState) → IsAt hub config state → AreSettled state.links
     → Occurs what piece hub' patterns patterns' old new result config state run

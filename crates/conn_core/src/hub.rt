@@ -7,7 +7,7 @@ ghost use Rattle.event_core.specs.Core.{Represents, config_of, now_of};
 ghost use Rattle.hub_link.specs.Added.{Added};
 ghost use Rattle.hub_meaning.specs.Clock.{next_moment};
 ghost use Rattle.hub_meaning.specs.Verdicts.{patterns_state};
-ghost use Rattle.msg_replies.specs.Arriving.{Arrives, told};
+ghost use Rattle.msg_replies.specs.Arriving.{Arrives, reported};
 ghost use Rattle.ports.specs.Counts.{Rose};
 ghost use Rattle.ports.specs.Playing.{Plays};
 ghost use Rattle.stream_meaning.specs.Arrivals.{Arrival, Elapsed};
@@ -130,7 +130,7 @@ impl Hub {
             (OccursFrom what piece.now self.old self.new
             (patterns_state (P.refusals patterns.old) (P.refused patterns.old))
             (patterns_state (P.refusals patterns.new) (P.refused patterns.new))
-            (told notices.old steps.old.forks) (told notices.new steps.new.forks) result) }
+            (reported notices.old steps.old.forks) (reported notices.new steps.new.forks) result) }
         ensures faults { L.faults links.new ≡ L.faults links.old }
         ensures script { L.script links.new ≡ L.script links.old }
         ensures plays { Plays (L.script links.old) (L.log links.old)
@@ -161,7 +161,7 @@ impl Hub {
             (OccursFrom (What.Read number count) piece.now self.old self.new
             (patterns_state (P.refusals patterns.old) (P.refused patterns.old))
             (patterns_state (P.refusals patterns.new) (P.refused patterns.new))
-            (told notices.old steps.old.forks) (told notices.new steps.new.forks) result) }
+            (reported notices.old steps.old.forks) (reported notices.new steps.new.forks) result) }
         ensures faults { L.faults links.new ≡ L.faults links.old }
         ensures script { L.script links.new ≡ L.script links.old }
         ensures plays { Plays (L.script links.old) (L.log links.old)
@@ -190,7 +190,7 @@ fn pass<G: Ledger>(
     ensures arrives { OnOk result ((arrivals : List Arrival) → Represents core.old arrivals
         → Arrives core.old core.new arrivals
         (replicate (next_moment (now_of core.old) secs - now_of core.old) Elapsed)
-        (told notices.old steps.old.forks) (told notices.new steps.new.forks)) }
+        (reported notices.old steps.old.forks) (reported notices.new steps.new.forks)) }
 {
     let to = next_moment(core.now(), secs);
     core.advance(alloc, to, notices, steps)?;

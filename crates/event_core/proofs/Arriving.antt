@@ -115,7 +115,7 @@ fed_back-moved plan streams keep now state held expired out_a forks_a forks_b ou
     record {
       holds = all.holds;
       made = all.made;
-      told = all.told;
+      reported = all.reported;
       grew = all.grew;
       forks = ap (λ (f : ℕ). f + forks_in plan (fed_back plan keep state).history) (sym same) ∙ all.forks;
     }

@@ -1,4 +1,4 @@
--- What a core that stands for some arrivals stands for once more came.
+-- What a core that represents some arrivals represents once more came.
 use Rattle.std.proofs.Common.{◌≡◌, ℕ, ◌+◌, false, List, ◌++◌, sym, ap, subst, ◌∙◌}
 use Rattle.ev_types.specs.declared.item.Notice.{Notice}
 use Rattle.stream_meaning.specs.History.{begun, moment_of}
@@ -36,7 +36,7 @@ pub longer-heard : (config : CoreConfig) (streams : IndexedStreams) (arrivals mo
     Heard config arrivals more old forks_before new forks_after
 longer-heard config streams arrivals more old forks_before new forks_after moved = record {
   made = moved.made;
-  told = moved.told;
+  reported = moved.reported;
   notices = ap (λ (state : CoreState). notices_in config.plan state.history) (in_order config arrivals more) ∙ moved.grew;
   forks = ap (λ (state : CoreState). forks_before + forks_in config.plan state.history) (in_order config arrivals more) ∙ moved.forks;
 }

@@ -1,4 +1,4 @@
--- What is told and counted on the way of streams with an index from one state to another.
+-- What is reported and counted on the way of streams with an index from one state to another.
 use Rattle.std.proofs.Common.{◌≡◌, ℕ, ◌+◌, List, [], ◌∷◌, ◌++◌, refl, sym, ap, subst, ◌∙◌, append_assoc, arith}
 use Rattle.std.proofs.lemmas.List.{append-nil}
 use Rattle.ev_types.specs.declared.item.Notice.{Notice}
@@ -45,9 +45,9 @@ handled-notices out_a out_b out_c done output first second =
 
 -- no step is a way
 pub moved-none : (plan : StreamTrees) (streams : IndexedStreams) (state : CoreState) (out : List Notice) (forks : ℕ) → Holds streams state → Moved plan streams state state out forks out forks
-moved-none plan streams state out forks holds = record { holds = holds; made = []; told = sym (append-nil out); grew = sym (append-nil _); forks = refl }
+moved-none plan streams state out forks holds = record { holds = holds; made = []; reported = sym (append-nil out); grew = sym (append-nil _); forks = refl }
 
--- no more is told than what was told on two ways
+-- no more is reported than what was reported on two ways
 pub both-fronts : (a b c : List Notice) → (first : List Notice) × (b ≡ a ++ first) → (second : List Notice) × (c ≡ b ++ second) → (more : List Notice) × (c ≡ a ++ more)
 both-fronts a b c first second = (first.0 ++ second.0, second.1 ∙ ap (λ out. out ++ second.0) first.1 ∙ append_assoc a first.0 second.0)
 
@@ -56,10 +56,10 @@ pub moved-entry : (plan : StreamTrees) (x : Entry) (streams : IndexedStreams) (s
     Holds streams (entered plan x state) → new ≡ old ++ notices_among (outputs_at plan (state.history ▸ x)) →
     forks_after ≡ forks_before + (due_among (plan_effects plan (state.history ▸ x)) + given_among (plan_effects plan (state.history ▸ x))) →
     Moved plan streams state (entered plan x state) old forks_before new forks_after
-moved-entry plan x streams state old forks_before new forks_after holds told forks = record {
+moved-entry plan x streams state old forks_before new forks_after holds reported forks = record {
   holds = holds;
   made = notices_among (outputs_at plan (state.history ▸ x));
-  told = told;
+  reported = reported;
   grew = notices-append (outputs_of plan state.history) (outputs_at plan (state.history ▸ x));
   forks = omega arith;
 }
@@ -71,19 +71,19 @@ pub entry-handled : {G : Type 0} (plan : StreamTrees) (x : Entry) (streams : Ind
     ((log : IndexLog) → Represents held log → Represents streams.index (log ++ writes_among outputs)) →
     new ≡ old ++ notices_among outputs →
     Moved plan streams state (entered plan x state) old before.forks new after.forks
-entry-handled plan x streams held state none outputs before after old new is_none history index grew handled told =
+entry-handled plan x streams held state none outputs before after old new is_none history index grew handled reported =
     let hs = plan_effects plan (state.history ▸ x) in
     let made : outputs ≡ outputs_among hs = grew.outputs ∙ ap (λ (front : List Output). front ++ outputs_among hs) is_none in
     let holds : Holds streams (entered plan x state) = record { history = history; log = subst (λ (all : List Output). Represents streams.index (state.log ++ writes_among all)) made (handled state.log index) } in
-    moved-entry plan x streams state old before.forks new after.forks holds (told ∙ ap (λ (all : List Output). old ++ notices_among all) made) grew.forks
+    moved-entry plan x streams state old before.forks new after.forks holds (reported ∙ ap (λ (all : List Output). old ++ notices_among all) made) grew.forks
 
--- two ways, one behind the other
+-- two ways, one after the other
 pub moved-then : (plan : StreamTrees) (between streams : IndexedStreams) (a b c : CoreState) (out_a : List Notice) (forks_a : ℕ) (out_b : List Notice) (forks_b : ℕ) (out_c : List Notice) (forks_c : ℕ) →
     Moved plan between a b out_a forks_a out_b forks_b → Moved plan streams b c out_b forks_b out_c forks_c → Moved plan streams a c out_a forks_a out_c forks_c
 moved-then plan between streams a b c out_a forks_a out_b forks_b out_c forks_c first second = record {
   holds = second.holds;
   made = first.made ++ second.made;
-  told = second.told ∙ ap (λ out. out ++ second.made) first.told ∙ append_assoc out_a first.made second.made;
+  reported = second.reported ∙ ap (λ out. out ++ second.made) first.reported ∙ append_assoc out_a first.made second.made;
   grew = second.grew ∙ ap (λ out. out ++ second.made) first.grew ∙ append_assoc _ first.made second.made;
   forks = let f = first.forks in let s = second.forks in omega arith;
 }

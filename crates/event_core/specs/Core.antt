@@ -47,7 +47,7 @@ pub record Represents (core : Core) (arrivals : List Arrival) : Type 0 where
 -- after the first arrivals came more, and of those just the notices were appended, and the forks counted
 pub record Heard (config : CoreConfig) (first more : List Arrival) (old : List Notice) (forks_before : ℕ) (new : List Notice) (forks_after : ℕ) : Type 0 where
   pub made : List Notice
-  pub told : new ≡ old ++ made
+  pub reported : new ≡ old ++ made
   pub notices : notices_by config (first ++ more) ≡ notices_by config first ++ made
   pub forks : forks_before + forks_by config (first ++ more) ≡ forks_after + forks_by config first
 

@@ -21,7 +21,7 @@ pub record Holds (streams : IndexedStreams) (state : CoreState) : Type 0 where
 pub record Moved (plan : StreamTrees) (streams : IndexedStreams) (before after : CoreState) (old : List Notice) (forks_before : ℕ) (new : List Notice) (forks_after : ℕ) : Type 0 where
   pub holds : Holds streams after
   pub made : List Notice
-  pub told : new ≡ old ++ made
+  pub reported : new ≡ old ++ made
   pub grew : notices_in plan after.history ≡ notices_in plan before.history ++ made
   pub forks : forks_before + forks_in plan after.history ≡ forks_after + forks_in plan before.history
 

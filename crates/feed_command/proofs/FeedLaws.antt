@@ -1,6 +1,6 @@
 -- What `feed` promises, from what its parts say.
 use Rattle.std.proofs.Common.{◌≡◌, ℕ, ◌≤◌, ◌⊎◌, List, length, refl, sym, inl, inr, subst, arith}
-use Rattle.command_io.proofs.EndingLaws.{told_of}
+use Rattle.command_io.proofs.EndingLaws.{reported_of}
 use Rattle.command_io.specs.Endings.{Says, status_of}
 use Rattle.command_io.specs.Reports.{LinksReport, Reports, SinkReport, StoreReport, reports}
 use Rattle.command_io.specs.declared.ending.Ending.{Ending}
@@ -218,7 +218,7 @@ feed_complete config file old new text bytes read ending ends holds is fits hold
   | inr accepted ↦ elim accepted.2 [
     | inl refused ↦ for_memory _ ending (file_refused_for_memory file bytes old.store new.store ending holds_bytes bytes_fit reads_still refused.0)
     | inr fed ↦
-        let same : bytes ≡ fed.0 = (told_of file bytes (λ held. held ≡ fed.0) holds_bytes (λ held told. let is = fed.1 held told in (is.0, is.1, is.2.0))) in
+        let same : bytes ≡ fed.0 = (reported_of file bytes (λ held. held ≡ fed.0) holds_bytes (λ held reported. let is = fed.1 held reported in (is.0, is.1, is.2.0))) in
         subst (λ (list : List ℕ). HasFed (partial list) (status_of ending)) (sym same) (bytes_complete accepted.0 fed.0 old new ending fed.2 out_still err_still)
   ]
 ]

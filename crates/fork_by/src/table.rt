@@ -82,8 +82,8 @@ impl<F: Drop> ForkTable<F> {
         ensures value { result.now ≡ slice_index_or (fork_list self.old) number result.now }
         ensures forks { steps.new.forks ≡ steps.old.forks + 1 }
         ensures entries { steps.new.entries ≡ steps.old.entries }
-        ensures forks_told { G.forks steps.new.ledger ≡ one_more (G.forks steps.old.ledger) }
-        ensures entries_told { G.entries steps.new.ledger ≡ G.entries steps.old.ledger }
+        ensures forks_reported { G.forks steps.new.ledger ≡ one_more (G.forks steps.old.ledger) }
+        ensures entries_reported { G.entries steps.new.ledger ≡ G.entries steps.old.ledger }
     {
         steps.enter_fork();
         &mut self.forks[number]
@@ -118,7 +118,7 @@ impl<F: Drop> ForkTable<F> {
         ensures later { OnOk result (fork_dues self.new ≡ due_later now (fork_dues self.old)) }
         ensures entries { OnOk result (steps.new.entries
             ≡ steps.old.entries + length (due_ids now (fork_dues self.old))) }
-        ensures entries_told { OnOk result (G.entries steps.new.ledger
+        ensures entries_reported { OnOk result (G.entries steps.new.ledger
             ≡ more_by (length (due_ids now (fork_dues self.old))) (G.entries steps.old.ledger)) }
 
         // Where nothing is due it takes no memory.
@@ -129,7 +129,7 @@ impl<F: Drop> ForkTable<F> {
             (due_ids now (fork_dues self.old)) }
         ensures at_least { steps.old.entries ≤ steps.new.entries }
         ensures forks { steps.new.forks ≡ steps.old.forks }
-        ensures forks_told { G.forks steps.new.ledger ≡ G.forks steps.old.ledger }
+        ensures forks_reported { G.forks steps.new.ledger ≡ G.forks steps.old.ledger }
         ensures same { SameForks self.old self.new }
         ensures table { IsTable self.old → IsTable self.new }
     {

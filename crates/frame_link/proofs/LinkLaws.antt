@@ -38,7 +38,7 @@ link_hands_out old new body h is later goes_on =
       goes_on = goes_on;
     }
 
--- a length over the limit was met only where one stands
+-- a length over the limit was met only where there is one
 pub stays_open : (b : List ℕ) (stopped : Bool) → HasFrame b → (stopped ≡ true → IsOversized b) → stopped ≡ false
 stays_open b true h over = absurd (oversized_has_none b (over refl) h)
 stays_open b false h over = refl

@@ -9,7 +9,7 @@ use Rattle.std.specs.List.{flat_map}
 use Rattle.framing.specs.declared.TheConstants.{BODY_LIMIT}
 use Rattle.framing.specs.Frames.{length_at, HasFrame, IsOversized, first_body, after_frame, has_frame, frames_within, after_within, frames_of, partial, Represents, frame, AreWithinLimit, Splits, AreBytes, FramesAreFound, FramesAreOne}
 
--- the test tells whether a frame stands
+-- the test tells whether there is a frame
 
 pub has_frame_true : (b : List ℕ) → HasFrame b → has_frame b ≡ true
 unfolding has_frame
@@ -255,8 +255,8 @@ length_at_frame body more small =
     ∙ ap (from_be_bytes w32) (take_at (to_be_bytes w32 (length body)) (body ++ more) 4 (length_of_length (length body)))
     ∙ from_be_bytes-to_be_bytes_4 (length body) (omega arith)
 
-pub frame_stands : (body more : List ℕ) → length body ≤ BODY_LIMIT → HasFrame (frame body ++ more)
-frame_stands body more small =
+pub frame_holds : (body more : List ℕ) → length body ≤ BODY_LIMIT → HasFrame (frame body ++ more)
+frame_holds body more small =
     let same = length_at_frame body more small in
     let all = length-append (frame body) more in
     let front = length-append (to_be_bytes w32 (length body)) body in
@@ -277,13 +277,13 @@ after_frame_of_frame body more small =
 
 pub frames_of_frame : (body more : List ℕ) → length body ≤ BODY_LIMIT → frames_of (frame body ++ more) ≡ body ∷ frames_of more
 frames_of_frame body more small =
-    frames_at_frame (frame body ++ more) (frame_stands body more small)
+    frames_at_frame (frame body ++ more) (frame_holds body more small)
     ∙ ap (λ x. x ∷ frames_of (after_frame (frame body ++ more))) (first_body_of_frame body more small)
     ∙ ap (λ later. body ∷ frames_of later) (after_frame_of_frame body more small)
 
 pub partial_of_frame : (body more : List ℕ) → length body ≤ BODY_LIMIT → partial (frame body ++ more) ≡ partial more
 partial_of_frame body more small =
-    partial_at_frame (frame body ++ more) (frame_stands body more small)
+    partial_at_frame (frame body ++ more) (frame_holds body more small)
     ∙ ap partial (after_frame_of_frame body more small)
 
 pub splits_are_one : (bodies : List (List ℕ)) (stream rest : List ℕ) → stream ≡ flat_map frame bodies ++ rest → AreWithinLimit bodies → (HasFrame rest → ⊥)

@@ -16,7 +16,7 @@ use Rattle.hub_meaning.specs.Replies.{reply_to}
 use Rattle.hub_meaning.specs.Runs.{Talk, all_answered, answered, with_reply}
 use Rattle.hub_meaning.specs.Verdicts.{AfterVerdicts, IsOfRule, IsPossible, Message, PatternsState, Refusal, built_rule, judged}
 use Rattle.msg_replies.specs.Answering.{AfterVerdict, AnswersMessage, Replies}
-use Rattle.msg_replies.specs.Arriving.{Arrives, Told}
+use Rattle.msg_replies.specs.Arriving.{Arrives, Reported}
 use Rattle.msg_replies.proofs.AnswerLaws.{arrives_nothing, arrives_then}
 use Rattle.msg_replies.proofs.VerdictLaws.{more_verdicts, no_verdicts}
 use Rattle.hub_link.specs.Answering.{Answered, AnswersFirst, AnswersFrames, IsSame, IsTalk}
@@ -58,7 +58,7 @@ none_refused config now (body ∷ bodies) talk = (tt, none_refused config now bo
 
 -- ---- one message more
 
-answered_nothing : (core : Core) (left : List ℕ) (old : Told) (talk : Talk) → IsTalk core left talk → Answered core core left old old [] talk
+answered_nothing : (core : Core) (left : List ℕ) (old : Reported) (talk : Talk) → IsTalk core left talk → Answered core core left old old [] talk
 answered_nothing core left old talk is = record {
   more = [];
   arrivals = sym (append-nil talk.arrivals);
@@ -82,7 +82,7 @@ possible_there refusal core one left body talk now is possible =
     (subst (λ (bs : List ℕ). IfSome refusal (IsOfRule (built_rule (now_of one) (length bs) body))) is possible)
 
 -- what one message comes to, after the others
-module _ (core one two : Core) (left left' left'' : List ℕ) (a b c : Told) (messages : List Message) (body : List ℕ) (refusal : Option Refusal) (talk : Talk) where
+module _ (core one two : Core) (left left' left'' : List ℕ) (a b c : Reported) (messages : List Message) (body : List ℕ) (refusal : Option Refusal) (talk : Talk) where
   one_more : Answered core one left' a b messages talk
       → ((arrivals : List Arrival) → Represents one arrivals → Replies body (length left') refusal one two left' left'' b c arrivals)
       → Answered core two left'' a c (messages ++ message_with body refusal ∷ []) talk
@@ -116,7 +116,7 @@ module _ (core one two : Core) (left left' left'' : List ℕ) (a b c : Told) (me
 -- ---- the loop over the frames
 
 -- these messages were answered, and removed from what is held
-pub record SoFar (input input' : Held) (left left' : List ℕ) (core core' : Core) (patterns patterns' : PatternsState) (old new : Told) : Type 0 where
+pub record SoFar (input input' : Held) (left left' : List ℕ) (core core' : Core) (patterns patterns' : PatternsState) (old new : Reported) : Type 0 where
   pub messages : List Message
   pub frames : frames_of input.bytes ≡ map body_of messages ++ frames_of input'.bytes
   pub rest : partial input.bytes ≡ partial input'.bytes
@@ -125,7 +125,7 @@ pub record SoFar (input input' : Held) (left left' : List ℕ) (core core' : Cor
   pub possible : (talk : Talk) → IsTalk core left talk → ArePossible (config_of core) (now_of core) messages talk
   pub answered : (talk : Talk) → IsTalk core left talk → Answered core core' left' old new messages talk
 
-pub so_far_nothing : (input : Held) (left : List ℕ) (core : Core) (patterns : PatternsState) (old : Told) → SoFar input input left left core core patterns patterns old old
+pub so_far_nothing : (input : Held) (left : List ℕ) (core : Core) (patterns : PatternsState) (old : Reported) → SoFar input input left left core core patterns patterns old old
 so_far_nothing input left core patterns old = record {
   messages = [];
   frames = refl;
@@ -136,7 +136,7 @@ so_far_nothing input left core patterns old = record {
   answered = λ talk is. answered_nothing core left old talk is;
 }
 
-module _ (input input' input'' : Held) (left left' left'' : List ℕ) (core one two : Core) (patterns patterns' patterns'' : PatternsState) (a b c : Told) where
+module _ (input input' input'' : Held) (left left' left'' : List ℕ) (core one two : Core) (patterns patterns' patterns'' : PatternsState) (a b c : Reported) where
   -- one message more
   pub so_far_more : SoFar input input' left left' core one patterns patterns' a b
       → AnswersFirst input' input'' left' left'' one two patterns' patterns'' b c (Ok true)
@@ -195,7 +195,7 @@ module _ (input input' input'' : Held) (left left' left'' : List ℕ) (core one 
       shorter [] body bodies verdict = omega arith
       shorter (message ∷ messages) body bodies verdict = let h = shorter messages body bodies verdict in omega arith
 
-module _ (input input' : Held) (left left' : List ℕ) (core one : Core) (patterns patterns' : PatternsState) (a b : Told) where
+module _ (input input' : Held) (left left' : List ℕ) (core one : Core) (patterns patterns' : PatternsState) (a b : Reported) where
   -- no frame is left
   pub so_far_all : SoFar input input' left left' core one patterns patterns' a b → (HasFrame input'.bytes → ⊥) → AnswersFrames input input' left left' core one patterns patterns' a b (Ok tt)
   so_far_all so_far bare =
@@ -216,7 +216,7 @@ module _ (input input' : Held) (left left' : List ℕ) (core one : Core) (patter
       same_length [] = omega arith
       same_length (message ∷ messages) = let h = same_length messages in omega arith
 
-module _ (input input' input'' : Held) (left left' left'' : List ℕ) (core one two : Core) (patterns patterns' patterns'' : PatternsState) (a b c : Told) where
+module _ (input input' input'' : Held) (left left' left'' : List ℕ) (core one two : Core) (patterns patterns' patterns'' : PatternsState) (a b c : Reported) where
   -- after one round of the loop
   pub so_far_next : (whole : Bool) → whole ≡ true → SoFar input input' left left' core one patterns patterns' a b
       → AnswersFirst input' input'' left' left'' one two patterns' patterns'' b c (Ok whole) → SoFar input input'' left left'' core two patterns patterns'' a c
@@ -229,4 +229,4 @@ module _ (input input' input'' : Held) (left left' left'' : List ℕ) (core one 
   so_far_end true is so_far first = absurd (cc is)
   so_far_end false is so_far first =
       let same : IsSame input' input'' left' left'' one two patterns' patterns'' b c = first.1 in
-      rw (same.input_is, same.left_is, same.core_is, same.patterns_are, same.told_is) (so_far_all input input' left left' core one patterns patterns' a b so_far first.0)
+      rw (same.input_is, same.left_is, same.core_is, same.patterns_are, same.reported_is) (so_far_all input input' left left' core one patterns patterns' a b so_far first.0)

@@ -19,7 +19,7 @@ use Rattle.hub_meaning.specs.Replies.{reply_to_oversized}
 use Rattle.hub_meaning.specs.Runs.{RunState, Talk, all_answered, answered, cut_off, is_oversized, messages_in, new_frames, talk_of, with_reply}
 use Rattle.hub_meaning.specs.Verdicts.{AfterVerdicts, Message, PatternsState, Refusal, judged}
 use Rattle.hub_meaning.proofs.RunLaws.{new_frames_rest}
-use Rattle.msg_replies.specs.Arriving.{Arrives, Told}
+use Rattle.msg_replies.specs.Arriving.{Arrives, Reported}
 use Rattle.msg_replies.proofs.AnswerLaws.{arrives_nothing}
 use Rattle.msg_replies.proofs.VerdictLaws.{no_verdicts}
 use Rattle.hub_link.specs.declared.link.HubLink.{HubLink}
@@ -52,7 +52,7 @@ talk_at : (piece : List ℕ) (core : Core) (link : HubLink) (state : RunState) (
 talk_at piece core link state meant is = record { arrivals = is.arrivals; left_is = is.represents.unsent; within = is.represents.within }
 
 -- the link whose frames were answered
-represents_answered : (piece : List ℕ) (link one : HubLink) (core core' : Core) (old new : Told) (messages : List Message) (state : RunState) (meant : Link)
+represents_answered : (piece : List ℕ) (link one : HubLink) (core core' : Core) (old new : Reported) (messages : List Message) (state : RunState) (meant : Link)
     → IsAt core link state meant → one.number ≡ link.number → one.status ≡ link.status → one.blocked ≡ link.blocked
     → one.input ≡ record { bytes = partial (meant.came ++ piece); stopped = false }
     → Answered core core' one.unsent old new messages (talk_of piece state meant)
@@ -106,7 +106,7 @@ no_verdicts_are piece link core state meant = by_case (is_open meant)
 abbrev no_talk : RunState → Link → Talk
 no_talk state meant = record { arrivals = state.arrivals; link = meant }
 
-pub hears_nothing : (piece : List ℕ) (link : HubLink) (core : Core) (patterns : PatternsState) (old : Told) → ((meant : Link) → RepresentsLink link meant → is_open meant ≡ false)
+pub hears_nothing : (piece : List ℕ) (link : HubLink) (core : Core) (patterns : PatternsState) (old : Reported) → ((meant : Link) → RepresentsLink link meant → is_open meant ≡ false)
     → HearsPiece piece link link core core patterns patterns old old (Ok tt)
 hears_nothing piece link core patterns old shut = record {
   verdicts = [];
@@ -125,7 +125,7 @@ hears_nothing piece link core patterns old shut = record {
 }
 
 -- there was no memory for the piece
-pub hears_no_piece : (piece : List ℕ) (link link' : HubLink) (core : Core) (patterns : PatternsState) (old : Told) (memory : Memory) → HearsPiece piece link link' core core patterns patterns old old (Err memory)
+pub hears_no_piece : (piece : List ℕ) (link link' : HubLink) (core : Core) (patterns : PatternsState) (old : Reported) (memory : Memory) → HearsPiece piece link link' core core patterns patterns old old (Err memory)
 hears_no_piece piece link link' core patterns old memory = record {
   verdicts = [];
   reported = no_verdicts patterns;
@@ -133,7 +133,7 @@ hears_no_piece piece link link' core patterns old memory = record {
   heard = tt;
 }
 
-module _ (piece : List ℕ) (link : HubLink) (pushed held : Held) (left : List ℕ) (core core' : Core) (patterns patterns' : PatternsState) (old new : Told)
+module _ (piece : List ℕ) (link : HubLink) (pushed held : Held) (left : List ℕ) (core core' : Core) (patterns patterns' : PatternsState) (old new : Reported)
     (opened : IsOpenLink link) (is_held : IsHeldOf link piece pushed) where
   -- memory ran out at one of the messages, or at a length over the limit
   pub hears_in_part : (link' : HubLink) (memory : Memory) (result : Result (Unit {0}) Memory) → AnswersFrames pushed held link.unsent left core core' patterns patterns' old new result

@@ -7,11 +7,11 @@ use Rattle.event_core.specs.declared.arrivals.Core.{Core}
 use Rattle.list_laws.specs.declared.memory.Memory.{Memory}
 use Rattle.hub_meaning.specs.Verdicts.{PatternsState}
 use Rattle.msg_replies.specs.Answering.{AnswersMessage, Replies}
-use Rattle.msg_replies.specs.Arriving.{Told}
+use Rattle.msg_replies.specs.Arriving.{Reported}
 use Rattle.msg_replies.proofs.AnswerLaws.{on_ok}
 
 -- a reply that is appended to what came later is appended to the whole
-pub answers_after : (front later later' : List ℕ) (body : List ℕ) (count : ℕ) (core core' : Core) (patterns patterns' : PatternsState) (old new : Told) (result : Result (Unit {0}) Memory)
+pub answers_after : (front later later' : List ℕ) (body : List ℕ) (count : ℕ) (core core' : Core) (patterns patterns' : PatternsState) (old new : Reported) (result : Result (Unit {0}) Memory)
     → AnswersMessage body count core core' patterns patterns' later later' old new result
     → AnswersMessage body count core core' patterns patterns' (front ++ later) (front ++ later') old new result
 answers_after front later later' body count core core' patterns patterns' old new result answers = record {

@@ -11,18 +11,18 @@ use Rattle.hub_meaning.specs.Links.{unsent}
 use Rattle.hub_meaning.specs.Runs.{Talk, all_answered}
 use Rattle.hub_meaning.specs.Verdicts.{AfterVerdicts, Message, PatternsState, Refusal, judged}
 use Rattle.msg_replies.specs.Answering.{AnswersMessage}
-use Rattle.msg_replies.specs.Arriving.{Arrives, Told}
+use Rattle.msg_replies.specs.Arriving.{Arrives, Reported}
 
 -- nothing came of it
-pub record IsSame (input input' : Held) (left left' : List ℕ) (core core' : Core) (patterns patterns' : PatternsState) (old new : Told) : Type 0 where
+pub record IsSame (input input' : Held) (left left' : List ℕ) (core core' : Core) (patterns patterns' : PatternsState) (old new : Reported) : Type 0 where
   pub input_is : input' ≡ input
   pub left_is : left' ≡ left
   pub core_is : core' ≡ core
   pub patterns_are : patterns' ≡ patterns
-  pub told_is : new ≡ old
+  pub reported_is : new ≡ old
 
 -- the first frame's message was answered and the frame removed, or there is no whole frame
-abbrev pub AnswersFirst : Held → Held → List ℕ → List ℕ → Core → Core → PatternsState → PatternsState → Told → Told → Result Bool Memory → Type 0
+abbrev pub AnswersFirst : Held → Held → List ℕ → List ℕ → Core → Core → PatternsState → PatternsState → Reported → Reported → Result Bool Memory → Type 0
 AnswersFirst input input' left left' core core' patterns patterns' old new (Ok true) =
     HandsOut input (first_body input.bytes) input'
     × AnswersMessage (first_body input.bytes) (length left) core core' patterns patterns' left left' old new (Ok tt)
@@ -38,7 +38,7 @@ pub record IsTalk (core : Core) (left : List ℕ) (talk : Talk) : Type 0 where
   pub within : length talk.link.taken ≤ length talk.link.replies
 
 -- the messages were answered
-pub record Answered (core core' : Core) (left' : List ℕ) (old new : Told) (messages : List Message) (talk : Talk) : Type 0 where
+pub record Answered (core core' : Core) (left' : List ℕ) (old new : Reported) (messages : List Message) (talk : Talk) : Type 0 where
   pub more : List Arrival
   pub arrivals : (all_answered (config_of core) (now_of core) messages talk).arrivals ≡ talk.arrivals ++ more
   pub arrives : Arrives core core' talk.arrivals more old new
@@ -48,7 +48,7 @@ pub record Answered (core core' : Core) (left' : List ℕ) (old new : Told) (mes
       ≤ length (all_answered (config_of core) (now_of core) messages talk).link.replies
 
 -- the messages of all whole frames were answered, or memory ran out at one of them
-pub record AnswersFrames (input input' : Held) (left left' : List ℕ) (core core' : Core) (patterns patterns' : PatternsState) (old new : Told)
+pub record AnswersFrames (input input' : Held) (left left' : List ℕ) (core core' : Core) (patterns patterns' : PatternsState) (old new : Reported)
     (result : Result (Unit {0}) Memory) : Type 0 where
   pub verdicts : List (Option Refusal)
   pub few : length verdicts ≤ length (frames_of input.bytes)

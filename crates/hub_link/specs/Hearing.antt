@@ -8,7 +8,7 @@ use Rattle.hub_meaning.specs.Legal.{VerdictsIf}
 use Rattle.hub_meaning.specs.Links.{Link, is_open}
 use Rattle.hub_meaning.specs.Runs.{RunState, Talk, all_answered, cut_off, messages_in, talk_of}
 use Rattle.hub_meaning.specs.Verdicts.{AfterVerdicts, PatternsState, Refusal}
-use Rattle.msg_replies.specs.Arriving.{Arrives, Told}
+use Rattle.msg_replies.specs.Arriving.{Arrives, Reported}
 use Rattle.hub_link.specs.declared.link.HubLink.{HubLink}
 use Rattle.hub_link.specs.HubLink.{RepresentsLink}
 
@@ -29,7 +29,7 @@ talk_after config piece verdicts state meant =
     else record { arrivals = state.arrivals; link = meant }
 
 -- the events of the messages arrived, and the link has their replies
-pub record Hears (piece : List ℕ) (verdicts : List (Option Refusal)) (core core' : Core) (link' : HubLink) (old new : Told) (state : RunState) (meant : Link) : Type 0 where
+pub record Hears (piece : List ℕ) (verdicts : List (Option Refusal)) (core core' : Core) (link' : HubLink) (old new : Reported) (state : RunState) (meant : Link) : Type 0 where
   pub more : List Arrival
   pub arrivals : (talk_after (config_of core) piece verdicts state meant).arrivals ≡ state.arrivals ++ more
   pub arrives : Arrives core core' state.arrivals more old new
@@ -37,7 +37,7 @@ pub record Hears (piece : List ℕ) (verdicts : List (Option Refusal)) (core cor
   pub link : RepresentsLink link' (talk_after (config_of core) piece verdicts state meant).link
 
 -- The piece was heard, or memory ran out; the verdicts on its messages are those that were reported of the patterns.
-pub record HearsPiece (piece : List ℕ) (link link' : HubLink) (core core' : Core) (patterns patterns' : PatternsState) (old new : Told)
+pub record HearsPiece (piece : List ℕ) (link link' : HubLink) (core core' : Core) (patterns patterns' : PatternsState) (old new : Reported)
     (result : Result (Unit {0}) Memory) : Type 0 where
   pub verdicts : List (Option Refusal)
   pub reported : AfterVerdicts patterns patterns' verdicts

@@ -1,6 +1,6 @@
 ghost use Rattle.std.specs.Prelude.{◌≡◌, OnOk};
 ghost use Rattle.hub_meaning.specs.Verdicts.{patterns_state};
-ghost use Rattle.msg_replies.specs.Arriving.{told};
+ghost use Rattle.msg_replies.specs.Arriving.{reported};
 ghost use Rattle.framing.specs.Frames.{HasFrame};
 ghost use Rattle.hub_link.specs.Answering.{AnswersFirst, AnswersFrames};
 
@@ -25,7 +25,7 @@ pub(crate) fn answer_frames<P: Patterns, G: Ledger>(
     ensures frames { AnswersFrames input.old input.new unsent.old unsent.new core.old core.new
         (patterns_state (P.refusals patterns.old) (P.refused patterns.old))
         (patterns_state (P.refusals patterns.new) (P.refused patterns.new))
-        (told notices.old steps.old.forks) (told notices.new steps.new.forks) result }
+        (reported notices.old steps.old.forks) (reported notices.new steps.new.forks) result }
     ensures none_left { OnOk result (HasFrame input.new.bytes → ⊥) }
 {
     'frames: loop {
@@ -49,7 +49,7 @@ fn answer_first<P: Patterns, G: Ledger>(
     ensures { AnswersFirst input.old input.new unsent.old unsent.new core.old core.new
         (patterns_state (P.refusals patterns.old) (P.refused patterns.old))
         (patterns_state (P.refusals patterns.new) (P.refused patterns.new))
-        (told notices.old steps.old.forks) (told notices.new steps.new.forks) result }
+        (reported notices.old steps.old.forks) (reported notices.new steps.new.forks) result }
 {
     match input.front() {
         FirstFrame::Whole(body) => {

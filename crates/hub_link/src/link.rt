@@ -4,7 +4,7 @@ ghost use Rattle.hub_meaning.specs.Legal.{MayClose};
 ghost use Rattle.hub_meaning.specs.Links.{Link, broken, connected, connected_limit, ended, is_open, is_open_status, is_read_closed_status, new_link, sent, unblocked, want_of};
 ghost use Rattle.hub_meaning.specs.Runs.{cut_off};
 ghost use Rattle.hub_meaning.specs.Verdicts.{patterns_state};
-ghost use Rattle.msg_replies.specs.Arriving.{told};
+ghost use Rattle.msg_replies.specs.Arriving.{reported};
 ghost use Rattle.ports.specs.Links.{IsWithin};
 ghost use Rattle.ports.specs.Playing.{Plays};
 ghost use Rattle.hub_link.specs.Added.{Added};
@@ -73,7 +73,7 @@ impl HubLink {
         ensures hears { HearsPiece piece.now self.old self.new core.old core.new
             (patterns_state (P.refusals patterns.old) (P.refused patterns.old))
             (patterns_state (P.refusals patterns.new) (P.refused patterns.new))
-            (told notices.old steps.old.forks) (told notices.new steps.new.forks) result }
+            (reported notices.old steps.old.forks) (reported notices.new steps.new.forks) result }
     {
         if !self.is_open() {
             return Ok(());

@@ -2,7 +2,7 @@ ghost use Rattle.std.specs.Prelude.{◌≡◌, ◌<◌, ◌≤◌, ◌++◌, [],
 ghost use Rattle.hub_meaning.specs.Replies.{reply_to_oversized};
 ghost use Rattle.hub_meaning.specs.Verdicts.{patterns_state};
 ghost use Rattle.msg_replies.specs.Answering.{AnswersMessage};
-ghost use Rattle.msg_replies.specs.Arriving.{told};
+ghost use Rattle.msg_replies.specs.Arriving.{reported};
 
 use ev_types::{Blob, Memory, Notices};
 use event_core::Core;
@@ -78,8 +78,8 @@ impl Unsent {
         ensures { AnswersMessage body.now (length self.old) core.old core.new
             (patterns_state (P.refusals patterns.old) (P.refused patterns.old))
             (patterns_state (P.refusals patterns.new) (P.refused patterns.new))
-            self.old self.new (told notices.old steps.old.forks)
-            (told notices.new steps.new.forks) result }
+            self.old self.new (reported notices.old steps.old.forks)
+            (reported notices.new steps.new.forks) result }
     {
         let unsent = self.len();
         answer(

@@ -60,7 +60,7 @@ patterns_state refusals refused = record { refusals = refusals; refused = refuse
 
 -- after these verdicts: it refused exactly the patterns that they name
 pub record AfterVerdicts (old new : PatternsState) (verdicts : List (Option Refusal)) : Type 0 where
-  pub told : new.refused ≡ option_map (λ texts. texts ++ texts_refused verdicts) old.refused
+  pub reported : new.refused ≡ option_map (λ texts. texts ++ texts_refused verdicts) old.refused
   pub never_falls : old.refusals ≤ new.refusals
   pub rose : IsTrue (list_any is_refused verdicts) → Rose old.refusals new.refusals
   pub still : list_any is_refused verdicts ≡ false → new.refusals ≡ old.refusals

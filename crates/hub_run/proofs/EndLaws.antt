@@ -61,4 +61,4 @@ module _ (setup : Setup) (limit : ℕ) (old new : RunReport) (hub hub' : Hub) (s
 
 -- without links nothing has to be known of them
 pub unclosed_nothing : (log : Option (List Entry)) (wants : List Want) → wants ≡ [] → AreUnclosed log wants
-unclosed_nothing log wants is = subst (AreUnclosed log) (sym is) (λ entries told i within. absurd (omega (arith, within)))
+unclosed_nothing log wants is = subst (AreUnclosed log) (sym is) (λ entries reported i within. absurd (omega (arith, within)))

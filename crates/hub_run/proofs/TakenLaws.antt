@@ -59,8 +59,8 @@ still_both false u a b c first last neither = last neither ∙ first refl
 
 pub verdicts_then : (a b c : PatternsState) (first second : List (Option Refusal)) → AfterVerdicts a b first → AfterVerdicts b c second → AfterVerdicts a c (first ++ second)
 verdicts_then a b c first second one two = record {
-  told = two.told
-      ∙ ap (option_map (λ (texts : List (List ℕ)). texts ++ texts_refused second)) one.told
+  reported = two.reported
+      ∙ ap (option_map (λ (texts : List (List ℕ)). texts ++ texts_refused second)) one.reported
       ∙ appended_twice a.refused (texts_refused first) (texts_refused second)
       ∙ ap (λ (more : List (List ℕ)). option_map (λ (texts : List (List ℕ)). texts ++ more) a.refused)
       (sym (flat_map-append (λ (verdict : Option Refusal). option_to_list (option_map refused_text verdict)) first second));

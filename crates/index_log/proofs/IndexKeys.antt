@@ -18,17 +18,17 @@ pub index_key_total : IsTotalOrder index_key_cmp
 unfolding index_key_cmp
 index_key_total = then_total (on_total event_host text_total) (on_total event_service text_total)
 
--- no event of the list stands before this one
+-- no event of the list comes before this one
 abbrev pub IsNoneBefore : Event → List Event → Type 0
 IsNoneBefore a [] = Unit {0}
 IsNoneBefore a (b ∷ bs) = (is_gt (index_key_cmp a b) ≡ false) × IsNoneBefore a bs
 
--- each event of the list stands behind this one
+-- each event of the list comes after this one
 abbrev pub AreAfter : Event → List Event → Type 0
 AreAfter a [] = Unit {0}
 AreAfter a (b ∷ bs) = (is_lt (index_key_cmp a b) ≡ true) × AreAfter a bs
 
--- no event stands before an earlier one
+-- no event comes before an earlier one
 abbrev pub IsInOrder : List Event → Type 0
 IsInOrder [] = Unit {0}
 IsInOrder (a ∷ es) = IsNoneBefore a es × IsInOrder es
@@ -43,7 +43,7 @@ turned_by r Less e h = absurd (true≢false h)
 turned_by r Equal e h = ap is_gt e
 turned_by r Greater e h = ap is_gt e
 
--- what does not stand behind a stands before or beside it
+-- what does not come after a comes before or beside it
 pub not_gt_turned : (a b : Event) → is_lt (index_key_cmp a b) ≡ false → is_gt (index_key_cmp b a) ≡ false
 not_gt_turned a b = turned_by (index_key_cmp b a) (index_key_cmp a b) (index_key_total.antisymm b a)
 
@@ -93,7 +93,7 @@ pub in_order-placed_onto : (sorted events : List Event) → IsInOrder sorted →
 in_order-placed_onto sorted [] k = k
 in_order-placed_onto sorted (a ∷ es) k = in_order-placed_onto (placed a sorted) es (in_order-placed a sorted k)
 
--- where all stand behind it, it comes first
+-- where all come after it, it comes first
 pub placed-first : (a : Event) (bs : List Event) → AreAfter a bs → placed a bs ≡ a ∷ bs
 placed-first a [] k = refl
 placed-first a (b ∷ bs) k = ap (λ t. placed_by t a b bs) k.0
@@ -101,13 +101,13 @@ placed-first a (b ∷ bs) k = ap (λ t. placed_by t a b bs) k.0
 -- ---- what a filter keeps of a list in order
 
 module _ (p : Event → Bool) where
-  behind-filter_by : (t : Bool) (a b : Event) (bs : List Event) → AreAfter a (b ∷ bs) → AreAfter a (filter p bs) → AreAfter a (cond t (b ∷ filter p bs) (filter p bs))
-  behind-filter_by true a b bs k ih = (k.0, ih)
-  behind-filter_by false a b bs k ih = ih
+  following-filter_by : (t : Bool) (a b : Event) (bs : List Event) → AreAfter a (b ∷ bs) → AreAfter a (filter p bs) → AreAfter a (cond t (b ∷ filter p bs) (filter p bs))
+  following-filter_by true a b bs k ih = (k.0, ih)
+  following-filter_by false a b bs k ih = ih
 
-  behind-filter : (a : Event) (bs : List Event) → AreAfter a bs → AreAfter a (filter p bs)
-  behind-filter a [] k = tt
-  behind-filter a (b ∷ bs) k = behind-filter_by (p b) a b bs k (behind-filter a bs k.1)
+  following-filter : (a : Event) (bs : List Event) → AreAfter a bs → AreAfter a (filter p bs)
+  following-filter a [] k = tt
+  following-filter a (b ∷ bs) k = following-filter_by (p b) a b bs k (following-filter a bs k.1)
 
   -- an event that the filter keeps, put in before or after the filter
   kept_by : (t u : Bool) (a b : Event) (bs : List Event) → p a ≡ true → is_lt (index_key_cmp a b) ≡ t → p b ≡ u → IsInOrder (b ∷ bs) → filter p (placed a bs) ≡ placed a (filter p bs) →
@@ -115,7 +115,7 @@ module _ (p : Event → Bool) where
   kept_by true true a b bs pa e f k ih = ap (λ s. cond s (a ∷ filter p (b ∷ bs)) (filter p (b ∷ bs))) pa ∙ ap (λ s. a ∷ cond s (b ∷ filter p bs) (filter p bs)) f ∙ sym (ap (λ s. placed_by s a b (filter p bs)) e)
   kept_by true false a b bs pa e f k ih =
       ap (λ s. cond s (a ∷ filter p (b ∷ bs)) (filter p (b ∷ bs))) pa ∙ ap (λ s. a ∷ cond s (b ∷ filter p bs) (filter p bs)) f
-      ∙ sym (placed-first a (filter p bs) (behind-filter a bs (after_chain a b bs e k.0)))
+      ∙ sym (placed-first a (filter p bs) (following-filter a bs (after_chain a b bs e k.0)))
   kept_by false true a b bs pa e f k ih = ap (λ s. cond s (b ∷ filter p (placed a bs)) (filter p (placed a bs))) f ∙ ap (λ s. b ∷ s) ih ∙ sym (ap (λ s. placed_by s a b (filter p bs)) e)
   kept_by false false a b bs pa e f k ih = ap (λ s. cond s (b ∷ filter p (placed a bs)) (filter p (placed a bs))) f ∙ ih
 

@@ -56,8 +56,8 @@ impl<T: Drop> StepTable<T> {
         ensures value { value_at self.now number ≡ Some result.now }
         ensures forks { steps.new.forks ≡ steps.old.forks }
         ensures entries { steps.new.entries ≡ steps.old.entries + 1 }
-        ensures forks_told { G.forks steps.new.ledger ≡ G.forks steps.old.ledger }
-        ensures entries_told { G.entries steps.new.ledger
+        ensures forks_reported { G.forks steps.new.ledger ≡ G.forks steps.old.ledger }
+        ensures entries_reported { G.entries steps.new.ledger
             ≡ one_more (G.entries steps.old.ledger) }
     {
         steps.visit_entry();
@@ -71,8 +71,8 @@ impl<T: Drop> StepTable<T> {
         ensures value { value_at self.old number ≡ Some result.now }
         ensures forks { steps.new.forks ≡ steps.old.forks }
         ensures entries { steps.new.entries ≡ steps.old.entries + 1 }
-        ensures forks_told { G.forks steps.new.ledger ≡ G.forks steps.old.ledger }
-        ensures entries_told { G.entries steps.new.ledger
+        ensures forks_reported { G.forks steps.new.ledger ≡ G.forks steps.old.ledger }
+        ensures entries_reported { G.entries steps.new.ledger
             ≡ one_more (G.entries steps.old.ledger) }
     {
         steps.visit_entry();

@@ -20,7 +20,7 @@ use Rattle.stream_meaning.specs.Arrivals.{Arrival, Post}
 use Rattle.hub_meaning.specs.Messages.{posts_of, reading_of, rule_of, rule_of_query, rule_read}
 use Rattle.hub_meaning.specs.Replies.{answer_to_query, answer_to_text, framed, message_refusal, query_refusal, refused, reply_to}
 use Rattle.hub_meaning.specs.Verdicts.{PatternsState, Refusal, built_rule, is_busy}
-use Rattle.msg_replies.specs.Arriving.{Arrives, Told}
+use Rattle.msg_replies.specs.Arriving.{Arrives, Reported}
 use Rattle.msg_replies.specs.Answering.{AfterVerdict, AnswersMessage, AnswersQuery, asked_of}
 use Rattle.msg_replies.proofs.VerdictLaws.{no_verdict}
 
@@ -34,15 +34,15 @@ on_error (Err e) fact = fact
 
 -- ---- arrivals, one after another
 
-pub heard_nothing : (config : CoreConfig) (arrivals : List Arrival) (old : Told) → Heard config arrivals [] old.notices old.forks old.notices old.forks
+pub heard_nothing : (config : CoreConfig) (arrivals : List Arrival) (old : Reported) → Heard config arrivals [] old.notices old.forks old.notices old.forks
 heard_nothing config arrivals old = record {
   made = [];
-  told = sym (append-nil old.notices);
+  reported = sym (append-nil old.notices);
   notices = ap (notices_by config) (append-nil arrivals) ∙ sym (append-nil (notices_by config arrivals));
   forks = rw (append-nil arrivals) refl;
 }
 
-pub heard_then : (config : CoreConfig) (arrivals first second : List Arrival) (a b c : Told)
+pub heard_then : (config : CoreConfig) (arrivals first second : List Arrival) (a b c : Reported)
     → Heard config arrivals first a.notices a.forks b.notices b.forks → Heard config (arrivals ++ first) second b.notices b.forks c.notices c.forks
     → Heard config arrivals (first ++ second) a.notices a.forks c.notices c.forks
 heard_then config arrivals first second a b c one two =
@@ -50,16 +50,16 @@ heard_then config arrivals first second a b c one two =
     let s = rw (append_assoc arrivals first second) at two.forks in
     record {
       made = one.made ++ two.made;
-      told = two.told ∙ ap (λ out. out ++ two.made) one.told ∙ append_assoc a.notices one.made two.made;
+      reported = two.reported ∙ ap (λ out. out ++ two.made) one.reported ∙ append_assoc a.notices one.made two.made;
       notices = ap (notices_by config) (sym (append_assoc arrivals first second)) ∙ two.notices ∙ ap (λ out. out ++ two.made) one.notices
           ∙ append_assoc (notices_by config arrivals) one.made two.made;
       forks = omega arith;
     }
 
-pub arrives_nothing : (core : Core) (arrivals : List Arrival) (old : Told) → Represents core arrivals → Arrives core core arrivals [] old old
-arrives_nothing core arrivals old stands = record { represents = rw (append-nil arrivals) stands; config = refl; heard = heard_nothing (config_of core) arrivals old }
+pub arrives_nothing : (core : Core) (arrivals : List Arrival) (old : Reported) → Represents core arrivals → Arrives core core arrivals [] old old
+arrives_nothing core arrivals old holds = record { represents = rw (append-nil arrivals) holds; config = refl; heard = heard_nothing (config_of core) arrivals old }
 
-pub arrives_then : (one two three : Core) (arrivals first second : List Arrival) (a b c : Told)
+pub arrives_then : (one two three : Core) (arrivals first second : List Arrival) (a b c : Reported)
     → Arrives one two arrivals first a b → Arrives two three (arrivals ++ first) second b c → Arrives one three arrivals (first ++ second) a c
 arrives_then one two three arrivals first second a b c x y = record {
   represents = rw (← append_assoc arrivals first second) y.represents;
@@ -104,7 +104,7 @@ reply_refused now unsent log body fault refusal is = rw is refl
 
 -- ---- a message
 
-pub answers_accepted : (body : List ℕ) (unsent : ℕ) (msg : Msg) (core posted asked : Core) (patterns patterns' : PatternsState) (replies replies' : List ℕ) (old new : Told) (result : Result (Unit {0}) Memory)
+pub answers_accepted : (body : List ℕ) (unsent : ℕ) (msg : Msg) (core posted asked : Core) (patterns patterns' : PatternsState) (replies replies' : List ℕ) (old new : Reported) (result : Result (Unit {0}) Memory)
     → (first_fault body ≡ None) × (msg ≡ message_of (now_of core) body) → now_of posted ≡ now_of core → asked ≡ posted
     → ((arrivals : List Arrival) → Represents core arrivals → Arrives core posted arrivals (map Post msg.events) old new)
     → AnswersQuery (asked_of unsent msg.query) posted patterns patterns' replies replies' (λ log refusal. answer_to_query log unsent refusal msg.query) result
@@ -115,7 +115,7 @@ answers_accepted body unsent msg core posted asked patterns patterns' replies re
     record {
       refusal = query.refusal;
       verdict = subst (λ (rule : Option Tree). AfterVerdict rule query.refusal patterns patterns') (sym (built_accepted (is_busy unsent) (now_of core) body msg is)) query.verdict;
-      answered = on_ok result (λ answered arrivals stands. let comes = arrives arrivals stands in record {
+      answered = on_ok result (λ answered arrivals holds. let comes = arrives arrivals holds in record {
         arrives = rw (posts, same) comes;
         now = ap now_of same ∙ now;
         reply = rw (posts, reply_accepted (now_of core) unsent (state_by (config_of core) (arrivals ++ map Post msg.events)).log body msg query.refusal is)
@@ -125,7 +125,7 @@ answers_accepted body unsent msg core posted asked patterns patterns' replies re
     }
 
 -- out of memory when the query of a message was answered
-pub answers_failed : (body : List ℕ) (unsent : ℕ) (msg : Msg) (core posted asked : Core) (patterns patterns' : PatternsState) (replies replies' : List ℕ) (old new : Told) (result : Result (Unit {0}) Memory) (memory : Memory)
+pub answers_failed : (body : List ℕ) (unsent : ℕ) (msg : Msg) (core posted asked : Core) (patterns patterns' : PatternsState) (replies replies' : List ℕ) (old new : Reported) (result : Result (Unit {0}) Memory) (memory : Memory)
     → (first_fault body ≡ None) × (msg ≡ message_of (now_of core) body)
     → AnswersQuery (asked_of unsent msg.query) posted patterns patterns' replies replies' (λ log refusal. answer_to_query log unsent refusal msg.query) result
     → AnswersMessage body unsent core asked patterns patterns' replies replies' old new (Err memory)
@@ -137,7 +137,7 @@ answers_failed body unsent msg core posted asked patterns patterns' replies repl
       answered = tt;
     }
 
-pub answers_refused : (body : List ℕ) (unsent : ℕ) (core : Core) (patterns : PatternsState) (replies replies' : List ℕ) (place : ℕ) (why : MsgWhy) (old : Told) (result : Result (Unit {0}) Memory)
+pub answers_refused : (body : List ℕ) (unsent : ℕ) (core : Core) (patterns : PatternsState) (replies replies' : List ℕ) (place : ℕ) (why : MsgWhy) (old : Reported) (result : Result (Unit {0}) Memory)
     → first_fault body ≡ Some (fault_at place why) → OnOk result (replies' ≡ replies ++ framed (refused (message_refusal place why)))
     → AnswersMessage body unsent core core patterns patterns replies replies' old old result
 answers_refused body unsent core patterns replies replies' place why old result read step =
@@ -146,15 +146,15 @@ answers_refused body unsent core patterns replies replies' place why old result 
     record {
       refusal = None;
       verdict = no_verdict (built_rule (now_of core) unsent body) patterns;
-      answered = on_ok result (λ wrote arrivals stands. record {
-        arrives = rw posts (arrives_nothing core arrivals old stands);
+      answered = on_ok result (λ wrote arrivals holds. record {
+        arrives = rw posts (arrives_nothing core arrivals old holds);
         now = refl;
         reply = wrote ∙ ap (λ more. replies ++ more) (sym (reply_refused (now_of core) unsent (state_by (config_of core) (arrivals ++ posts_of (now_of core) body)).log body (fault_at place why) None is));
       }) step;
     }
 
 -- out of memory before anything was said of the message
-pub answers_nothing : (body : List ℕ) (unsent : ℕ) (core core' : Core) (patterns : PatternsState) (replies replies' : List ℕ) (old new : Told) (memory : Memory)
+pub answers_nothing : (body : List ℕ) (unsent : ℕ) (core core' : Core) (patterns : PatternsState) (replies replies' : List ℕ) (old new : Reported) (memory : Memory)
     → AnswersMessage body unsent core core' patterns patterns replies replies' old new (Err memory)
 answers_nothing body unsent core core' patterns replies replies' old new memory = record {
   refusal = None;
@@ -177,7 +177,7 @@ pub answers_fault : (text : List ℕ) (fault : QueryFault) (core : Core) (patter
 answers_fault text fault core patterns replies replies' (Ok done) says other wrote = record {
   refusal = None;
   verdict = no_verdict (rule_read (query_of text)) patterns;
-  answered = λ arrivals stands. rw (says_fault fault (query_of text) other says) wrote;
+  answered = λ arrivals holds. rw (says_fault fault (query_of text) other says) wrote;
 }
 answers_fault text fault core patterns replies replies' (Err memory) says other wrote = record {
   refusal = None;
@@ -186,7 +186,7 @@ answers_fault text fault core patterns replies replies' (Err memory) says other 
 }
 
 -- one event more
-pub posted_more : (one two three : Core) (arrivals : List Arrival) (events : List Event) (event : Event) (a b c : Told)
+pub posted_more : (one two three : Core) (arrivals : List Arrival) (events : List Event) (event : Event) (a b c : Reported)
     → config_of three ≡ config_of two
     → ((before : List Arrival) → Represents two before → Represents three (before ++ Post event ∷ []))
     → ((before : List Arrival) → Represents two before → Heard (config_of two) before (Post event ∷ []) b.notices b.forks c.notices c.forks)

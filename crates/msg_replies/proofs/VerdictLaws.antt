@@ -19,21 +19,21 @@ appended_twice None xs ys = refl
 appended_twice (Some texts) xs ys = ap Some (append_assoc texts xs ys)
 
 pub no_verdict : (asked : Option Tree) (state : PatternsState) → AfterVerdict asked None state state
-no_verdict asked state = record { possible = tt; told = appended_nothing state.refused; never_falls = omega arith; rose = λ refused. absurd (cc refused); still = λ _. refl }
+no_verdict asked state = record { possible = tt; reported = appended_nothing state.refused; never_falls = omega arith; rose = λ refused. absurd (cc refused); still = λ _. refl }
 
 pub refused_verdict : (rule : Tree) (number : ℕ) (old new : PatternsState) → number < length (searches rule) → Rose old.refusals new.refusals → old.refusals ≤ new.refusals
     → new.refused ≡ option_map (λ texts. texts ++ slice_index_or (searches rule) number [] ∷ []) old.refused
     → AfterVerdict (Some rule) (Some (record { number = number; text = slice_index_or (searches rule) number [] })) old new
-refused_verdict rule number old new within rose rises told = record {
+refused_verdict rule number old new within rose rises reported = record {
   possible = (rule, refl, slice_get-get_or (searches rule) number [] within);
-  told = told;
+  reported = reported;
   never_falls = rises;
   rose = λ _. rose;
   still = λ none. absurd (cc none);
 }
 
 pub no_verdicts : (state : PatternsState) → AfterVerdicts state state []
-no_verdicts state = record { told = appended_nothing state.refused; never_falls = omega arith; rose = λ refused. absurd (cc refused); still = λ _. refl }
+no_verdicts state = record { reported = appended_nothing state.refused; never_falls = omega arith; rose = λ refused. absurd (cc refused); still = λ _. refl }
 
 texts_more : (verdicts : List (Option Refusal)) (last : Option Refusal) → texts_refused (verdicts ++ last ∷ []) ≡ texts_refused verdicts ++ option_to_list (option_map refused_text last)
 texts_more [] last = append-nil _
@@ -70,8 +70,8 @@ still_both false u a b c first last neither = last neither ∙ first refl
 pub more_verdicts : (asked : Option Tree) (start mid new : PatternsState) (verdicts : List (Option Refusal)) (refusal : Option Refusal)
     → AfterVerdicts start mid verdicts → AfterVerdict asked refusal mid new → AfterVerdicts start new (verdicts ++ refusal ∷ [])
 more_verdicts asked start mid new verdicts refusal before last = record {
-  told = last.told
-      ∙ ap (option_map (λ texts. texts ++ option_to_list (option_map refused_text refusal))) before.told
+  reported = last.reported
+      ∙ ap (option_map (λ texts. texts ++ option_to_list (option_map refused_text refusal))) before.reported
       ∙ appended_twice start.refused (texts_refused verdicts) (option_to_list (option_map refused_text refusal))
       ∙ ap (λ more. option_map (λ texts. texts ++ more) start.refused) (sym (texts_more verdicts refusal));
   never_falls = omega (arith, before.never_falls, last.never_falls);

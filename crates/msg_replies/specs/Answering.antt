@@ -12,12 +12,12 @@ use Rattle.riemann_msg.specs.declared.msg.QueryPart.{QueryPart}
 use Rattle.hub_meaning.specs.Messages.{posts_of, rule_of_query}
 use Rattle.hub_meaning.specs.Replies.{framed, reply_to}
 use Rattle.hub_meaning.specs.Verdicts.{IsOfRule, PatternsState, Refusal, built_rule, is_busy, refused_text}
-use Rattle.msg_replies.specs.Arriving.{Arrives, Told}
+use Rattle.msg_replies.specs.Arriving.{Arrives, Reported}
 
 -- the verdict on the patterns of a rule, where one was asked for
 pub record AfterVerdict (asked : Option Tree) (refusal : Option Refusal) (old new : PatternsState) : Type 0 where
   pub possible : IfSome refusal (IsOfRule asked)
-  pub told : new.refused ≡ option_map (λ texts. texts ++ option_to_list (option_map refused_text refusal)) old.refused
+  pub reported : new.refused ≡ option_map (λ texts. texts ++ option_to_list (option_map refused_text refusal)) old.refused
   pub never_falls : old.refusals ≤ new.refusals
   pub rose : IsTrue (is_some refusal) → Rose old.refusals new.refusals
   pub still : is_some refusal ≡ false → new.refusals ≡ old.refusals
@@ -35,14 +35,14 @@ pub record AnswersQuery (asked : Option Tree) (core : Core) (patterns patterns' 
       → replies' ≡ replies ++ framed (reply (state_by (config_of core) arrivals).log refusal))
 
 -- the events of a message arrived, and its reply is appended
-pub record Replies (body : List ℕ) (unsent : ℕ) (refusal : Option Refusal) (core core' : Core) (replies replies' : List ℕ) (old new : Told) (arrivals : List Arrival) : Type 0 where
+pub record Replies (body : List ℕ) (unsent : ℕ) (refusal : Option Refusal) (core core' : Core) (replies replies' : List ℕ) (old new : Reported) (arrivals : List Arrival) : Type 0 where
   pub arrives : Arrives core core' arrivals (posts_of (now_of core) body) old new
   pub now : now_of core' ≡ now_of core
   pub reply : replies' ≡ replies ++ reply_to (now_of core) (state_by (config_of core) (arrivals ++ posts_of (now_of core) body)).log unsent
       (record { body = body; refusal = refusal })
 
 -- a message was answered, where `unsent` bytes were unsent
-pub record AnswersMessage (body : List ℕ) (unsent : ℕ) (core core' : Core) (patterns patterns' : PatternsState) (replies replies' : List ℕ) (old new : Told)
+pub record AnswersMessage (body : List ℕ) (unsent : ℕ) (core core' : Core) (patterns patterns' : PatternsState) (replies replies' : List ℕ) (old new : Reported)
     (result : Result (Unit {0}) Memory) : Type 0 where
   pub refusal : Option Refusal
   pub verdict : AfterVerdict (built_rule (now_of core) unsent body) refusal patterns patterns'

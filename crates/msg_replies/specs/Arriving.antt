@@ -6,15 +6,15 @@ use Rattle.event_core.specs.Core.{Heard, Represents, config_of}
 use Rattle.stream_meaning.specs.Arrivals.{Arrival}
 
 -- what has come of notices and forks so far
-pub record Told : Type 0 where
+pub record Reported : Type 0 where
   pub notices : List Notice
   pub forks : ℕ
 
-abbrev pub told : List Notice → ℕ → Told
-told notices forks = record { notices = notices; forks = forks }
+abbrev pub reported : List Notice → ℕ → Reported
+reported notices forks = record { notices = notices; forks = forks }
 
 -- after these arrivals came more
-pub record Arrives (core core' : Core) (arrivals more : List Arrival) (old new : Told) : Type 0 where
+pub record Arrives (core core' : Core) (arrivals more : List Arrival) (old new : Reported) : Type 0 where
   pub represents : Represents core' (arrivals ++ more)
   pub config : config_of core' ≡ config_of core
   pub heard : Heard (config_of core) arrivals more old.notices old.forks new.notices new.forks

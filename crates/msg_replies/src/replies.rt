@@ -6,7 +6,7 @@ ghost use Rattle.hub_meaning.specs.Verdicts.{patterns_state};
 ghost use Rattle.riemann_msg.specs.Spelling.{spelling};
 ghost use Rattle.stream_meaning.specs.Arrivals.{Arrival, Post};
 ghost use Rattle.msg_replies.specs.Answering.{AnswersMessage};
-ghost use Rattle.msg_replies.specs.Arriving.{Arrives, told};
+ghost use Rattle.msg_replies.specs.Arriving.{Arrives, reported};
 
 use crate::queries::answer_query;
 use ev_types::{Blob, Events, Memory, Notices, Text};
@@ -32,8 +32,8 @@ pub fn answer<P: Patterns, G: Ledger>(
     ensures { AnswersMessage body.now unsent core.old core.new
         (patterns_state (P.refusals patterns.old) (P.refused patterns.old))
         (patterns_state (P.refusals patterns.new) (P.refused patterns.new))
-        replies.old replies.new (told notices.old steps.old.forks)
-        (told notices.new steps.new.forks) result }
+        replies.old replies.new (reported notices.old steps.old.forks)
+        (reported notices.new steps.new.forks) result }
 {
     match read_msg(alloc, body, core.now()) {
         Ok(msg) => {
@@ -56,8 +56,8 @@ fn post_all<G: Ledger>(
 ) -> Result<(), Memory>
     ensures now { OnOk result (now_of core.new ≡ now_of core.old) }
     ensures arrives { OnOk result ((arrivals : List Arrival) → Represents core.old arrivals
-        → Arrives core.old core.new arrivals (map Post events) (told notices.old steps.old.forks)
-        (told notices.new steps.new.forks)) }
+        → Arrives core.old core.new arrivals (map Post events) (reported notices.old steps.old.forks)
+        (reported notices.new steps.new.forks)) }
 {
     for event in events.into_vec() {
         core.post(alloc, event, notices, steps)?;

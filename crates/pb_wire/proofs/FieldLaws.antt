@@ -255,13 +255,13 @@ pub spelling_some : (text : List ℕ) (number : ℕ) (content : Content) → IsS
 spelling_some text number content is = omega (arith, ap (length {A = ℕ}) is.whole, length-append is.tag is.body, alone_some is.tag _ is.tag_is)
 
 pub field_at_is_read : (bytes : List ℕ) (field : FieldAt) (after : ℕ) → IsFieldAt bytes field after → (field_from bytes field.place ≡ Ok (field.number, field.body, after)) × (field.place < after)
-field_at_is_read bytes field after stands =
-    let some = spelling_some _ _ _ stands.spelled in
-    let within = stands.within in
+field_at_is_read bytes field after holds =
+    let some = spelling_some _ _ _ holds.spelled in
+    let within = holds.within in
     let size = length_slice bytes field.place after within in
     let order : field.place < after = omega arith in
     let text : List ℕ = slice_range bytes field.place after in
     let at = at_between bytes field.place after (omega arith) within in
     let last : field.place + length text ≡ after = omega arith in
-    let read = field_again bytes field.place text field.number (content_in bytes field.body) at stands.spelled in
-    (read ∙ ap (λ (n : ℕ). read_as field.number (body_before n (content_in bytes field.body)) n) last ∙ ap (λ (b : Body). read_as field.number b after) (body_is bytes after field.body within stands.ends), order)
+    let read = field_again bytes field.place text field.number (content_in bytes field.body) at holds.spelled in
+    (read ∙ ap (λ (n : ℕ). read_as field.number (body_before n (content_in bytes field.body)) n) last ∙ ap (λ (b : Body). read_as field.number b after) (body_is bytes after field.body within holds.ends), order)

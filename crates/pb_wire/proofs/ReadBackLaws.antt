@@ -12,7 +12,7 @@ use Rattle.pb_wire.proofs.FieldLaws.{field_again}
 use Rattle.pb_wire.proofs.RowLaws.{nothing_past, next_at_field, next_place_field, from_field, from_none, end_of_all}
 use Rattle.pb_wire.proofs.SpellingLaws.{spelling_is}
 
--- what stands in a field's body is what it holds
+-- what is in a field's body is what it holds
 content_back : (bytes : List ℕ) (place : ℕ) (text : List ℕ) (number : ℕ) (content : Content) → At bytes place text → IsSpelling text number content
     → content_in bytes (body_before (place + length text) content) ≡ content
 content_back bytes place text number (Varint value) at is = refl
@@ -28,13 +28,13 @@ content_back bytes place text number (Bytes body) at is =
     let first : place + length text - length body ≡ start = omega arith in
     ap (λ (b : List ℕ). Bytes b) (ap (λ (n : ℕ). slice_range bytes n (place + length text)) first ∙ ap (slice_range bytes start) last ∙ at_slice bytes start body inner)
 
-pub at_behind : (before text after : List ℕ) → At (before ++ (text ++ after)) (length before) text
-at_behind before text after = record { within = omega (arith, length-append before (text ++ after)); rest = after; is = drop_at before (text ++ after) (length before) refl }
+pub at_following : (before text after : List ℕ) → At (before ++ (text ++ after)) (length before) text
+at_following before text after = record { within = omega (arith, length-append before (text ++ after)); rest = after; is = drop_at before (text ++ after) (length before) refl }
 
 pub field_reads_back : FieldIsReadBack
 field_reads_back before after value is =
     let text : List ℕ = value_spelling value in
-    let at = at_behind before text after in
+    let at = at_following before text after in
     let spelled = spelling_is value is in
     let read = field_again (before ++ (text ++ after)) (length before) text value.number value.content at spelled in
     (next_at_field _ _ _ read, next_place_field _ _ _ read, content_back (before ++ (text ++ after)) (length before) text value.number value.content at spelled)
@@ -57,19 +57,19 @@ rows [] bytes before is fields =
 rows (value ∷ values) bytes before is fields =
     let text : List ℕ = value_spelling value in
     let rest : List ℕ = flat_map value_spelling values in
-    let at : At bytes (length before) text = subst (λ (all : List ℕ). At all (length before) text) (sym is) (at_behind before text rest) in
+    let at : At bytes (length before) text = subst (λ (all : List ℕ). At all (length before) text) (sym is) (at_following before text rest) in
     let spelled = spelling_is value fields.0 in
     let read = field_again bytes (length before) text value.number value.content at spelled in
     let step = from_field bytes (length before) (value.number, body_before (length before + length text) value.content, length before + length text) read in
     let content = content_back bytes (length before) text value.number value.content at spelled in
     let more = rows values bytes (before ++ text) (is ∙ sym (append_assoc before text rest)) fields.1 in
-    let behind : length (before ++ text) ≡ length before + length text = length-append before text in
+    let following : length (before ++ text) ≡ length before + length text = length-append before text in
     let same : value_in bytes (record { number = value.number; body = body_before (length before + length text) value.content; place = length before }) ≡ value =
     ap (λ (c : Content). field_value value.number c) content in (
-      ap (map (value_in bytes)) (step.0 ∙ ap (λ (n : ℕ). field_at value.number (body_before (length before + length text) value.content) (length before) ∷ fields_from bytes n) (sym behind))
+      ap (map (value_in bytes)) (step.0 ∙ ap (λ (n : ℕ). field_at value.number (body_before (length before + length text) value.content) (length before) ∷ fields_from bytes n) (sym following))
           ∙ ap (λ (v : FieldValue). v ∷ map (value_in bytes) (fields_from bytes (length (before ++ text)))) same
           ∙ ap (λ (vs : List FieldValue). value ∷ vs) more.0,
-      step.1 ∙ ap (fields_end bytes) (sym behind) ∙ more.1,
+      step.1 ∙ ap (fields_end bytes) (sym following) ∙ more.1,
     )
 
 pub fields_read_back : FieldsAreReadBack

@@ -222,8 +222,8 @@ in_row_within (suc n) bytes place =
           let is = field_found bytes place read found.1 in
           let step = some_within n bytes place read found.1 in
           let field : FieldAt = record { number = read.0; body = read.1; place = place } in
-          let stands : IsFieldAt bytes field read.2 = record { within = is.within; spelled = is.spelled; ends = is.ends } in
-          let row : AreInRow bytes place (field ∷ fields_within n bytes read.2) (end_within n bytes read.2) = (refl, read.2, stands, in_row_within n bytes read.2) in
+          let holds : IsFieldAt bytes field read.2 = record { within = is.within; spelled = is.spelled; ends = is.ends } in
+          let row : AreInRow bytes place (field ∷ fields_within n bytes read.2) (end_within n bytes read.2) = (refl, read.2, holds, in_row_within n bytes read.2) in
           subst (λ (fields : List FieldAt). AreInRow bytes place fields (end_within (suc n) bytes place)) (sym step.0)
           (subst (λ (last : ℕ). AreInRow bytes place (field ∷ fields_within n bytes read.2) last) (sym step.1) row))
       | inr none ↦

@@ -147,10 +147,10 @@ pub playing_turned : (script : Script) (log : List Entry) (next secs : ℕ) (rul
     → drop next' script.steps ≡ (first_turn (drop next script.steps) secs).rest → secs' ≡ turn.secs
     → rules' ≡ rules_at_turn (drop next script.steps) rules
     → IsPlaying script (log ++ Next wants turn piece ∷ []) next' secs' rules' taken nothing false
-playing_turned script log next secs rules taken nothing poisoned was alive wants turn piece next' secs' rules' told turn_is piece_is within rest secs_is rules_is =
+playing_turned script log next secs rules taken nothing poisoned was alive wants turn piece next' secs' rules' reported turn_is piece_is within rest secs_is rules_is =
     let entry = Next wants turn piece in
     let place = was.place alive in
-    let kept : succeeded entry ≡ true = told in
+    let kept : succeeded entry ≡ true = reported in
     record {
       run = run_more script log entry kept was.run (
         turn_is ∙ ap (λ s. (first_turn s.steps s.secs).turn) (sym place),

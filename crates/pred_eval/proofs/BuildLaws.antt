@@ -1,4 +1,4 @@
--- What is told and built, one text after another.
+-- What is reported and built, one text after another.
 use Rattle.std.proofs.Common.{◌≡◌, ℕ, suc, ◌+◌, ◌<◌, List, [], ◌∷◌, ◌++◌, take, length, get_or, Option, Some, None, refl, sym, ap, ◌∙◌, append_assoc, subst, arith, zero, Result, Ok, Err, OnErr}
 use denote.Ref.{Bor}
 use Rattle.std.specs.Option.{option_map}
@@ -16,13 +16,13 @@ pub on_error : {T E P : Type 0} → (result : Result T E) → P → OnErr result
 on_error (Ok value) p = tt
 on_error (Err error) p = p
 
-abbrev Told : Type 0
-Told = Option (List (List ℕ))
+abbrev RefusedTexts : Type 0
+RefusedTexts = Option (List (List ℕ))
 
--- nothing more is told
-pub nothing_told : (told : Told) → option_map (λ texts. texts ++ []) told ≡ told
-nothing_told None = refl
-nothing_told (Some texts) = ap Some (append-nil texts)
+-- nothing more is reported
+pub nothing_reported : (reported : RefusedTexts) → option_map (λ texts. texts ++ []) reported ≡ reported
+nothing_reported None = refl
+nothing_reported (Some texts) = ap Some (append-nil texts)
 
 read_more : (patterns : List (List ℕ)) (regexes : List Regex) (pattern : List ℕ) (regex : Regex) → AreReadFrom patterns regexes → IsReadFrom pattern regex →
     AreReadFrom (patterns ++ pattern ∷ []) (regexes ++ regex ∷ [])

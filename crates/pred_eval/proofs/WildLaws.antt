@@ -43,12 +43,12 @@ any_here : (test : List ℕ → Bool) (rest : List ℕ) → test rest ≡ true �
 any_here test [] e = or_first (test []) false e
 any_here test (byte ∷ rest) e = or_first (test (byte ∷ rest)) (list_any test (tails rest)) e
 
-any_behind : (test : List ℕ → Bool) (front rest : List ℕ) → test rest ≡ true → list_any test (tails (front ++ rest)) ≡ true
-any_behind test [] rest e = any_here test rest e
-any_behind test (byte ∷ front) rest e = or_second (test (byte ∷ (front ++ rest))) (list_any test (tails (front ++ rest))) (any_behind test front rest e)
+any_following : (test : List ℕ → Bool) (front rest : List ℕ) → test rest ≡ true → list_any test (tails (front ++ rest)) ≡ true
+any_following test [] rest e = any_here test rest e
+any_following test (byte ∷ front) rest e = or_second (test (byte ∷ (front ++ rest))) (list_any test (tails (front ++ rest))) (any_following test front rest e)
 
 pub any_tail : (test : List ℕ → Bool) (text : List ℕ) → PassesSomewhere test text → list_any test (tails text) ≡ true
-any_tail test text s = subst (λ t. list_any test (tails t) ≡ true) (sym s.parts) (any_behind test s.front s.rest s.passes)
+any_tail test text s = subst (λ t. list_any test (tails t) ≡ true) (sym s.parts) (any_following test s.front s.rest s.passes)
 
 -- ---- the test is the relation
 
@@ -56,7 +56,7 @@ nothing_is_nil : (text : List ℕ) → is_nothing text ≡ true → text ≡ []
 nothing_is_nil [] e = refl
 nothing_is_nil (byte ∷ text) e = absurd (true≢false (sym e))
 
--- the byte, and what is left behind it
+-- the byte, and what is left after it
 pub byte_before : (byte : ℕ) (test : List ℕ → Bool) (text : List ℕ) → is_byte_before byte test text ≡ true → (rest : List ℕ) × (text ≡ byte ∷ rest) × (test rest ≡ true)
 byte_before byte test [] e = absurd (true≢false (sym e))
 byte_before byte test (first ∷ text) e =
@@ -125,11 +125,11 @@ plain_front (byte ∷ part) (one_more _ _ other plain) pattern text e =
     let r = plain_front part plain pattern b.0 b.2 in
     (r.0, b.1 ∙ ap (λ t. byte ∷ t) r.1, r.2)
 
-pub behind_plain : (part : List ℕ) → IsPlain part → (pattern rest : List ℕ) → is_wild pattern rest ≡ true → is_wild (part ++ pattern) (part ++ rest) ≡ true
-behind_plain [] plain pattern rest e = e
-behind_plain (byte ∷ part) (one_more _ _ other plain) pattern rest e =
+pub following_plain : (part : List ℕ) → IsPlain part → (pattern rest : List ℕ) → is_wild pattern rest ≡ true → is_wild (part ++ pattern) (part ++ rest) ≡ true
+following_plain [] plain pattern rest e = e
+following_plain (byte ∷ part) (one_more _ _ other plain) pattern rest e =
     byte_is_itself byte (part ++ pattern) other (byte ∷ (part ++ rest)) ∙ before_byte byte (is_wild (part ++ pattern)) (part ++ rest)
-    ∙ behind_plain part plain pattern rest e
+    ∙ following_plain part plain pattern rest e
 
 -- ---- what the code does with a part
 
@@ -138,7 +138,7 @@ plain_is_equal part plain text =
     let d = bytes_eq-Decides part text in
     both_ways (bytes_eq part text) (is_wild part text)
     (λ same. subst (λ p. is_wild p text ≡ true) (append-nil part)
-    (subst (λ t. is_wild (part ++ []) t ≡ true) (append-nil part ∙ d.0 same) (behind_plain part plain [] [] refl)))
+    (subst (λ t. is_wild (part ++ []) t ≡ true) (append-nil part ∙ d.0 same) (following_plain part plain [] [] refl)))
     (λ wild.
     let r = plain_front part plain [] text (subst (λ p. is_wild p text ≡ true) (sym (append-nil part)) wild) in
     d.1 (sym (r.1 ∙ ap (λ t. part ++ t) (nothing_is_nil r.0 r.2) ∙ append-nil part)))
@@ -146,7 +146,7 @@ plain_is_equal part plain text =
 pub front_taken : (part : List ℕ) → IsPlain part → (pattern rest : List ℕ) → is_wild pattern rest ≡ is_wild (part ++ pattern) (part ++ rest)
 front_taken part plain pattern rest =
     both_ways (is_wild pattern rest) (is_wild (part ++ pattern) (part ++ rest))
-    (behind_plain part plain pattern rest)
+    (following_plain part plain pattern rest)
     (λ e.
     let r = plain_front part plain pattern (part ++ rest) e in
     subst (λ t. is_wild pattern t ≡ true) (append_cancel_left part r.0 rest (sym r.1)) r.2)
@@ -170,14 +170,14 @@ plain_end part plain text answer ends ended =
     let s = somewhere (is_wild part) text e in
     ended s.front (s.parts ∙ ap (λ t. s.front ++ t) (sym ((bytes_eq-Decides part s.rest).0 (plain_is_equal part plain s.rest ∙ s.passes)))))
 
-occurs_behind : (front part rest text : List ℕ) → text ≡ front ++ (part ++ rest) → OccursAt text part (length front)
-occurs_behind front part rest text e =
+occurs_following : (front part rest text : List ℕ) → text ≡ front ++ (part ++ rest) → OccursAt text part (length front)
+occurs_following front part rest text e =
     subst (λ t. OccursAt t part (length front)) (sym e)
     (OccursAt-from_part (front ++ (part ++ rest)) part (length front)
     (omega (arith, length-append front (part ++ rest), length-append part rest))
     (ap (take (length part)) (drop-append_seam front (part ++ rest)) ∙ take-append_seam part rest))
 
--- a text that matches behind a gap has the part at some place
+-- a text that matches after a gap has the part at some place
 has_part : (part : List ℕ) → IsPlain part → (pattern text : List ℕ) → is_wild (percent ∷ (part ++ pattern)) text ≡ true →
     (front : List ℕ) × (rest : List ℕ) × (text ≡ front ++ (part ++ rest)) × (is_wild pattern rest ≡ true)
 has_part part plain pattern text e =
@@ -188,7 +188,7 @@ has_part part plain pattern text e =
 pub no_place : (part : List ℕ) → IsPlain part → (pattern text : List ℕ) → ((k : ℕ) → k < length text + 1 → OccursAt text part k → ⊥) → is_wild (percent ∷ (part ++ pattern)) text ≡ false
 no_place part plain pattern text none = false_from_ne_true (is_wild (percent ∷ (part ++ pattern)) text) (λ e.
     let h = has_part part plain pattern text e in
-    none (length h.0) (omega (arith, ap length h.2, length-append h.0 (part ++ h.1))) (occurs_behind h.0 part h.1 text h.2))
+    none (length h.0) (omega (arith, ap length h.2, length-append h.0 (part ++ h.1))) (occurs_following h.0 part h.1 text h.2))
 
 drop_front : (front rest : List ℕ) (n : ℕ) → length front ≡ n → drop n (front ++ rest) ≡ rest
 drop_front front rest n e = subst (λ k. drop k (front ++ rest) ≡ rest) e (drop-append_seam front rest)
@@ -203,11 +203,11 @@ first_place part plain pattern text place occurs before =
       front = take place text;
       rest = part ++ later;
       parts = sym (take-append-drop place text) ∙ ap (λ t. take place text ++ t) (OccursAt-split text part place occurs);
-      passes = behind_plain part plain (percent ∷ pattern) later e;
+      passes = following_plain part plain (percent ∷ pattern) later e;
     }))
     (λ e.
     let h = has_part part plain (percent ∷ pattern) text e in
-    let from : place ≤ length h.0 = ⊎_elim (λ (lt : length h.0 < place). absurd (before (length h.0) lt (occurs_behind h.0 part h.1 text h.2))) (λ (ge : place ≤ length h.0). ge) (cases_lt (length h.0) place) in
+    let from : place ≤ length h.0 = ⊎_elim (λ (lt : length h.0 < place). absurd (before (length h.0) lt (occurs_following h.0 part h.1 text h.2))) (λ (ge : place ≤ length h.0). ge) (cases_lt (length h.0) place) in
     let s = somewhere (is_wild pattern) h.1 h.3 in
     let all : text ≡ (h.0 ++ part) ++ h.1 = h.2 ∙ sym (append_assoc h.0 part h.1) in
     let gap = length h.0 - place in
@@ -236,14 +236,14 @@ plain_whole pattern none =
     subst IsPlain (take-length pattern)
     (plain_before pattern (length pattern) (omega arith) (λ k lt. none k (omega arith) lt))
 
-behind : (n : ℕ) (bytes : List ℕ) → take (length bytes - n) (drop n bytes) ≡ drop n bytes
-behind n bytes = ap (λ k. take k (drop n bytes)) (sym (length-drop n bytes)) ∙ take-length (drop n bytes)
+following : (n : ℕ) (bytes : List ℕ) → take (length bytes - n) (drop n bytes) ≡ drop n bytes
+following n bytes = ap (λ k. take k (drop n bytes)) (sym (length-drop n bytes)) ∙ take-length (drop n bytes)
 
-abbrev pub part_behind : ℕ → ℕ → List ℕ → List ℕ
-part_behind m n bytes = let found = take (length bytes - m) (drop m bytes) in take (length found - n) (drop n found)
+abbrev pub part_following : ℕ → ℕ → List ℕ → List ℕ
+part_following m n bytes = let found = take (length bytes - m) (drop m bytes) in take (length found - n) (drop n found)
 
-behind_both : (m n : ℕ) (bytes : List ℕ) → part_behind m n bytes ≡ drop (m + n) bytes
-behind_both m n bytes = ap (λ found. take (length found - n) (drop n found)) (behind m bytes) ∙ behind n (drop m bytes) ∙ drop-drop n m bytes
+following_both : (m n : ℕ) (bytes : List ℕ) → part_following m n bytes ≡ drop (m + n) bytes
+following_both m n bytes = ap (λ found. take (length found - n) (drop n found)) (following m bytes) ∙ following n (drop m bytes) ∙ drop-drop n m bytes
 
 module _ (pattern : List ℕ) (at : ℕ) (first : NoneBefore (Passes (is_byte percent) pattern) 0 (length pattern) at) (here : Passes (is_byte percent) pattern at) where
   plain : IsPlain (take at pattern)
@@ -256,7 +256,7 @@ module _ (pattern : List ℕ) (at : ℕ) (first : NoneBefore (Passes (is_byte pe
 
   pub begins_so : (text rest : List ℕ) → text ≡ take at pattern ++ rest → is_wild (percent ∷ take (length pattern - (at + 1)) (drop (at + 1) pattern)) rest ≡ is_wild pattern text
   begins_so text rest e =
-      ap (λ p. is_wild (percent ∷ p) rest) (behind (at + 1) pattern) ∙ front_taken (take at pattern) plain (percent ∷ drop (at + 1) pattern) rest
+      ap (λ p. is_wild (percent ∷ p) rest) (following (at + 1) pattern) ∙ front_taken (take at pattern) plain (percent ∷ drop (at + 1) pattern) rest
       ∙ ap (λ p. is_wild p (take at pattern ++ rest)) whole ∙ ap (is_wild pattern) (sym e)
 
   pub begins_otherwise : (text : List ℕ) → ((rest : List ℕ) → text ≡ take at pattern ++ rest → ⊥) → false ≡ is_wild pattern text
@@ -277,12 +277,12 @@ module _ (pattern : List ℕ) (at : ℕ) (first : NoneBefore (Passes (is_byte pe
   fits text place occurs = omega (arith, occurs.fits, length_of_part)
 
   pub goes_on : (text : List ℕ) (place : ℕ) → NoneBefore (OccursAt text (take at pattern)) 0 (length text + 1) place → OccursAt text (take at pattern) place →
-      is_wild (percent ∷ part_behind at 1 pattern) (part_behind place at text) ≡ is_wild (percent ∷ pattern) text
+      is_wild (percent ∷ part_following at 1 pattern) (part_following place at text) ≡ is_wild (percent ∷ pattern) text
   goes_on text place found occurs =
-      ap₂ (λ p t. is_wild (percent ∷ p) t) (behind_both at 1 pattern) (behind_both place at text) ∙ goes_on_from text place found occurs
+      ap₂ (λ p t. is_wild (percent ∷ p) t) (following_both at 1 pattern) (following_both place at text) ∙ goes_on_from text place found occurs
 
-  pub fits_behind : (text : List ℕ) (place : ℕ) → OccursAt text (take at pattern) place → at ≤ length (take (length text - place) (drop place text))
-  fits_behind text place occurs = omega (arith, fits text place occurs, ap length (behind place text), length-drop place text)
+  pub fits_following : (text : List ℕ) (place : ℕ) → OccursAt text (take at pattern) place → at ≤ length (take (length text - place) (drop place text))
+  fits_following text place occurs = omega (arith, fits text place occurs, ap length (following place text), length-drop place text)
 
   pub is_nowhere : (text : List ℕ) → Nowhere (OccursAt text (take at pattern)) 0 (length text + 1) → false ≡ is_wild (percent ∷ pattern) text
   is_nowhere text none =

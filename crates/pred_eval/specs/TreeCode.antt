@@ -33,7 +33,7 @@ abbrev mutual
   marks (Any rules) rest = some ∷ marks_of rules rest
   marks (Tagged tag) rest = tagged tag ∷ rest
   marks (Equal field value) rest = equal field value ∷ rest
-  marks (Order field stands number) rest = order field stands number ∷ rest
+  marks (Order field holds number) rest = order field holds number ∷ rest
   marks (Wild field pattern) rest = wild field pattern ∷ rest
   marks (Search field pattern) rest = search_for field pattern ∷ rest
 
@@ -74,7 +74,7 @@ read_mark every parts = all_of parts
 read_mark some parts = any_of parts
 read_mark (tagged tag) parts = tree (Tagged tag) ∷ parts
 read_mark (equal field value) parts = tree (Equal field value) ∷ parts
-read_mark (order field stands number) parts = tree (Order field stands number) ∷ parts
+read_mark (order field holds number) parts = tree (Order field holds number) ∷ parts
 read_mark (wild field pattern) parts = tree (Wild field pattern) ∷ parts
 read_mark (search_for field pattern) parts = tree (Search field pattern) ∷ parts
 read_mark end parts = trees none ∷ parts
@@ -93,7 +93,7 @@ mutual
   read_back (Any rules) rest = ap any_of (read_all_back rules rest)
   read_back (Tagged tag) rest = refl
   read_back (Equal field value) rest = refl
-  read_back (Order field stands number) rest = refl
+  read_back (Order field holds number) rest = refl
   read_back (Wild field pattern) rest = refl
   read_back (Search field pattern) rest = refl
 

@@ -33,7 +33,7 @@ pub trait Patterns {
     fn build(&mut self, alloc: Global, pattern: &Text) -> PatternAnswer
         ensures built { IsAnswerTo pattern.now result }
         ensures counted { IsCounted (refusals self.old) (refusals self.new) result }
-        ensures told { refused self.new ≡ option_map
+        ensures reported { refused self.new ≡ option_map
             (λ texts. texts ++ refused_by pattern.now result) (refused self.old) }
         ensures refusals { refusals self.old ≤ refusals self.new };
 }
@@ -132,7 +132,7 @@ pub fn build_all<P: Patterns>(
     ensures cause { HasCause (texts_of texts.now) (P.refusals patterns.old)
         (P.refusals patterns.new)
         result }
-    ensures told { P.refused patterns.new ≡ option_map
+    ensures reported { P.refused patterns.new ≡ option_map
         (λ refused. refused ++ refused_of (texts_of texts.now) result) (P.refused patterns.old) }
     ensures refusals { P.refusals patterns.old ≤ P.refusals patterns.new }
 {

@@ -51,7 +51,7 @@ impl Pred {
         ensures cause { HasCause (searches (tree_of rule)) (P.refusals patterns.old)
             (P.refusals patterns.new)
             result }
-        ensures told { P.refused patterns.new ≡ option_map
+        ensures reported { P.refused patterns.new ≡ option_map
             (λ texts. texts ++ refused_of (searches (tree_of rule)) result)
             (P.refused patterns.old) }
         ensures refusals { P.refusals patterns.old ≤ P.refusals patterns.new }
@@ -133,7 +133,7 @@ fn build_patterns<P: Patterns>(
     ensures cause { HasCause (searches (tree_of rule.now)) (P.refusals patterns.old)
         (P.refusals patterns.new)
         result }
-    ensures told { P.refused patterns.new ≡ option_map
+    ensures reported { P.refused patterns.new ≡ option_map
         (λ texts. texts ++ refused_of (searches (tree_of rule.now)) result)
         (P.refused patterns.old) }
     ensures refusals { P.refusals patterns.old ≤ P.refusals patterns.new }

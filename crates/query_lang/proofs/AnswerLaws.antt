@@ -23,17 +23,17 @@ Blocks Allowed tokens rest = (t : Token) (after : List ℕ) (more : List Token) 
 some_pair : {x y : Token × List ℕ} → Some x ≡ Some y → x ≡ y
 some_pair same = cc
 
-same_split : (Allowed : List Token → Type 0) (text : List ℕ) (a b : List Token) (behind_a behind_b : List ℕ) → Begins text a behind_a → Begins text b behind_b → Allowed a → Allowed b
-    → Blocks Allowed a behind_a → Blocks Allowed b behind_b → (a ≡ b) × (behind_a ≡ behind_b)
-same_split Allowed text [] [] behind_a behind_b begins_a begins_b allowed_a allowed_b blocks_a blocks_b = (refl, sym begins_a ∙ begins_b)
-same_split Allowed text [] (t ∷ b) behind_a behind_b begins_a (after, read, begins_b) allowed_a allowed_b blocks_a blocks_b =
+same_split : (Allowed : List Token → Type 0) (text : List ℕ) (a b : List Token) (following_a following_b : List ℕ) → Begins text a following_a → Begins text b following_b → Allowed a → Allowed b
+    → Blocks Allowed a following_a → Blocks Allowed b following_b → (a ≡ b) × (following_a ≡ following_b)
+same_split Allowed text [] [] following_a following_b begins_a begins_b allowed_a allowed_b blocks_a blocks_b = (refl, sym begins_a ∙ begins_b)
+same_split Allowed text [] (t ∷ b) following_a following_b begins_a (after, read, begins_b) allowed_a allowed_b blocks_a blocks_b =
     absurd (blocks_a t after b (subst (λ (bytes : List ℕ). token_at bytes ≡ Some (t, after)) begins_a read) allowed_b)
-same_split Allowed text (t ∷ a) [] behind_a behind_b (after, read, begins_a) begins_b allowed_a allowed_b blocks_a blocks_b =
+same_split Allowed text (t ∷ a) [] following_a following_b (after, read, begins_a) begins_b allowed_a allowed_b blocks_a blocks_b =
     absurd (blocks_b t after a (subst (λ (bytes : List ℕ). token_at bytes ≡ Some (t, after)) begins_b read) allowed_a)
-same_split Allowed text (t ∷ a) (u ∷ b) behind_a behind_b (after_a, read_a, begins_a) (after_b, read_b, begins_b) allowed_a allowed_b blocks_a blocks_b =
-    let Claim : Token × List ℕ → Type 0 = λ p. Begins p.1 b behind_b → Allowed (p.0 ∷ b) → Blocks Allowed (p.0 ∷ b) behind_b → (t ∷ a ≡ p.0 ∷ b) × (behind_a ≡ behind_b) in
+same_split Allowed text (t ∷ a) (u ∷ b) following_a following_b (after_a, read_a, begins_a) (after_b, read_b, begins_b) allowed_a allowed_b blocks_a blocks_b =
+    let Claim : Token × List ℕ → Type 0 = λ p. Begins p.1 b following_b → Allowed (p.0 ∷ b) → Blocks Allowed (p.0 ∷ b) following_b → (t ∷ a ≡ p.0 ∷ b) × (following_a ≡ following_b) in
     let same : Claim (t, after_a) = λ begins allowed blocks.
-    let rest = same_split (λ tokens. Allowed (t ∷ tokens)) after_a a b behind_a behind_b begins_a begins allowed_a allowed blocks_a blocks in
+    let rest = same_split (λ tokens. Allowed (t ∷ tokens)) after_a a b following_a following_b begins_a begins allowed_a allowed blocks_a blocks in
     (ap (λ (tokens : List Token). t ∷ tokens) rest.0, rest.1) in
     subst Claim (some_pair (sym read_a ∙ read_b)) same begins_b allowed_b blocks_b
 
@@ -128,7 +128,7 @@ agree text tokens rest (Err (Refused p)) (Err (Refused q)) (at, stops) (also_at,
 agree text tokens rest (Err (Refused p)) (Err (TooDeep q)) (at, stops) (also_at, t, after, read, front) = absurd (stops_token tokens rest t after stops read front)
 agree text tokens rest (Err (TooDeep p)) (Ok y) (at, t, after, read, front) (none, query) = absurd (query_shallow tokens rest t after none read)
 agree text tokens rest (Err (TooDeep p)) (Err (Refused q)) (at, t, after, read, front) (also_at, stops) = absurd (stops_token tokens rest t after stops read front)
-agree text tokens rest (Err (TooDeep p)) (Err (TooDeep q)) (at, t, after, read, front) (also_at, u, behind, also_read, also_front) = let same : p ≡ q = omega arith in ap (λ (place : ℕ). Err (TooDeep place)) same
+agree text tokens rest (Err (TooDeep p)) (Err (TooDeep q)) (at, t, after, read, front) (also_at, u, following, also_read, also_front) = let same : p ≡ q = omega arith in ap (λ (place : ℕ). Err (TooDeep place)) same
 agree text tokens rest (Err (TooLong size)) b ends others = absurd ends
 agree text tokens rest (Err Memory) b ends others = absurd ends
 agree text tokens rest (Ok x) (Err (TooLong size)) ends others = absurd others

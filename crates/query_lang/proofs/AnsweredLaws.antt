@@ -20,7 +20,7 @@ use Rattle.query_lang.specs.Reading.{taken, with_rest, Parses}
 use Rattle.query_lang.specs.Tokens.{past_blanks, token_at}
 use Rattle.query_lang.proofs.AnswerLaws.{reads_err}
 use Rattle.query_lang.proofs.ParserLaws.{parsed_is_query, ended}
-use Rattle.query_lang.proofs.ReadLaws.{SoFar, at_front, so_far_more, so_far_fault, so_far_end, behind_shorter}
+use Rattle.query_lang.proofs.ReadLaws.{SoFar, at_front, so_far_more, so_far_fault, so_far_end, following_shorter}
 use Rattle.query_lang.proofs.ScanLaws.{after_shorter, blanks_shorter}
 
 -- ---- the answer
@@ -41,13 +41,13 @@ no_memory_at : (place : ℕ) (state : State) (rest : List ℕ) (test : Bool) →
 no_memory_at place state rest true e = cc
 no_memory_at place state rest false e = cc
 
-no_memory_behind : (place : ℕ) (rest : List ℕ) (stepped : Option State) → with_rest rest (within_limit place stepped) ≡ Err Memory → ⊥
-no_memory_behind place rest None e = cc
-no_memory_behind place rest (Some state) e = no_memory_at place state rest (ltb MAX_OPENINGS state.openings) e
+no_memory_following : (place : ℕ) (rest : List ℕ) (stepped : Option State) → with_rest rest (within_limit place stepped) ≡ Err Memory → ⊥
+no_memory_following place rest None e = cc
+no_memory_following place rest (Some state) e = no_memory_at place state rest (ltb MAX_OPENINGS state.openings) e
 
 no_memory : (place : ℕ) (state : State) (found : Option (Token × List ℕ)) → taken place state found ≡ Err Memory → ⊥
 no_memory place state None e = cc
-no_memory place state (Some found) e = no_memory_behind place (past_blanks found.1) (step state found.0) e
+no_memory place state (Some found) e = no_memory_following place (past_blanks found.1) (step state found.0) e
 
 fault_is_answer : (text rest : List ℕ) (place : ℕ) (state : State) → length text ≤ MAX_BYTES → SoFar text rest state → place + length rest ≡ length text → 0 < length rest
     → (fault : QueryFault) → taken place state (token_at rest) ≡ Err fault → IsAnswer text (Err fault)
@@ -55,16 +55,16 @@ fault_is_answer text rest place state short so at some fault e =
     reads_err text (Err fault) short (so_far_fault text rest place state so at some fault e)
     (λ memory. no_memory place state (token_at rest) (e ∙ ap (λ (fault : QueryFault). Err fault) memory))
 
--- what is known of every state that is behind fewer tokens
+-- what is known of every state that is after fewer tokens
 abbrev Answered : ℕ → List ℕ → Type 0
 Answered n text = (rest : List ℕ) (state : State) → length rest ≤ n → SoFar text rest state → IsAnswer text (answer_within n (length text) state rest)
 
 step_is_answer : (n : ℕ) (text rest : List ℕ) (place : ℕ) (state : State) → Answered n text → length text ≤ MAX_BYTES → length rest ≤ suc n → SoFar text rest state → place + length rest ≡ length text → 0 < length rest
     → (found : Result (State × List ℕ) QueryFault) → taken place state (token_at rest) ≡ found → IsAnswer text (and_then found (answer_within n (length text)))
-step_is_answer n text rest place state behind short fits so at some (Ok found) e =
-    behind found.1 found.0
-    (omega (arith, fits, behind_shorter rest found.1 place state found.0 e)) (so_far_more text rest found.1 place state found.0 so e)
-step_is_answer n text rest place state behind short fits so at some (Err fault) e = fault_is_answer text rest place state short so at some fault e
+step_is_answer n text rest place state following short fits so at some (Ok found) e =
+    following found.1 found.0
+    (omega (arith, fits, following_shorter rest found.1 place state found.0 e)) (so_far_more text rest found.1 place state found.0 so e)
+step_is_answer n text rest place state following short fits so at some (Err fault) e = fault_is_answer text rest place state short so at some fault e
 
 within_is_answer : (n : ℕ) (text : List ℕ) → length text ≤ MAX_BYTES → Answered n text
 unfolding answer_within

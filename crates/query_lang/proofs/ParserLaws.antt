@@ -28,7 +28,7 @@ abbrev pub result_of : State → List Token → Option Tree
 result_of state [] = finish state
 result_of state (t ∷ tokens) = option_and_then (λ next. result_of next tokens) (step state t)
 
--- the state behind tokens
+-- the state after tokens
 abbrev pub reached : State → List Token → Option State
 reached state [] = Some state
 reached state (t ∷ tokens) = option_and_then (λ next. reached next tokens) (step state t)
@@ -149,9 +149,9 @@ sound_name tokens after name (Some field) is outer group count tree e =
 sound_operand : (tokens : List Token) → Sound tokens → (t : Token) (outer : List Group) (group : Group) (count : ℕ) (tree : Tree)
     → option_and_then (λ next. result_of next tokens) (operand_step (state_at outer group count wants.Operand) t) ≡ Some tree → EndsAt wants.Operand outer group (t ∷ tokens) tree
 sound_operand tokens after token.Open outer group count tree e =
-    let (one, rest, is, (inner, behind, ends, joint)) = after (group ∷ outer) empty_group (count + 1) wants.Operand tree tt e in
-    let (trees, any, same) = group_any tokens rest (token.Close ∷ behind) one inner is ends in
-    (inner, behind, subst (λ (tree : Tree). IsOne (token.Open ∷ tokens) tree behind) (sym same) (grouped any), joint)
+    let (one, rest, is, (inner, following, ends, joint)) = after (group ∷ outer) empty_group (count + 1) wants.Operand tree tt e in
+    let (trees, any, same) = group_any tokens rest (token.Close ∷ following) one inner is ends in
+    (inner, following, subst (λ (tree : Tree). IsOne (token.Open ∷ tokens) tree following) (sym same) (grouped any), joint)
 sound_operand tokens after token.Not outer group count tree e =
     let (one, rest, is, joint) = after outer (record { alternatives = group.alternatives; parts = group.parts; nots = group.nots + 1 }) (count + 1) wants.Operand tree tt e in
     (Not one, rest, negated_one is, subst (λ (group : Group). JointEnds outer group rest tree) (denied_part one group.alternatives group.parts group.nots) joint)
@@ -356,7 +356,7 @@ state_viable outer group count wants.Joint = joint_viable outer group count
 viable : (state : State) → Viable state
 viable state = state_viable state.outer state.group state.openings state.wants
 
--- tokens that were taken, and others behind them
+-- tokens that were taken, and others after them
 
 result_after_step : (tokens more : List Token) (found : Option State) → ((state : State) → result_of state (tokens ++ more) ≡ option_and_then (λ next. result_of next more) (reached state tokens))
     → option_and_then (λ next. result_of next (tokens ++ more)) found ≡ option_and_then (λ next. result_of next more) (option_and_then (λ next. reached next tokens) found)

@@ -74,9 +74,9 @@ next_at place state next None rest e = cc
 next_at place state next (Some found) rest e = next_at_step place state next found.0 found.1 rest (step state found.0) refl e
 
 -- one token more
-pub so_far_more : (text rest behind : List ℕ) (place : ℕ) (state next : State) → SoFar text rest state → taken place state (token_at rest) ≡ Ok (next, behind) → SoFar text behind next
-so_far_more text rest behind place state next so e =
-    let step_on = next_at place state next (token_at rest) behind e in
+pub so_far_more : (text rest following : List ℕ) (place : ℕ) (state next : State) → SoFar text rest state → taken place state (token_at rest) ≡ Ok (next, following) → SoFar text following next
+so_far_more text rest following place state next so e =
+    let step_on = next_at place state next (token_at rest) following e in
     let counts = step_counts state step_on.token next step_on.step_is in
     let begins = begins_more text so.tokens rest step_on.after step_on.token so.begins step_on.read in
     let shorter = after_shorter rest step_on.token step_on.after step_on.read in
@@ -92,9 +92,9 @@ so_far_more text rest behind place state next so e =
       counted = counts.counted so.counted;
     }
 
-pub behind_shorter : (rest behind : List ℕ) (place : ℕ) (state next : State) → taken place state (token_at rest) ≡ Ok (next, behind) → length behind < length rest
-behind_shorter rest behind place state next e =
-    let step_on = next_at place state next (token_at rest) behind e in
+pub following_shorter : (rest following : List ℕ) (place : ℕ) (state next : State) → taken place state (token_at rest) ≡ Ok (next, following) → length following < length rest
+following_shorter rest following place state next e =
+    let step_on = next_at place state next (token_at rest) following e in
     let shorter = after_shorter rest step_on.token step_on.after step_on.read in
     let blanks = blanks_shorter step_on.after in
     let below : length (past_blanks step_on.after) < length rest = omega arith in

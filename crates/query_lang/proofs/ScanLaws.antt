@@ -64,18 +64,18 @@ names_are_utf8 bytes = is_utf8-from_IsUtf8 _ (IsUtf8-from_ascii _ (ascii_passing
 -- strings
 
 -- with the bytes of the string that were read before
-abbrev pub behind : List ℕ → Option (List ℕ × List ℕ) → Option (List ℕ × List ℕ)
-behind front = option_map (λ found. (front ++ found.0, found.1))
+abbrev pub following : List ℕ → Option (List ℕ × List ℕ) → Option (List ℕ × List ℕ)
+following front = option_map (λ found. (front ++ found.0, found.1))
 
-pub behind_more : (front : List ℕ) (b : ℕ) (found : Option (List ℕ × List ℕ)) → behind (front ++ b ∷ []) found ≡ behind front (with_prefix b found)
-behind_more front b None = refl
-behind_more front b (Some found) = ap (λ (text : List ℕ). Some (text, found.1)) (append_assoc front (b ∷ []) found.0)
+pub following_more : (front : List ℕ) (b : ℕ) (found : Option (List ℕ × List ℕ)) → following (front ++ b ∷ []) found ≡ following front (with_prefix b found)
+following_more front b None = refl
+following_more front b (Some found) = ap (λ (text : List ℕ). Some (text, found.1)) (append_assoc front (b ∷ []) found.0)
 
-pub behind_none : (found : Option (List ℕ × List ℕ)) → behind [] found ≡ found
-behind_none None = refl
-behind_none (Some found) = refl
+pub following_none : (found : Option (List ℕ × List ℕ)) → following [] found ≡ found
+following_none None = refl
+following_none (Some found) = refl
 
--- where a byte is no quote, it is read with the one behind it as `unescape` says
+-- where a byte is not a quote, it is read with the one after it as `unescape` says
 
 abbrev Found : Type 0
 Found = ℕ × List ℕ
@@ -119,11 +119,11 @@ pub quoted_more : (b : ℕ) (after : List ℕ) (m : ℕ) (rest : List ℕ) → e
 quoted_more b [] m rest other some = rw other (last_byte (eqb b 92) b m rest some)
 quoted_more b (c ∷ bytes) m rest other some = rw other (some_slash (eqb b 92) b c bytes m rest some)
 
-pub quoted_step : (front all after rest : List ℕ) (b m : ℕ) (found : Option (List ℕ × List ℕ)) → behind front (quoted all) ≡ found → all ≡ b ∷ after → (b ≡ 34 → ⊥)
-    → Some (m, rest) ≡ unescape b after → behind (front ++ m ∷ []) (quoted rest) ≡ found
+pub quoted_step : (front all after rest : List ℕ) (b m : ℕ) (found : Option (List ℕ × List ℕ)) → following front (quoted all) ≡ found → all ≡ b ∷ after → (b ≡ 34 → ⊥)
+    → Some (m, rest) ≡ unescape b after → following (front ++ m ∷ []) (quoted rest) ≡ found
 quoted_step front all after rest b m found before is other read =
     let opened : quoted all ≡ with_prefix m (quoted rest) = subst (λ (bytes : List ℕ). quoted bytes ≡ with_prefix m (quoted rest)) (sym is) (quoted_more b after m rest (ne_eqb b 34 other) (sym read)) in
-    behind_more front m (quoted rest) ∙ sym (ap (behind front) opened) ∙ before
+    following_more front m (quoted rest) ∙ sym (ap (following front) opened) ∙ before
 
 -- numbers
 
@@ -174,7 +174,7 @@ digits_of_run : (digits : List ℕ) → AllPassing is_ascii_digit digits → All
 digits_of_run [] h = tt
 digits_of_run (b ∷ digits) h = digits_more b digits h.0 (digits_of_run digits h.1)
 
--- the first byte and the run of digits behind it are a literal
+-- the first byte and the run of digits after it are a literal
 pub literal_at : (bytes : List ℕ) → IsLiteral (take 1 bytes) → IsLiteral (take (1 + prefix_len is_ascii_digit (drop 1 bytes)) bytes)
 literal_at [] is = absurd is
 literal_at (b ∷ bytes) is = rw one-add (is.0, digits_of_run _ (run_passes is_ascii_digit bytes))
@@ -189,7 +189,7 @@ literal_taken bytes literal size is run front =
     let same = run ∙ ap (prefix_len is_ascii_digit) (rest_whole bytes) in
     subst (λ (text : List ℕ). IsLiteral text) (sym (front ∙ ap (λ (n : ℕ). take (1 + n) bytes) same)) (literal_at bytes is)
 
--- What is behind a token is shorter than what began with it.
+-- What is after a token is shorter than what began with it.
 
 abbrev Shorter : {X : Type 0} → ℕ → Option (X × List ℕ) → Type 0
 Shorter size None = Unit {0}
@@ -216,10 +216,10 @@ quoted_shorter [] = tt
 quoted_shorter (b ∷ []) = shorter_if 1 (eqb b 34) (Some ([], [])) None (λ _. omega arith) tt
 quoted_shorter (b ∷ c ∷ bytes) =
     let size = length (b ∷ c ∷ bytes) in
-    let behind_escape = shorter_than (length bytes) size (quoted bytes) (omega arith) (quoted_shorter bytes) in
-    let behind_byte = shorter_than (length (c ∷ bytes)) size (quoted (c ∷ bytes)) (omega arith) (quoted_shorter (c ∷ bytes)) in
+    let following_escape = shorter_than (length bytes) size (quoted bytes) (omega arith) (quoted_shorter bytes) in
+    let following_byte = shorter_than (length (c ∷ bytes)) size (quoted (c ∷ bytes)) (omega arith) (quoted_shorter (c ∷ bytes)) in
     shorter_if size (eqb b 34) (Some ([], c ∷ bytes)) _ (λ _. omega arith)
-    (shorter_if size (eqb b 92) _ _ (λ _. shorter_escape size (escaped c) (quoted bytes) behind_escape) (shorter_front size b (quoted (c ∷ bytes)) behind_byte))
+    (shorter_if size (eqb b 92) _ _ (λ _. shorter_escape size (escaped c) (quoted bytes) following_escape) (shorter_front size b (quoted (c ∷ bytes)) following_byte))
 
 shorter_text : (size : ℕ) (found : Option (List ℕ × List ℕ)) → Shorter size found
     → Shorter size (option_and_then (λ found. cond (is_utf8 found.0) (Some (Quoted found.0, found.1)) None) found)

@@ -17,7 +17,7 @@ pub grouped_parts : (group : Bool) (old text : List ℕ) → ((old ++ cond group
 grouped_parts true old text = append_assoc (old ++ codes "( ") text (codes " )") ∙ append_assoc old (codes "( ") (text ++ codes " )") ∙ ap (λ (all : List ℕ). old ++ all) (sym (append_assoc (codes "( ") text (codes " )")))
 grouped_parts false old text = append_nil ((old ++ []) ++ text) ∙ ap (λ (all : List ℕ). all ++ text) (append_nil old)
 
--- the parts behind the first one
+-- the parts after the first one
 more_append : (word : List ℕ) (place : Under) (parts others : List Rule)
     → more_spelling word place (listed (map tree_of (parts ++ others))) ≡ more_spelling word place (listed (map tree_of parts)) ++ more_spelling word place (listed (map tree_of others))
 more_append word place [] others = refl
@@ -48,7 +48,7 @@ any_spelled rule parts items place is same =
     ap (λ (all : List Rule). grouped (groups_any place) (joined_spelling (codes " or ") under.Any (listed (map tree_of all)))) same
     ∙ sym (ap (λ (rule : Rule). spelling_under place (tree_of rule)) is ∙ ap (spelling_under place) (any_listed parts))
 
--- one part more, behind the word
+-- one part more, after the word
 pub parts_step : (first initial out appended final word : List ℕ) (place : Under) (parts : List Rule) (i : ℕ) (part : Rule)
     → IsPrefix first out × (out ≡ initial ++ more_spelling word place (listed (map tree_of (take i parts)))) → appended ≡ out ++ word → final ≡ appended ++ spelling_under place (tree_of part)
     → i < length parts → part ≡ get_or parts i part

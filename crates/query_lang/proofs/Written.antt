@@ -26,7 +26,7 @@ use Rattle.query_lang.proofs.ReadBackLaws.{Separated, begins_blank, begins_name,
 use Rattle.query_lang.proofs.ParserLaws.{append_nil}
 use Rattle.query_lang.proofs.GoodTokens.{GoodField, GoodValue, Many, GoodTree, GoodTrees, tokens_good, query_good}
 
--- the tokens of what is written, and others behind them
+-- the tokens of what is written, and others after them
 
 abbrev name_token : Field → Token
 name_token field.Host = token.Name (codes "host")
@@ -134,7 +134,7 @@ equal_is f value.Nil = refl
 equal_is f (value.Number number) = refl
 equal_is f (value.Text text) = refl
 
--- as a whole operand, and as what stands under Any
+-- as a whole operand, and as what is under Any
 abbrev Written : Tree → Type 0
 Written tree = ((place : Under) → Groups place tree → (more : List Token) → IsOne (tokens_under place tree more) tree more)
     × ((more : List Token) → (parts : List Tree) × IsAll (tokens_under under.Any tree more) parts more × (all_of parts ≡ tree))
@@ -161,8 +161,8 @@ group_of_any trees many alternatives place groups more =
 one_any : (tree : Tree) (more after : List Token) → ((parts : List Tree) × IsAll after parts more × (all_of parts ≡ tree)) → IsAny after (tree ∷ []) more
 one_any tree more after (parts, all, same) = subst (λ (tree : Tree). IsAny after (tree ∷ []) more) same (one_alternative all)
 
-more_any : (tree : Tree) (trees : List Tree) (more behind after : List Token) → ((parts : List Tree) × IsAll after parts (token.Or ∷ behind) × (all_of parts ≡ tree)) → IsAny behind trees more → IsAny after (tree ∷ trees) more
-more_any tree trees more behind after (parts, all, same) any = subst (λ (tree : Tree). IsAny after (tree ∷ trees) more) same (more_alternatives all any)
+more_any : (tree : Tree) (trees : List Tree) (more following after : List Token) → ((parts : List Tree) × IsAll after parts (token.Or ∷ following) × (all_of parts ≡ tree)) → IsAny following trees more → IsAny after (tree ∷ trees) more
+more_any tree trees more following after (parts, all, same) any = subst (λ (tree : Tree). IsAny after (tree ∷ trees) more) same (more_alternatives all any)
 
 mutual
   unfolding unlisted
@@ -197,8 +197,8 @@ mutual
       → IsAny (tokens_under under.Any tree (more_tokens token.Or under.Any trees more)) (tree ∷ unlisted trees) more
   alternatives_after none good tree first more = one_any tree more (tokens_under under.Any tree more) (first more)
   alternatives_after (also second trees) good tree first more =
-      let behind = tokens_under under.Any second (more_tokens token.Or under.Any trees more) in
-      more_any tree (second ∷ unlisted trees) more behind (tokens_under under.Any tree (token.Or ∷ behind)) (first (token.Or ∷ behind)) (alternatives_after trees good.1 second (written second good.0).1 more)
+      let following = tokens_under under.Any second (more_tokens token.Or under.Any trees more) in
+      more_any tree (second ∷ unlisted trees) more following (tokens_under under.Any tree (token.Or ∷ following)) (first (token.Or ∷ following)) (alternatives_after trees good.1 second (written second good.0).1 more)
 
 under_any_is : (tree : Tree) → ((parts : List Tree) × IsAll (tokens_under under.Any tree []) parts [] × (all_of parts ≡ tree)) → IsQuery (tokens_under under.Any tree []) tree
 under_any_is tree (parts, all, same) = (all_of parts ∷ [], one_alternative all, sym same)
@@ -309,11 +309,11 @@ test_begins f symbol literal rest o t more last good blank read_symbol read_lite
     append_assoc (field_name f) (symbol ++ literal) rest ∙ ap (λ (all : List ℕ). field_name f ++ all) (append_assoc symbol literal rest) in
     let name : token_at (past_blanks (field_name f ++ (symbol ++ (literal ++ rest)))) ≡ Some (name_token f, symbol ++ (literal ++ rest)) =
     subst (λ (all : List ℕ). token_at (past_blanks (field_name f ++ all)) ≡ Some (name_token f, all)) (sym opens) (field_read f after good) in
-    let behind : Begins (literal ++ rest) (t ∷ more) last = (rest, read_literal, begins) in
+    let following : Begins (literal ++ rest) (t ∷ more) last = (rest, read_literal, begins) in
     subst (λ (all : List ℕ). Begins all (name_token f ∷ token.Operator o ∷ t ∷ more) last) (sym text)
-    (symbol ++ (literal ++ rest), name, (32 ∷ (literal ++ rest), read_symbol (literal ++ rest), begins_blank (literal ++ rest) (t ∷ more) last behind))
+    (symbol ++ (literal ++ rest), name, (32 ∷ (literal ++ rest), read_symbol (literal ++ rest), begins_blank (literal ++ rest) (t ∷ more) last following))
 
--- tokens that a text gives, whatever stands behind it
+-- tokens that a text gives, whatever comes after it
 abbrev Spells : List ℕ → (List Token → List Token) → Type 0
 Spells text tokens = (rest : List ℕ) (more : List Token) (last : List ℕ) → Separated rest → Begins rest more last → Begins (text ++ rest) (tokens more) last
 
@@ -380,8 +380,8 @@ then_more text more_text tokens more_of apart first second rest more last ends b
 
 after_word : (word text : List ℕ) (t : Token) (tokens : List Token → List Token) → Between word t → Spells text tokens → Spells (word ++ text) (λ more. t ∷ tokens more)
 after_word word text t tokens between spells rest more last ends begins =
-    let behind = begins_blank (text ++ rest) (tokens more) last (spells rest more last ends begins) in
-    subst (λ (all : List ℕ). Begins all (t ∷ tokens more) last) (sym (append_assoc word text rest)) (32 ∷ (text ++ rest), between.read (text ++ rest), behind)
+    let following = begins_blank (text ++ rest) (tokens more) last (spells rest more last ends begins) in
+    subst (λ (all : List ℕ). Begins all (t ∷ tokens more) last) (sym (append_assoc word text rest)) (32 ∷ (text ++ rest), between.read (text ++ rest), following)
 
 mutual
   rule_spells : (tree : Tree) → GoodTree tree → (place : Under) → Spells (spelling_under place tree) (tokens_under place tree)

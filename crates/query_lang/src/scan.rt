@@ -206,7 +206,7 @@ fn string_at(alloc: Global, bytes: &[u8]) -> Result<(Token, &[u8]), ScanFault>
 }
 
 /// What a string holds, and the bytes after its closing quote.
-#[tactic(auto, using(crate::proofs::ScanLaws::behind_more, crate::proofs::ScanLaws::behind_none, crate::proofs::ScanLaws::quoted_stops, crate::proofs::ScanLaws::quoted_more))]
+#[tactic(auto, using(crate::proofs::ScanLaws::following_more, crate::proofs::ScanLaws::following_none, crate::proofs::ScanLaws::quoted_stops, crate::proofs::ScanLaws::quoted_more))]
 fn quoted(alloc: Global, bytes: &[u8]) -> Result<(Blob, &[u8]), ScanFault>
     ensures { Gives (λ x. (x.0, x.1.now)) ScanFault.Unreadable result (quoted bytes.now) }
 {

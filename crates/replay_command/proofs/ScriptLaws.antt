@@ -1,7 +1,7 @@
 -- What is known of a script, from what its file and its text say.
 use Rattle.std.proofs.Common.{◌≡◌, ℕ, ◌≤◌, List, [], ◌∷◌, length, refl, subst, sym}
 use Rattle.std.specs.Prelude.{Option, Result, Ok, Err, IfErr}
-use Rattle.command_io.proofs.EndingLaws.{told_of}
+use Rattle.command_io.proofs.EndingLaws.{reported_of}
 use Rattle.command_io.specs.Endings.{IsComplete, status_of}
 use Rattle.command_io.specs.Files.{ForHeld, ReadMore, good_read}
 use Rattle.command_io.specs.Reports.{StoreReport}
@@ -21,7 +21,7 @@ use Rattle.replay_command.specs.Scripts.{RefusesScript, RefusesText}
 -- a fact of the bytes that were read, as one of the file
 pub for_file : (content : Content) (bytes : List ℕ) (P : List ℕ → Type 0) → IsFile content bytes → P bytes
     → ForHeld content (λ held. (length held ≤ FILE_LIMIT) × P held)
-for_file content bytes P is fact = λ held told. let file = is held told in
+for_file content bytes P is fact = λ held reported. let file = is held reported in
     (file.0, file.1, (rw file.2.0 file.2.1, subst P (sym file.2.0) fact))
 
 pub text_refused : (content : Content) (bytes : List ℕ) (old new : StoreReport) (ending : Ending) → IsFile content bytes → RefusesText bytes ending
@@ -117,5 +117,5 @@ script_refused_for_memory content text script old new (BytesLeft count) holds is
 script_refused_for_memory content text script old new WriteFailed holds is fits still refuses = absurd refuses
 script_refused_for_memory content text script old new LinksFailed holds is fits still refuses = absurd refuses
 script_refused_for_memory content text script old new (ScriptRefused line) holds is fits still refuses =
-    let refused : script_of text ≡ Err line = (told_of content text _ holds refuses).1 in cc
+    let refused : script_of text ≡ Err line = (reported_of content text _ holds refuses).1 in cc
 script_refused_for_memory content text script old new OutOfMemory holds is fits still refuses = refl

@@ -129,8 +129,8 @@ pub attribute_read : (bytes : List ℕ) (base : ℕ) (draft : AttrDraft) (key : 
 unfolding attribute_fault attribute_of
 attribute_read bytes base draft key clean is some =
     let all = attribute_grows bytes draft is in
-    let told : last_in bytes_in 1 (values_of bytes) ≡ Some key = sym (ap (λ (d : AttrDraft). d.key) all) ∙ some in
-    (rw (clean, told) refl, rw (told, ap (λ (d : AttrDraft). d.value) all) refl)
+    let reported : last_in bytes_in 1 (values_of bytes) ≡ Some key = sym (ap (λ (d : AttrDraft). d.key) all) ∙ some in
+    (rw (clean, reported) refl, rw (reported, ap (λ (d : AttrDraft). d.value) all) refl)
 
 pub attribute_keyless : (bytes : List ℕ) (base : ℕ) (draft : AttrDraft) → first_by (attribute_field_fault bytes) bytes ≡ None
     → draft ≡ fold (λ draft field. attribute_with draft (value_at bytes field)) (record { key = None; value = None }) (fields_of bytes) → draft.key ≡ None
@@ -138,8 +138,8 @@ pub attribute_keyless : (bytes : List ℕ) (base : ℕ) (draft : AttrDraft) → 
 unfolding attribute_fault
 attribute_keyless bytes base draft clean is none =
     let all = attribute_grows bytes draft is in
-    let told : last_in bytes_in 1 (values_of bytes) ≡ None = sym (ap (λ (d : AttrDraft). d.key) all) ∙ none in
-    rw (clean, told) refl
+    let reported : last_in bytes_in 1 (values_of bytes) ≡ None = sym (ap (λ (d : AttrDraft). d.key) all) ∙ none in
+    rw (clean, reported) refl
 
 or_more : (base : ℕ) (o p : Option Fault) (y : Fault) → option_map (moved base) o ≡ Some y → option_map (moved base) (option_or o p) ≡ Some y
 or_more base None p y e = absurd cc
@@ -241,8 +241,8 @@ last_keeps P o [] all first = first
 last_keeps P o (x ∷ xs) all first = last_keeps P (Some x) xs all.1 all.0
 
 one_kept : {B : Type 0} (P : B → Type 0) (found : Option B) (xs : List B) → IfSome found P → AllByRecursion P xs → AllByRecursion P (cons_option found xs)
-one_kept P None xs told all = all
-one_kept P (Some x) xs told all = (told, all)
+one_kept P None xs reported all = all
+one_kept P (Some x) xs reported all = (reported, all)
 
 all_keep : {A B : Type 0} (P : B → Type 0) (f : A → Option B) (xs : List A) → ((x : A) → IfSome (f x) P) → AllByRecursion P (filter_map f xs)
 all_keep P f [] each = tt
@@ -251,16 +251,16 @@ all_keep P f (x ∷ xs) each = one_kept P (f x) (filter_map f xs) (each x) (all_
 ttl_spellable : (value : FieldValue) → IfSome (field_in ttl_in 8 value) IsSpellableTtl
 ttl_spellable value = one (eqb value.number 8) value.content
   where
-    told : (bits : ℕ) (found : Option ℕ) → seconds_of bits ≡ found → IfSome found IsSpellableTtl
-    told bits None is = tt
-    told bits (Some seconds) is = (bits, ttl_from_seconds bits seconds is)
+    reported : (bits : ℕ) (found : Option ℕ) → seconds_of bits ≡ found → IfSome found IsSpellableTtl
+    reported bits None is = tt
+    reported bits (Some seconds) is = (bits, ttl_from_seconds bits seconds is)
 
     one : (test : Bool) (content : Content) → IfSome (cond test (ttl_in content) None) IsSpellableTtl
     one false content = tt
     one true (Varint value) = tt
     one true (Eight value) = tt
     one true (Bytes bytes) = tt
-    one true (Four bits) = told bits (seconds_of bits) refl
+    one true (Four bits) = reported bits (seconds_of bits) refl
 
 event_spellable : (now : ℤ) (bytes : List ℕ) → IsSpellableEvent (event_of now bytes)
 unfolding event_of

@@ -24,8 +24,8 @@ slice_front a b i j within = elim (cases_lt i j) [
   | inr none ↦ let empty : j - i ≡ 0 = omega arith in rw empty refl
 ]
 
-slice_behind : (a b : List ℕ) (i j : ℕ) → slice_range (a ++ b) (length a + i) (length a + j) ≡ slice_range b i j
-slice_behind a b i j =
+slice_following : (a b : List ℕ) (i j : ℕ) → slice_range (a ++ b) (length a + i) (length a + j) ≡ slice_range b i j
+slice_following a b i j =
     let same : (length a + j) - (length a + i) ≡ j - i = omega arith in
     rw same (ap (take (j - i)) (drop-append-add a b i))
 
@@ -39,18 +39,18 @@ content_front a b after (Bytes start last) within ends =
     let short : last ≤ length a = omega (arith, ends.1) in
     ap (λ (bytes : List ℕ). content_bytes bytes) (slice_front a b start last short)
 
-stands_front : (a b : List ℕ) (field : FieldAt) (after : ℕ) → IsFieldAt a field after → IsFieldAt (a ++ b) field after
-stands_front a b field after stands = record {
-  within = omega (arith, stands.within, length-append a b);
-  spelled = rw (slice_front a b field.place after stands.within, content_front a b after field.body stands.within stands.ends) stands.spelled;
-  ends = stands.ends;
+holds_front : (a b : List ℕ) (field : FieldAt) (after : ℕ) → IsFieldAt a field after → IsFieldAt (a ++ b) field after
+holds_front a b field after holds = record {
+  within = omega (arith, holds.within, length-append a b);
+  spelled = rw (slice_front a b field.place after holds.within, content_front a b after field.body holds.within holds.ends) holds.spelled;
+  ends = holds.ends;
 }
 
 row_first_part : (a b : List ℕ) (place : ℕ) (fields : List FieldAt) (last : ℕ) → AreInRow a place fields last → AreInRow (a ++ b) place fields last
 row_first_part a b place [] last row = row
-row_first_part a b place (field ∷ fields) last row = (row.0, row.1, stands_front a b field row.1 row.2, row_first_part a b row.1 fields last row.3)
+row_first_part a b place (field ∷ fields) last row = (row.0, row.1, holds_front a b field row.1 row.2, row_first_part a b row.1 fields last row.3)
 
--- ---- a row, further behind
+-- ---- a row, further on
 
 moved_body : ℕ → Body → Body
 moved_body n (Varint value) = Varint value
@@ -61,31 +61,31 @@ moved_body n (Bytes start last) = Bytes (n + start) (n + last)
 abbrev moved_field : ℕ → FieldAt → FieldAt
 moved_field n field = record { number = field.number; body = moved_body n field.body; place = n + field.place }
 
-content_behind : (a b : List ℕ) (body : Body) → content_in (a ++ b) (moved_body (length a) body) ≡ content_in b body
+content_following : (a b : List ℕ) (body : Body) → content_in (a ++ b) (moved_body (length a) body) ≡ content_in b body
 unfolding moved_body
-content_behind a b (Varint value) = refl
-content_behind a b (Eight value) = refl
-content_behind a b (Four value) = refl
-content_behind a b (Bytes start last) = ap (λ (bytes : List ℕ). content_bytes bytes) (slice_behind a b start last)
+content_following a b (Varint value) = refl
+content_following a b (Eight value) = refl
+content_following a b (Four value) = refl
+content_following a b (Bytes start last) = ap (λ (bytes : List ℕ). content_bytes bytes) (slice_following a b start last)
 
-ends_behind : (n after : ℕ) (body : Body) → EndsAt after body → EndsAt (n + after) (moved_body n body)
+ends_following : (n after : ℕ) (body : Body) → EndsAt after body → EndsAt (n + after) (moved_body n body)
 unfolding moved_body
-ends_behind n after (Varint value) ends = tt
-ends_behind n after (Eight value) ends = tt
-ends_behind n after (Four value) ends = tt
-ends_behind n after (Bytes start last) ends = (omega (arith, ends.0), omega (arith, ends.1))
+ends_following n after (Varint value) ends = tt
+ends_following n after (Eight value) ends = tt
+ends_following n after (Four value) ends = tt
+ends_following n after (Bytes start last) ends = (omega (arith, ends.0), omega (arith, ends.1))
 
-stands_behind : (a b : List ℕ) (field : FieldAt) (after : ℕ) → IsFieldAt b field after → IsFieldAt (a ++ b) (moved_field (length a) field) (length a + after)
-stands_behind a b field after stands = record {
-  within = omega (arith, stands.within, length-append a b);
-  spelled = rw (slice_behind a b field.place after, content_behind a b field.body) stands.spelled;
-  ends = ends_behind (length a) after field.body stands.ends;
+holds_following : (a b : List ℕ) (field : FieldAt) (after : ℕ) → IsFieldAt b field after → IsFieldAt (a ++ b) (moved_field (length a) field) (length a + after)
+holds_following a b field after holds = record {
+  within = omega (arith, holds.within, length-append a b);
+  spelled = rw (slice_following a b field.place after, content_following a b field.body) holds.spelled;
+  ends = ends_following (length a) after field.body holds.ends;
 }
 
 row_after : (a b : List ℕ) (place : ℕ) (fields : List FieldAt) (last : ℕ) → AreInRow b place fields last → AreInRow (a ++ b) (length a + place) (map (moved_field (length a)) fields) (length a + last)
 row_after a b place [] last row = ap (λ n. length a + n) row
 row_after a b place (field ∷ fields) last row =
-    (ap (λ n. length a + n) row.0, length a + row.1, stands_behind a b field row.1 row.2, row_after a b row.1 fields last row.3)
+    (ap (λ n. length a + n) row.0, length a + row.1, holds_following a b field row.1 row.2, row_after a b row.1 fields last row.3)
 
 row_append : (bytes : List ℕ) (place : ℕ) (xs ys : List FieldAt) (middle last : ℕ) → AreInRow bytes place xs middle → AreInRow bytes middle ys last → AreInRow bytes place (xs ++ ys) last
 row_append bytes place [] ys middle last row rest = subst (λ (p : ℕ). AreInRow bytes p ys last) (sym row) rest
@@ -103,13 +103,13 @@ values_first_part a b place (field ∷ fields) last row =
     value : ℕ → Content → FieldValue
     value number content = record { number = number; content = content }
 
-values_behind : (a b : List ℕ) (fields : List FieldAt) → map (value_at (a ++ b)) (map (moved_field (length a)) fields) ≡ map (value_at b) fields
-values_behind a b [] = refl
-values_behind a b (field ∷ fields) =
-    let one : content_in (a ++ b) (moved_body (length a) field.body) ≡ content_in b field.body = content_behind a b field.body in
-    rw (one, values_behind a b fields) refl
+values_following : (a b : List ℕ) (fields : List FieldAt) → map (value_at (a ++ b)) (map (moved_field (length a)) fields) ≡ map (value_at b) fields
+values_following a b [] = refl
+values_following a b (field ∷ fields) =
+    let one : content_in (a ++ b) (moved_body (length a) field.body) ≡ content_in b field.body = content_following a b field.body in
+    rw (one, values_following a b fields) refl
 
--- ---- two texts one behind the other
+-- ---- two texts one after the other
 
 none_within : (n : ℕ) (bytes : List ℕ) (place : ℕ) (why : WireWhy) → field_from bytes place ≡ Err why → fields_within n bytes place ≡ []
 unfolding fields_within
@@ -136,8 +136,8 @@ row_of_both a b wa wb =
     (subst (λ (p : ℕ). AreInRow (a ++ b) p (map (moved_field (length a)) (fields_of b)) (length a + length b)) (add-zero (length a)) (row_after a b 0 (fields_of b) (length b) (row_of b wb)))
 
 whole_from : (bytes : List ℕ) (fault : Option (ℕ × WireWhy)) → length bytes ≤ fields_end bytes 0 → MatchOption fault (fields_end bytes 0 ≡ length bytes) (λ fault. (fault.0 ≡ fields_end bytes 0) × (fault.0 < length bytes)) → fault ≡ None
-whole_from bytes None far told = refl
-whole_from bytes (Some fault) far told = absurd (omega (arith, told.0, told.1))
+whole_from bytes None far reported = refl
+whole_from bytes (Some fault) far reported = absurd (omega (arith, reported.0, reported.1))
 
 pub both_whole : (a b : List ℕ) → IsWhole a → IsWhole b → IsWhole (a ++ b)
 both_whole a b wa wb =
@@ -153,7 +153,7 @@ values_of_both a b wa wb =
     longest.0 ∙ ap (λ (rest : List FieldAt). (fields_of a ++ map (moved_field (length a)) (fields_of b)) ++ rest) end ∙ append-nil (fields_of a ++ map (moved_field (length a)) (fields_of b)) in
     ap (map (value_at (a ++ b))) fields ∙ map-append (value_at (a ++ b)) (fields_of a) (map (moved_field (length a)) (fields_of b))
     ∙ ap (λ (xs : List FieldValue). xs ++ map (value_at (a ++ b)) (map (moved_field (length a)) (fields_of b))) (values_first_part a b 0 (fields_of a) (length a) (row_of a wa))
-    ∙ ap (λ (xs : List FieldValue). map (value_at a) (fields_of a) ++ xs) (values_behind a b (fields_of b))
+    ∙ ap (λ (xs : List FieldValue). map (value_at a) (fields_of a) ++ xs) (values_following a b (fields_of b))
 
 -- ---- and any number of them
 

@@ -73,12 +73,12 @@ last_of_option None = refl
 last_of_option (Some x) = refl
 
 some_if : {A : Type 0} (P Q : A → Type 0) (o : Option A) → IfSome o P → ((x : A) → P x → Q x) → IfSome o Q
-some_if P Q None told each = tt
-some_if P Q (Some x) told each = each x told
+some_if P Q None reported each = tt
+some_if P Q (Some x) reported each = each x reported
 
 all_if : {A : Type 0} (P Q : A → Type 0) (xs : List A) → AllByRecursion P xs → ((x : A) → P x → Q x) → AllByRecursion Q xs
-all_if P Q [] told each = tt
-all_if P Q (x ∷ xs) told each = (each x told.0, all_if P Q xs told.1 each)
+all_if P Q [] reported each = tt
+all_if P Q (x ∷ xs) reported each = (each x reported.0, all_if P Q xs reported.1 each)
 
 -- ---- numbers
 
@@ -131,16 +131,16 @@ all_append P [] ys front back = back
 all_append P (x ∷ xs) ys front back = (front.0, all_append P xs ys front.1 back)
 
 all_optional : {A : Type 0} (P : FieldValue → Type 0) (number : ℕ) (content : A → Content) (o : Option A) → IfSome o (λ x. P (field number (content x))) → AllByRecursion P (optional number content o)
-all_optional P number content None told = tt
-all_optional P number content (Some x) told = (told, tt)
+all_optional P number content None reported = tt
+all_optional P number content (Some x) reported = (reported, tt)
 
 all_repeated : {A : Type 0} (P : FieldValue → Type 0) (number : ℕ) (content : A → Content) (xs : List A) → AllByRecursion (λ x. P (field number (content x))) xs → AllByRecursion P (repeated number content xs)
-all_repeated P number content [] told = tt
-all_repeated P number content (x ∷ xs) told = (told.0, all_repeated P number content xs told.1)
+all_repeated P number content [] reported = tt
+all_repeated P number content (x ∷ xs) reported = (reported.0, all_repeated P number content xs reported.1)
 
 from_repeated : {A : Type 0} (P : FieldValue → Type 0) (number : ℕ) (content : A → Content) (xs : List A) → AllByRecursion P (repeated number content xs) → AllByRecursion (λ x. P (field number (content x))) xs
-from_repeated P number content [] told = tt
-from_repeated P number content (x ∷ xs) told = (told.0, from_repeated P number content xs told.1)
+from_repeated P number content [] reported = tt
+from_repeated P number content (x ∷ xs) reported = (reported.0, from_repeated P number content xs reported.1)
 
 from_back : {A : Type 0} (P : A → Type 0) (xs ys : List A) → AllByRecursion P (xs ++ ys) → AllByRecursion P ys
 from_back P [] ys all = all
@@ -335,8 +335,8 @@ unfolding event_values
 event_time event back = simp (found_in_both, found_in_option, found_in_map, none_in_option, none_in_list, append-nil) back.time
 
 time_again : (now time : ℤ) (micros : Option ℤ) → IfSome micros (λ micros. time ≡ second_of micros) → time_from now micros (Some time) ≡ time
-time_again now time None told = refl
-time_again now time (Some micros) told = sym told
+time_again now time None reported = refl
+time_again now time (Some micros) reported = sym reported
 
 event_again : (now : ℤ) (event : Event) → BodiesBack event → IfSome event.time_micros (λ micros. event.time ≡ second_of micros) → event_from now (event_values event) ≡ event
 event_again now event back timely =
@@ -375,31 +375,31 @@ text_numbered : (number : ℕ) (value : Option (List ℕ)) → 0 < number → nu
 text_numbered number value some few utf8 = all_optional IsNumbered number Bytes value (some_if IsUtf8 (λ bytes. IsNumbered (field number (Bytes bytes))) value utf8 (λ bytes _. numbered number (Bytes bytes) some few tt))
 
 names_numbered : (event : Event) → IsWellFormedEvent event → AllByRecursion IsNumbered (name_values event)
-names_numbered event told =
+names_numbered event reported =
     all_names IsNumbered (field 1 (int64 event.time)) (optional 2 Bytes event.state) (optional 3 Bytes event.service) (optional 4 Bytes event.host) (optional 5 Bytes event.description)
-    (numbered 1 (int64 event.time) (omega arith) (omega arith) (int64_fits event.time told.time))
-    (text_numbered 2 event.state (omega arith) (omega arith) told.state)
-    (text_numbered 3 event.service (omega arith) (omega arith) told.service)
-    (text_numbered 4 event.host (omega arith) (omega arith) told.host)
-    (text_numbered 5 event.description (omega arith) (omega arith) told.description)
+    (numbered 1 (int64 event.time) (omega arith) (omega arith) (int64_fits event.time reported.time))
+    (text_numbered 2 event.state (omega arith) (omega arith) reported.state)
+    (text_numbered 3 event.service (omega arith) (omega arith) reported.service)
+    (text_numbered 4 event.host (omega arith) (omega arith) reported.host)
+    (text_numbered 5 event.description (omega arith) (omega arith) reported.description)
 
 numbers_numbered : (event : Event) → IsWellFormedEvent event → AllByRecursion IsNumbered (number_values event)
-numbers_numbered event told =
+numbers_numbered event reported =
     all_numbers IsNumbered (optional 10 int64 event.time_micros) (optional 13 sint64 event.metric) (optional 14 Eight event.raw_d) (optional 15 Four event.raw_f)
-    (all_optional IsNumbered 10 int64 event.time_micros (some_if (λ micros. FitsSigned w64 micros × (event.time ≡ second_of micros)) (λ micros. IsNumbered (field 10 (int64 micros))) event.time_micros told.time_micros
+    (all_optional IsNumbered 10 int64 event.time_micros (some_if (λ micros. FitsSigned w64 micros × (event.time ≡ second_of micros)) (λ micros. IsNumbered (field 10 (int64 micros))) event.time_micros reported.time_micros
     (λ micros known. numbered 10 (int64 micros) (omega arith) (omega arith) (int64_fits micros known.0))))
-    (all_optional IsNumbered 13 sint64 event.metric (some_if (FitsSigned w64) (λ metric. IsNumbered (field 13 (sint64 metric))) event.metric told.metric (λ metric fits. numbered 13 (sint64 metric) (omega arith) (omega arith) (sint64_fits metric fits))))
-    (all_optional IsNumbered 14 Eight event.raw_d (some_if (λ bits. bits < 2 ^ 64) (λ bits. IsNumbered (field 14 (Eight bits))) event.raw_d told.raw_d (λ bits fits. numbered 14 (Eight bits) (omega arith) (omega arith) fits)))
-    (all_optional IsNumbered 15 Four event.raw_f (some_if (λ bits. bits < 2 ^ 32) (λ bits. IsNumbered (field 15 (Four bits))) event.raw_f told.raw_f (λ bits fits. numbered 15 (Four bits) (omega arith) (omega arith) fits)))
+    (all_optional IsNumbered 13 sint64 event.metric (some_if (FitsSigned w64) (λ metric. IsNumbered (field 13 (sint64 metric))) event.metric reported.metric (λ metric fits. numbered 13 (sint64 metric) (omega arith) (omega arith) (sint64_fits metric fits))))
+    (all_optional IsNumbered 14 Eight event.raw_d (some_if (λ bits. bits < 2 ^ 64) (λ bits. IsNumbered (field 14 (Eight bits))) event.raw_d reported.raw_d (λ bits fits. numbered 14 (Eight bits) (omega arith) (omega arith) fits)))
+    (all_optional IsNumbered 15 Four event.raw_f (some_if (λ bits. bits < 2 ^ 32) (λ bits. IsNumbered (field 15 (Four bits))) event.raw_f reported.raw_f (λ bits fits. numbered 15 (Four bits) (omega arith) (omega arith) fits)))
 
 event_numbered : (event : Event) → IsWellFormedEvent event → AllByRecursion IsNumbered (event_values event)
-event_numbered event told =
-    all_event IsNumbered event (names_numbered event told)
-    (all_repeated IsNumbered 7 Bytes event.tags (all_if IsUtf8 (λ bytes. IsNumbered (field 7 (Bytes bytes))) event.tags told.tags (λ bytes _. numbered 7 (Bytes bytes) (omega arith) (omega arith) tt)))
-    (all_optional IsNumbered 8 (λ ttl. Four (bits_of ttl)) event.ttl (some_if IsSpellableTtl (λ ttl. IsNumbered (field 8 (Four (bits_of ttl)))) event.ttl told.ttl (λ ttl can. numbered 8 (Four (bits_of ttl)) (omega arith) (omega arith) (bits_of_small ttl can))))
-    (all_repeated IsNumbered 9 attribute_content event.attributes (all_if IsWellFormedAttribute (λ attribute. IsNumbered (field 9 (attribute_content attribute))) event.attributes told.attributes
+event_numbered event reported =
+    all_event IsNumbered event (names_numbered event reported)
+    (all_repeated IsNumbered 7 Bytes event.tags (all_if IsUtf8 (λ bytes. IsNumbered (field 7 (Bytes bytes))) event.tags reported.tags (λ bytes _. numbered 7 (Bytes bytes) (omega arith) (omega arith) tt)))
+    (all_optional IsNumbered 8 (λ ttl. Four (bits_of ttl)) event.ttl (some_if IsSpellableTtl (λ ttl. IsNumbered (field 8 (Four (bits_of ttl)))) event.ttl reported.ttl (λ ttl can. numbered 8 (Four (bits_of ttl)) (omega arith) (omega arith) (bits_of_small ttl can))))
+    (all_repeated IsNumbered 9 attribute_content event.attributes (all_if IsWellFormedAttribute (λ attribute. IsNumbered (field 9 (attribute_content attribute))) event.attributes reported.attributes
     (λ attribute _. numbered 9 (attribute_content attribute) (omega arith) (omega arith) tt)))
-    (numbers_numbered event told)
+    (numbers_numbered event reported)
 
 abbrev CleanField : FieldValue → Type 0
 CleanField value = EventClean value.number value.content
@@ -408,13 +408,13 @@ text_clean : (number : ℕ) (value : Option (List ℕ)) → IfSome value IsUtf8 
 text_clean number value utf8 other =
     all_optional CleanField number Bytes value (some_if IsUtf8 (λ bytes. CleanField (field number (Bytes bytes))) value utf8 (λ bytes known. record { text = λ _. is_utf8-from_IsUtf8 bytes known; attribute = λ is. no (sym other ∙ is) }))
 
-ttl_told : (ttl : ℕ) → IsSpellableTtl ttl → is_some (seconds_of (bits_of ttl)) ≡ true
-ttl_told ttl can = ap is_some (seconds_from_ttl (bits_of ttl) ttl (bits_of_spells ttl can))
+ttl_reported : (ttl : ℕ) → IsSpellableTtl ttl → is_some (seconds_of (bits_of ttl)) ≡ true
+ttl_reported ttl can = ap is_some (seconds_from_ttl (bits_of ttl) ttl (bits_of_spells ttl can))
 
 names_clean : (event : Event) → IsWellFormedEvent event → AllByRecursion CleanField (name_values event)
-names_clean event told =
+names_clean event reported =
     all_names CleanField (field 1 (int64 event.time)) (optional 2 Bytes event.state) (optional 3 Bytes event.service) (optional 4 Bytes event.host) (optional 5 Bytes event.description)
-    tt (text_clean 2 event.state told.state refl) (text_clean 3 event.service told.service refl) (text_clean 4 event.host told.host refl) (text_clean 5 event.description told.description refl)
+    tt (text_clean 2 event.state reported.state refl) (text_clean 3 event.service reported.service refl) (text_clean 4 event.host reported.host refl) (text_clean 5 event.description reported.description refl)
 
 numbers_clean : (event : Event) → AllByRecursion CleanField (number_values event)
 numbers_clean event =
@@ -429,10 +429,10 @@ numbers_clean event =
     any (Some x) each = each x
 
 event_clean : (event : Event) → IsWellFormedEvent event → AllByRecursion AttributeBack event.attributes → AllByRecursion CleanField (event_values event)
-event_clean event told attributes =
-    all_event CleanField event (names_clean event told)
-    (all_repeated CleanField 7 Bytes event.tags (all_if IsUtf8 (λ bytes. CleanField (field 7 (Bytes bytes))) event.tags told.tags (λ bytes known. record { text = λ _. is_utf8-from_IsUtf8 bytes known; attribute = λ is. no is })))
-    (all_optional CleanField 8 (λ ttl. Four (bits_of ttl)) event.ttl (some_if IsSpellableTtl (λ ttl. CleanField (field 8 (Four (bits_of ttl)))) event.ttl told.ttl (λ ttl can _. ttl_told ttl can)))
+event_clean event reported attributes =
+    all_event CleanField event (names_clean event reported)
+    (all_repeated CleanField 7 Bytes event.tags (all_if IsUtf8 (λ bytes. CleanField (field 7 (Bytes bytes))) event.tags reported.tags (λ bytes known. record { text = λ _. is_utf8-from_IsUtf8 bytes known; attribute = λ is. no is })))
+    (all_optional CleanField 8 (λ ttl. Four (bits_of ttl)) event.ttl (some_if IsSpellableTtl (λ ttl. CleanField (field 8 (Four (bits_of ttl)))) event.ttl reported.ttl (λ ttl can _. ttl_reported ttl can)))
     (all_repeated CleanField 9 attribute_content event.attributes (all_if AttributeBack (λ attribute. CleanField (field 9 (attribute_content attribute))) event.attributes attributes (λ attribute back. record { text = λ is. no is; attribute = λ _. back.clean })))
     (numbers_clean event)
 
@@ -445,26 +445,26 @@ attributes_within n event short =
     let attributes = repeated 9 attribute_content event.attributes in
     let ttl = optional 8 (λ ttl. Four (bits_of ttl)) event.ttl in
     let tags = repeated 7 Bytes event.tags in
-    let behind_names : AllByRecursion P (tags ++ (ttl ++ (attributes ++ numbers))) = from_back P (name_values event) (tags ++ (ttl ++ (attributes ++ numbers))) all in
-    let behind_tags : AllByRecursion P (ttl ++ (attributes ++ numbers)) = from_back P tags (ttl ++ (attributes ++ numbers)) behind_names in
-    let behind_ttl : AllByRecursion P (attributes ++ numbers) = from_back P ttl (attributes ++ numbers) behind_tags in
-    from_repeated P 9 attribute_content event.attributes (from_front P attributes numbers behind_ttl)
+    let following_names : AllByRecursion P (tags ++ (ttl ++ (attributes ++ numbers))) = from_back P (name_values event) (tags ++ (ttl ++ (attributes ++ numbers))) all in
+    let following_tags : AllByRecursion P (ttl ++ (attributes ++ numbers)) = from_back P tags (ttl ++ (attributes ++ numbers)) following_names in
+    let following_ttl : AllByRecursion P (attributes ++ numbers) = from_back P ttl (attributes ++ numbers) following_tags in
+    from_repeated P 9 attribute_content event.attributes (from_front P attributes numbers following_ttl)
 
 event_back : (event : Event) → IsWellFormedEvent event → length (spelled (event_values event)) < 2 ^ 64 → EventBack event
 unfolding event_of event_fault
-event_back event told short =
+event_back event reported short =
     let attributes = both_all IsWellFormedAttribute (λ attribute. length (spelled (attribute_values attribute)) ≤ length (spelled (event_values event))) AttributeBack event.attributes
-    (λ attribute known within. attribute_again attribute known (omega arith)) told.attributes (attributes_within (length (spelled (event_values event))) event (omega arith)) in
+    (λ attribute known within. attribute_again attribute known (omega arith)) reported.attributes (attributes_within (length (spelled (event_values event))) event (omega arith)) in
     let bodies : BodiesBack event = record {
-      time = int64_again event.time told.time;
-      ttl = some_in_option (λ ttl. ttl_in (Four (bits_of ttl))) event.ttl (some_if IsSpellableTtl _ event.ttl told.ttl ttl_again);
+      time = int64_again event.time reported.time;
+      ttl = some_in_option (λ ttl. ttl_in (Four (bits_of ttl))) event.ttl (some_if IsSpellableTtl _ event.ttl reported.ttl ttl_again);
       attributes = some_in_list (λ attribute. attribute_in (attribute_content attribute)) event.attributes (all_if AttributeBack _ event.attributes attributes (λ attribute back. ap some_attribute back.same));
-      micros = some_in_option (λ micros. int64_in (int64 micros)) event.time_micros (some_if _ _ event.time_micros told.time_micros (λ micros known. int64_again micros known.0));
-      metric = some_in_option (λ metric. sint64_in (sint64 metric)) event.metric (some_if (FitsSigned w64) _ event.metric told.metric (λ metric fits. sint64_again metric));
+      micros = some_in_option (λ micros. int64_in (int64 micros)) event.time_micros (some_if _ _ event.time_micros reported.time_micros (λ micros known. int64_again micros known.0));
+      metric = some_in_option (λ metric. sint64_in (sint64 metric)) event.metric (some_if (FitsSigned w64) _ event.metric reported.metric (λ metric fits. sint64_again metric));
     } in
-    let back = read_again event_field_fault CleanField (event_values event) (λ bytes field. event_field_clean bytes field.number field.place field.body) (event_numbered event told) (event_clean event told attributes) short in
+    let back = read_again event_field_fault CleanField (event_values event) (λ bytes field. event_field_clean bytes field.number field.place field.body) (event_numbered event reported) (event_clean event reported attributes) short in
     record {
-      same = λ now. ap (event_from now) back.0 ∙ event_again now event bodies (some_if _ _ event.time_micros told.time_micros (λ micros known. known.1));
+      same = λ now. ap (event_from now) back.0 ∙ event_again now event bodies (some_if _ _ event.time_micros reported.time_micros (λ micros known. known.1));
       clean = back.1;
     }
 
@@ -557,18 +557,18 @@ bool_again true = refl
 bool_again false = refl
 
 message_numbered : (msg : Msg) → IsWellFormedMessage msg → AllByRecursion IsNumbered (message_values msg)
-message_numbered msg told =
+message_numbered msg reported =
     all_message IsNumbered msg
     (all_optional IsNumbered 2 (λ ok. Varint (from_bool ok)) msg.ok (any (λ ok. IsNumbered (field 2 (Varint (from_bool ok)))) msg.ok (λ ok. numbered 2 (Varint (from_bool ok)) (omega arith) (omega arith) (bool_fits ok))))
-    (text_numbered 3 msg.error (omega arith) (omega arith) told.error)
+    (text_numbered 3 msg.error (omega arith) (omega arith) reported.error)
     (all_optional IsNumbered 5 query_content msg.query (any (λ query. IsNumbered (field 5 (query_content query))) msg.query (λ query. numbered 5 (query_content query) (omega arith) (omega arith) tt)))
-    (all_repeated IsNumbered 6 event_content msg.events (all_if IsWellFormedEvent (λ event. IsNumbered (field 6 (event_content event))) msg.events told.events (λ event _. numbered 6 (event_content event) (omega arith) (omega arith) tt)))
+    (all_repeated IsNumbered 6 event_content msg.events (all_if IsWellFormedEvent (λ event. IsNumbered (field 6 (event_content event))) msg.events reported.events (λ event _. numbered 6 (event_content event) (omega arith) (omega arith) tt)))
 
 message_clean : (msg : Msg) → IsWellFormedMessage msg → IfSome msg.query QueryBack → AllByRecursion EventBack msg.events → AllByRecursion MessageClean (message_values msg)
-message_clean msg told query events =
+message_clean msg reported query events =
     all_message MessageClean msg
     (all_optional MessageClean 2 (λ ok. Varint (from_bool ok)) msg.ok (any (λ ok. MessageClean (field 2 (Varint (from_bool ok)))) msg.ok (λ ok. tt)))
-    (all_optional MessageClean 3 Bytes msg.error (some_if IsUtf8 (λ bytes. MessageClean (field 3 (Bytes bytes))) msg.error told.error (λ bytes known. record { text = λ _. is_utf8-from_IsUtf8 bytes known; query = λ is. no is; event = λ is. no is })))
+    (all_optional MessageClean 3 Bytes msg.error (some_if IsUtf8 (λ bytes. MessageClean (field 3 (Bytes bytes))) msg.error reported.error (λ bytes known. record { text = λ _. is_utf8-from_IsUtf8 bytes known; query = λ is. no is; event = λ is. no is })))
     (all_optional MessageClean 5 query_content msg.query (some_if QueryBack (λ query. MessageClean (field 5 (query_content query))) msg.query query (λ q back. record { text = λ is. no is; query = λ _. back.clean; event = λ is. no is })))
     (all_repeated MessageClean 6 event_content msg.events (all_if EventBack (λ event. MessageClean (field 6 (event_content event))) msg.events events (λ event back. record { text = λ is. no is; query = λ is. no is; event = λ _. back.clean })))
 
@@ -589,9 +589,9 @@ message_within n msg short =
     let error = optional 3 Bytes msg.error in
     let query = optional 5 query_content msg.query in
     let events = repeated 6 event_content msg.events in
-    let behind_ok : AllByRecursion P (error ++ (query ++ events)) = from_back P ok (error ++ (query ++ events)) (bodies_within n (message_values msg) short) in
-    let behind_error : AllByRecursion P (query ++ events) = from_back P error (query ++ events) behind_ok in
-    (query_within n msg.query (from_front P query events behind_error), from_repeated P 6 event_content msg.events (from_back P query events behind_error))
+    let following_ok : AllByRecursion P (error ++ (query ++ events)) = from_back P ok (error ++ (query ++ events)) (bodies_within n (message_values msg) short) in
+    let following_error : AllByRecursion P (query ++ events) = from_back P error (query ++ events) following_ok in
+    (query_within n msg.query (from_front P query events following_error), from_repeated P 6 event_content msg.events (from_back P query events following_error))
 
 message_ok : (msg : Msg) → last_in bool_in 2 (message_values msg) ≡ msg.ok
 unfolding message_values
@@ -624,10 +624,10 @@ message_again now msg query events =
 
 pub message_back : MessagesAreReadBack
 unfolding message_of first_fault spelling
-message_back now msg told short =
+message_back now msg reported short =
     let within = message_within (length (spelled (message_values msg))) msg (omega arith) in
     let query = some_both (λ query. IfSome query.string IsUtf8) (λ query. length (spelled (query_values query)) ≤ length (spelled (message_values msg))) QueryBack msg.query
-    (λ query utf8 short'. query_back query utf8 (omega arith)) told.query within.0 in
-    let events = both_all IsWellFormedEvent (λ event. length (spelled (event_values event)) ≤ length (spelled (message_values msg))) EventBack msg.events (λ event known short'. event_back event known (omega arith)) told.events within.1 in
-    let back = read_again message_field_fault MessageClean (message_values msg) (λ bytes field. message_field_clean bytes field.number field.place field.body) (message_numbered msg told) (message_clean msg told query events) short in
+    (λ query utf8 short'. query_back query utf8 (omega arith)) reported.query within.0 in
+    let events = both_all IsWellFormedEvent (λ event. length (spelled (event_values event)) ≤ length (spelled (message_values msg))) EventBack msg.events (λ event known short'. event_back event known (omega arith)) reported.events within.1 in
+    let back = read_again message_field_fault MessageClean (message_values msg) (λ bytes field. message_field_clean bytes field.number field.place field.body) (message_numbered msg reported) (message_clean msg reported query events) short in
     (back.1, ap (message_from (pos now)) back.0 ∙ message_again (pos now) msg query events)

@@ -174,11 +174,11 @@ seconds_of-huge bits s e =
 pub seconds_of-whole : (bits : ℕ) (found : Option ℕ) → sign_of bits ≡ 0 → exponent_of bits ≢ 0 → exponent_of bits ≤ 157
     → SomeIff found (scaled_value bits % 2 ^ 150 ≡ 0) (scaled_value bits / 2 ^ 150) → found ≡ seconds_of bits
 unfolding seconds_of
-seconds_of-whole bits (Some n) s e small told =
-    rw (not_zero (exponent_of bits) (fraction_of bits) (λ none _. e none), eq-eqb (sign_of bits) 0 s, le-leb 1 (exponent_of bits) (omega arith), le-leb (exponent_of bits) 157 small, eq-eqb (scaled_value bits % 2 ^ 150) 0 told.0)
-    (ap (λ (x : ℕ). Some x) told.1)
-seconds_of-whole bits None s e small told =
-    rw (not_zero (exponent_of bits) (fraction_of bits) (λ none _. e none), eq-eqb (sign_of bits) 0 s, le-leb 1 (exponent_of bits) (omega arith), le-leb (exponent_of bits) 157 small, ne_eqb (scaled_value bits % 2 ^ 150) 0 told)
+seconds_of-whole bits (Some n) s e small reported =
+    rw (not_zero (exponent_of bits) (fraction_of bits) (λ none _. e none), eq-eqb (sign_of bits) 0 s, le-leb 1 (exponent_of bits) (omega arith), le-leb (exponent_of bits) 157 small, eq-eqb (scaled_value bits % 2 ^ 150) 0 reported.0)
+    (ap (λ (x : ℕ). Some x) reported.1)
+seconds_of-whole bits None s e small reported =
+    rw (not_zero (exponent_of bits) (fraction_of bits) (λ none _. e none), eq-eqb (sign_of bits) 0 s, le-leb 1 (exponent_of bits) (omega arith), le-leb (exponent_of bits) 157 small, ne_eqb (scaled_value bits % 2 ^ 150) 0 reported)
     refl
 
 -- ---- the seconds are what the equation says
@@ -240,7 +240,7 @@ not_both e f (inr other) none also = other none
 pub bits_of_spells : (n : ℕ) → IsSpellableTtl n → IsTtl (bits_of n) n
 unfolding bits_of
 bits_of_spells zero found = inl (record { exponent = refl; fraction = refl; value = refl })
-bits_of_spells (suc n) (found, told) = subst (λ (bits : ℕ). IsTtl bits (suc n)) (one_spelling found (suc n) (omega arith) told) told
+bits_of_spells (suc n) (found, reported) = subst (λ (bits : ℕ). IsTtl bits (suc n)) (one_spelling found (suc n) (omega arith) reported) reported
 
 pub bits_of_small : (n : ℕ) → IsSpellableTtl n → bits_of n < 2 ^ 32
 unfolding bits_of

@@ -21,15 +21,15 @@ use Rattle.sexp_config.proofs.ReadLaws.{place_in, why_in, none_some, same_places
 
 -- ---- forms
 
-abbrev Told : Type 0
-Told = Option forms.Fault
+abbrev FoundFault : Type 0
+FoundFault = Option forms.Fault
 
 no_fault : (text : List ℕ) (trees : FormTrees) → IsForms text trees → text_fault text ≡ None
 unfolding forms_fault fault_after
 no_fault text trees h =
     fault_of_forms text h.short h.utf8
-    ∙ ap (λ (fault : Told). or_else fault (or_else (lexed text).fault (unclosed (open_after [] (lexed text).tokens)))) (ap (bracket_fault []) h.read.spelled ∙ no_bracket_fault trees h.shallow)
-    ∙ ap (λ (fault : Told). or_else fault (unclosed (open_after [] (lexed text).tokens))) h.read.faultless
+    ∙ ap (λ (fault : FoundFault). or_else fault (or_else (lexed text).fault (unclosed (open_after [] (lexed text).tokens)))) (ap (bracket_fault []) h.read.spelled ∙ no_bracket_fault trees h.shallow)
+    ∙ ap (λ (fault : FoundFault). or_else fault (unclosed (open_after [] (lexed text).tokens))) h.read.faultless
     ∙ ap unclosed (ap (open_after []) h.read.spelled ∙ none_open trees)
 
 same_forms : (text : List ℕ) (trees others : FormTrees) → IsForms text trees → IsForms text others → trees ≡ others
@@ -62,7 +62,7 @@ refusals_are_one text place other why cause (inr is) (inr fault) =
 
 -- ---- an answer
 
-or_none : (a b : Told) → or_else a b ≡ None → (a ≡ None) × (b ≡ None)
+or_none : (a b : FoundFault) → or_else a b ≡ None → (a ≡ None) × (b ≡ None)
 or_none None b is = (refl, is)
 or_none (Some fault) b is = cc
 
@@ -79,21 +79,21 @@ forms_of text short utf8 none =
     let (trees, spelled) = closed_forms tokens outer.0 (none_unclosed (open_after [] tokens) inner.1) in
     (trees, are_forms text trees short (IsUtf8-from_is_utf8 text utf8) (record { spelled = spelled; faultless = inner.0 }) none)
 
-stands_by : (text : List ℕ) (trees : FormTrees) → IsForms text trees → (read : Result Config Fault) → config_of trees ≡ read → IsConfig text ⊎ IsRefused text
-stands_by text trees h (Ok config) is = inl (config, record { forms = trees; read = h; stands = (configs_are_read trees config).1 is })
-stands_by text trees h (Err (place, why)) is = inr (place, why, inr (record { forms = trees; read = h; fault = is }))
+holds_by : (text : List ℕ) (trees : FormTrees) → IsForms text trees → (read : Result Config Fault) → config_of trees ≡ read → IsConfig text ⊎ IsRefused text
+holds_by text trees h (Ok config) is = inl (config, record { forms = trees; read = h; holds = (configs_are_read trees config).1 is })
+holds_by text trees h (Err (place, why)) is = inr (place, why, inr (record { forms = trees; read = h; fault = is }))
 
 refused_by : (text : List ℕ) (fault : forms.Fault) → text_fault text ≡ Some fault → IsConfig text ⊎ IsRefused text
 refused_by text (place, cause) is = inr (place, why_of cause, inl (record { cause = cause; fault = is; is = refl }))
 
-answered_by : (text : List ℕ) (long utf8 : Bool) (fault : Told) → nat_lt longest (length text) ≡ long → is_utf8 text ≡ utf8 → forms_fault text ≡ fault → IsConfig text ⊎ IsRefused text
+answered_by : (text : List ℕ) (long utf8 : Bool) (fault : FoundFault) → nat_lt longest (length text) ≡ long → is_utf8 text ≡ utf8 → forms_fault text ≡ fault → IsConfig text ⊎ IsRefused text
 unfolding text_fault
-answered_by text true utf8 fault is valid told = refused_by text (longest, Long) (rw is refl)
-answered_by text false false fault is valid told = refused_by text (utf8_valid_len text, Utf8) (rw (is, valid) refl)
-answered_by text false true (Some fault) is valid told = refused_by text fault (rw (is, valid) told)
-answered_by text false true None is valid told =
-    let (trees, read) = forms_of text (ltb-false longest (length text) is) valid told in
-    stands_by text trees read (config_of trees) refl
+answered_by text true utf8 fault is valid reported = refused_by text (longest, Long) (rw is refl)
+answered_by text false false fault is valid reported = refused_by text (utf8_valid_len text, Utf8) (rw (is, valid) refl)
+answered_by text false true (Some fault) is valid reported = refused_by text fault (rw (is, valid) reported)
+answered_by text false true None is valid reported =
+    let (trees, read) = forms_of text (ltb-false longest (length text) is) valid reported in
+    holds_by text trees read (config_of trees) refl
 
 pub texts_are_answered : TextsAreAnswered
 texts_are_answered text = answered_by text (nat_lt longest (length text)) (is_utf8 text) (forms_fault text) refl refl refl

@@ -16,4 +16,4 @@ canonical_read config (text, is) limits =
     let fault = read_plans text config is in
     let good = config_good is.forms config (read_writable text is.forms is.read).0 (config_read_of text config is) fault in
     let back = read_back (listed (config_forms config)) (config_writable config good) limits.shallow limits.short in
-    record { forms = back.forms; read = back.read; stands = (configs_are_read back.forms config).1 (config_read config good fault back.forms back.same) }
+    record { forms = back.forms; read = back.read; holds = (configs_are_read back.forms config).1 (config_read config good fault back.forms back.same) }

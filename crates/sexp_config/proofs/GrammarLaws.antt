@@ -87,4 +87,4 @@ configs_are_read forms config = (
 
 -- the forms of a configuration are read as it
 pub config_read_of : (text : List ℕ) (config : Config) → (is : IsConfigOf text config) → config_of is.forms ≡ Ok config
-config_read_of text config is = (configs_are_read is.forms config).0 is.stands
+config_read_of text config is = (configs_are_read is.forms config).0 is.holds

@@ -150,7 +150,7 @@ sets_all place before (set ∷ sets) forms good fit new h =
     ∙ sets_all place (before ++ set ∷ []) sets second.rest good.1 fitting.1 new.1 second.rest_are
     ∙ ap (λ (all : List Set). Ok all) (append_assoc before (set ∷ []) sets)
 
--- ---- what stands before the streams
+-- ---- what comes before the streams
 
 -- the kind is read of the arguments, and the rest of them are these
 pub record Led (kind : KindTree) (from : StreamWord) (start : ℕ) (args : FormTrees) (more : List BareTree) : Type 0 where

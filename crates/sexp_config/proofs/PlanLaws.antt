@@ -16,11 +16,11 @@ use Rattle.sexp_config.specs.Config.{plan_fault, faultless, checked, fault_by}
 abbrev pub At : Type 0
 At = Option plan.Placed
 
-abbrev pub told : PlanWhy → At → Option plan.Fault
-told cause at = option_map (λ (s : plan.Placed). let f : plan.Fault = record { path = s.path; why = cause } in f) at
+abbrev pub reported : PlanWhy → At → Option plan.Fault
+reported cause at = option_map (λ (s : plan.Placed). let f : plan.Fault = record { path = s.path; why = cause } in f) at
 
 abbrev pub first : At → At → At → At → At → Option plan.Fault
-first a b c d e = option_or (told Many a) (option_or (told Deep b) (option_or (told Children c) (option_or (told Range d) (told Kind e))))
+first a b c d e = option_or (reported Many a) (option_or (reported Deep b) (option_or (reported Children c) (option_or (reported Range d) (reported Kind e))))
 
 abbrev located_fault : SourceTrees → ConfigWhy → At → Option Fault
 located_fault places cause at = option_map (λ (s : plan.Placed). (place_along 0 places s.path, cause)) at
@@ -31,13 +31,13 @@ both places a e = option_or (located_fault places why.Many a) (located_fault pla
 abbrev pub one : List ℕ → PlanWhy → Option plan.Fault
 one path cause = Some (record { path = path; why = cause })
 
-abbrev pub why_told : Option plan.Fault → PlanWhy
-why_told None = Many
-why_told (Some fault) = fault.why
+abbrev pub why_reported : Option plan.Fault → PlanWhy
+why_reported None = Many
+why_reported (Some fault) = fault.why
 
-abbrev path_told : List ℕ → Option plan.Fault → List ℕ
-path_told path None = path
-path_told path (Some fault) = fault.path
+abbrev path_reported : List ℕ → Option plan.Fault → List ℕ
+path_reported path None = path
+path_reported path (Some fault) = fault.path
 
 no_fault : (places : SourceTrees) (a b c d e : At) → first a b c d e ≡ None → both places a e ≡ None
 no_fault places None None None None None none = refl
@@ -51,20 +51,20 @@ a_fault : (places : SourceTrees) (streams : StreamTrees) (a b c d e : At) (path 
 a_fault places streams a b c d e path Deep is = tt
 a_fault places streams a b c d e path Children is = tt
 a_fault places streams a b c d e path Range is = tt
-a_fault places streams (Some s) b c d e path Many is = ap (λ (found : Option plan.Fault). at_path (path_told path found)) is
+a_fault places streams (Some s) b c d e path Many is = ap (λ (found : Option plan.Fault). at_path (path_reported path found)) is
   where
     at_path : List ℕ → Result StreamTrees Fault
     at_path p = Err (place_along 0 places p, why.Many)
-a_fault places streams None (Some s) c d e path Many is = let other : Deep ≡ Many = ap why_told is in cc
-a_fault places streams None None (Some s) d e path Many is = let other : Children ≡ Many = ap why_told is in cc
-a_fault places streams None None None (Some s) e path Many is = let other : Range ≡ Many = ap why_told is in cc
-a_fault places streams None None None None (Some s) path Many is = let other : Kind ≡ Many = ap why_told is in cc
+a_fault places streams None (Some s) c d e path Many is = let other : Deep ≡ Many = ap why_reported is in cc
+a_fault places streams None None (Some s) d e path Many is = let other : Children ≡ Many = ap why_reported is in cc
+a_fault places streams None None None (Some s) e path Many is = let other : Range ≡ Many = ap why_reported is in cc
+a_fault places streams None None None None (Some s) path Many is = let other : Kind ≡ Many = ap why_reported is in cc
 a_fault places streams None None None None None path Many is = cc
-a_fault places streams (Some s) b c d e path Kind is = let other : Many ≡ Kind = ap why_told is in cc
-a_fault places streams None (Some s) c d e path Kind is = let other : Deep ≡ Kind = ap why_told is in cc
-a_fault places streams None None (Some s) d e path Kind is = let other : Children ≡ Kind = ap why_told is in cc
-a_fault places streams None None None (Some s) e path Kind is = let other : Range ≡ Kind = ap why_told is in cc
-a_fault places streams None None None None (Some s) path Kind is = ap (λ (found : Option plan.Fault). at_path (path_told path found)) is
+a_fault places streams (Some s) b c d e path Kind is = let other : Many ≡ Kind = ap why_reported is in cc
+a_fault places streams None (Some s) c d e path Kind is = let other : Deep ≡ Kind = ap why_reported is in cc
+a_fault places streams None None (Some s) d e path Kind is = let other : Children ≡ Kind = ap why_reported is in cc
+a_fault places streams None None None (Some s) e path Kind is = let other : Range ≡ Kind = ap why_reported is in cc
+a_fault places streams None None None None (Some s) path Kind is = ap (λ (found : Option plan.Fault). at_path (path_reported path found)) is
   where
     at_path : List ℕ → Result StreamTrees Fault
     at_path p = Err (place_along 0 places p, why.Kind)

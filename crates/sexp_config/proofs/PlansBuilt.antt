@@ -28,8 +28,8 @@ use Rattle.sexp_config.specs.Tops.{default_server, Draft, fresh_draft, or_defaul
 use Rattle.sexp_config.specs.Config.{plan_fault, faultless, checked, config_from, finished, config_of}
 use Rattle.sexp_config.specs.Built.{IsWellBuilt, IsLeft, ReadPlansHaveNoFault}
 use Rattle.config_terms.proofs.Outcomes.{OkGood, Any_, bind_good, any_good, weaker}
-use Rattle.sexp_config.proofs.StreamsBuilt.{Stands, AllStand, StandBelow, nothing_stands, all_read_stand, parts_stand}
-use Rattle.sexp_config.proofs.PlanLaws.{At, one, first, why_told}
+use Rattle.sexp_config.proofs.StreamsBuilt.{Stands, AllStand, StandBelow, nothing_holds, all_read_stand, parts_stand}
+use Rattle.sexp_config.proofs.PlanLaws.{At, one, first, why_reported}
 use Rattle.sexp_config.proofs.PlanPasses.{all_are, passes_none, not_true}
 use Rattle.sexp_config.proofs.GrammarLaws.{config_read_of}
 
@@ -110,10 +110,10 @@ mutual
   unfolding preorder_at preorder_in
 
   right_at : (path : List ℕ) (flow : _) (s : StreamTree) → Stands (length path) s → AllByRecursion Right (preorder_at path flow s)
-  right_at path flow (stream kind children otherwise) stands = (
-    (stands.0, stands.1, stands.2),
+  right_at path flow (stream kind children otherwise) holds = (
+    (holds.0, holds.1, holds.2),
     both Right (preorder_in path 0 (passes_on kind flow) children) (preorder_in path (count_of children) (passes_on kind flow) otherwise)
-        (right_in path 0 (passes_on kind flow) children stands.3) (right_in path (count_of children) (passes_on kind flow) otherwise stands.4),
+        (right_in path 0 (passes_on kind flow) children holds.3) (right_in path (count_of children) (passes_on kind flow) otherwise holds.4),
   )
 
   right_in : (path : List ℕ) (number : ℕ) (flow : _) (streams : StreamTrees) → AllStand (suc (length path)) streams → AllByRecursion Right (preorder_in path number flow streams)
@@ -137,7 +137,7 @@ IsBuiltDraft draft = IsWellBuilt draft.below.children.streams
 draft_built : (forms : FormTrees) → depth forms ≤ 64 → OkGood IsBuiltDraft (run [] fresh_draft (tops_in forms))
 draft_built forms h =
     weaker Built IsBuiltDraft (run [] fresh_draft (tops_in forms)) (λ draft built. well_built draft.below.children.streams built.0)
-    (run_builds [] fresh_draft (nothing_stands false 1) (tops_in forms) (steps_build forms h))
+    (run_builds [] fresh_draft (nothing_holds false 1) (tops_in forms) (steps_build forms h))
 
 -- the draft that the forms give
 pub read_is_built : (forms : FormTrees) (draft : Draft) → depth forms ≤ 64 → run [] fresh_draft (tops_in forms) ≡ Ok draft → IsWellBuilt draft.below.children.streams
@@ -163,12 +163,12 @@ has_none streams built =
 left_of : (a b c d e : At) (path : List ℕ) (cause : PlanWhy) → b ≡ None → c ≡ None → d ≡ None → first a b c d e ≡ one path cause → IsLeft cause
 left_of a b c d e path Many nb nc nd is = tt
 left_of a b c d e path Kind nb nc nd is = tt
-left_of (Some s) b c d e path Deep nb nc nd is = let other : Many ≡ Deep = ap why_told is in cc
-left_of (Some s) b c d e path Children nb nc nd is = let other : Many ≡ Children = ap why_told is in cc
-left_of (Some s) b c d e path Range nb nc nd is = let other : Many ≡ Range = ap why_told is in cc
-left_of None None None None (Some s) path Deep nb nc nd is = let other : Kind ≡ Deep = ap why_told is in cc
-left_of None None None None (Some s) path Children nb nc nd is = let other : Kind ≡ Children = ap why_told is in cc
-left_of None None None None (Some s) path Range nb nc nd is = let other : Kind ≡ Range = ap why_told is in cc
+left_of (Some s) b c d e path Deep nb nc nd is = let other : Many ≡ Deep = ap why_reported is in cc
+left_of (Some s) b c d e path Children nb nc nd is = let other : Many ≡ Children = ap why_reported is in cc
+left_of (Some s) b c d e path Range nb nc nd is = let other : Many ≡ Range = ap why_reported is in cc
+left_of None None None None (Some s) path Deep nb nc nd is = let other : Kind ≡ Deep = ap why_reported is in cc
+left_of None None None None (Some s) path Children nb nc nd is = let other : Kind ≡ Children = ap why_reported is in cc
+left_of None None None None (Some s) path Range nb nc nd is = let other : Kind ≡ Range = ap why_reported is in cc
 left_of None None None None None path cause nb nc nd is = cc
 left_of None (Some s) c d e path cause nb nc nd is = cc
 left_of None None (Some s) d e path cause nb nc nd is = cc

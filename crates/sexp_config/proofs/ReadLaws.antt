@@ -5,7 +5,7 @@ use Rattle.sexp_read.specs.declared.fault.SexpFault.TheVariants as sexp
 use Rattle.sexp_read.specs.declared.fault.SexpWhy.{SexpWhy}
 use Rattle.sexp_read.specs.Gives.{IsFault}
 use Rattle.sexp_read.specs.Tokens as forms
-use Rattle.sexp_read.specs.declared.fault.SexpWhy.TheVariants as told
+use Rattle.sexp_read.specs.declared.fault.SexpWhy.TheVariants as reported
 use Rattle.config_terms.specs.declared.fault.ConfigWhy.TheVariants as cause
 use Rattle.sexp_read.specs.Grammar.{IsForms, text_fault}
 use Rattle.sexp_read.specs.Tree.{FormTrees}
@@ -21,7 +21,7 @@ use Rattle.sexp_config.proofs.GrammarLaws.{configs_are_read, config_read_of}
 
 module _ (text : List ℕ) (trees : FormTrees) (read : IsForms text trees) where
   pub config_read : (result : Result Config ConfigFault) → Gives result (config_of trees) → IfOk result (λ config. IsConfigOf text config)
-  config_read (Ok config) gives = record { forms = trees; read = read; stands = (configs_are_read trees config).1 gives }
+  config_read (Ok config) gives = record { forms = trees; read = read; holds = (configs_are_read trees config).1 gives }
   config_read (Err fault) gives = tt
 
   pub refused_read : (result : Result Config ConfigFault) → Gives result (config_of trees) → IfErr result (λ fault. IsRefusedFor text fault)
@@ -30,9 +30,9 @@ module _ (text : List ℕ) (trees : FormTrees) (read : IsForms text trees) where
   refused_read (Err Memory) gives = tt
 
 same_config : (trees : FormTrees) (config : Config) (result : Result Config ConfigFault) → Gives result (config_of trees) → config_of trees ≡ Ok config → IsReadAs config result
-same_config trees config (Ok read) gives stands = cc
-same_config trees config (Err (Refused place why)) gives stands = cc
-same_config trees config (Err Memory) gives stands = refl
+same_config trees config (Ok read) gives holds = cc
+same_config trees config (Err (Refused place why)) gives holds = cc
+same_config trees config (Err Memory) gives holds = refl
 
 -- the same forms were read, whose reading the result gives
 pub only_config : (text : List ℕ) (trees : FormTrees) (result : Result Config ConfigFault) → ((others : FormTrees) → IsForms text others → trees ≡ others) →
@@ -73,18 +73,18 @@ pub no_config : (text : List ℕ) (fault : SexpFault) (made : ConfigFault) → (
     (config : Config) → IsConfigOf text config → made ≡ Memory
 no_config text fault made same e config is = e ∙ ap fault_in (same is.forms is.read)
 
-abbrev place_told : Option forms.Fault → ℕ
-place_told None = 0
-place_told (Some fault) = fault.0
+abbrev place_reported : Option forms.Fault → ℕ
+place_reported None = 0
+place_reported (Some fault) = fault.0
 
-abbrev cause_told : Option forms.Fault → SexpWhy
-cause_told None = told.Long
-cause_told (Some fault) = fault.1
+abbrev cause_reported : Option forms.Fault → SexpWhy
+cause_reported None = reported.Long
+cause_reported (Some fault) = fault.1
 
 pub same_places : (text : List ℕ) (place : ℕ) (why : ConfigWhy) (at : ℕ) (reason known : SexpWhy) → text_fault text ≡ Some (at, reason) → text_fault text ≡ Some (place, known) → why_of known ≡ why → (at ≡ place) × (why_of reason ≡ why)
 same_places text place why at reason known d e f =
     let both = sym d ∙ e in
-    (ap place_told both, ap why_of (ap cause_told both) ∙ f)
+    (ap place_reported both, ap why_of (ap cause_reported both) ∙ f)
 
 pub same_refusal : (text : List ℕ) (fault : SexpFault) (made : ConfigFault) → ((others : FormTrees) → IsForms text others → fault ≡ sexp.Memory) → IsFault fault (text_fault text) → made ≡ fault_in fault →
     (place : ℕ) (why : ConfigWhy) → IsConfigFault text place why → IsRefusedAs place why (Err made)

@@ -21,7 +21,7 @@ use Rattle.config_streams.specs.Streams.{Below, nothing, Part, One, Rest, with_s
 use Rattle.config_terms.proofs.Outcomes.{OkGood, Any_, bind_good, any_good, weaker, ok_if}
 use Rattle.sexp_config.proofs.KindsBuilt.{InRange, kind_range, MayHaveRest, where_rest}
 
--- ---- a stream that stands so many streams down, and those below it
+-- ---- a stream that is n streams down, and those below it
 
 abbrev mutual
   pub Stands : ℕ → StreamTree → Type 0
@@ -45,31 +45,31 @@ abbrev pub StandParts : Bool → ℕ → Readings → Type 0
 StandParts may_else n [] = Unit {0}
 StandParts may_else n (reading ∷ readings) = OkGood (StandsPart may_else n) reading.1 × StandParts may_else n readings
 
-pub nothing_stands : (may_else : Bool) (n : ℕ) → StandBelow may_else n nothing
-nothing_stands may_else n = (tt, tt, λ _. refl)
+pub nothing_holds : (may_else : Bool) (n : ℕ) → StandBelow may_else n nothing
+nothing_holds may_else n = (tt, tt, λ _. refl)
 
-with_stream_stands : (n : ℕ) (streams : StreamTrees) (one : StreamTree) → AllStand n streams → Stands n one → AllStand n (with_stream streams one)
-with_stream_stands n plan.none one all stands = (stands, tt)
-with_stream_stands n (plan.also first streams) one all stands = (all.0, with_stream_stands n streams one all.1 stands)
+with_stream_holds : (n : ℕ) (streams : StreamTrees) (one : StreamTree) → AllStand n streams → Stands n one → AllStand n (with_stream streams one)
+with_stream_holds n plan.none one all holds = (holds, tt)
+with_stream_holds n (plan.also first streams) one all holds = (all.0, with_stream_holds n streams one all.1 holds)
 
 true_false : (b : Bool) → b ≡ true → b ≡ false → ⊥
 true_false b is other = cc
 
-ended_stands : (may_else : Bool) (n : ℕ) (below : Below) (next : Option ℕ) → StandBelow may_else n below → OkGood (StandBelow may_else n) (ended below next)
-ended_stands may_else n below None stands = stands
-ended_stands may_else n below (Some place) stands = tt
+ended_holds : (may_else : Bool) (n : ℕ) (below : Below) (next : Option ℕ) → StandBelow may_else n below → OkGood (StandBelow may_else n) (ended below next)
+ended_holds may_else n below None holds = holds
+ended_holds may_else n below (Some place) holds = tt
 
-with_part_stands : (may_else : Bool) (n : ℕ) (below : Below) (part : Part) (next : Option ℕ) → StandBelow may_else n below → StandsPart may_else n part → OkGood (StandBelow may_else n) (with_part below part next)
-with_part_stands may_else n below (One one place) next stands known = (with_stream_stands n below.children.streams one stands.0 known, stands.1, stands.2)
-with_part_stands may_else n below (Rest located) next stands known =
-    ended_stands may_else n (record { children = below.children; otherwise = located }) next (stands.0, known.1, λ other. absurd (true_false may_else known.0 other))
+with_part_holds : (may_else : Bool) (n : ℕ) (below : Below) (part : Part) (next : Option ℕ) → StandBelow may_else n below → StandsPart may_else n part → OkGood (StandBelow may_else n) (with_part below part next)
+with_part_holds may_else n below (One one place) next holds known = (with_stream_holds n below.children.streams one holds.0 known, holds.1, holds.2)
+with_part_holds may_else n below (Rest located) next holds known =
+    ended_holds may_else n (record { children = below.children; otherwise = located }) next (holds.0, known.1, λ other. absurd (true_false may_else known.0 other))
 
 pub all_read_stand : (may_else : Bool) (n : ℕ) (below : Below) (readings : Readings) → StandBelow may_else n below → StandParts may_else n readings → OkGood (StandBelow may_else n) (all_read below readings)
 unfolding all_read
-all_read_stand may_else n below [] stands all = stands
-all_read_stand may_else n below (reading ∷ readings) stands all =
+all_read_stand may_else n below [] holds all = holds
+all_read_stand may_else n below (reading ∷ readings) holds all =
     bind_good (StandsPart may_else n) (StandBelow may_else n) reading.1 _ all.0 (λ part known.
-    bind_good (StandBelow may_else n) (StandBelow may_else n) (with_part below part (next_place readings)) (λ more. all_read more readings) (with_part_stands may_else n below part (next_place readings) stands known)
+    bind_good (StandBelow may_else n) (StandBelow may_else n) (with_part below part (next_place readings)) (λ more. all_read more readings) (with_part_holds may_else n below part (next_place readings) holds known)
     (λ more is. all_read_stand may_else n more readings is all.1))
 
 dropped_stand : (may_else : Bool) (n count : ℕ) (readings : Readings) → StandParts may_else n readings → StandParts may_else n (drop count readings)
@@ -91,12 +91,12 @@ no_streams true false = refl
 no_streams false true = refl
 no_streams false false = refl
 
-followed_stands : (may_else : Bool) (w : StreamWord) (n : ℕ) → n ≤ 64 → (kind : KindTree) → InRange kind → (is_where w ≡ true → MayHaveRest kind)
+followed_holds : (may_else : Bool) (w : StreamWord) (n : ℕ) → n ≤ 64 → (kind : KindTree) → InRange kind → (is_where w ≡ true → MayHaveRest kind)
     → (start own : ℕ) (forms : FormTrees) (readings : Readings) → StandParts (is_where w) (suc n) readings → OkGood (StandsPart may_else n) (followed kind start own forms readings)
-followed_stands may_else w n shallow kind range rest start own forms readings all =
+followed_holds may_else w n shallow kind range rest start own forms readings all =
     ok_if (StandsPart may_else n) (may_have_children kind) _ _
     (λ may. bind_good (StandBelow (is_where w) (suc n)) (StandsPart may_else n) (all_read nothing (drop own readings)) (λ below. Ok (stream_of kind start below))
-    (all_read_stand (is_where w) (suc n) nothing (drop own readings) (nothing_stands (is_where w) (suc n)) (dropped_stand (is_where w) (suc n) own readings all))
+    (all_read_stand (is_where w) (suc n) nothing (drop own readings) (nothing_holds (is_where w) (suc n)) (dropped_stand (is_where w) (suc n) own readings all))
     (λ below known. (shallow, right_streams (is_where w) (may_have_children kind) (may_have_otherwise kind) (has_streams below.children.streams) (has_streams below.otherwise.streams) may rest known.2, range, known.0, known.1)))
     (λ _. bind_good Any_ (StandsPart may_else n) (at_most own forms) (λ over. Ok (stream_of kind start nothing)) (any_good (at_most own forms))
     (λ over _. (shallow, no_streams (may_have_children kind) (may_have_otherwise kind), range, tt, tt)))
@@ -146,50 +146,50 @@ kind_followed : (may_else : Bool) (n : ℕ) → n ≤ 64 → (env : Env) (w : St
     → OkGood (StandsPart may_else n) (kind_of env w start forms >>= λ kind. followed kind start (leads env w forms) forms readings)
 kind_followed may_else n shallow env w start forms readings all =
     bind_good (Suits w) (StandsPart may_else n) (kind_of env w start forms) (λ kind. followed kind start (leads env w forms) forms readings) (kind_suits env w start forms)
-    (λ kind suits. followed_stands may_else w n shallow kind suits.0 suits.1 start (leads env w forms) forms readings all)
+    (λ kind suits. followed_holds may_else w n shallow kind suits.0 suits.1 start (leads env w forms) forms readings all)
 
-worded_stands : (may_else : Bool) (n : ℕ) → n ≤ 64 → (env : Env) (found : Option StreamWord) (start : ℕ) (forms : FormTrees) (readings : Readings)
+worded_holds : (may_else : Bool) (n : ℕ) → n ≤ 64 → (env : Env) (found : Option StreamWord) (start : ℕ) (forms : FormTrees) (readings : Readings)
     → StandParts (is_where_in found) (suc n) readings → StandParts (is_where_in found) n readings → OkGood (StandsPart may_else n) (worded may_else env found start forms readings)
 unfolding worded
-worded_stands may_else n shallow env None start forms readings below beside = tt
-worded_stands may_else n shallow env (Some w) start forms readings below beside =
+worded_holds may_else n shallow env None start forms readings below beside = tt
+worded_holds may_else n shallow env (Some w) start forms readings below beside =
     ok_if (StandsPart may_else n) (is_else w) _ _
     (λ _. ok_if (StandsPart may_else n) may_else _ _
     (λ may. bind_good (StandBelow (is_where w) n) (StandsPart may_else n) (all_read nothing readings) (λ rest. Ok (Rest rest.children))
-    (all_read_stand (is_where w) n nothing readings (nothing_stands (is_where w) n) beside) (λ rest known. (may, known.0))) (λ _. tt))
+    (all_read_stand (is_where w) n nothing readings (nothing_holds (is_where w) n) beside) (λ rest known. (may, known.0))) (λ _. tt))
     (λ _. kind_followed may_else n shallow env w start forms readings below)
 
-symbol_stands : (may_else : Bool) (n : ℕ) → n ≤ 64 → (found : Option Bound) (name : List ℕ) (start : ℕ) → OkGood (StandsPart may_else n) (symbol_by found name start)
-symbol_stands may_else n shallow None name start = ok_if (StandsPart may_else n) (bytes_eq name (stream_text word.Index)) _ _ (λ _. (shallow, refl, refl, tt, tt)) (λ _. tt)
-symbol_stands may_else n shallow (Some bound.Index) name start = (shallow, refl, refl, tt, tt)
-symbol_stands may_else n shallow (Some (bound.Text text)) name start = tt
-symbol_stands may_else n shallow (Some (bound.Pattern text)) name start = tt
-symbol_stands may_else n shallow (Some (bound.Number number)) name start = tt
-symbol_stands may_else n shallow (Some (bound.Keyword key)) name start = tt
+symbol_holds : (may_else : Bool) (n : ℕ) → n ≤ 64 → (found : Option Bound) (name : List ℕ) (start : ℕ) → OkGood (StandsPart may_else n) (symbol_by found name start)
+symbol_holds may_else n shallow None name start = ok_if (StandsPart may_else n) (bytes_eq name (stream_text word.Index)) _ _ (λ _. (shallow, refl, refl, tt, tt)) (λ _. tt)
+symbol_holds may_else n shallow (Some bound.Index) name start = (shallow, refl, refl, tt, tt)
+symbol_holds may_else n shallow (Some (bound.Text text)) name start = tt
+symbol_holds may_else n shallow (Some (bound.Pattern text)) name start = tt
+symbol_holds may_else n shallow (Some (bound.Number number)) name start = tt
+symbol_holds may_else n shallow (Some (bound.Keyword key)) name start = tt
 
--- ---- a stream stands in one bracket more than the one above it, and so does a list of the rest
+-- ---- a stream is in one bracket more than the one above it, and so does a list of the rest
 
 mutual
   unfolding part_at parts_in
 
-  part_stands : (may_else : Bool) (env : Env) (f : FormTree) (n : ℕ) → n + form_depth f ≤ 64 → OkGood (StandsPart may_else n) (part_at may_else env f)
-  part_stands may_else env (Single (atom.Symbol name) start last) n h = symbol_stands may_else n (omega (arith, h)) (bound_value name env) name start
-  part_stands may_else env (Group Round (also (Single (atom.Symbol name) begin end) forms) start last) n h =
-      worded_stands may_else n (omega (arith, h)) env (stream_word name) start forms (parts_in (is_where_in (stream_word name)) env forms)
+  part_holds : (may_else : Bool) (env : Env) (f : FormTree) (n : ℕ) → n + form_depth f ≤ 64 → OkGood (StandsPart may_else n) (part_at may_else env f)
+  part_holds may_else env (Single (atom.Symbol name) start last) n h = symbol_holds may_else n (omega (arith, h)) (bound_value name env) name start
+  part_holds may_else env (Group Round (also (Single (atom.Symbol name) begin end) forms) start last) n h =
+      worded_holds may_else n (omega (arith, h)) env (stream_word name) start forms (parts_in (is_where_in (stream_word name)) env forms)
       (parts_stand (is_where_in (stream_word name)) env forms (suc n) (omega (arith, h))) (parts_stand (is_where_in (stream_word name)) env forms n (omega (arith, h)))
-  part_stands may_else env (Single (atom.Text text) start last) n h = tt
-  part_stands may_else env (Single (atom.Pattern text) start last) n h = tt
-  part_stands may_else env (Single (atom.Number number) start last) n h = tt
-  part_stands may_else env (Single (atom.Keyword key) start last) n h = tt
-  part_stands may_else env (Group Round none start last) n h = tt
-  part_stands may_else env (Group Round (also (Single (atom.Text text) begin end) forms) start last) n h = tt
-  part_stands may_else env (Group Round (also (Single (atom.Pattern text) begin end) forms) start last) n h = tt
-  part_stands may_else env (Group Round (also (Single (atom.Number number) begin end) forms) start last) n h = tt
-  part_stands may_else env (Group Round (also (Single (atom.Keyword key) begin end) forms) start last) n h = tt
-  part_stands may_else env (Group Round (also (Group bracket inner begin end) forms) start last) n h = tt
-  part_stands may_else env (Group Square forms start last) n h = tt
-  part_stands may_else env (Group Curly forms start last) n h = tt
+  part_holds may_else env (Single (atom.Text text) start last) n h = tt
+  part_holds may_else env (Single (atom.Pattern text) start last) n h = tt
+  part_holds may_else env (Single (atom.Number number) start last) n h = tt
+  part_holds may_else env (Single (atom.Keyword key) start last) n h = tt
+  part_holds may_else env (Group Round none start last) n h = tt
+  part_holds may_else env (Group Round (also (Single (atom.Text text) begin end) forms) start last) n h = tt
+  part_holds may_else env (Group Round (also (Single (atom.Pattern text) begin end) forms) start last) n h = tt
+  part_holds may_else env (Group Round (also (Single (atom.Number number) begin end) forms) start last) n h = tt
+  part_holds may_else env (Group Round (also (Single (atom.Keyword key) begin end) forms) start last) n h = tt
+  part_holds may_else env (Group Round (also (Group bracket inner begin end) forms) start last) n h = tt
+  part_holds may_else env (Group Square forms start last) n h = tt
+  part_holds may_else env (Group Curly forms start last) n h = tt
 
   pub parts_stand : (may_else : Bool) (env : Env) (forms : FormTrees) (n : ℕ) → n + depth forms ≤ 64 → StandParts may_else n (parts_in may_else env forms)
   parts_stand may_else env none n h = tt
-  parts_stand may_else env (also f forms) n h = (part_stands may_else env f n (omega (arith, h)), parts_stand may_else env forms n (omega (arith, h)))
+  parts_stand may_else env (also f forms) n h = (part_holds may_else env f n (omega (arith, h)), parts_stand may_else env forms n (omega (arith, h)))

@@ -69,7 +69,7 @@ ConfigsAreRead = (forms : FormTrees) (config : Config) → AreConfig (bare_trees
 pub record IsConfigOf (text : List ℕ) (config : Config) : Type 0 where
   pub forms : FormTrees
   pub read : IsForms text forms
-  pub stands : AreConfig (bare_trees forms) config
+  pub holds : AreConfig (bare_trees forms) config
 
 abbrev pub why_of : SexpWhy → ConfigWhy
 why_of sexp.Long = why.Long

@@ -45,7 +45,7 @@ matched_front : (tokens : List Token) → IsPrefixOfForms tokens → matched [] 
 matched_front tokens front = front_matched [] tokens front.more
     (ap (matched []) front.whole ∙ ap (matched []) (sym (append-nil (spelling front.forms))) ∙ forms_matched front.forms [] [])
 
--- what is read stands for its tokens
+-- what is read represents its tokens
 frame_apart : (stack : List Frame) (frame : Frame) (tokens : List Token)
     → stack_tokens (frame ∷ stack) ++ tokens ≡ stack_tokens stack ++ (spelling frame.before ++ (Opened frame.bracket frame.place ∷ tokens))
 frame_apart stack frame tokens = simp append_assoc
@@ -193,11 +193,11 @@ abbrev KnownForms : List Token → Type 0
 KnownForms tokens = (reading : Reading) → bracket_fault (brackets_of reading.stack) tokens ≡ None
     → open_after (brackets_of reading.stack) tokens ≡ [] → AreForms (read_tokens reading ++ tokens)
 
-closed_behind : (bracket : Bracket) (last : ℕ) (tokens : List Token) (stack : List Frame) (forms : FormTrees) → KnownForms tokens
+closed_following : (bracket : Bracket) (last : ℕ) (tokens : List Token) (stack : List Frame) (forms : FormTrees) → KnownForms tokens
     → bracket_fault (brackets_of stack) (Closed bracket last ∷ tokens) ≡ None → open_after (brackets_of stack) (Closed bracket last ∷ tokens) ≡ []
     → AreForms ((stack_tokens stack ++ spelling forms) ++ (Closed bracket last ∷ tokens))
-closed_behind bracket last tokens [] forms known e o = cc
-closed_behind bracket last tokens (frame ∷ stack) forms known e o = elim (cases_Bool (same_bracket frame.bracket bracket)) [
+closed_following bracket last tokens [] forms known e o = cc
+closed_following bracket last tokens (frame ∷ stack) forms known e o = elim (cases_Bool (same_bracket frame.bracket bracket)) [
   | inl same ↦
       let reading : Reading = record { stack = frame ∷ stack; forms = forms } in
       let after : Reading = record { stack = stack; forms = with_form frame.before (Group frame.bracket forms frame.place last) } in
@@ -220,7 +220,7 @@ closed_from (Opened bracket place ∷ tokens) reading e o = elim (cases_Bool (na
       are_same _ _ (more_read reading after (Opened bracket place) tokens (piece_tokens reading place 0 (Opening bracket) after (rw room refl)))
       (closed_from tokens after (rw shallow at e) o)
 ]
-closed_from (Closed bracket last ∷ tokens) reading e o = closed_behind bracket last tokens reading.stack reading.forms (closed_from tokens) e o
+closed_from (Closed bracket last ∷ tokens) reading e o = closed_following bracket last tokens reading.stack reading.forms (closed_from tokens) e o
 
 pub closed_forms : (tokens : List Token) → bracket_fault [] tokens ≡ None → open_after [] tokens ≡ [] → (forms : FormTrees) × (tokens ≡ spelling forms)
 closed_forms tokens e o = closed_from tokens (record { stack = []; forms = none }) e o

@@ -24,13 +24,13 @@ skipped next place (b ∷ bytes) h = elim (cases_Bool (nat_lt place next)) [
       rw (none, same) refl
 ]
 
-byte_behind : (text : List ℕ) (place : ℕ) → place < length text → drop place text ≡ get_or text place 0 ∷ drop (place + 1) text
-byte_behind text place h = drop-cons text place 0 h ∙ rw add-one refl
+byte_following : (text : List ℕ) (place : ℕ) → place < length text → drop place text ≡ get_or text place 0 ∷ drop (place + 1) text
+byte_following text place h = drop-cons text place 0 h ∙ rw add-one refl
 
 one_step : (text : List ℕ) (place : ℕ) → place < length text
     → rest text place ≡ and_then place (piece_at place (get_or text place 0) (drop (place + 1) text)) (λ last. lexed_from last (place + 1) (drop (place + 1) text))
 unfolding lexed_from
-one_step text place h = rw (byte_behind text place h, le-ltb place place (omega arith)) refl
+one_step text place h = rw (byte_following text place h, le-ltb place place (omega arith)) refl
 
 jumped : (text : List ℕ) (place last : ℕ) → place < last → lexed_from last (place + 1) (drop (place + 1) text) ≡ rest text last
 jumped text place last h =

@@ -9,7 +9,7 @@ use Rattle.sexp_read.specs.Reading.{Reading, brackets_of, with_piece}
 use Rattle.sexp_read.proofs.Lexing.{rest, rest_more, rest_fault, rest_none, rest_all}
 use Rattle.sexp_read.proofs.ReadingLaws.{read_tokens, piece_tokens, piece_fault, piece_refused}
 
--- what is read up to a place: its tokens and those behind the place are all, and so is the fault
+-- what is read up to a place: its tokens and those after the place are all, and so is the fault
 pub record IsReadTo (text : List ℕ) (place : ℕ) (reading : Reading) : Type 0 where
   pub within : place ≤ length text
   pub tokens : (lexed text).tokens ≡ read_tokens reading ++ (rest text place).tokens

@@ -30,8 +30,8 @@ before_ascii front bytes b u low =
     (IsCharBoundary-before_ascii (front ++ b ∷ bytes) (length front) (shorter front bytes b) (omega (arith, at_seam front bytes b))) in
     subst (λ (text : List ℕ). IsUtf8 text) (take_at front (b ∷ bytes) (length front) refl) cut
 
-pub behind_ascii : (front bytes : List ℕ) (b : ℕ) → IsUtf8 (front ++ b ∷ bytes) → b < 128 → IsUtf8 bytes
-behind_ascii front bytes b u low =
+pub following_ascii : (front bytes : List ℕ) (b : ℕ) → IsUtf8 (front ++ b ∷ bytes) → b < 128 → IsUtf8 bytes
+following_ascii front bytes b u low =
     let cut = IsUtf8-drop (front ++ b ∷ bytes) (length front + 1) u
     (IsCharBoundary-after_ascii (front ++ b ∷ bytes) (length front) u (shorter front bytes b) (omega (arith, at_seam front bytes b))) in
     subst (λ (text : List ℕ). IsUtf8 text) (drop-append-add front (b ∷ bytes) 1) cut
@@ -47,7 +47,7 @@ text_escape_keeps c front bytes more (Some e) low h u =
     let one : more ≡ e ∷ [] = cc in
     let before = before_ascii front (c ∷ bytes) 92 u (omega arith) in
     let moved : IsUtf8 ((front ++ 92 ∷ []) ++ c ∷ bytes) = subst (λ (text : List ℕ). IsUtf8 text) (sym (append_assoc front (92 ∷ []) (c ∷ bytes))) u in
-    let after = behind_ascii (front ++ 92 ∷ []) bytes c moved small.0 in
+    let after = following_ascii (front ++ 92 ∷ []) bytes c moved small.0 in
     rw one (IsUtf8-append (front ++ e ∷ []) bytes
     (IsUtf8-append front (e ∷ []) before (IsUtf8-from_ascii (e ∷ []) (IsAscii-cons e [] small.1 IsAscii-nil))) after)
 

@@ -16,7 +16,7 @@ use Rattle.sexp_read.specs.Tokens.{Fault, Token, Opened, Closed, Stood, Lexed, l
 use Rattle.sexp_read.specs.Grammar.{form_spelling, spelling, deepest, IsForms}
 use Rattle.sexp_read.specs.Written.{bare_tree, bare_trees, bare_depth, is_pattern, IsWithin64, IsWritable, IsWritableTree, AreWritable}
 use Rattle.sexp_read.proofs.Pieces.{quote_is_ascii}
-use Rattle.sexp_read.proofs.QuotedText.{behind_ascii, ok_parts, fronted, escaped, quoted_is_utf8}
+use Rattle.sexp_read.proofs.QuotedText.{following_ascii, ok_parts, fronted, escaped, quoted_is_utf8}
 use Rattle.sexp_read.proofs.WrittenTrees.{depth_is}
 
 -- atoms
@@ -143,7 +143,7 @@ hash_good place b front (c ∷ bytes) u = elim (cases_Bool (nat_eq c 34)) [
   | inl q ↦
       let moved = subst (λ (text : List ℕ). IsUtf8 text) (sym (append_assoc front (b ∷ []) (c ∷ bytes))) u in
       let low : c < 128 = (let e = eqb-true c 34 q in omega arith) in
-      rw q (quoted_good in_pattern place (place + 2) bytes (behind_ascii (front ++ b ∷ []) bytes c moved low))
+      rw q (quoted_good in_pattern place (place + 2) bytes (following_ascii (front ++ b ∷ []) bytes c moved low))
   | inr q ↦ rw q (run_good place (b ∷ c ∷ bytes))
 ]
 
@@ -152,7 +152,7 @@ class_good Separator place b front bytes u h = tt
 class_good Comment place b front bytes u h = tt
 class_good (Opens bracket) place b front bytes u h = tt
 class_good (Closes bracket) place b front bytes u h = tt
-class_good Quote place b front bytes u h = quoted_good in_text place (place + 1) bytes (behind_ascii front bytes b u (quote_is_ascii b h))
+class_good Quote place b front bytes u h = quoted_good in_text place (place + 1) bytes (following_ascii front bytes b u (quote_is_ascii b h))
 class_good Hash place b front bytes u h = hash_good place b front bytes u
 class_good Run place b front bytes u h = run_good place (b ∷ bytes)
 

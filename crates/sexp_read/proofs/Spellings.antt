@@ -7,7 +7,7 @@ use Rattle.sexp_read.specs.Tokens.{Token, Closed}
 use Rattle.sexp_read.specs.Grammar.{form_spelling, spelling, form_depth, depth, deepest, Brackets, bracket_fault, open_after}
 use Rattle.sexp_read.proofs.ReadingLaws.{same_bracket_refl}
 
--- the tokens inside a group, and those behind it
+-- the tokens inside a group, and those after it
 pub inside : (forms : FormTrees) (last : Token) (more : List Token) → (spelling forms ++ last ∷ []) ++ more ≡ spelling forms ++ last ∷ more
 inside forms last more = append_assoc (spelling forms) (last ∷ []) more
 

@@ -38,18 +38,18 @@ map_text form forms items is same =
 abbrev written : Form → List ℕ
 written form = tree_text (bare_tree (form_tree form))
 
-abbrev behind : List Form → List ℕ
-behind forms = later_text (bare_trees (form_trees forms))
+abbrev following : List Form → List ℕ
+following forms = later_text (bare_trees (form_trees forms))
 
 abbrev lines : List Form → List ℕ
 lines forms = lines_text (bare_trees (form_trees forms))
 
-behind_push : (forms : List Form) (form : Form) → behind (forms ++ form ∷ []) ≡ (behind forms ++ 32 ∷ []) ++ written form
-behind_push [] form = ap (λ (text : List ℕ). 32 ∷ text) (append-nil (written form))
-behind_push (first ∷ forms) form =
-    ap (λ (text : List ℕ). 32 ∷ (written first ++ text)) (behind_push forms form)
-    ∙ ap (λ (text : List ℕ). 32 ∷ text) (sym (append_assoc (written first) (behind forms ++ 32 ∷ []) (written form))
-    ∙ ap (λ (text : List ℕ). text ++ written form) (sym (append_assoc (written first) (behind forms) (32 ∷ []))))
+following_push : (forms : List Form) (form : Form) → following (forms ++ form ∷ []) ≡ (following forms ++ 32 ∷ []) ++ written form
+following_push [] form = ap (λ (text : List ℕ). 32 ∷ text) (append-nil (written form))
+following_push (first ∷ forms) form =
+    ap (λ (text : List ℕ). 32 ∷ (written first ++ text)) (following_push forms form)
+    ∙ ap (λ (text : List ℕ). 32 ∷ text) (sym (append_assoc (written first) (following forms ++ 32 ∷ []) (written form))
+    ∙ ap (λ (text : List ℕ). text ++ written form) (sym (append_assoc (written first) (following forms) (32 ∷ []))))
 
 lines_push : (forms : List Form) (form : Form) → lines (forms ++ form ∷ []) ≡ (lines forms ++ written form) ++ 10 ∷ []
 lines_push [] form = refl
@@ -64,8 +64,8 @@ taken_more forms i form inside is = take_more forms i form inside ∙ ap (λ (la
 pub lines_all : (forms : List Form) → lines (take (length forms) forms) ≡ lines forms
 lines_all forms = ap lines (take-length forms)
 
-pub behind_all : (forms : List Form) → behind (take (length forms) forms) ≡ behind forms
-behind_all forms = ap behind (take-length forms)
+pub following_all : (forms : List Form) → following (take (length forms) forms) ≡ following forms
+following_all forms = ap following (take-length forms)
 
 pub lines_step : (first out put final : List ℕ) (forms : List Form) (i : ℕ) (form : Form)
     → out ≡ first ++ lines (take i forms) → put ≡ out ++ written form → final ≡ put ++ 10 ∷ []
@@ -76,12 +76,12 @@ lines_step first out put final forms i form before wrote ended inside is =
     ∙ append_assoc first (so_far ++ written form) (10 ∷ [])
     ∙ ap (λ (text : List ℕ). first ++ text) (sym (ap lines (taken_more forms i form inside is) ∙ lines_push (take i forms) form))
 
-pub behind_step : (first initial out put final : List ℕ) (forms : List Form) (i : ℕ) (form : Form)
-    → IsPrefix first out × (out ≡ initial ++ behind (take i forms)) → put ≡ out ++ 32 ∷ [] → final ≡ put ++ written form
+pub following_step : (first initial out put final : List ℕ) (forms : List Form) (i : ℕ) (form : Form)
+    → IsPrefix first out × (out ≡ initial ++ following (take i forms)) → put ≡ out ++ 32 ∷ [] → final ≡ put ++ written form
     → i < length forms → form ≡ get_or forms i form
-    → IsPrefix first final × (final ≡ initial ++ behind (take (i + 1) forms))
-behind_step first initial out put final forms i form before blank wrote inside is =
-    let so_far = behind (take i forms) in
+    → IsPrefix first final × (final ≡ initial ++ following (take (i + 1) forms))
+following_step first initial out put final forms i form before blank wrote inside is =
+    let so_far = following (take i forms) in
     let all : final ≡ (out ++ 32 ∷ []) ++ written form = wrote ∙ ap (λ (text : List ℕ). text ++ written form) blank in
     let grown : final ≡ first ++ ((before.0.0 ++ 32 ∷ []) ++ written form) =
     all ∙ ap (λ (text : List ℕ). (text ++ 32 ∷ []) ++ written form) before.0.1
@@ -90,5 +90,5 @@ behind_step first initial out put final forms i form before blank wrote inside i
     all ∙ ap (λ (text : List ℕ). (text ++ 32 ∷ []) ++ written form) before.1
     ∙ ap (λ (text : List ℕ). text ++ written form) (append_assoc initial so_far (32 ∷ [])) ∙ append_assoc initial (so_far ++ 32 ∷ []) (written form) in (
       ((before.0.0 ++ 32 ∷ []) ++ written form, grown),
-      same ∙ ap (λ (text : List ℕ). initial ++ text) (sym (ap behind (taken_more forms i form inside is) ∙ behind_push (take i forms) form)),
+      same ∙ ap (λ (text : List ℕ). initial ++ text) (sym (ap following (taken_more forms i form inside is) ∙ following_push (take i forms) form)),
     )

@@ -28,7 +28,7 @@ abbrev pub Ends : List ℕ → Type 0
 Ends [] = Unit {0}
 Ends (b ∷ bytes) = runs_on (class_of b) ≡ false
 
--- these tokens stand at the front, and others behind the bytes
+-- these tokens come first, and others come after the bytes
 pub record ReadsBack (place : ℕ) (text rest : List ℕ) (tokens : List Token) : Type 0 where
   pub is : lexed_from place place (text ++ rest) ≡ with_tokens tokens (lexed_from (place + length text) (place + length text) rest)
 
@@ -39,10 +39,10 @@ unfolding lexed_from
 piece_read place b more rest piece e =
     let last = place + length (b ∷ more) in
     let size : last - (place + 1) ≡ length more = omega arith in
-    let behind : lexed_from last (place + 1) (more ++ rest) ≡ lexed_from last last rest =
+    let following : lexed_from last (place + 1) (more ++ rest) ≡ lexed_from last last rest =
     skipped last (place + 1) (more ++ rest) (omega arith) ∙ ap (λ (n : ℕ). lexed_from last last (drop n (more ++ rest))) size
     ∙ ap (λ (bytes : List ℕ). lexed_from last last bytes) (drop-append_seam more rest) in
-    record { is = rw (le-ltb place place (omega arith), e) (ap (with_tokens (tokens_in place piece last)) behind) }
+    record { is = rw (le-ltb place place (omega arith), e) (ap (with_tokens (tokens_in place piece last)) following) }
 
 -- runs
 

@@ -15,10 +15,10 @@ use Rattle.sexp_read.specs.Grammar.{form_spelling, spelling, form_depth, depth, 
 use Rattle.string_literals.specs.Literals.{escape as byte_text}
 use Rattle.sexp_read.specs.Written.{BareTree, BareTrees, Leaf, Branch, no_trees, and_trees, bare_tree, bare_trees, bare_tree_depth, bare_depth, atom_text, opening, closing, tree_text, between_text, later_text, lines_text, IsWithin64, IsWritable, IsWritableTree, AreWritable, IsReadBack}
 use Rattle.sexp_read.proofs.Ascii.{symbol_is_utf8, keyword_is_utf8}
-use Rattle.sexp_read.proofs.QuotedText.{before_ascii, behind_ascii}
+use Rattle.sexp_read.proofs.QuotedText.{before_ascii, following_ascii}
 use Rattle.sexp_read.proofs.WrittenAtoms.{Ends, ReadsBack, piece_read, atom_read}
 
--- one behind another
+-- one after another
 
 with_both : (a b : List Token) (l : Lexed) → with_tokens a (with_tokens b l) ≡ with_tokens (a ++ b) l
 with_both a b l = ap (λ (tokens : List Token). record { tokens = tokens; fault = l.fault }) (sym (append_assoc a b l.tokens))
@@ -26,10 +26,10 @@ with_both a b l = ap (λ (tokens : List Token). record { tokens = tokens; fault 
 reads_both : (place next : ℕ) (a b rest : List ℕ) (s t : List Token) → next ≡ place + length a → ReadsBack place a (b ++ rest) s → ReadsBack next b rest t → ReadsBack place (a ++ b) rest (s ++ t)
 reads_both place next a b rest s t at first second =
     let size : next + length b ≡ place + length (a ++ b) = omega (arith, length-append a b) in
-    let behind = subst (λ (n : ℕ). lexed_from n n (b ++ rest) ≡ with_tokens t (lexed_from (next + length b) (next + length b) rest)) at second.is in
+    let following = subst (λ (n : ℕ). lexed_from n n (b ++ rest) ≡ with_tokens t (lexed_from (next + length b) (next + length b) rest)) at second.is in
     record {
       is =
-          ap (lexed_from place place) (append_assoc a b rest) ∙ first.is ∙ ap (with_tokens s) behind ∙ with_both s t (lexed_from (next + length b) (next + length b) rest)
+          ap (lexed_from place place) (append_assoc a b rest) ∙ first.is ∙ ap (with_tokens s) following ∙ with_both s t (lexed_from (next + length b) (next + length b) rest)
           ∙ ap (λ (n : ℕ). with_tokens (s ++ t) (lexed_from n n rest)) size;
     }
 
@@ -61,9 +61,9 @@ closing_ends Round rest = refl
 closing_ends Square rest = refl
 closing_ends Curly rest = refl
 
-behind_ends : (trees : BareTrees) (rest : List ℕ) → Ends rest → Ends (later_text trees ++ rest)
-behind_ends no_trees rest ends = ends
-behind_ends (and_trees tree trees) rest ends = refl
+following_ends : (trees : BareTrees) (rest : List ℕ) → Ends rest → Ends (later_text trees ++ rest)
+following_ends no_trees rest ends = ends
+following_ends (and_trees tree trees) rest ends = refl
 
 -- forms that are these trees, and are read of the text
 
@@ -88,9 +88,9 @@ and_read place text rest tree trees first others = record {
   read = reads_both place _ (tree_text tree) text rest (form_spelling first.form) (spelling others.forms) refl first.read others.read;
 }
 
--- behind a byte that is no token
-behind_read : (place b : ℕ) (text rest : List ℕ) (trees : BareTrees) → ReadsBack place (b ∷ []) (text ++ rest) [] → TreesRead (place + 1) text rest trees → TreesRead place (b ∷ text) rest trees
-behind_read place b text rest trees blank others = record {
+-- after a byte that is not a token
+following_read : (place b : ℕ) (text rest : List ℕ) (trees : BareTrees) → ReadsBack place (b ∷ []) (text ++ rest) [] → TreesRead (place + 1) text rest trees → TreesRead place (b ∷ text) rest trees
+following_read place b text rest trees blank others = record {
   forms = others.forms;
   same = others.same;
   read = reads_both place (place + 1) (b ∷ []) text rest [] (spelling others.forms) (omega arith) blank others.read;
@@ -100,12 +100,12 @@ branch_read : (bracket : Bracket) (trees : BareTrees) (place : ℕ) (rest : List
 branch_read bracket trees place rest inner =
     let text = between_text trees in
     let at = place + 1 + length text in
-    let behind = reads_both (place + 1) at text (closing bracket ∷ []) rest (spelling inner.forms) (Closed bracket (at + 1) ∷ []) refl inner.read (closing_piece bracket at rest) in
+    let following = reads_both (place + 1) at text (closing bracket ∷ []) rest (spelling inner.forms) (Closed bracket (at + 1) ∷ []) refl inner.read (closing_piece bracket at rest) in
     record {
       form = Group bracket inner.forms place (at + 1);
       same = ap (Branch bracket) inner.same;
       read = reads_both place (place + 1) (opening bracket ∷ []) (text ++ closing bracket ∷ []) rest (Opened bracket place ∷ []) (spelling inner.forms ++ Closed bracket (at + 1) ∷ []) (omega arith)
-          (opening_piece bracket place ((text ++ closing bracket ∷ []) ++ rest)) behind;
+          (opening_piece bracket place ((text ++ closing bracket ∷ []) ++ rest)) following;
     }
 
 mutual
@@ -117,14 +117,14 @@ mutual
   between_read : (trees : BareTrees) → AreWritable trees → (place : ℕ) (rest : List ℕ) → Ends rest → TreesRead place (between_text trees) rest trees
   between_read no_trees w place rest ends = none_read place rest
   between_read (and_trees tree trees) w place rest ends =
-      and_read place (later_text trees) rest tree trees (tree_read tree w.0 place (later_text trees ++ rest) (behind_ends trees rest ends))
+      and_read place (later_text trees) rest tree trees (tree_read tree w.0 place (later_text trees ++ rest) (following_ends trees rest ends))
       (others_read trees w.1 (place + length (tree_text tree)) rest ends)
 
   others_read : (trees : BareTrees) → AreWritable trees → (place : ℕ) (rest : List ℕ) → Ends rest → TreesRead place (later_text trees) rest trees
   others_read no_trees w place rest ends = none_read place rest
   others_read (and_trees tree trees) w place rest ends =
-      behind_read place 32 (tree_text tree ++ later_text trees) rest (and_trees tree trees) (blank_piece place _)
-      (and_read (place + 1) (later_text trees) rest tree trees (tree_read tree w.0 (place + 1) (later_text trees ++ rest) (behind_ends trees rest ends))
+      following_read place 32 (tree_text tree ++ later_text trees) rest (and_trees tree trees) (blank_piece place _)
+      (and_read (place + 1) (later_text trees) rest tree trees (tree_read tree w.0 (place + 1) (later_text trees ++ rest) (following_ends trees rest ends))
       (others_read trees w.1 (place + 1 + length (tree_text tree)) rest ends))
 
 lines_read : (trees : BareTrees) → AreWritable trees → (place : ℕ) → TreesRead place (lines_text trees) [] trees
@@ -132,7 +132,7 @@ lines_read no_trees w place = none_read place []
 lines_read (and_trees tree trees) w place =
     let next = place + length (tree_text tree) in
     and_read place (10 ∷ lines_text trees) [] tree trees (tree_read tree w.0 place (10 ∷ (lines_text trees ++ [])) refl)
-    (behind_read next 10 (lines_text trees) [] trees (line_piece next (lines_text trees ++ [])) (lines_read trees w.1 (next + 1)))
+    (following_read next 10 (lines_text trees) [] trees (line_piece next (lines_text trees ++ [])) (lines_read trees w.1 (next + 1)))
 
 -- it is UTF-8
 
@@ -160,7 +160,7 @@ content_utf8 [] front u = u
 content_utf8 (b ∷ text) front u =
     let escaped : HasEscape b → IsUtf8 (front ++ flat_map byte_text (b ∷ text)) = λ (h : HasEscape b).
     let before = before_ascii front text b u h.low in
-    let after = behind_ascii front text b u h.low in
+    let after = following_ascii front text b u h.low in
     let whole = IsUtf8-append (front ++ 92 ∷ h.letter ∷ []) text (IsUtf8-append front (92 ∷ h.letter ∷ []) before (two_utf8 92 h.letter (omega arith) h.small)) after in
     subst (λ (bytes : List ℕ). IsUtf8 (front ++ (bytes ++ flat_map byte_text text))) (sym h.is)
     (subst (λ (bytes : List ℕ). IsUtf8 bytes) (append_assoc front (92 ∷ h.letter ∷ []) (flat_map byte_text text)) (content_utf8 text (front ++ 92 ∷ h.letter ∷ []) whole)) in

@@ -66,7 +66,7 @@ fn put_group(alloc: Global, bracket: Bracket, forms: &[Form], out: &mut Blob) ->
 
 /// Appends the forms with single spaces between them.
 #[cycle(write)]
-#[tactic(auto, using(crate::proofs::WritingLaws::behind_all))]
+#[tactic(auto, using(crate::proofs::WritingLaws::following_all))]
 fn put_between(alloc: Global, forms: &[Form], out: &mut Blob) -> Result<(), Memory>
     ensures ok { OnOk result (out.new ≡ out.old
         ++ between_text (bare_trees (form_trees forms.now))) }

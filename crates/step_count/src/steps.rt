@@ -44,8 +44,8 @@ impl<G: Ledger> Steps<G> {
     pub fn enter_fork(&mut self)
         ensures forks { self.new.forks ≡ self.old.forks + 1 }
         ensures entries { self.new.entries ≡ self.old.entries }
-        ensures forks_told { G.forks self.new.ledger ≡ one_more (G.forks self.old.ledger) }
-        ensures entries_told { G.entries self.new.ledger ≡ G.entries self.old.ledger }
+        ensures forks_reported { G.forks self.new.ledger ≡ one_more (G.forks self.old.ledger) }
+        ensures entries_reported { G.entries self.new.ledger ≡ G.entries self.old.ledger }
     {
         self.forks = self.forks.and(&(), &());
         self.ledger.fork();
@@ -55,8 +55,8 @@ impl<G: Ledger> Steps<G> {
     pub fn visit_entry(&mut self)
         ensures forks { self.new.forks ≡ self.old.forks }
         ensures entries { self.new.entries ≡ self.old.entries + 1 }
-        ensures forks_told { G.forks self.new.ledger ≡ G.forks self.old.ledger }
-        ensures entries_told { G.entries self.new.ledger ≡ one_more (G.entries self.old.ledger) }
+        ensures forks_reported { G.forks self.new.ledger ≡ G.forks self.old.ledger }
+        ensures entries_reported { G.entries self.new.ledger ≡ one_more (G.entries self.old.ledger) }
     {
         self.entries = self.entries.and(&(), &());
         self.ledger.entry();

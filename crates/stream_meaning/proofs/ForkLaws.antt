@@ -23,7 +23,7 @@ or_false : (s t : Bool) → s || t ≡ false → (s ≡ false) × (t ≡ false)
 or_false true t e = absurd (true≢false e)
 or_false false t e = (refl, e)
 
--- of keys among which the new one stands already (t) or not
+-- of keys among which the new one is already (t) or not
 without_step : (t : Bool) (key new : List Value) (keys : List (List Value)) → is_among new keys ≡ t → is_among key (cond t keys (keys ++ new ∷ [])) ≡ false →
     (is_among key keys ≡ false) × (same_key new key ≡ false)
 without_step false key new keys e f =

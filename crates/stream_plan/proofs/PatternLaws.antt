@@ -16,7 +16,7 @@ pub stream_patterns-opened : (s : Stream) →
 unfolding opened stream_patterns
 stream_patterns-opened s = refl
 
--- the streams from place i on are the one there and those behind it
+-- the streams from place i on are the one there and those after it
 pub plan_patterns-drop : (streams : List Stream) (i : ℕ) (s : Stream) → i < length streams →
     plan_patterns (list_trees (drop i streams)) ≡ stream_patterns (opened (get_or streams i s)) ++ plan_patterns (list_trees (drop (i + 1) streams))
 unfolding plan_patterns

@@ -1,4 +1,4 @@
--- No fault stands exactly where each stream is without it.
+-- There is no fault exactly where each stream is without it.
 use Rattle.std.proofs.Common.{inl, inr, ◌≡◌, ◌≤◌, Bool, true, false, not, List, [], ◌∷◌, length, Option, Some, None, refl, ap}
 use Rattle.std.specs.Prelude.{slice_get}
 use Rattle.std.specs.List.{filter, AllByRecursion}

@@ -33,7 +33,7 @@ pub has_streams-list_trees : (streams : List Stream) → not (length streams == 
 has_streams-list_trees [] = refl
 has_streams-list_trees (s ∷ streams) = grind arith
 
--- the streams from place i on are the one there and those behind it
+-- the streams from place i on are the one there and those after it
 pub preorder_in-drop : (path : List ℕ) (number : ℕ) (flow : Flow) (streams : List Stream) (i : ℕ) (s : Stream) →
     i < length streams →
     preorder_in path (number + i) flow (list_trees (drop i streams))

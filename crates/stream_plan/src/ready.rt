@@ -75,7 +75,7 @@ pub fn build_plan<P: Patterns>(
     ensures cause { HasCause (plan_patterns plan) (P.refusals patterns.old)
         (P.refusals patterns.new)
         result }
-    ensures told { P.refused patterns.new ≡ option_map
+    ensures reported { P.refused patterns.new ≡ option_map
         (λ texts. texts ++ refused_of (plan_patterns plan) result) (P.refused patterns.old) }
     ensures refusals { P.refusals patterns.old ≤ P.refusals patterns.new }
 {
@@ -94,7 +94,7 @@ fn build_patterns<P: Patterns>(
         (λ regexes. AreReadFrom (plan_patterns (plan_tree plan.now)) regexes.items) }
     ensures cause { HasCause (plan_patterns (plan_tree plan.now)) (P.refusals patterns.old)
         (P.refusals patterns.new) result }
-    ensures told { P.refused patterns.new ≡ option_map
+    ensures reported { P.refused patterns.new ≡ option_map
         (λ texts. texts ++ refused_of (plan_patterns (plan_tree plan.now)) result)
         (P.refused patterns.old) }
     ensures refusals { P.refusals patterns.old ≤ P.refusals patterns.new }

@@ -62,9 +62,9 @@ numbers_of texts kind (Kept kept) h bare keeps = cc
 numbers_of texts kind (Forks first) h bare keeps = keeps
 
 -- the next state of a kind that keeps something
-pub kept_stands : (texts : List (List ℕ)) (kind : KindTree) (state : State) (kept next : KeptState) (h after : History) → state ≡ Kept kept →
+pub kept_holds : (texts : List (List ℕ)) (kind : KindTree) (state : State) (kept next : KeptState) (h after : History) → state ≡ Kept kept →
     (KeptRepresents kind kept h → KeptRepresents kind next after) → StateRepresents texts kind state h → StateRepresents texts kind (Kept next) after
-kept_stands texts kind state kept next h after is goes represents =
+kept_holds texts kind state kept next h after is goes represents =
     record { in_range = represents.in_range; keeps = goes (subst (λ (s : State). Keeps texts kind s h) is represents.keeps) }
 
 keeps_on : (texts : List (List ℕ)) (kind : KindTree) (state : State) (h : History) → emissions kind (h ▸ Tick) ≡ [] → Keeps texts kind state h → Keeps texts kind state (h ▸ Tick)

@@ -152,9 +152,9 @@ module _ (start moment : ℕ) where
         let here = forks_stand texts plan first (ForestRepresents texts plan) (ForestRepresents texts (otherwise_of (opened s))) (forked_by (kind_of (opened s))) keys received key (below_of children otherwise forks) fits represents in
         subst (λ (trees : StreamTrees). IsFound trees first start key forks found number) trees finds texts keys (λ k. received (Fork k)) here.0 here.1 (unseen_fits (forked_by (kind_of (opened s))) keys received key fits unseen) comes.begins
 
-    stands_there : (texts : List (List ℕ)) (keys : List (List Value)) (received : Received) → FoundAt texts (children_of (opened s)) key keys (λ k. received (Fork k)) found number →
+    holds_there : (texts : List (List ℕ)) (keys : List (List Value)) (received : Received) → FoundAt texts (children_of (opened s)) key keys (λ k. received (Fork k)) found number →
         ComesAt start moment (received (Fork key)) x → ForkComes start moment texts (children_of (opened s)) number found (received (Fork key)) x
-    stands_there texts keys received at comes = record {
+    holds_there texts keys received at comes = record {
       is_table = at.forks_stand.is_table;
       within = let even = even_keys found (with_key key keys) at.forks_stand.is_table at.forks_stand.keys_are in omega (arith, even, at.within);
       fork = λ other.
@@ -230,10 +230,10 @@ module _ {G : Type 0} (patterns : List Regex) (start moment : ℕ) where
   both_case texts plan beside first None keys received a b c t u v children otherwise children' otherwise' forks plain represents one two =
       let ran = one represents.children in
       let ran' = two represents.otherwise in
-      let told = plan_effects plan (received Children ▸ Tick) in
-      let told' = plan_effects beside (received Otherwise ▸ Tick) in (
+      let reported = plan_effects plan (received Children ▸ Tick) in
+      let reported' = plan_effects beside (received Otherwise ▸ Tick) in (
         record { children = ran.0; otherwise = ran'.0; is_table = represents.is_table; no_forks = represents.no_forks },
-        subst (λ (hs : List Effect). Performs a t c v (told ++ hs)) (sym (append-nil told')) (grew_then a b c t u v told told' ran.1 ran'.1),
+        subst (λ (hs : List Effect). Performs a t c v (reported ++ hs)) (sym (append-nil reported')) (grew_then a b c t u v reported reported' ran.1 ran'.1),
       )
   both_case texts plan beside first (Some fields) keys received a b c t u v children otherwise children' otherwise' forks plain represents one two = absurd (cc)
 
@@ -285,9 +285,9 @@ module _ {G : Type 0} (patterns : List Regex) (start moment : ℕ) where
       (ForestRepresents texts beside below.otherwise (received Otherwise) → Stops b u c v Tick (plan_effects beside (received Otherwise ▸ Tick))) →
       Stops a t c v Tick (at_tick Tick (branch_effects (plan_effects plan) (plan_effects beside)) received (branches_by shape keys))
   two_stops_case texts plan beside first None keys received a b c t u v below children' plain represents one two =
-      let told = plan_effects plan (received Children ▸ Tick) in
-      let told' = plan_effects beside (received Otherwise ▸ Tick) in
-      subst (λ (hs : List Effect). Stops a t c v Tick (told ++ hs)) (sym (append-nil told')) (stops_then a b c t u v Tick told told' (one represents.children).1 (two represents.otherwise))
+      let reported = plan_effects plan (received Children ▸ Tick) in
+      let reported' = plan_effects beside (received Otherwise ▸ Tick) in
+      subst (λ (hs : List Effect). Stops a t c v Tick (reported ++ hs)) (sym (append-nil reported')) (stops_then a b c t u v Tick reported reported' (one represents.children).1 (two represents.otherwise))
   two_stops_case texts plan beside first (Some fields) keys received a b c t u v below children' plain represents one two = absurd (cc)
 
   pub two_stops : (s : Stream) (children_streams otherwise_streams : List Stream) (x : Entry) (a b c : List Output) (t u v : StepCount G) (children otherwise children' : Forest) (forks : ForkTable Forest) →
@@ -365,7 +365,7 @@ module _ {G : Type 0} (patterns : List Regex) (start moment : ℕ) where
     key_run a b t u forks' runs texts keys received from fits represents unseen comes =
         let plan = children_of (opened s) in
         let at = fork_found start moment s streams is first key x children otherwise forks found number finds texts keys received fits represents unseen comes in
-        let ran = runs texts (received (Fork key)) from (stands_there start moment s streams is first key x children otherwise forks found number finds texts keys received at comes) in (
+        let ran = runs texts (received (Fork key)) from (holds_there start moment s streams is first key x children otherwise forks found number finds texts keys received at comes) in (
           forks_put texts plan first (ForestRepresents texts plan) (ForestRepresents texts (otherwise_of (opened s))) (forked_by (kind_of (opened s))) keys (with_key key keys) received (extended (Fork key) x received) key
               (nodes_of children) (nodes_of otherwise) forks forks' fits represents (fork_goes_on texts plan x key keys received found forks' number at ran.0),
           ran.1,
@@ -375,7 +375,7 @@ module _ {G : Type 0} (patterns : List Regex) (start moment : ℕ) where
         BranchStops patterns start moment a t b u x (opened s) first (Fork key) (below_of children otherwise forks)
     key_stops a b t u stops texts keys received from fits represents unseen comes =
         let at = fork_found start moment s streams is first key x children otherwise forks found number finds texts keys received fits represents unseen comes in
-        stops texts (received (Fork key)) from (stands_there start moment s streams is first key x children otherwise forks found number finds texts keys received at comes)
+        stops texts (received (Fork key)) from (holds_there start moment s streams is first key x children otherwise forks found number finds texts keys received at comes)
 
   -- the fork was not found
   pub key_missed : (s : StreamTree) (x : Entry) (first : ℕ) (branch : Branch) (a : List Output) (t : StepCount G) (below : Below) → BranchStops patterns start moment a t a t x s first branch below
@@ -414,12 +414,12 @@ module _ {G : Type 0} (patterns : List Regex) (start moment : ℕ) where
       let so = λ (branch : Branch). after_emissions branch es (received branch) in
       let fits = (fit_back shape es (emission ∷ []) fit).0 in
       let two = more texts (with_branches es keys) so from fits one.0 (unseen_after shape es keys received unseen) (comes_here start moment so emission.branch emission.item (stand_after start moment es received stand)) in
-      let told = entering (effects_below s) emission.branch (so emission.branch ▸ In emission.item) in (
+      let reported = entering (effects_below s) emission.branch (so emission.branch ▸ In emission.item) in (
         subst (λ (ks : List (List Value)). BelowRepresents texts plan first Means Beside shape ks (λ branch. after_emissions branch (es ++ emission ∷ []) (received branch)) below'') (sym (keys-snoc es emission keys))
             (below_same texts plan first Means Beside shape (with_branch emission.branch (with_branches es keys)) (extended emission.branch (In emission.item) so) (λ branch. after_emissions branch (es ++ emission ∷ []) (received branch)) below''
             (λ branch. sym (after_emissions-snoc branch es emission (received branch))) two.0),
         subst (λ (hs : List Effect). Performs a t c v hs) (sym (at_emissions-snoc (entering (effects_below s)) received es emission))
-            (grew_then a b c t u v (at_emissions (entering (effects_below s)) received es) told one.1 two.1),
+            (grew_then a b c t u v (at_emissions (entering (effects_below s)) received es) reported one.1 two.1),
       )
 
   -- one more of those that the code makes
@@ -443,12 +443,12 @@ module _ {G : Type 0} (patterns : List Regex) (start moment : ℕ) where
       let so = λ (branch : Branch). after_emissions branch es (received branch) in
       let fits = (fit_back shape es (emission ∷ []) fit').0 in
       let two = stops texts (with_branches es keys) so from fits one.0 (unseen_after shape es keys received unseen) (comes_here start moment so emission.branch emission.item (stand_after start moment es received stand)) in
-      let told = entering (effects_below s) emission.branch (so emission.branch ▸ In emission.item) in
+      let reported = entering (effects_below s) emission.branch (so emission.branch ▸ In emission.item) in
       let more = at_emissions-append (entering (effects_below s)) received (es ++ emission ∷ []) rest in (
         subst (λ (hs : List Effect). PerformsPart a t c v hs) (sym more.1)
             (part_more a c t v (at_emissions (entering (effects_below s)) received (es ++ emission ∷ [])) more.0
             (subst (λ (hs : List Effect). PerformsPart a t c v hs) (sym (at_emissions-snoc (entering (effects_below s)) received es emission))
-            (part_then a b c t u v (at_emissions (entering (effects_below s)) received es) told one.1 two))),
+            (part_then a b c t u v (at_emissions (entering (effects_below s)) received es) reported one.1 two))),
         nonempty es emission rest,
       )
     where

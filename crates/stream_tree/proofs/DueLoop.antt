@@ -108,12 +108,12 @@ module _ {G : Type 0} (patterns : List Regex) (start moment : ℕ) (a : List Out
       let rise : RisesFrom (suc id) (drop (i + 1) numbers) = rises_tail 0 (drop i numbers) (rises_drop 0 i numbers (due_rises moment (fork_dues first) represents.is_table.rising)) id (drop (i + 1) numbers) left in
       let less : id < length keys = let even = even_keys forks keys before.0.is_table before.0.keys_are in omega (arith, even, at.within) in
       let effects = plan_effects streams (received (get_or keys id []) ▸ Tick) in
-      let told : Given_to keys received (take i numbers) ++ (Given ∷ effects) ≡ Given_to keys received (take (i + 1) numbers) =
+      let reported : Given_to keys received (take i numbers) ++ (Given ∷ effects) ≡ Given_to keys received (take (i + 1) numbers) =
       flat_more (λ n. Given ∷ plan_effects streams (received (get_or keys n []) ▸ Tick)) numbers i id within is in (
         due_goes_on streams Means keys received moment ranges (now received comes) id (drop (i + 1) numbers) forks forks' less (not_below (suc id) id (drop (i + 1) numbers) rise (omega arith))
             (subst (λ (l : List ℕ). DueRan streams Means keys received moment ranges (now received comes) l forks) left before.0)
             ran.0.is_table ran.0.keys ran.0.here ran.0.elsewhere ran.0.dues,
-        subst (λ (hs : List Effect). Performs a t' c v hs) told (grew_then a b c t' u v (Given_to keys received (take i numbers)) (Given ∷ effects) before.1 ran.1),
+        subst (λ (hs : List Effect). Performs a t' c v hs) reported (grew_then a b c t' u v (Given_to keys received (take i numbers)) (Given ∷ effects) before.1 ran.1),
       )
 
   -- the steps at which the numbers were taken

@@ -64,8 +64,8 @@ module _ {G : Type 0} (patterns : List Regex) (start moment : ℕ) (s : Stream) 
   trees : list_trees streams ≡ children_of (opened s)
   trees = ap list_trees is ∙ sym (children_of-opened s)
 
-  stands_here : (texts : List (List ℕ)) (h : History) → ForkComes start moment texts (children_of (opened s)) number forks h x → ForestRepresents texts (list_trees streams) (nodes_of fork) h
-  stands_here texts h represents =
+  holds_here : (texts : List (List ℕ)) (h : History) → ForkComes start moment texts (children_of (opened s)) number forks h x → ForestRepresents texts (list_trees streams) (nodes_of fork) h
+  holds_here texts h represents =
       subst (λ (ts : StreamTrees). ForestRepresents texts ts (nodes_of fork) h) (sym trees)
       (subst (λ (f : Forest). ForestRepresents texts (children_of (opened s)) (nodes_of f) h) (sym here) (represents.fork fork))
 
@@ -81,7 +81,7 @@ module _ {G : Type 0} (patterns : List Regex) (start moment : ℕ) (s : Stream) 
       SameForks (with_fork forks number fork') forks' → (IsTable (with_fork forks number fork') → IsTable forks') → Sets (fork_dues forks) (fork_dues forks') number due →
       ForkRuns patterns start moment a t b u x (children_of (opened s)) number forks forks'
   fork_runs fork' forks' due runs due_is same table sets texts h from represents =
-      let ran = runs texts h from (stands_here texts h represents) represents.comes in
+      let ran = runs texts h from (holds_here texts h represents) represents.comes in
       let due_so : due ≡ plan_deadline (children_of (opened s)) (h ▸ x) = due_is texts (h ▸ x) ran.0 (moment_small start moment h x represents.comes) ∙ ap (λ (ts : StreamTrees). plan_deadline ts (h ▸ x)) trees in (
         fork_replaced texts (children_of (opened s)) number forks forks' fork' due (h ▸ x) represents.is_table represents.within same table sets
             (subst (λ (ts : StreamTrees). ForestRepresents texts ts (nodes_of fork') (h ▸ x)) trees ran.0) due_so,
@@ -91,13 +91,13 @@ module _ {G : Type 0} (patterns : List Regex) (start moment : ℕ) (s : Stream) 
   -- the due moment was not set
   pub fork_unset : (fork' : Forest) → ForestRuns patterns start moment a t' b u x (list_trees streams) (nodes_of fork) (nodes_of fork') → ForkStops patterns start moment a t b u x (children_of (opened s)) number forks
   fork_unset fork' runs texts h from represents =
-      let ran = runs texts h from (stands_here texts h represents) represents.comes in
+      let ran = runs texts h from (holds_here texts h represents) represents.comes in
       whole_part a b t u (Given ∷ plan_effects (children_of (opened s)) (h ▸ x)) (performed h ran.1)
 
   -- the fork stopped
   pub fork_stops : ForestStops patterns start moment a t' b u x (list_trees streams) (nodes_of fork) → ForkStops patterns start moment a t b u x (children_of (opened s)) number forks
   fork_stops stops texts h from represents =
-      let part = (stops texts h from (stands_here texts h represents) represents.comes).part in
+      let part = (stops texts h from (holds_here texts h represents) represents.comes).part in
       subst (λ (ts : StreamTrees). PerformsPart a t b u (Given ∷ plan_effects ts (h ▸ x))) trees (record {
         begins = part.begins;
         within = part.within;

@@ -133,13 +133,13 @@ found_new streams first start next key forks forks' fork number absent fresh num
     let many : length (keys ++ key ∷ []) ≡ length keys + 1 = length-append keys (key ∷ []) in
     let last : get_or (keys ++ key ∷ []) (length keys) [] ≡ key = get_or-append_seam keys key [] [] in
     let alone : TicksAlone (received key) = unseen new in
-    let stands_new : Means (nodes_of fork) (received key) =
+    let holds_new : Means (nodes_of fork) (received key) =
     subst (λ (ts : List (List ℕ)). ForestRepresents ts streams (nodes_of fork) (received key)) (sym can.among)
     (fresh.represents can.before can.after (received key) alone begins can.in_range can.begins (subst (λ (ts : List (List ℕ)). length ts ≤ greatest) can.among can.few)) in
     let each : (n : ℕ) (other : Forest) → n < length (keys ++ key ∷ []) → Means (nodes_of (get_or (fork_list forks') n other)) (received (get_or (keys ++ key ∷ []) n [])) =
     λ n other within.
     subst (λ (l : List Forest). Means (nodes_of (get_or l n other)) (received (get_or (keys ++ key ∷ []) n []))) (sym list_is)
-    (each_new n other (omega (arith, within, many)) even stands_new) in
+    (each_new n other (omega (arith, within, many)) even holds_new) in
     let dues : (n : ℕ) → n < length (keys ++ key ∷ []) → fork_due n forks' ≡ plan_deadline streams (received (get_or (keys ++ key ∷ []) n [])) =
     λ n within. ap (moment_at n) same_dues ∙ due_new n (omega (arith, within, many)) even alone in record {
       forks_stand = subst (λ (ks : List (List Value)). ForksRepresent Means (plan_deadline streams) ks received forks') (sym same) (record {

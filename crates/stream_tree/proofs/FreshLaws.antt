@@ -85,7 +85,7 @@ plain_fresh kind children otherwise state below start first second third fourth 
     let texts : Texts = before ++ ((mine ++ (c ++ o)) ++ after) in
     let size = sizes before mine c o after in
     let second_is : second ≡ first + length mine = next (omega (arith, small, size, at)) in
-    let third_is : third ≡ second + length c = children_fresh.behind (omega (arith, small, size, at, second_is)) in
+    let third_is : third ≡ second + length c = children_fresh.following (omega (arith, small, size, at, second_is)) in
     let one : ForestRepresents texts children below.children h =
     subst (λ (ts : Texts). ForestRepresents ts children below.children h) (children_part before mine c o after)
     (children_fresh.represents (before ++ mine) (o ++ after) h alone begins ranges.1 (omega (arith, length-append before mine, at, second_is))
@@ -141,22 +141,22 @@ abbrev OpenedFresh : Stream → State → Below → ℕ → ℕ → Type 0
 OpenedFresh s state below start first = (before after : Texts) (h : History) → TicksAlone h → begun h ≡ start → IsStreamInRange (opened s) → length before ≡ first →
     length (before ++ (stream_patterns (opened s) ++ after)) ≤ greatest → PartsRepresent (before ++ (stream_patterns (opened s) ++ after)) (opened s) state below h
 
-pub node_stands : (s : Stream) (children otherwise : List Stream) (state : State) (below : Below) (start first second third fourth : ℕ) →
+pub node_holds : (s : Stream) (children otherwise : List Stream) (state : State) (below : Below) (start first second third fourth : ℕ) →
     children ≡ (out-Stream s).children.items → otherwise ≡ (out-Stream s).otherwise.items → is_some (forked_by (kind_tree (out-Stream s).kind)) ≡ false → StateStands (kind_tree (out-Stream s).kind) state start first →
     (first + length (kind_patterns (kind_tree (out-Stream s).kind)) ≤ greatest → second ≡ first + length (kind_patterns (kind_tree (out-Stream s).kind))) →
     ForestIsFresh (list_trees children) start second third below.children → ForestIsFresh (list_trees otherwise) start third fourth below.otherwise → IsTable below.forks → table_keys below.forks ≡ [] →
     OpenedFresh s state below start first
 unfolding opened stream_patterns
-node_stands s children otherwise state below start first second third fourth children_is otherwise_is plain own next children_fresh otherwise_fresh is_table empty =
+node_holds s children otherwise state below start first second third fourth children_is otherwise_is plain own next children_fresh otherwise_fresh is_table empty =
     plain_fresh (kind_tree (out-Stream s).kind) (list_trees (out-Stream s).children.items) (list_trees (out-Stream s).otherwise.items) state below start first second third fourth plain own next
     (subst (λ (l : List Stream). ForestIsFresh (list_trees l) start second third below.children) children_is children_fresh)
     (subst (λ (l : List Stream). ForestIsFresh (list_trees l) start third fourth below.otherwise) otherwise_is otherwise_fresh) is_table empty
 
-pub unforked_stands : (s : Stream) (state : State) (below : Below) (start first : ℕ) → is_some (forked_by (kind_tree (out-Stream s).kind)) ≡ true → StateStands (kind_tree (out-Stream s).kind) state start first →
+pub unforked_holds : (s : Stream) (state : State) (below : Below) (start first : ℕ) → is_some (forked_by (kind_tree (out-Stream s).kind)) ≡ true → StateStands (kind_tree (out-Stream s).kind) state start first →
     ((fields : List Field) → kind_tree (out-Stream s).kind ≡ By fields → state ≡ Forks first) → IsTable below.forks → table_keys below.forks ≡ [] → below.children ≡ [] → below.otherwise ≡ [] →
     OpenedFresh s state below start first
 unfolding opened stream_patterns
-unforked_stands s state below start first forked own keeps is_table empty no_children no_otherwise =
+unforked_holds s state below start first forked own keeps is_table empty no_children no_otherwise =
     by_fresh (kind_tree (out-Stream s).kind) (list_trees (out-Stream s).children.items) (list_trees (out-Stream s).otherwise.items) state below start first forked own keeps is_table empty no_children no_otherwise
 
 abbrev OpenedSize : Stream → ℕ
@@ -169,12 +169,12 @@ opened_size s =
     let o = plan_patterns (list_trees (out-Stream s).otherwise.items) in
     omega (arith, ap (λ (ts : Texts). length ts) (stream_patterns-opened s), length-append mine (c ++ o), length-append c o)
 
-pub node_behind : (s : Stream) (children otherwise : List Stream) (below beside : List Node) (start first second third fourth : ℕ) →
+pub node_following : (s : Stream) (children otherwise : List Stream) (below beside : List Node) (start first second third fourth : ℕ) →
     children ≡ (out-Stream s).children.items → otherwise ≡ (out-Stream s).otherwise.items →
     (first + length (kind_patterns (kind_tree (out-Stream s).kind)) ≤ greatest → second ≡ first + length (kind_patterns (kind_tree (out-Stream s).kind))) →
     ForestIsFresh (list_trees children) start second third below → ForestIsFresh (list_trees otherwise) start third fourth beside →
     first + length (stream_patterns (opened s)) ≤ greatest → fourth ≡ first + length (stream_patterns (opened s))
-node_behind s children otherwise below beside start first second third fourth children_is otherwise_is next children_fresh otherwise_fresh small =
+node_following s children otherwise below beside start first second third fourth children_is otherwise_is next children_fresh otherwise_fresh small =
     let mine = kind_patterns (kind_tree (out-Stream s).kind) in
     let c = plan_patterns (list_trees children) in
     let o = plan_patterns (list_trees otherwise) in
@@ -182,15 +182,15 @@ node_behind s children otherwise below beside start first second third fourth ch
     let c_is = ap (λ (l : List Stream). length (plan_patterns (list_trees l))) children_is in
     let o_is = ap (λ (l : List Stream). length (plan_patterns (list_trees l))) otherwise_is in
     let second_is : second ≡ first + length mine = next (omega (arith, small, size)) in
-    let third_is : third ≡ second + length c = children_fresh.behind (omega (arith, small, size, second_is, c_is)) in
-    omega (arith, otherwise_fresh.behind (omega (arith, small, size, second_is, third_is, c_is, o_is)), size, second_is, third_is, c_is, o_is)
+    let third_is : third ≡ second + length c = children_fresh.following (omega (arith, small, size, second_is, c_is)) in
+    omega (arith, otherwise_fresh.following (omega (arith, small, size, second_is, third_is, c_is, o_is)), size, second_is, third_is, c_is, o_is)
 
-pub unforked_behind : (s : Stream) (first second fourth : ℕ) →
+pub unforked_following : (s : Stream) (first second fourth : ℕ) →
     (first + length (kind_patterns (kind_tree (out-Stream s).kind)) ≤ greatest → second ≡ first + length (kind_patterns (kind_tree (out-Stream s).kind))) →
     (second + length (plan_patterns (list_trees (out-Stream s).children.items)) + length (plan_patterns (list_trees (out-Stream s).otherwise.items)) ≤ greatest
     → fourth ≡ second + length (plan_patterns (list_trees (out-Stream s).children.items)) + length (plan_patterns (list_trees (out-Stream s).otherwise.items))) →
     first + length (stream_patterns (opened s)) ≤ greatest → fourth ≡ first + length (stream_patterns (opened s))
-unforked_behind s first second fourth next over small =
+unforked_following s first second fourth next over small =
     let size = opened_size s in
     let second_is : second ≡ first + length (kind_patterns (kind_tree (out-Stream s).kind)) = next (omega (arith, small, size)) in
     omega (arith, over (omega (arith, small, size, second_is)), size, second_is)
@@ -198,11 +198,11 @@ unforked_behind s first second fourth next over small =
 -- what is said of the parts of a node is said of it
 pub node_fresh : (s : Stream) (node : Node) (state : State) (below : Below) (start first next : ℕ) → (out-Node node).state ≡ state → node_below node ≡ below → OpenedFresh s state below start first →
     (first + length (stream_patterns (opened s)) ≤ greatest → next ≡ first + length (stream_patterns (opened s))) → NodeIsFresh (opened s) start first next node
-node_fresh s node state below start first next state_is below_is represents behind = record {
+node_fresh s node state below start first next state_is below_is represents following = record {
   represents = λ before after h alone begins ranges at small.
       subst (λ (st : State). PartsRepresent (before ++ (stream_patterns (opened s) ++ after)) (opened s) st (node_below node) h) (sym state_is)
       (subst (λ (b : Below). PartsRepresent (before ++ (stream_patterns (opened s) ++ after)) (opened s) state b h) (sym below_is) (represents before after h alone begins ranges at small));
-  behind = behind;
+  following = following;
 }
 
 -- ---- one node more
@@ -227,7 +227,7 @@ in_range-snoc (first ∷ front) s ranges = let more = in_range-snoc front s rang
 
 no_nodes : (start first : ℕ) → ForestIsFresh none start first first []
 unfolding plan_patterns
-no_nodes start first = record { represents = λ before after h alone begins ranges at small. tt; behind = λ small. omega arith }
+no_nodes start first = record { represents = λ before after h alone begins ranges at small. tt; following = λ small. omega arith }
 
 fresh-snoc : (front : List Stream) (s : Stream) (nodes : List Node) (node : Node) (start first second third : ℕ) →
     ForestIsFresh (list_trees front) start first second nodes → NodeIsFresh (stream_tree s) start second third node → ForestIsFresh (list_trees (front ++ s ∷ [])) start first third (nodes ++ node ∷ [])
@@ -243,19 +243,19 @@ fresh-snoc front s nodes node start first second third fresh one =
           let total = length-append before ((ts ++ more) ++ after) in
           let inner = length-append (ts ++ more) after in
           let both = length-append ts more in
-          let second_is : second ≡ first + length ts = fresh.behind (omega (arith, small', total, inner, both, at)) in
+          let second_is : second ≡ first + length ts = fresh.following (omega (arith, small', total, inner, both, at)) in
           let before_is : (before ++ ts) ++ (more ++ after) ≡ before ++ ((ts ++ more) ++ after) =
           append_assoc before ts (more ++ after) ∙ ap (λ (l : Texts). before ++ l) (sym (append_assoc ts more after)) in
           let front_is : before ++ (ts ++ (more ++ after)) ≡ before ++ ((ts ++ more) ++ after) = ap (λ (l : Texts). before ++ l) (sym (append_assoc ts more after)) in
-          let front_stands = fresh.represents before (more ++ after) h alone begins parts.0 at (subst (λ (l : Texts). length l ≤ greatest) (sym front_is) small') in
-          let one_stands = one.represents (before ++ ts) after h alone begins parts.1 (omega (arith, length-append before ts, at, second_is)) (subst (λ (l : Texts). length l ≤ greatest) (sym before_is) small') in
+          let front_holds = fresh.represents before (more ++ after) h alone begins parts.0 at (subst (λ (l : Texts). length l ≤ greatest) (sym front_is) small') in
+          let one_holds = one.represents (before ++ ts) after h alone begins parts.1 (omega (arith, length-append before ts, at, second_is)) (subst (λ (l : Texts). length l ≤ greatest) (sym before_is) small') in
           subst (λ (l : Texts). ForestRepresents (before ++ (l ++ after)) (list_trees (front ++ s ∷ [])) (nodes ++ node ∷ []) h) (sym all)
           (represents-snoc (before ++ ((ts ++ more) ++ after)) front s nodes node h
-          (subst (λ (l : Texts). ForestRepresents l (list_trees front) nodes h) front_is front_stands)
-          (subst (λ (l : Texts). NodeRepresents l (stream_tree s) node h) before_is one_stands));
-      behind = λ small.
-          let second_is : second ≡ first + length ts = fresh.behind (omega (arith, small, size)) in
-          omega (arith, one.behind (omega (arith, small, size, second_is)), second_is, size);
+          (subst (λ (l : Texts). ForestRepresents l (list_trees front) nodes h) front_is front_holds)
+          (subst (λ (l : Texts). NodeRepresents l (stream_tree s) node h) before_is one_holds));
+      following = λ small.
+          let second_is : second ≡ first + length ts = fresh.following (omega (arith, small, size)) in
+          omega (arith, one.following (omega (arith, small, size, second_is)), second_is, size);
     }
 
 pub one_more_fresh : (streams : List Stream) (i : ℕ) (s : Stream) (nodes nodes' : List Node) (node : Node) (start first second third : ℕ) → i < length streams → s ≡ get_or streams i s →

@@ -12,10 +12,10 @@ pub record ForestIsFresh (streams : StreamTrees) (start first next : ℕ) (nodes
   pub represents : (before after : List (List ℕ)) (h : History) → TicksAlone h → begun h ≡ start → AreInRange streams → length before ≡ first →
       length (before ++ (plan_patterns streams ++ after)) ≤ greatest →
       ForestRepresents (before ++ (plan_patterns streams ++ after)) streams nodes h
-  pub behind : first + length (plan_patterns streams) ≤ greatest → next ≡ first + length (plan_patterns streams)
+  pub following : first + length (plan_patterns streams) ≤ greatest → next ≡ first + length (plan_patterns streams)
 
 pub record NodeIsFresh (s : StreamTree) (start first next : ℕ) (node : Node) : Type 0 where
   pub represents : (before after : List (List ℕ)) (h : History) → TicksAlone h → begun h ≡ start → IsStreamInRange s → length before ≡ first →
       length (before ++ (stream_patterns s ++ after)) ≤ greatest →
       NodeRepresents (before ++ (stream_patterns s ++ after)) s node h
-  pub behind : first + length (stream_patterns s) ≤ greatest → next ≡ first + length (stream_patterns s)
+  pub following : first + length (stream_patterns s) ≤ greatest → next ≡ first + length (stream_patterns s)

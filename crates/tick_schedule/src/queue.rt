@@ -96,7 +96,7 @@ impl DueQueue {
         ensures later { OnOk result (self.new ≡ due_later now self.old) }
         ensures entries { OnOk result (steps.new.entries
             ≡ steps.old.entries + length (due_ids now self.old)) }
-        ensures entries_told { OnOk result (G.entries steps.new.ledger
+        ensures entries_reported { OnOk result (G.entries steps.new.ledger
             ≡ more_by (length (due_ids now self.old)) (G.entries steps.old.ledger)) }
 
         // Where nothing is due it takes no memory.
@@ -107,7 +107,7 @@ impl DueQueue {
         ensures at_most { steps.new.entries ≤ steps.old.entries + length (due_ids now self.old) }
         ensures at_least { steps.old.entries ≤ steps.new.entries }
         ensures forks { steps.new.forks ≡ steps.old.forks }
-        ensures forks_told { G.forks steps.new.ledger ≡ G.forks steps.old.ledger }
+        ensures forks_reported { G.forks steps.new.ledger ≡ G.forks steps.old.ledger }
     {
         if !self.is_due(now) {
             return Ok(());
@@ -157,13 +157,13 @@ fn push_all<G: Ledger>(
 ) -> Result<(), Memory>
     ensures ids { OnOk result (out.new ≡ out.old ++ ids.now.keys) }
     ensures entries { OnOk result (steps.new.entries ≡ steps.old.entries + length ids.now.keys) }
-    ensures entries_told { OnOk result (G.entries steps.new.ledger
+    ensures entries_reported { OnOk result (G.entries steps.new.ledger
         ≡ more_by (length ids.now.keys) (G.entries steps.old.ledger)) }
     ensures prefix { OnErr result (IsPrefix out.old out.new) }
     ensures at_most { steps.new.entries ≤ steps.old.entries + length ids.now.keys }
     ensures at_least { steps.old.entries ≤ steps.new.entries }
     ensures forks { steps.new.forks ≡ steps.old.forks }
-    ensures forks_told { G.forks steps.new.ledger ≡ G.forks steps.old.ledger }
+    ensures forks_reported { G.forks steps.new.ledger ≡ G.forks steps.old.ledger }
 {
     for id in ids {
         steps.visit_entry();

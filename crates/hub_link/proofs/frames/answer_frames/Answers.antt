@@ -1,6 +1,6 @@
 use Rattle.std.proofs.lemmas.Result.{err_from_is_err_and}
 use Rattle.hub_meaning.specs.Verdicts.{patterns_state}
-use Rattle.msg_replies.specs.Arriving.{told}
+use Rattle.msg_replies.specs.Arriving.{reported}
 use Rattle.hub_link.proofs.HearLaws.{so_far_end, so_far_failed, so_far_next, so_far_nothing}
 use Rattle.hub_link.proofs.frames.answer_frames.Goals as goal
 
@@ -14,7 +14,7 @@ frames-preserved g c =
     (patterns_state (g.P.Patterns.refusals c.args.patterns.now) (g.P.Patterns.refused c.args.patterns.now))
     (patterns_state (g.P.Patterns.refusals c.frames.patterns) (g.P.Patterns.refused c.frames.patterns))
     (patterns_state (g.P.Patterns.refusals c.answer_first.new.patterns) (g.P.Patterns.refused c.answer_first.new.patterns))
-    (told c.args.notices.now c.args.steps.now.forks) (told c.frames.notices c.frames.steps.forks) (told c.answer_first.new.notices c.answer_first.new.steps.forks)
+    (reported c.args.notices.now c.args.steps.now.forks) (reported c.frames.notices c.frames.steps.forks) (reported c.answer_first.new.notices c.answer_first.new.steps.forks)
     _ c.if-not-was_whole.false c.frames.invariant c.in_ok-was_whole.ensures
 
 pub returns-then-not-was_whole-clause-frames : goal.returns-then-not-was_whole-clause-frames
@@ -24,7 +24,7 @@ returns-then-not-was_whole-clause-frames g c =
     (patterns_state (g.P.Patterns.refusals c.args.patterns.now) (g.P.Patterns.refused c.args.patterns.now))
     (patterns_state (g.P.Patterns.refusals c.frames.patterns) (g.P.Patterns.refused c.frames.patterns))
     (patterns_state (g.P.Patterns.refusals c.answer_first.new.patterns) (g.P.Patterns.refused c.answer_first.new.patterns))
-    (told c.args.notices.now c.args.steps.now.forks) (told c.frames.notices c.frames.steps.forks) (told c.answer_first.new.notices c.answer_first.new.steps.forks)
+    (reported c.args.notices.now c.args.steps.now.forks) (reported c.frames.notices c.frames.steps.forks) (reported c.answer_first.new.notices c.answer_first.new.steps.forks)
     _ c.if-not-was_whole.true c.frames.invariant c.in_ok-was_whole.ensures
 
 pub returns-in_err-was_whole-clause-frames : goal.returns-in_err-was_whole-clause-frames
@@ -35,5 +35,5 @@ returns-in_err-was_whole-clause-frames g c =
     (patterns_state (g.P.Patterns.refusals c.args.patterns.now) (g.P.Patterns.refused c.args.patterns.now))
     (patterns_state (g.P.Patterns.refusals c.frames.patterns) (g.P.Patterns.refused c.frames.patterns))
     (patterns_state (g.P.Patterns.refusals c.answer_first.new.patterns) (g.P.Patterns.refused c.answer_first.new.patterns))
-    (told c.args.notices.now c.args.steps.now.forks) (told c.frames.notices c.frames.steps.forks) (told c.answer_first.new.notices c.answer_first.new.steps.forks)
+    (reported c.args.notices.now c.args.steps.now.forks) (reported c.frames.notices c.frames.steps.forks) (reported c.answer_first.new.notices c.answer_first.new.steps.forks)
     p.0 c.frames.invariant c.in_err-was_whole.ensures)

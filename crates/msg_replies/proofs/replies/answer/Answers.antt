@@ -1,6 +1,6 @@
 use Rattle.std.proofs.Common.{ℕ, map, Ok, subst, sym}
 use Rattle.stream_meaning.specs.Arrivals.{Post}
-use Rattle.msg_replies.specs.Arriving.{Arrives, told}
+use Rattle.msg_replies.specs.Arriving.{Arrives, reported}
 use Rattle.std.proofs.lemmas.Result.{err_from_is_err_and}
 use Rattle.msg_replies.proofs.AnswerLaws.{answers_accepted, answers_failed, answers_refused}
 use Rattle.msg_replies.proofs.replies.answer.Goals as goal
@@ -12,11 +12,11 @@ returns-in_err-answer_query-in-Ok g c =
 
 pub returns-in_ok-answer_query-in-Ok : goal.returns-in_ok-answer_query-in-Ok
 returns-in_ok-answer_query-in-Ok g c =
-    let old = told c.args.notices.now c.args.steps.now.forks in
+    let old = reported c.args.notices.now c.args.steps.now.forks in
     answers_accepted c.args.body.now c.args.unsent c.in-Ok.msg c.args.core.now c.post_all.new.core _ _ _ _ _ old _ (Ok tt) (rw (← c.now.ensures.value) c.in-Ok.ensures.reads)
     c.in_ok-post_all-in-Ok.ensures.now c.in_ok-answer_query-in-Ok.ensures.same
-    (λ arrivals stands. subst (λ (forks : ℕ). Arrives c.args.core.now c.post_all.new.core arrivals (map Post c.in-Ok.msg.events) old (told c.post_all.new.notices forks))
-    (sym c.in_ok-answer_query-in-Ok.ensures.forks) (c.in_ok-post_all-in-Ok.ensures.arrives arrivals stands))
+    (λ arrivals holds. subst (λ (forks : ℕ). Arrives c.args.core.now c.post_all.new.core arrivals (map Post c.in-Ok.msg.events) old (reported c.post_all.new.notices forks))
+    (sym c.in_ok-answer_query-in-Ok.ensures.forks) (c.in_ok-post_all-in-Ok.ensures.arrives arrivals holds))
     c.in_ok-answer_query-in-Ok.ensures.answers
 
 pub returns-in_ok-refuse_msg-in-Err-Refused : goal.returns-in_ok-refuse_msg-in-Err-Refused

@@ -1,5 +1,5 @@
 use Rattle.std.proofs.Common.{◌+◌, ap, ◌∙◌}
-use Rattle.pred_eval.proofs.BuildLaws.{one_more_built, nothing_told}
+use Rattle.pred_eval.proofs.BuildLaws.{one_more_built, nothing_reported}
 use Rattle.pred_eval.proofs.patterns.build_all.Goals as goal
 
 pub loop-text-preserved : goal.loop-text-preserved
@@ -8,5 +8,5 @@ loop-text-preserved g c = record {
       c.loop-text.invariant.built c.in-Built.ensures.built c.in_ok-push-in-Built.ensures.items;
   number = ap (λ n. n + 1) c.loop-text.invariant.number;
   counted = c.in-Built.ensures.counted ∙ c.loop-text.invariant.counted;
-  told = c.in-Built.ensures.told ∙ nothing_told (g.P.Patterns.refused c.loop-text.patterns) ∙ c.loop-text.invariant.told;
+  reported = c.in-Built.ensures.reported ∙ nothing_reported (g.P.Patterns.refused c.loop-text.patterns) ∙ c.loop-text.invariant.reported;
 }

@@ -8,5 +8,5 @@ invariant-loop-text g l = record {
   built : AreReadFrom (take l.text-index (texts_of l.texts)) l.built.items;
   number : l.number ≡ l.text-index;
   counted : g.P.Patterns.refusals l.patterns ≡ g.P.Patterns.refusals l.fn.patterns;
-  told : g.P.Patterns.refused l.patterns ≡ g.P.Patterns.refused l.fn.patterns;
+  reported : g.P.Patterns.refused l.patterns ≡ g.P.Patterns.refused l.fn.patterns;
 }

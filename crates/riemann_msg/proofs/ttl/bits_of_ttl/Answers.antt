@@ -20,7 +20,7 @@ made n s some below is =
     ap (λ x. x + s) (shl_whole (126 + top_of n) 9 23 32 (omega (arith, top.0)) (omega arith)) ∙ ap (λ x. (126 + top_of n) * 2 ^ 23 + x) is
 
 spelled_again : (n bits : ℕ) → 0 < n → bits ≡ digits_spelled n → IsSpellableTtl n → IsTtl bits n
-spelled_again n bits some is (found, told) = subst (λ (b : ℕ). IsTtl b n) (one_spelling found n some told ∙ sym is) told
+spelled_again n bits some is (found, reported) = subst (λ (b : ℕ). IsTtl b n) (one_spelling found n some reported ∙ sym is) reported
 
 pub returns-clause-bits : goal.returns-clause-bits
 returns-clause-bits c = made c.args.ttl c.significand.result c.if-ttl-eq0.false (omega arith) c.significand.ensures.value ∙ sym (bits_of-some c.args.ttl c.if-ttl-eq0.false)
@@ -30,5 +30,5 @@ returns-clause-spells c = λ spellable.
     spelled_again c.args.ttl _ (omega arith) (made c.args.ttl c.significand.result c.if-ttl-eq0.false (omega arith) c.significand.ensures.value) spellable
 
 pub returns-clause-only : goal.returns-clause-only
-returns-clause-only c = λ some bits told.
-    one_spelling bits c.args.ttl some told ∙ sym (made c.args.ttl c.significand.result c.if-ttl-eq0.false (omega arith) c.significand.ensures.value)
+returns-clause-only c = λ some bits reported.
+    one_spelling bits c.args.ttl some reported ∙ sym (made c.args.ttl c.significand.result c.if-ttl-eq0.false (omega arith) c.significand.ensures.value)

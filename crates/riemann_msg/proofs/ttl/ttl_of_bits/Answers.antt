@@ -17,13 +17,13 @@ pub returns-then-bits-ne0-clause-value : goal.returns-then-bits-ne0-clause-value
 returns-then-bits-ne0-clause-value c =
     refused c.args.bits c.exponent_of-exponent.result c.fraction_of-fraction.result c.exponent_of-exponent.ensures c.fraction_of-fraction.ensures c.else-exponent-eq0.either c.then-bits-ne0.either
 
-told : (bits e f : ℕ) (found : Option ℕ) → e ≡ exponent_of bits → f ≡ fraction_of bits → sign_of bits ≡ 0 → (e ≡ 0 → ⊥) → e ≤ 157
+reported : (bits e f : ℕ) (found : Option ℕ) → e ≡ exponent_of bits → f ≡ fraction_of bits → sign_of bits ≡ 0 → (e ≡ 0 → ⊥) → e ≤ 157
     → SomeIff found ((2 ^ 23 + f) * 2 ^ e % 2 ^ 150 ≡ 0) ((2 ^ 23 + f) * 2 ^ e / 2 ^ 150) → found ≡ seconds_of bits
-told bits e f found is_e is_f unsigned some small known =
+reported bits e f found is_e is_f unsigned some small known =
     let at : SomeIff found (scaled_value bits % 2 ^ 150 ≡ 0) (scaled_value bits / 2 ^ 150) = rw (is_e, is_f) at known in
     seconds_of-whole bits found unsigned (λ none. some (is_e ∙ none)) (omega arith) at
 
 pub returns-clause-value : goal.returns-clause-value
 returns-clause-value c =
-    told c.args.bits c.exponent_of-exponent.result c.fraction_of-fraction.result c.whole_of.result c.exponent_of-exponent.ensures c.fraction_of-fraction.ensures c.if-bits-ne0.false c.if-exponent-eq0-2.false
+    reported c.args.bits c.exponent_of-exponent.result c.fraction_of-fraction.result c.whole_of.result c.exponent_of-exponent.ensures c.fraction_of-fraction.ensures c.if-bits-ne0.false c.if-exponent-eq0-2.false
     c.if-exponent-gt-GREATEST_EXPONENT.false c.whole_of.ensures

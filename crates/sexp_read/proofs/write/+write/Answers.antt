@@ -1,5 +1,5 @@
 use Rattle.std.proofs.Common.{◌∙◌, ap, List, ℕ, ◌++◌}
-use Rattle.sexp_read.proofs.WritingLaws.{list_text, vector_text, map_text, behind_step}
+use Rattle.sexp_read.proofs.WritingLaws.{list_text, vector_text, map_text, following_step}
 use Rattle.sexp_read.proofs.write.+write.Goals as goal
 
 pub put_form-returns-in_ok-put_group-in-List-clause-ok : goal.put_form-returns-in_ok-put_group-in-List-clause-ok
@@ -16,4 +16,4 @@ put_form-returns-in_ok-put_group-in-Map-clause-ok t c =
 
 pub put_between-loop-form-preserved : goal.put_between-loop-form-preserved
 put_between-loop-form-preserved t c =
-    behind_step _ _ _ _ _ _ _ _ c.loop-form.invariant c.in_ok-push.ensures.ok c.in_ok-put_form-2.ensures.ok c.loop-form-test.true c.form-item.is
+    following_step _ _ _ _ _ _ _ _ c.loop-form.invariant c.in_ok-push.ensures.ok c.in_ok-put_form-2.ensures.ok c.loop-form-test.true c.form-item.is

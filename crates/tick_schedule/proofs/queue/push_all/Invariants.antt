@@ -7,7 +7,7 @@ abbrev pub invariant-loop-id : goal.invariant-loop-id
 invariant-loop-id g l = record {
   out : l.out ≡ l.initial.out ++ map deref l.yielded;
   entries : l.steps.entries ≡ l.initial.steps.entries + length l.yielded;
-  entries_told : g.G.Ledger.entries l.steps.ledger ≡ more_by (length l.yielded) (g.G.Ledger.entries l.initial.steps.ledger);
+  entries_reported : g.G.Ledger.entries l.steps.ledger ≡ more_by (length l.yielded) (g.G.Ledger.entries l.initial.steps.ledger);
   forks : l.steps.forks ≡ l.initial.steps.forks;
-  forks_told : g.G.Ledger.forks l.steps.ledger ≡ g.G.Ledger.forks l.initial.steps.ledger;
+  forks_reported : g.G.Ledger.forks l.steps.ledger ≡ g.G.Ledger.forks l.initial.steps.ledger;
 }

@@ -1,6 +1,6 @@
 use Rattle.hub_link.proofs.AddedLaws.{added_weaken}
 use Rattle.hub_meaning.specs.Verdicts.{patterns_state}
-use Rattle.msg_replies.specs.Arriving.{told}
+use Rattle.msg_replies.specs.Arriving.{reported}
 use Rattle.conn_core.specs.Occurring.{OccursFrom}
 use Rattle.conn_core.specs.Reaching.{Changes, links_after}
 use Rattle.conn_core.specs.declared.hub.Hub.{Hub}
@@ -12,7 +12,7 @@ returns-in_default g c =
     let hub = c.args.self.now in
     let hub' : Hub = record hub { table = c.change.new.table } in
     let patterns = patterns_state (g.P.Patterns.refusals c.args.patterns.now) (g.P.Patterns.refused c.args.patterns.now) in
-    let before = told c.args.notices.now c.args.steps.now.forks in
+    let before = reported c.args.notices.now c.args.steps.now.forks in
     record {
       known = c.change.ensures.known;
       occurs = added_weaken (g.L.Links.log c.args.links.now) (g.L.Links.log c.change.new.links) (Changes (links_after c.args.what) hub.table c.change.new.table c.change.result)

@@ -5,7 +5,7 @@ use Rattle.hub_link.specs.declared.link.HubLink.{HubLink}
 use Rattle.hub_link.proofs.AddedLaws.{added_nothing, added_weaken}
 use Rattle.hub_meaning.specs.Verdicts.{patterns_state}
 use Rattle.link_table.specs.Kept.{Kept}
-use Rattle.msg_replies.specs.Arriving.{told}
+use Rattle.msg_replies.specs.Arriving.{reported}
 use Rattle.ports.specs.declared.links.What.TheVariants.{Read}
 use Rattle.conn_core.specs.Occurring.{OccursFrom}
 use Rattle.conn_core.specs.Reaching.{Settles}
@@ -29,7 +29,7 @@ pub returns-in_default-clause-occurs : goal.returns-in_default-clause-occurs
 returns-in_default-clause-occurs g c count =
     let hub = c.args.self.now in
     let patterns = patterns_state (g.P.Patterns.refusals c.args.patterns.now) (g.P.Patterns.refused c.args.patterns.now) in
-    let before = told c.args.notices.now c.args.steps.now.forks in
+    let before = reported c.args.notices.now c.args.steps.now.forks in
     added_nothing (g.L.Links.log c.args.links.now) (OccursFrom (Read c.args.number count) c.args.piece.now hub hub patterns patterns before before (Ok tt))
     (occurs_absent c.args.number count c.args.piece.now hub patterns before c.in_default.ensures)
 
@@ -44,8 +44,8 @@ returns-in_err-hear-clause-occurs g c count =
     let hub' : Hub = record hub { core = c.hear.new.core; table = table' } in
     let patterns = patterns_state (g.P.Patterns.refusals c.args.patterns.now) (g.P.Patterns.refused c.args.patterns.now) in
     let patterns' = patterns_state (g.P.Patterns.refusals c.hear.new.patterns) (g.P.Patterns.refused c.hear.new.patterns) in
-    let before = told c.args.notices.now c.args.steps.now.forks in
-    let after = told c.hear.new.notices c.hear.new.steps.forks in
+    let before = reported c.args.notices.now c.args.steps.now.forks in
+    let after = reported c.hear.new.notices c.hear.new.steps.forks in
     rw p.1 (added_nothing (g.L.Links.log c.args.links.now) (OccursFrom (Read c.args.number count) c.args.piece.now hub hub' patterns patterns' before after (Err p.0))
     (occurs_unheard c.args.number count place c.args.piece.now hub c.hear.new.core value value' patterns patterns' before after c.in-Some.ensures
     (λ other. sym (get_or_read hub.table.values place value c.in-Some.ensures.within c.value_mut.ensures.value other))
@@ -62,8 +62,8 @@ returns-in_err-settle-clause-occurs g c count =
     let hub' : Hub = record hub { core = c.hear.new.core; table = c.settle.new.table } in
     let patterns = patterns_state (g.P.Patterns.refusals c.args.patterns.now) (g.P.Patterns.refused c.args.patterns.now) in
     let patterns' = patterns_state (g.P.Patterns.refusals c.hear.new.patterns) (g.P.Patterns.refused c.hear.new.patterns) in
-    let before = told c.args.notices.now c.args.steps.now.forks in
-    let after = told c.hear.new.notices c.hear.new.steps.forks in
+    let before = reported c.args.notices.now c.args.steps.now.forks in
+    let after = reported c.hear.new.notices c.hear.new.steps.forks in
     rw p.1 (added_weaken (g.L.Links.log c.args.links.now) (g.L.Links.log c.settle.new.links) (Settles table' c.settle.new.table c.args.number place (Err p.0))
     (OccursFrom (Read c.args.number count) c.args.piece.now hub hub' patterns patterns' before after (Err p.0))
     (λ run settles. occurs_heard c.args.number count place c.args.piece.now hub c.hear.new.core value value' patterns patterns' before after c.in-Some.ensures
@@ -81,8 +81,8 @@ returns-clause-occurs g c count =
     let hub' : Hub = record hub { core = c.hear.new.core; table = c.settle.new.table } in
     let patterns = patterns_state (g.P.Patterns.refusals c.args.patterns.now) (g.P.Patterns.refused c.args.patterns.now) in
     let patterns' = patterns_state (g.P.Patterns.refusals c.hear.new.patterns) (g.P.Patterns.refused c.hear.new.patterns) in
-    let before = told c.args.notices.now c.args.steps.now.forks in
-    let after = told c.hear.new.notices c.hear.new.steps.forks in
+    let before = reported c.args.notices.now c.args.steps.now.forks in
+    let after = reported c.hear.new.notices c.hear.new.steps.forks in
     added_weaken (g.L.Links.log c.args.links.now) (g.L.Links.log c.settle.new.links) (Settles table' c.settle.new.table c.args.number place (Ok tt))
     (OccursFrom (Read c.args.number count) c.args.piece.now hub hub' patterns patterns' before after (Ok tt))
     (λ run settles. occurs_heard c.args.number count place c.args.piece.now hub c.hear.new.core value value' patterns patterns' before after c.in-Some.ensures

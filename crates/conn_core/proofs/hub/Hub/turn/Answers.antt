@@ -5,7 +5,7 @@ use Rattle.event_core.specs.Core.{Represents, now_of}
 use Rattle.hub_link.proofs.AddedLaws.{added_nothing, added_weaken}
 use Rattle.hub_meaning.specs.Clock.{next_moment}
 use Rattle.hub_meaning.specs.Verdicts.{patterns_state}
-use Rattle.msg_replies.specs.Arriving.{Arrives, told}
+use Rattle.msg_replies.specs.Arriving.{Arrives, reported}
 use Rattle.notice_sink.specs.Lines.{lines_of}
 use Rattle.ports.specs.Writing.{GotPrefix}
 use Rattle.stream_meaning.specs.Arrivals.{Arrival, Elapsed}
@@ -13,7 +13,7 @@ use Rattle.conn_core.specs.Occurring.{OccursFrom}
 use Rattle.conn_core.specs.Turning.{GotLines, TurnsFrom, sink_got}
 use Rattle.conn_core.specs.declared.hub.Hub.{Hub}
 use Rattle.conn_core.proofs.KnownLaws.{opened_by}
-use Rattle.conn_core.proofs.TurnLaws.{no_sink, passed_at, turn_is, turns_told, turns_unfinished, turns_unpassed}
+use Rattle.conn_core.proofs.TurnLaws.{no_sink, passed_at, turn_is, turns_reported, turns_unfinished, turns_unpassed}
 use Rattle.conn_core.proofs.hub.Hub.turn.Goals as goal
 
 pub occur-requires-clause-opened : goal.occur-requires-clause-opened
@@ -42,8 +42,8 @@ returns-in_err-occur-clause-turns g c =
     let text = sink_got (g.O.Sink.text c.args.sink.now) (g.O.Sink.puts c.args.sink.now) in
     let forks = c.args.steps.now.forks in
     let forks' = c.occur.new.steps.forks in
-    let middle = told c.pass.new.notices c.pass.new.steps.forks in
-    let after = told c.occur.new.notices forks' in
+    let middle = reported c.pass.new.notices c.pass.new.steps.forks in
+    let after = reported c.occur.new.notices forks' in
     let failure = c.occur.result in
     rw p.1 (added_weaken (g.L.Links.log c.args.links.now) (g.L.Links.log c.occur.new.links)
     (OccursFrom c.args.turn.what c.args.piece.now one hub' patterns patterns' middle after (Err c.in_err-occur.field-0.0))
@@ -51,7 +51,7 @@ returns-in_err-occur-clause-turns g c =
     (λ run occurs config steps follows.
     let is = turn_is c.args.turn.what c.requires.failed c.requires.memory in
     turns_unfinished c.args.turn c.args.piece.now hub config steps is follows one hub' patterns patterns' middle after forks forks' text (Err p.0) (Err c.in_err-occur.field-0.0) run refl (no_sink p.0 (Err p.0) refl p.2)
-    (passed_at c.args.turn c.args.piece.now hub config steps is follows c.pass.new.core (told c.fresh-notices.result forks) middle c.in_ok-pass.ensures.now c.in_ok-pass.ensures.arrives) occurs)
+    (passed_at c.args.turn c.args.piece.now hub config steps is follows c.pass.new.core (reported c.fresh-notices.result forks) middle c.in_ok-pass.ensures.now c.in_ok-pass.ensures.arrives) occurs)
     c.in_err-occur.ensures.occurs)
 
 pub returns-in_err-write_lines-clause-turns : goal.returns-in_err-write_lines-clause-turns
@@ -66,18 +66,18 @@ returns-in_err-write_lines-clause-turns g c =
     let text' = sink_got (g.O.Sink.text c.write_lines.new.sink) (g.O.Sink.puts c.write_lines.new.sink) in
     let forks = c.args.steps.now.forks in
     let forks' = c.occur.new.steps.forks in
-    let middle = told c.pass.new.notices c.pass.new.steps.forks in
+    let middle = reported c.pass.new.notices c.pass.new.steps.forks in
     let notices = c.occur.new.notices in
     let front = subst (λ (ns : List Notice). GotPrefix text.text (lines_of ns) text'.text) c.as_slice.ensures c.in_err-write_lines.ensures.prefix in
     let arrives = subst (λ (ns : List Notice). (arrivals : List Arrival) → Represents hub.core arrivals
-    → Arrives hub.core c.pass.new.core arrivals (replicate (next_moment (now_of hub.core) c.args.turn.secs - now_of hub.core) Elapsed) (told ns forks) middle) c.fresh-notices.ensures c.in_ok-pass.ensures.arrives in
+    → Arrives hub.core c.pass.new.core arrivals (replicate (next_moment (now_of hub.core) c.args.turn.secs - now_of hub.core) Elapsed) (reported ns forks) middle) c.fresh-notices.ensures c.in_ok-pass.ensures.arrives in
     rw p.1 (added_weaken (g.L.Links.log c.args.links.now) (g.L.Links.log c.occur.new.links)
-    (OccursFrom c.args.turn.what c.args.piece.now one hub' patterns patterns' middle (told notices forks') (Ok tt))
+    (OccursFrom c.args.turn.what c.args.piece.now one hub' patterns patterns' middle (reported notices forks') (Ok tt))
     (TurnsFrom c.args.turn c.args.piece.now hub hub' patterns patterns' forks forks' text text' (Err p.0))
     (λ run occurs config steps follows.
     let is = turn_is c.args.turn.what c.requires.failed c.requires.memory in
-    turns_told c.args.turn c.args.piece.now hub config steps is follows one hub' patterns patterns' middle notices forks forks' text text' (Err p.0) run arrives
-    (passed_at c.args.turn c.args.piece.now hub config steps is follows c.pass.new.core (told [] forks) middle c.in_ok-pass.ensures.now arrives) occurs tt front (λ is none. let same = p.2 in c.in_err-write_lines.ensures.some (cc) (c.as_slice.ensures ∙ none)))
+    turns_reported c.args.turn c.args.piece.now hub config steps is follows one hub' patterns patterns' middle notices forks forks' text text' (Err p.0) run arrives
+    (passed_at c.args.turn c.args.piece.now hub config steps is follows c.pass.new.core (reported [] forks) middle c.in_ok-pass.ensures.now arrives) occurs tt front (λ is none. let same = p.2 in c.in_err-write_lines.ensures.some (cc) (c.as_slice.ensures ∙ none)))
     c.in_ok-occur.ensures.occurs)
 
 pub returns-clause-turns : goal.returns-clause-turns
@@ -91,16 +91,16 @@ returns-clause-turns g c =
     let text' = sink_got (g.O.Sink.text c.write_lines.new.sink) (g.O.Sink.puts c.write_lines.new.sink) in
     let forks = c.args.steps.now.forks in
     let forks' = c.occur.new.steps.forks in
-    let middle = told c.pass.new.notices c.pass.new.steps.forks in
+    let middle = reported c.pass.new.notices c.pass.new.steps.forks in
     let notices = c.occur.new.notices in
     let lines = subst (λ (ns : List Notice). GotLines text ns text') c.as_slice.ensures c.in_ok-write_lines.ensures.all in
     let arrives = subst (λ (ns : List Notice). (arrivals : List Arrival) → Represents hub.core arrivals
-    → Arrives hub.core c.pass.new.core arrivals (replicate (next_moment (now_of hub.core) c.args.turn.secs - now_of hub.core) Elapsed) (told ns forks) middle) c.fresh-notices.ensures c.in_ok-pass.ensures.arrives in
+    → Arrives hub.core c.pass.new.core arrivals (replicate (next_moment (now_of hub.core) c.args.turn.secs - now_of hub.core) Elapsed) (reported ns forks) middle) c.fresh-notices.ensures c.in_ok-pass.ensures.arrives in
     added_weaken (g.L.Links.log c.args.links.now) (g.L.Links.log c.occur.new.links)
-    (OccursFrom c.args.turn.what c.args.piece.now one hub' patterns patterns' middle (told notices forks') (Ok tt))
+    (OccursFrom c.args.turn.what c.args.piece.now one hub' patterns patterns' middle (reported notices forks') (Ok tt))
     (TurnsFrom c.args.turn c.args.piece.now hub hub' patterns patterns' forks forks' text text' (Ok tt))
     (λ run occurs config steps follows.
     let is = turn_is c.args.turn.what c.requires.failed c.requires.memory in
-    turns_told c.args.turn c.args.piece.now hub config steps is follows one hub' patterns patterns' middle notices forks forks' text text' (Ok tt) run arrives
-    (passed_at c.args.turn c.args.piece.now hub config steps is follows c.pass.new.core (told [] forks) middle c.in_ok-pass.ensures.now arrives) occurs lines tt (λ bad. absurd (cc bad)))
+    turns_reported c.args.turn c.args.piece.now hub config steps is follows one hub' patterns patterns' middle notices forks forks' text text' (Ok tt) run arrives
+    (passed_at c.args.turn c.args.piece.now hub config steps is follows c.pass.new.core (reported [] forks) middle c.in_ok-pass.ensures.now arrives) occurs lines tt (λ bad. absurd (cc bad)))
     c.in_ok-occur.ensures.occurs
