@@ -67,13 +67,13 @@ fn serve_links<O: Sink, E: Sink, P: Patterns, G: Ledger>(
     requires interval { ForSome setup.expiry (λ set. (1 ≤ set.interval) ×
         (set.interval ≤ 604800)) }
     requires begins { links.log ≡ [] }
-    ensures ends { (bytes : List ℕ) (store store' : StoreReport) (handed : LinksReport) →
+    ensures ends { (bytes : List ℕ) (store store' : StoreReport) (given : LinksReport) →
         links.script ≡ feed_script PIECE_LIMIT bytes → left ≡ length (partial bytes) →
         BytesEnd setup bytes
-        (reports store handed (sink_report (O.text out.old) (O.puts out.old) (O.faults out.old))
+        (reports store given (sink_report (O.text out.old) (O.puts out.old) (O.faults out.old))
         (sink_report (E.text err.old) (E.puts err.old) (E.faults err.old))
         (patterns_state (P.refusals patterns.old) (P.refused patterns.old)) steps.old.forks)
-        (reports store' handed (sink_report (O.text out.new) (O.puts out.new) (O.faults out.new))
+        (reports store' given (sink_report (O.text out.new) (O.puts out.new) (O.faults out.new))
         (sink_report (E.text err.new) (E.puts err.new) (E.faults err.new))
         (patterns_state (P.refusals patterns.new) (P.refused patterns.new)) steps.new.forks)
         result }

@@ -1,4 +1,4 @@
--- The live events of a log stand in strictly rising order of place.
+-- The live events of a log are in strictly rising order of keys.
 use Rattle.std.proofs.Common.{◌≡◌, Bool, true, false, not, cond, List, [], ◌∷◌, ◌++◌, refl, sym, ap, ◌∙◌, subst}
 use mathlib.Core.Bool.{true≢false}
 use Rattle.std.specs.declared.cmp.Ordering.{Ordering}

@@ -5,7 +5,7 @@ ghost use Rattle.load_links.specs.Load.{event_msg, event_step, load_event, numbe
 ghost use Rattle.riemann_msg.specs.Spelling.{spelling};
 
 use ev_types::{Attrs, Blob, Event, Events, Memory, Tags, Text};
-use ports::{LinkEvent, Piece, Step, Steps};
+use ports::{LinkEvent, Piece, ScriptSteps, Step};
 use riemann_msg::{Msg, QueryPart, write_msg};
 use std::alloc::Global;
 
@@ -28,7 +28,7 @@ pub(crate) fn push_event(
     alloc: Global,
     i: u64,
     number: u64,
-    steps: &mut Steps,
+    steps: &mut ScriptSteps,
 ) -> Result<(), Memory>
     ensures { OnOk result ((start : ℕ) → number ≡ number_at start i →
         steps.new ≡ steps.old ++ event_step start i ∷ []) }
@@ -48,7 +48,7 @@ pub(crate) fn push_event(
 
 /// Adds the read of the query for all events.
 #[tactic(auto, using(crate::proofs::LoadLemmas::query_fits))]
-pub(crate) fn push_query(alloc: Global, second: u64, steps: &mut Steps) -> Result<(), Memory>
+pub(crate) fn push_query(alloc: Global, second: u64, steps: &mut ScriptSteps) -> Result<(), Memory>
     ensures { OnOk result (steps.new ≡ steps.old ++ read_step second query_msg ∷ []) }
 {
     let query = QueryPart {
@@ -66,7 +66,7 @@ pub(crate) fn push_query(alloc: Global, second: u64, steps: &mut Steps) -> Resul
 
 /// Adds a read of the message on link 0.
 #[tactic(auto, using(crate::proofs::LoadLemmas::frame_length))]
-fn push_read(alloc: Global, secs: u64, msg: &Msg, steps: &mut Steps) -> Result<(), Memory>
+fn push_read(alloc: Global, secs: u64, msg: &Msg, steps: &mut ScriptSteps) -> Result<(), Memory>
     requires { length (spelling msg.now) ≤ 65532 }
     ensures { OnOk result (steps.new ≡ steps.old ++ read_step secs msg.now ∷ []) }
 {

@@ -7,7 +7,7 @@ use crate::events::{number_after, push_event, push_query};
 use crate::replies::count_frames;
 use ev_types::{Memory, Text};
 use ports::{
-    LinkEvent, Links, ListenAnswer, Script, ScriptLinks, SendAnswer, Step, Steps, Turn, Wants,
+    LinkEvent, Links, ListenAnswer, Script, ScriptLinks, ScriptSteps, SendAnswer, Step, Turn, Wants,
 };
 use std::alloc::Global;
 use std::marker::Model;
@@ -35,7 +35,7 @@ impl LoadLinks {
         ensures script { IfOk result (λ links. links.script ≡ load_script count start) }
         ensures log { IfOk result (λ links. links.log ≡ []) }
     {
-        let mut steps = Steps::fresh(alloc);
+        let mut steps = ScriptSteps::fresh(alloc);
         push_turn(alloc, 0, LinkEvent::Opened { link: 0 }, &mut steps)?;
         push_events(alloc, count, start, &mut steps)?;
         push_query(alloc, count / 10, &mut steps)?;
@@ -54,7 +54,12 @@ impl LoadLinks {
 }
 
 /// Adds a turn.
-fn push_turn(alloc: Global, secs: u64, event: LinkEvent, steps: &mut Steps) -> Result<(), Memory>
+fn push_turn(
+    alloc: Global,
+    secs: u64,
+    event: LinkEvent,
+    steps: &mut ScriptSteps,
+) -> Result<(), Memory>
     ensures { OnOk result (steps.new ≡ steps.old ++ Step.Turn secs event ∷ []) }
 {
     steps.push(alloc, Step::Turn { secs, event })?;
@@ -63,7 +68,7 @@ fn push_turn(alloc: Global, secs: u64, event: LinkEvent, steps: &mut Steps) -> R
 
 /// Adds the reads of all events.
 #[tactic(auto, using(crate::proofs::LoadLemmas::pushed_none, crate::proofs::LoadLemmas::next_number, crate::proofs::LoadLemmas::pushed_more, crate::proofs::LoadLemmas::pushed_all))]
-fn push_events(alloc: Global, count: u64, start: u64, steps: &mut Steps) -> Result<(), Memory>
+fn push_events(alloc: Global, count: u64, start: u64, steps: &mut ScriptSteps) -> Result<(), Memory>
     requires { count ≤ 1000000 }
     ensures { OnOk result (steps.new ≡ steps.old ++ event_steps start 1 count) }
 {

@@ -2,7 +2,7 @@ ghost use Rattle.std.specs.Prelude.{◌≡◌, ◌∷◌, ◌++◌, [], map, OnO
 ghost use Rattle.ports.specs.Pieces.{feed_script, pieces_of, read_step};
 
 use crate::links::PIECE_LIMIT;
-use crate::script::{LinkEvent, Piece, Script, Step, Steps};
+use crate::script::{LinkEvent, Piece, Script, ScriptSteps, Step};
 use crate::script_links::ScriptLinks;
 use ev_types::{Blob, Memory};
 use std::alloc::Global;
@@ -13,7 +13,7 @@ pub fn feed_links(alloc: Global, bytes: Blob) -> Result<ScriptLinks, Memory>
     ensures script { IfOk result (λ links. links.script ≡ feed_script PIECE_LIMIT bytes) }
     ensures log { IfOk result (λ links. links.log ≡ []) }
 {
-    let mut steps = Steps::fresh(alloc);
+    let mut steps = ScriptSteps::fresh(alloc);
     push_turn(alloc, LinkEvent::Opened { link: 0 }, &mut steps)?;
     push_reads(alloc, bytes.as_slice(), &mut steps)?;
     push_turn(alloc, LinkEvent::Ended { link: 0 }, &mut steps)?;
@@ -21,7 +21,7 @@ pub fn feed_links(alloc: Global, bytes: Blob) -> Result<ScriptLinks, Memory>
 }
 
 /// Adds a turn at second 0.
-fn push_turn(alloc: Global, event: LinkEvent, steps: &mut Steps) -> Result<(), Memory>
+fn push_turn(alloc: Global, event: LinkEvent, steps: &mut ScriptSteps) -> Result<(), Memory>
     ensures { OnOk result (steps.new ≡ steps.old ++ Step.Turn 0 event ∷ []) }
 {
     steps.push(alloc, Step::Turn { secs: 0, event })?;
@@ -30,7 +30,7 @@ fn push_turn(alloc: Global, event: LinkEvent, steps: &mut Steps) -> Result<(), M
 
 /// Adds a read of link 0 for each piece of the bytes.
 #[tactic(auto, using(crate::proofs::PieceLemmas::piece_more, crate::proofs::PieceLemmas::pieces_done))]
-fn push_reads(alloc: Global, bytes: &[u8], steps: &mut Steps) -> Result<(), Memory>
+fn push_reads(alloc: Global, bytes: &[u8], steps: &mut ScriptSteps) -> Result<(), Memory>
     ensures { OnOk result (steps.new ≡ steps.old
         ++ map read_step (pieces_of PIECE_LIMIT bytes.now)) }
 {

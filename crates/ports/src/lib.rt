@@ -27,7 +27,7 @@ pub use links::{Links, ListenAnswer, PIECE_LIMIT, SendAnswer, Turn, Want, Wants,
 pub use mem_sink::MemSink;
 pub use mem_store::MemStore;
 pub use rules::SendRule;
-pub use script::{LinkEvent, Piece, Script, Step, Steps};
+pub use script::{LinkEvent, Piece, Script, ScriptSteps, Step};
 pub use script_links::ScriptLinks;
 pub use sink::{Failed, Sink};
 pub use store::{ReadAnswer, Reads, Store, StoreRead};

@@ -12,7 +12,7 @@ use std::marker::Model;
 pub struct Script {
     /// The first reading of the clock, in seconds since 1970.
     pub start: u64,
-    pub steps: Steps,
+    pub steps: ScriptSteps,
 }
 
 /// One line of a script.
@@ -35,7 +35,7 @@ impl Step {
 }
 
 /// The lines of a script, in order.
-pub type Steps = Items<Step>;
+pub type ScriptSteps = Items<Step>;
 
 /// What happens in a turn of a script.
 #[derive(Drop)]

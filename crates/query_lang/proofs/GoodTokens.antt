@@ -1,4 +1,4 @@
--- What is known of the tokens of a text, and of the tree that they stand for.
+-- What is known of the tokens of a text, and of the tree that they represent.
 use Rattle.std.proofs.Common.{◌≡◌, ℕ, zero, suc, ◌+◌, ◌<◌, ◌≤◌, ◌^◌, ◌&&◌, ◌||◌, Bool, true, false, cond, eqb, ltb, leb, List, [], ◌∷◌, codes, length, take, drop, Option, Some, None, unwrap_or, ℤ, pos, neg_ℤ, refl, ap, sym, subst, arith, one-add}
 use Rattle.std.specs.Char.{is_ascii_digit}
 use Rattle.std.specs.List.{prefix_len}

@@ -23,7 +23,7 @@ pub append_nil : {A : Type 0} (xs : List A) → xs ++ [] ≡ xs
 append_nil [] = refl
 append_nil (x ∷ xs) = ap (λ rest. x ∷ rest) (append_nil xs)
 
--- what the tokens from a state on stand for, where they end a query
+-- what the tokens from a state on represent, where they end a query
 abbrev pub result_of : State → List Token → Option Tree
 result_of state [] = finish state
 result_of state (t ∷ tokens) = option_and_then (λ next. result_of next tokens) (step state t)

@@ -70,11 +70,11 @@ pub(crate) fn play<O: Sink, P: Patterns, G: Ledger>(
     requires interval { ForSome setup.expiry (λ set. (1 ≤ set.interval) ×
         (set.interval ≤ 604800)) }
     requires begins { links.log ≡ [] }
-    ensures ends { (store store' : StoreReport) (handed : LinksReport) (err err' : SinkReport) →
+    ensures ends { (store store' : StoreReport) (given : LinksReport) (err err' : SinkReport) →
         PlayEnds setup links.script
-        (reports store handed (sink_report (O.text out.old) (O.puts out.old) (O.faults out.old))
+        (reports store given (sink_report (O.text out.old) (O.puts out.old) (O.faults out.old))
         err (patterns_state (P.refusals patterns.old) (P.refused patterns.old)) steps.old.forks)
-        (reports store' handed (sink_report (O.text out.new) (O.puts out.new) (O.faults out.new))
+        (reports store' given (sink_report (O.text out.new) (O.puts out.new) (O.faults out.new))
         err' (patterns_state (P.refusals patterns.new) (P.refused patterns.new)) steps.new.forks)
         result }
     ensures quiet { IsComplete result → O.faults out.new ≡ O.faults out.old }

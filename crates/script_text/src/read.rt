@@ -7,7 +7,7 @@ ghost use Rattle.script_text.specs.declared.read.ScriptFault.TheVariants.{Memory
 use crate::line::{Line, read_line};
 use crate::lines::LinesLeft;
 use ev_types::Memory;
-use ports::{Script, ScriptLinks, Steps};
+use ports::{Script, ScriptLinks, ScriptSteps};
 use std::alloc::Global;
 use thiserror::Error;
 
@@ -65,10 +65,10 @@ fn read_start(alloc: Global, lines: &mut LinesLeft) -> Result<u64, ScriptFault>
 
 /// What the lines after the start line say. All lines are read.
 #[tactic(auto, using(crate::proofs::StepLemmas::onto_nothing, crate::proofs::StepLemmas::onto_more))]
-fn read_steps(alloc: Global, lines: &mut LinesLeft) -> Result<Steps, ScriptFault>
+fn read_steps(alloc: Global, lines: &mut LinesLeft) -> Result<ScriptSteps, ScriptFault>
     ensures { GivesSteps result (steps_from (lines.old.passed + 1) lines.old.lines) }
 {
-    let mut steps = Steps::fresh(alloc);
+    let mut steps = ScriptSteps::fresh(alloc);
     'lines: while let Some(line) = lines.next() {
         match read_line(alloc, line)? {
             Some(Line::Skipped) => {}

@@ -26,48 +26,48 @@ use Rattle.config_streams.specs.Sources.{place_along}
 use Rattle.config_streams.specs.Streams.{Located, all_read, parts_in}
 use Rattle.sexp_config.specs.Tops.{default_server, Draft, fresh_draft, or_default, once, server_in, expiry_in, names_in, Step, run, top_by, top_at, tops_in}
 use Rattle.sexp_config.specs.Config.{plan_fault, faultless, checked, config_from, finished, config_of}
-use Rattle.sexp_config.specs.Built.{IsWellBuilt, IsLeft, ReadPlansHaveNoFault}
+use Rattle.sexp_config.specs.WellBuilt.{IsWellBuilt, IsLeft, ReadPlansHaveNoFault}
 use Rattle.config_terms.proofs.Outcomes.{OkGood, Any_, bind_good, any_good, weaker}
-use Rattle.sexp_config.proofs.StreamsBuilt.{Stands, AllStand, StandBelow, nothing_holds, all_read_stand, parts_stand}
+use Rattle.sexp_config.proofs.StreamsBuilt.{FitsAt, AllFitAt, FitsBelow, nothing_holds, all_read_fit, parts_fit}
 use Rattle.sexp_config.proofs.PlanLaws.{At, one, first, why_reported}
 use Rattle.sexp_config.proofs.PlanPasses.{all_are, passes_none, not_true}
 use Rattle.sexp_config.proofs.GrammarLaws.{config_read_of}
 
 -- ---- forms at the top
 
-abbrev Built : Draft → Type 0
-Built draft = StandBelow false 1 draft.below
+abbrev DraftFits : Draft → Type 0
+DraftFits draft = FitsBelow false 1 draft.below
 
 abbrev BuildsStep : Step → Type 0
-BuildsStep step = (env : Env) (draft : Draft) → Built draft → OkGood Built (step env draft)
+BuildsStep step = (env : Env) (draft : Draft) → DraftFits draft → OkGood DraftFits (step env draft)
 
 abbrev BuildSteps : List Step → Type 0
 BuildSteps [] = Unit {0}
 BuildSteps (step ∷ steps) = BuildsStep step × BuildSteps steps
 
-run_builds : (env : Env) (draft : Draft) → Built draft → (steps : List Step) → BuildSteps steps → OkGood Built (run env draft steps)
+run_builds : (env : Env) (draft : Draft) → DraftFits draft → (steps : List Step) → BuildSteps steps → OkGood DraftFits (run env draft steps)
 unfolding run
 run_builds env draft built [] all = built
-run_builds env draft built (step ∷ steps) all = bind_good Built Built (step env draft) (λ more. run env more steps) (all.0 env draft built) (λ more known. run_builds env more known steps all.1)
+run_builds env draft built (step ∷ steps) all = bind_good DraftFits DraftFits (step env draft) (λ more. run env more steps) (all.0 env draft built) (λ more known. run_builds env more known steps all.1)
 
 rest_build : (steps : List Step) → BuildSteps steps → BuildSteps (drop 1 steps)
 rest_build [] all = tt
 rest_build (step ∷ steps) all = all.1
 
-top_builds : (found : Option TopWord) (env : Env) (start : ℕ) (forms : FormTrees) → 1 + depth forms ≤ 64 → (steps : List Step) → BuildSteps steps → (draft : Draft) → Built draft → OkGood Built (top_by found env start forms steps draft)
+top_builds : (found : Option TopWord) (env : Env) (start : ℕ) (forms : FormTrees) → 1 + depth forms ≤ 64 → (steps : List Step) → BuildSteps steps → (draft : Draft) → DraftFits draft → OkGood DraftFits (top_by found env start forms steps draft)
 unfolding top_by
 top_builds None env start forms h steps all draft built = tt
 top_builds (Some top.TcpServer) env start forms h steps all draft built =
-    bind_good Any_ Built (once start draft.server) _ (any_good (once start draft.server)) (λ new _.
-    bind_good Any_ Built (server_in env forms) (λ server. Ok (record draft { server = Some server })) (any_good (server_in env forms)) (λ server _. built))
+    bind_good Any_ DraftFits (once start draft.server) _ (any_good (once start draft.server)) (λ new _.
+    bind_good Any_ DraftFits (server_in env forms) (λ server. Ok (record draft { server = Some server })) (any_good (server_in env forms)) (λ server _. built))
 top_builds (Some top.PeriodicallyExpire) env start forms h steps all draft built =
-    bind_good Any_ Built (once start draft.expiry) _ (any_good (once start draft.expiry)) (λ new _.
-    bind_good Any_ Built (expiry_in env forms) (λ expiry. Ok (record draft { expiry = Some expiry })) (any_good (expiry_in env forms)) (λ expiry _. built))
+    bind_good Any_ DraftFits (once start draft.expiry) _ (any_good (once start draft.expiry)) (λ new _.
+    bind_good Any_ DraftFits (expiry_in env forms) (λ expiry. Ok (record draft { expiry = Some expiry })) (any_good (expiry_in env forms)) (λ expiry _. built))
 top_builds (Some top.Streams) env start forms h steps all draft built =
-    bind_good (StandBelow false 1) Built (all_read draft.below (parts_in false env forms)) (λ below. Ok (record draft { below = below }))
-    (all_read_stand false 1 draft.below (parts_in false env forms) built (parts_stand false env forms 1 h)) (λ below known. known)
+    bind_good (FitsBelow false 1) DraftFits (all_read draft.below (parts_in false env forms)) (λ below. Ok (record draft { below = below }))
+    (all_read_fit false 1 draft.below (parts_in false env forms) built (parts_fit false env forms 1 h)) (λ below known. known)
 top_builds (Some top.Let) env start forms h steps all draft built =
-    bind_good Any_ Built (names_in env start forms) (λ inner. run inner draft (drop 1 steps)) (any_good (names_in env start forms)) (λ inner _. run_builds inner draft built (drop 1 steps) (rest_build steps all))
+    bind_good Any_ DraftFits (names_in env start forms) (λ inner. run inner draft (drop 1 steps)) (any_good (names_in env start forms)) (λ inner _. run_builds inner draft built (drop 1 steps) (rest_build steps all))
 
 mutual
   unfolding top_at tops_in
@@ -109,20 +109,20 @@ one_longer (m ∷ path) n = ap suc (one_longer path n)
 mutual
   unfolding preorder_at preorder_in
 
-  right_at : (path : List ℕ) (flow : _) (s : StreamTree) → Stands (length path) s → AllByRecursion Right (preorder_at path flow s)
+  right_at : (path : List ℕ) (flow : _) (s : StreamTree) → FitsAt (length path) s → AllByRecursion Right (preorder_at path flow s)
   right_at path flow (stream kind children otherwise) holds = (
     (holds.0, holds.1, holds.2),
     both Right (preorder_in path 0 (passes_on kind flow) children) (preorder_in path (count_of children) (passes_on kind flow) otherwise)
         (right_in path 0 (passes_on kind flow) children holds.3) (right_in path (count_of children) (passes_on kind flow) otherwise holds.4),
   )
 
-  right_in : (path : List ℕ) (number : ℕ) (flow : _) (streams : StreamTrees) → AllStand (suc (length path)) streams → AllByRecursion Right (preorder_in path number flow streams)
+  right_in : (path : List ℕ) (number : ℕ) (flow : _) (streams : StreamTrees) → AllFitAt (suc (length path)) streams → AllByRecursion Right (preorder_in path number flow streams)
   right_in path number flow plan.none all = tt
   right_in path number flow (plan.also s streams) all =
       both Right (preorder_at (path ++ number ∷ []) flow s) (preorder_in path (number + 1) flow streams)
-      (right_at (path ++ number ∷ []) flow s (subst (λ (n : ℕ). Stands n s) (one_longer path number) all.0)) (right_in path (number + 1) flow streams all.1)
+      (right_at (path ++ number ∷ []) flow s (subst (λ (n : ℕ). FitsAt n s) (one_longer path number) all.0)) (right_in path (number + 1) flow streams all.1)
 
-well_built : (streams : StreamTrees) → AllStand 1 streams → IsWellBuilt streams
+well_built : (streams : StreamTrees) → AllFitAt 1 streams → IsWellBuilt streams
 well_built streams all =
     let right = right_in [] 0 _ streams all in
     record {
@@ -136,7 +136,7 @@ IsBuiltDraft draft = IsWellBuilt draft.below.children.streams
 
 draft_built : (forms : FormTrees) → depth forms ≤ 64 → OkGood IsBuiltDraft (run [] fresh_draft (tops_in forms))
 draft_built forms h =
-    weaker Built IsBuiltDraft (run [] fresh_draft (tops_in forms)) (λ draft built. well_built draft.below.children.streams built.0)
+    weaker DraftFits IsBuiltDraft (run [] fresh_draft (tops_in forms)) (λ draft built. well_built draft.below.children.streams built.0)
     (run_builds [] fresh_draft (nothing_holds false 1) (tops_in forms) (steps_build forms h))
 
 -- the draft that the forms give

@@ -4,6 +4,6 @@ pub mod Config
 pub mod Canonical
 pub mod ReadBack
 pub mod Drafts
-pub mod Built
+pub mod WellBuilt
 pub mod Answer
 pub mod Expiry

@@ -8,7 +8,7 @@ ghost use Rattle.sexp_config.specs.Config.{fault_by, config_of as config_read, c
 ghost use Rattle.config_terms.specs.Steps.{Gives, GivesAs};
 ghost use Rattle.config_streams.specs.Sources.{place_along as place_by, nth_source, with_sources};
 ghost use Rattle.sexp_config.specs.Tops.{default_server as default_server_of, or_default};
-ghost use Rattle.sexp_config.specs.Built.{IsWellBuilt, IsLeft};
+ghost use Rattle.sexp_config.specs.WellBuilt.{IsWellBuilt, IsLeft};
 ghost use Rattle.config_streams.specs.Made.{located_in, source_list, source_tree};
 ghost use Rattle.sexp_config.specs.Drafts.{draft_in, server_made};
 ghost use Rattle.sexp_config.specs.Expiry.{IsInterval};

@@ -2,7 +2,7 @@
 
 ghost use Rattle.sexp_config.specs.Answer.{TextsAreAnswered, ConfigsAreNotRefused, ConfigsAreOne, RefusalsAreOne};
 ghost use Rattle.sexp_config.specs.Config.{ConfigsAreRead};
-ghost use Rattle.sexp_config.specs.Built.{ReadPlansHaveNoFault};
+ghost use Rattle.sexp_config.specs.WellBuilt.{ReadPlansHaveNoFault};
 ghost use Rattle.sexp_config.specs.ReadBack.{CanonicalIsRead};
 
 /// The forms that are read as a configuration are exactly those that represent it by the grammar. So forms represent one

@@ -1,4 +1,4 @@
--- Where a stream's regular expressions stand, and what streams that keep nothing do.
+-- Where a stream's regular expressions are, and what streams that keep nothing do.
 use Rattle.std.proofs.Common.{◌≡◌, ℕ, ◌+◌, ◌≤◌, Bool, true, false, cond, List, [], ◌++◌, length, take, drop, refl, sym, ap, ◌∙◌, subst, arith, length-append}
 use Rattle.std.specs.Prelude.{None}
 use Rattle.std.proofs.lemmas.List.{append-nil}

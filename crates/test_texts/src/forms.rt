@@ -81,7 +81,7 @@ fn lists_and_their_parts_are_placed(rt: HostRuntime) -> Result<(), Fail> {
         // a comment goes on past a CR
         (b";a\r b\nc", "6-7 symbol c "),
         (b"a;b\nc", "0-1 symbol a 4-5 symbol c "),
-        // pieces that stand close together
+        // pieces that are close together
         (
             b"5\"a\"#\"b\":c",
             "0-1 5 1-4 text a 4-8 pattern b 8-10 keyword c ",
