@@ -17,7 +17,7 @@ use std::cmp::Ordering;
 use std::fmt;
 use std::hash::{Hash, Hasher};
 use std::marker::Model;
-use std::str::from_utf8;
+use std::str::{from_utf8, from_utf8_unchecked};
 use thiserror::Error;
 
 // A text that is read or copied takes no memory where it has at most this many bytes.
@@ -65,6 +65,11 @@ impl Text {
         ensures text { IfOk result (λ text. IsUtf8 bytes.now × (text ≡ bytes.now)) }
         ensures fault { IfErr result (IsNoText bytes.now) }
     {
+        // Most texts are short and ASCII, which is UTF-8 and the quicker test.
+        if bytes.len() <= SHORT && bytes.is_ascii() {
+            let chars = unsafe { from_utf8_unchecked(bytes) };
+            return Ok(Text::from_str(alloc, chars)?);
+        }
         match from_utf8(bytes) {
             Ok(chars) => Ok(Text::from_str(alloc, chars)?),
             Err(error) => Err(TextFault::Utf8 {
