@@ -65,7 +65,7 @@ impl Text {
         ensures text { IfOk result (λ text. IsUtf8 bytes.now × (text ≡ bytes.now)) }
         ensures fault { IfErr result (IsNoText bytes.now) }
     {
-        // Most texts are short and ASCII, which is UTF-8 and the quicker test.
+        // Most texts are short and ASCII, which is quicker to test for than UTF-8.
         if bytes.len() <= SHORT && bytes.is_ascii() {
             let chars = unsafe { from_utf8_unchecked(bytes) };
             return Ok(Text::from_str(alloc, chars)?);
