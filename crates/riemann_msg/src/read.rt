@@ -18,7 +18,7 @@ use crate::fields::{
 use crate::msg::{Msg, QueryPart};
 use crate::ttl::ttl_of_bits;
 use crate::zigzag::unzigzag;
-use ev_types::{Attr, Event, Events, Text, TextFault};
+use ev_types::{Attr, Attrs, Event, Events, Tags, Text, TextFault};
 use pb_wire::{Body, FieldReader, Next};
 use std::alloc::Global;
 
@@ -97,6 +97,33 @@ fn text_of(alloc: Global, bytes: &[u8], place: usize) -> Result<Text, MsgFault>
     }
 }
 
+/// Puts the bytes as a text in the place of what the field held. Where they are not UTF-8, the fault is at `place` in
+/// the whole message.
+fn put_text(
+    alloc: Global,
+    field: &mut Option<Text>,
+    bytes: &[u8],
+    place: usize,
+) -> Result<(), MsgFault>
+    ensures { Puts (utf8_fault place bytes.now) (Some bytes.now) result field.new }
+{
+    *field = Some(text_of(alloc, bytes, place)?);
+    Ok(())
+}
+
+/// Adds the bytes as a text to the tags. Where they are not UTF-8, the fault is at `place` in the whole message.
+fn push_tag(
+    alloc: Global,
+    tags: &mut Tags,
+    bytes: &[u8],
+    place: usize,
+) -> Result<(), MsgFault>
+    ensures { Puts (utf8_fault place bytes.now) (tags.old ++ bytes.now ∷ []) result tags.new }
+{
+    tags.push(alloc, text_of(alloc, bytes, place)?)?;
+    Ok(())
+}
+
 /// The fields of an attribute.
 #[derive(Drop)]
 struct AttrDraft {
@@ -123,8 +150,8 @@ impl Draft for AttrDraft {
         };
         let text = &bytes[start..end];
         match number {
-            KEY => self.key = Some(text_of(alloc, text, base + place)?),
-            VALUE => self.value = Some(text_of(alloc, text, base + place)?),
+            KEY => put_text(alloc, &mut self.key, text, base + place)?,
+            VALUE => put_text(alloc, &mut self.value, text, base + place)?,
             _ => {}
         }
         Ok(())
@@ -152,6 +179,21 @@ fn read_attribute(alloc: Global, bytes: &[u8], base: usize) -> Result<Attr, MsgF
     }
 }
 
+/// Reads the bytes, which begin at `base` in the whole message, as an attribute, and adds it to the attributes.
+fn push_attribute(
+    alloc: Global,
+    attributes: &mut Attrs,
+    bytes: &[u8],
+    base: usize,
+) -> Result<(), MsgFault>
+    requires { base + length bytes.now < 2 ^ 64 }
+    ensures { Puts (option_map (moved base) (attribute_fault bytes.now))
+        (attributes.old ++ attribute_of bytes.now ∷ []) result attributes.new }
+{
+    attributes.push(alloc, read_attribute(alloc, bytes, base)?)?;
+    Ok(())
+}
+
 impl Draft for QueryPart {
     ghost fault = { query_field_fault };
 
@@ -168,7 +210,7 @@ impl Draft for QueryPart {
     ) -> Result<(), MsgFault> {
         match (number, body) {
             (STRING, Body::Bytes { start, end }) => {
-                self.string = Some(text_of(alloc, &bytes[start..end], base + place)?);
+                put_text(alloc, &mut self.string, &bytes[start..end], base + place)?;
             }
             _ => {}
         }
@@ -247,15 +289,12 @@ impl EventDraft {
             (event_with self.old (field number (Bytes bytes.now))) result self.new }
     {
         match number {
-            STATE => self.event.state = Some(text_of(alloc, bytes, place)?),
-            SERVICE => self.event.service = Some(text_of(alloc, bytes, place)?),
-            HOST => self.event.host = Some(text_of(alloc, bytes, place)?),
-            DESCRIPTION => self.event.description = Some(text_of(alloc, bytes, place)?),
-            TAGS => self.event.tags.push(alloc, text_of(alloc, bytes, place)?)?,
-            ATTRIBUTES => {
-                let attribute = read_attribute(alloc, bytes, base)?;
-                self.event.attributes.push(alloc, attribute)?;
-            }
+            STATE => put_text(alloc, &mut self.event.state, bytes, place)?,
+            SERVICE => put_text(alloc, &mut self.event.service, bytes, place)?,
+            HOST => put_text(alloc, &mut self.event.host, bytes, place)?,
+            DESCRIPTION => put_text(alloc, &mut self.event.description, bytes, place)?,
+            TAGS => push_tag(alloc, &mut self.event.tags, bytes, place)?,
+            ATTRIBUTES => push_attribute(alloc, &mut self.event.attributes, bytes, base)?,
             _ => {}
         }
         Ok(())
@@ -305,9 +344,8 @@ fn read_event(
 {
     let mut draft = EventDraft::fresh(alloc);
     read_fields(alloc, bytes, base, &mut draft)?;
-    let EventDraft { time, mut event } = draft;
-    event.time = time_of(now, event.time_micros, time);
-    events.push(alloc, event)?;
+    draft.event.time = time_of(now, draft.event.time_micros, draft.time);
+    events.push(alloc, draft.event)?;
     Ok(())
 }
 
@@ -360,7 +398,7 @@ impl MsgDraft {
             (message_with self.old (field number (Bytes bytes.now))) result self.new }
     {
         match number {
-            ERROR => self.msg.error = Some(text_of(alloc, bytes, place)?),
+            ERROR => put_text(alloc, &mut self.msg.error, bytes, place)?,
             QUERY => {
                 let mut query = self.msg.query.take().unwrap_or(QueryPart { string: None });
                 read_fields(alloc, bytes, base, &mut query)?;

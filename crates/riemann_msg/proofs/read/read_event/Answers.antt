@@ -8,7 +8,7 @@ use Rattle.riemann_msg.proofs.read.read_event.Goals as goal
 pub returns : goal.returns
 returns c =
     let now = to_z-of_z w64 c.args.now c.ranges.now in
-    let fits : SFits w64 c.time_of.result = search rules in
+    let fits : SFits w64 c.time_of-draft.result = search rules in
     let read = event_read c.args.now c.args.bytes.now c.args.base c.fresh-draft.result c.read_fields.new.draft _ c.fresh-draft.ensures c.in_ok-read_fields.ensures.ok.0 c.in_ok-read_fields.ensures.ok.1
-    (to_z-of_z w64 c.time_of.result fits ∙ (rw now at c.time_of.ensures)) in
+    (to_z-of_z w64 c.time_of-draft.result fits ∙ (rw now at c.time_of-draft.ensures)) in
     (read.0, c.in_ok-push.ensures.ok ∙ ap (λ event. c.args.events.now ++ event ∷ []) read.1)
