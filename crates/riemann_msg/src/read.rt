@@ -84,6 +84,7 @@ fn read_fields<D: Draft>(
 }
 
 /// The bytes as a text. Where they are not UTF-8, the fault is at `place` in the whole message.
+#[inline(always)]
 fn text_of(alloc: Global, bytes: &[u8], place: usize) -> Result<Text, MsgFault>
     ensures { Decodes (utf8_fault place bytes.now) bytes.now result }
 {
