@@ -142,10 +142,10 @@ fn tag_from(bytes: &[u8], place: usize) -> Result<(u32, usize), WireWhy>
     ensures within { IfOk result (λ tag. (place < tag.1) × (tag.1 ≤ length bytes.now)) }
 {
     let (tag, place) = varint_from(bytes, place)?;
-    match u32::try_from(tag) {
-        Ok(tag) if tag >= 8 => Ok((tag, place)),
-        _ => Err(WireWhy::Tag),
+    if tag < 8 || tag > u64::from(u32::MAX) {
+        return Err(WireWhy::Tag);
     }
+    Ok((tag as u32, place))
 }
 
 /// The body at the place, of the type that the tag gives, and the place just past it.
