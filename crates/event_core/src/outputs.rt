@@ -26,6 +26,22 @@ pub(crate) fn handle(
     if outputs.len() == 1 && write_one(alloc, &mut outputs[0], index)? {
         return Ok(());
     }
+    handle_each(alloc, outputs, index, out)?;
+    Ok(())
+}
+
+/// Handles the outputs one after another.
+fn handle_each(
+    alloc: Global,
+    outputs: Vec<Output>,
+    index: &mut LiveIndex,
+    out: &mut Notices,
+) -> Result<(), Memory>
+    ensures index { OnOk result ((log : IndexLog) → Represents index.old log
+        → Represents index.new (log ++ writes_among outputs.items)) }
+    ensures notices { OnOk result (out.new ≡ out.old ++ notices_among outputs.items) }
+    ensures prefix { IsPrefix out.old out.new }
+{
     for output in outputs {
         handle_one(alloc, output, index, out)?;
     }

@@ -87,7 +87,7 @@ impl Store {
                 self.hints.note(hash, number);
                 self.replace(alloc, number, event)
             }
-            None => self.put(alloc, hash, mem::replace(event, Event::at(alloc, 0))),
+            None => self.put(alloc, hash, event),
         }
     }
 
@@ -156,14 +156,14 @@ impl Store {
         self.count -= 1;
     }
 
-    /// Adds an event whose host and service, which have this hash, have none.
-    fn put(&mut self, alloc: Global, hash: u64, event: Event) -> Result<(), Memory>
+    /// Moves an event out whose host and service, which have this hash, have none.
+    fn put(&mut self, alloc: Global, hash: u64, event: &mut Event) -> Result<(), Memory>
         requires stored { IsStored self.old.numbers self.old.events self.old.due self.old.count }
-        requires absent { number_at (key_of event) self.old.numbers ≡ None }
-        requires current { is_over event ≡ false }
+        requires absent { number_at (key_of event.old) self.old.numbers ≡ None }
+        requires current { is_over event.old ≡ false }
         ensures stored { OnOk result
             (IsStored self.new.numbers self.new.events self.new.due self.new.count) }
-        ensures puts { OnOk result (Puts (key_of event) (Some event)
+        ensures puts { OnOk result (Puts (key_of event.old) (Some event.old)
             self.old.numbers self.old.events self.new.numbers self.new.events) }
     {
         let Some(count) = self.count.checked_add(1) else {
@@ -171,7 +171,8 @@ impl Store {
         };
         let host = copy_text(alloc, event.host.as_ref())?;
         let service = copy_text(alloc, event.service.as_ref())?;
-        let due = due_moment(&event);
+        let due = due_moment(event);
+        let event = mem::replace(event, Event::at(alloc, 0));
         let number = self.events.add(alloc, event)?;
         self.numbers.insert(alloc, host, service, number)?;
         self.count = count;

@@ -1,5 +1,5 @@
 use Rattle.event_core.proofs.Moves.{handled-index, handled-notices}
-use Rattle.event_core.proofs.outputs.handle.Goals as goal
+use Rattle.event_core.proofs.outputs.handle_each.Goals as goal
 
 pub loop-output-preserved : goal.loop-output-preserved
 loop-output-preserved c =
