@@ -116,7 +116,7 @@ abbrev pub TookMore : Ending → ℕ → ℕ → Type 0
 TookMore (OverLimit source) old new = RoseBy (limit_of source + 1) old new
 TookMore _ old new = Unit {0}
 
--- of one file: it was read, unless there was no memory for it
+-- of one file: it was read, unless memory ran out
 abbrev pub IsReadOnce : Ending → ℕ → Type 0
 IsReadOnce OutOfMemory count = Unit {0}
 IsReadOnce _ count = count ≡ 1

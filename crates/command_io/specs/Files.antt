@@ -23,7 +23,7 @@ good_read name = record { name = name; failed = false }
 abbrev pub bad_read : List ℕ → StoreRead
 bad_read name = record { name = name; failed = true }
 
--- the reads that are made where a file can't be read: none where there was no memory for it
+-- the reads that are made where a file can't be read: none where memory ran out
 abbrev pub reads_of_fault : List ℕ → FileFault → List StoreRead
 reads_of_fault name Unread = bad_read name ∷ []
 reads_of_fault name TooLong = good_read name ∷ []

@@ -40,8 +40,8 @@ module _ {X : Type 0} where
 
 -- ---- what a connected link is
 
-pub connected_holds : (link : Link) → is_connected link ≡ true → link.status ≢ Closed
-connected_holds link is same = let none : is_connected link ≡ false = ap (λ (s : Status). is_open_status s || is_read_closed_status s) same in absurd (cc (is, none))
+pub connected_unclosed : (link : Link) → is_connected link ≡ true → link.status ≢ Closed
+connected_unclosed link is same = let none : is_connected link ≡ false = ap (λ (s : Status). is_open_status s || is_read_closed_status s) same in absurd (cc (is, none))
 
 length_wants : (links : List Link) → length (wants_of links) ≡ length (connected links)
 length_wants links = length-map (connected links) want_of
@@ -51,7 +51,7 @@ length_wants links = length-map (connected links) want_of
 pub record Found (table : Kept HubLink) (number place : ℕ) (links : List Link) : Type 0 where
   pub meant : Link
   pub found : find_link number links ≡ Some meant
-  pub holds : is_connected meant ≡ true
+  pub unclosed : is_connected meant ≡ true
   pub focus : Focus table number place links meant
 
 pub focus_found : (table : Kept HubLink) (number place : ℕ) (links : List Link) → Keeps table links → AreSettled links → IsAt number table place → Found table number place links
@@ -64,13 +64,13 @@ focus_found table number place links keeps settled at =
     record {
       meant = cut.meant;
       found = ap (find_link number) all.are ∙ found_at number all.firsts all.lasts cut.meant number_is before;
-      holds = all.holds;
+      unclosed = all.unclosed;
       focus = record {
         first = all.firsts;
         last = all.lasts;
         are = all.are;
         number_is = number_is;
-        holds = connected_holds cut.meant all.holds;
+        unclosed = connected_unclosed cut.meant all.unclosed;
         rising = keeps.rising;
         free = keeps.free;
         within = at.within;
@@ -131,12 +131,12 @@ module _ (table : Kept HubLink) (number place : ℕ) (links : List Link) (meant 
   -- the link is changed, and so is the value beside it
   pub focus_changed : (f : Link → Link) (value : HubLink) → (f meant).number ≡ meant.number → (f meant).status ≢ Closed → RepresentsLink value (f meant)
       → Focus (record table { values = set table.values place value }) number place (changed number f links) (f meant)
-  focus_changed f value same holds represents = record {
+  focus_changed f value same unclosed represents = record {
     first = focus.first;
     last = focus.last;
     are = focus_change f;
     number_is = same ∙ focus.number_is;
-    holds = holds;
+    unclosed = unclosed;
     rising = subst AreRising (sym (focus_change f)) (rising_at focus.first focus.last meant (f meant) same seen);
     free = λ other. ap (is_above other) (focus_change f) ∙ above_at other focus.first focus.last meant (f meant) same ∙ ap (is_above other) (sym focus.are) ∙ focus.free other;
     within = subst (λ (n : ℕ). place < n) (sym (length-set table.values place value)) focus.within;
@@ -157,19 +157,19 @@ module _ (table : Kept HubLink) (number place : ℕ) (links : List Link) (meant 
   -- what is wanted of the link is up to date
   pub focus_kept : (new : Kept HubLink) → is_connected meant ≡ true → IsSettled meant → new.wants ≡ set table.wants place (want_of meant)
       → new.values ≡ table.values → new.newest ≡ table.newest → Keeps new links × AreSettled links
-  focus_kept new holds settled wants values newest = (
+  focus_kept new unclosed settled wants values newest = (
     record {
       wants = wants
           ∙ set_split table.wants place (want_of meant) within_wants
           ∙ ap (λ (ws : List Want). ws ++ want_of meant ∷ drop (suc place) table.wants) focus.wants_first
           ∙ ap (λ (ws : List Want). wants_of focus.first ++ want_of meant ∷ ws) focus.wants_last
-          ∙ ap (λ (ls : List Link). wants_of focus.first ++ map want_of ls) (sym (connected_yes meant focus.last holds))
+          ∙ ap (λ (ls : List Link). wants_of focus.first ++ map want_of ls) (sym (connected_yes meant focus.last unclosed))
           ∙ sym (wants_append focus.first (meant ∷ focus.last))
           ∙ ap wants_of (sym focus.are);
       values = subst (λ (vs : List HubLink). AreBeside vs (connected links)) (sym values)
           (subst (AreBeside table.values) (sym (ap connected focus.are ∙ connected_append focus.first (meant ∷ focus.last)))
           (beside_whole table.values place focus.within (connected focus.first) (connected (meant ∷ focus.last)) focus.values_first
-          (λ value. subst (AreBeside (get_or table.values place value ∷ drop (suc place) table.values)) (sym (connected_yes meant focus.last holds))
+          (λ value. subst (AreBeside (get_or table.values place value ∷ drop (suc place) table.values)) (sym (connected_yes meant focus.last unclosed))
           (focus.value value, focus.values_last))));
       free = λ other. focus.free other ∙ ap (is_newer other) (sym newest);
       rising = focus.rising;

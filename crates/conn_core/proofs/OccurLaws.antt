@@ -29,7 +29,7 @@ use Rattle.conn_core.specs.Occurring.{Done, Occurs, OccursFrom}
 use Rattle.conn_core.specs.Reaching.{Changes, Ends, Focus, Settles, links_after}
 use Rattle.conn_core.specs.declared.hub.Hub.{Hub}
 use Rattle.conn_core.proofs.FocusLaws.{focus_change, focus_changed, focus_found}
-use Rattle.conn_core.proofs.ReachLaws.{absent_gone, none_ok, read_closed_holds}
+use Rattle.conn_core.proofs.ReachLaws.{absent_gone, none_ok, read_closed_unclosed}
 
 on_ok : {T E : Type 0} {P Q : Type 0} (r : Result T E) → (P → Q) → OnOk r P → OnOk r Q
 on_ok (Ok x) f p = f p
@@ -147,10 +147,10 @@ occurs_absent number count piece hub patterns reported absent config state at se
 
     by_found : (found : Option Link) → find_link number state.links ≡ found → ((link : Link) → find_link number state.links ≡ Some link → is_connected link ≡ false)
         → Occurs (Read number count) piece hub patterns patterns reported reported (Ok tt) config state []
-    by_found None is holds =
+    by_found None is unclosed =
         nothing (ap (read_by config piece [] state) is) (subst (VerdictsOn config piece [] state) (sym is) refl)
-    by_found (Some link) is holds =
-        let closed : is_open link ≡ false = not_open link.status (holds link is) in
+    by_found (Some link) is unclosed =
+        let closed : is_open link ≡ false = not_open link.status (unclosed link is) in
         nothing (ap (read_by config piece [] state) is
         ∙ ap (λ (t : Bool). cond t (with_talk state (all_answered config state.now (messages_in piece [] link) (talk_of piece state link))) state) closed)
         (subst (VerdictsOn config piece [] state) (sym is) (subst (λ (t : Bool). VerdictsIf t config piece [] state link) (sym closed) refl))
@@ -173,9 +173,9 @@ cut_off_number : (link : Link) → (cut_off link).number ≡ link.number
 cut_off_number link =
     choice (λ l. l.number ≡ link.number) (is_oversized (partial link.came)) (with_status ReadClosed (with_reply (reply_to_oversized (length_at (partial link.came))) link)) link refl refl
 
-cut_off_holds : (link : Link) → link.status ≢ Closed → (cut_off link).status ≢ Closed
-cut_off_holds link holds =
-    choice (λ l. l.status ≢ Closed) (is_oversized (partial link.came)) (with_status ReadClosed (with_reply (reply_to_oversized (length_at (partial link.came))) link)) link read_closed_holds holds
+cut_off_unclosed : (link : Link) → link.status ≢ Closed → (cut_off link).status ≢ Closed
+cut_off_unclosed link unclosed =
+    choice (λ l. l.status ≢ Closed) (is_oversized (partial link.came)) (with_status ReadClosed (with_reply (reply_to_oversized (length_at (partial link.came))) link)) link read_closed_unclosed unclosed
 
 module _ (config : CoreConfig) (piece : List ℕ) (verdicts : List (Option Refusal)) (state : RunState) (meant : Link) where
   all_number : (all_answered config state.now (messages_in piece verdicts meant) (talk_of piece state meant)).link.number ≡ meant.number
@@ -190,15 +190,15 @@ module _ (config : CoreConfig) (piece : List ℕ) (verdicts : List (Option Refus
       by_test true = cut_off_number (all_answered config state.now (messages_in piece verdicts meant) (talk_of piece state meant)).link ∙ all_number
       by_test false = refl
 
-  pub after_holds : meant.status ≢ Closed → (talk_after config piece verdicts state meant).link.status ≢ Closed
-  after_holds holds = by_test (is_open meant)
+  pub after_unclosed : meant.status ≢ Closed → (talk_after config piece verdicts state meant).link.status ≢ Closed
+  after_unclosed unclosed = by_test (is_open meant)
     where
       by_test : (t : Bool) → (cond t (record (all_answered config state.now (messages_in piece verdicts meant) (talk_of piece state meant)) {
         link = cut_off (all_answered config state.now (messages_in piece verdicts meant) (talk_of piece state meant)).link;
       }) (record { arrivals = state.arrivals; link = meant })).link.status ≢ Closed
-      by_test true = cut_off_holds (all_answered config state.now (messages_in piece verdicts meant) (talk_of piece state meant)).link
-          (subst (λ (s : Status). s ≢ Closed) (sym (talk_status config state.now (messages_in piece verdicts meant) (talk_of piece state meant))) holds)
-      by_test false = holds
+      by_test true = cut_off_unclosed (all_answered config state.now (messages_in piece verdicts meant) (talk_of piece state meant)).link
+          (subst (λ (s : Status). s ≢ Closed) (sym (talk_status config state.now (messages_in piece verdicts meant) (talk_of piece state meant))) unclosed)
+      by_test false = unclosed
 
   -- the state after the piece
   abbrev pub read_state : ℕ → RunState
@@ -268,7 +268,7 @@ module _ (number count place : ℕ) (piece : List ℕ) (hub : Hub) (core' : Core
       let is : occurred config (Read number count) piece verdicts state ≡ read =
       ap (read_by config piece verdicts state) found.found ∙ read_is config piece verdicts state meant number found.focus.number_is still in
       let focus = focus_changed hub.table number place state.links meant found.focus (λ _. talk.link) value' (after_number config piece verdicts state meant)
-      (after_holds config piece verdicts state meant found.focus.holds) heard.link in
+      (after_unclosed config piece verdicts state meant found.focus.unclosed) heard.link in
       let reach = settles config read talk.link focus in
       record {
         verdicts = verdicts;

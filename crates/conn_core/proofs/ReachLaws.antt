@@ -49,24 +49,24 @@ after_number (Next wants turn piece ∷ run) link = after_number run link
 after_number (Send number bytes answer ∷ run) link = after_number run (sent bytes answer link) ∙ sent_number bytes answer link
 after_number (Close number ∷ run) link = after_number run link
 
-pub closing_holds : Closing ≢ Closed
-closing_holds same = cc same
+pub closing_unclosed : Closing ≢ Closed
+closing_unclosed same = cc same
 
-pub read_closed_holds : ReadClosed ≢ Closed
-read_closed_holds same = cc same
+pub read_closed_unclosed : ReadClosed ≢ Closed
+read_closed_unclosed same = cc same
 
-sent_holds : (bytes : List ℕ) (answer : SendAnswer) (link : Link) → link.status ≢ Closed → (sent bytes answer link).status ≢ Closed
-sent_holds bytes (Took count) link holds = holds
-sent_holds bytes Later link holds = holds
-sent_holds bytes Failed link holds = closing_holds
-sent_holds bytes SendMemory link holds = holds
+sent_unclosed : (bytes : List ℕ) (answer : SendAnswer) (link : Link) → link.status ≢ Closed → (sent bytes answer link).status ≢ Closed
+sent_unclosed bytes (Took count) link unclosed = unclosed
+sent_unclosed bytes Later link unclosed = unclosed
+sent_unclosed bytes Failed link unclosed = closing_unclosed
+sent_unclosed bytes SendMemory link unclosed = unclosed
 
-after_holds : (run : List Entry) (link : Link) → link.status ≢ Closed → (after_sends run link).status ≢ Closed
-after_holds [] link holds = holds
-after_holds (Listen address answer ∷ run) link holds = after_holds run link holds
-after_holds (Next wants turn piece ∷ run) link holds = after_holds run link holds
-after_holds (Send number bytes answer ∷ run) link holds = after_holds run (sent bytes answer link) (sent_holds bytes answer link holds)
-after_holds (Close number ∷ run) link holds = after_holds run link holds
+after_unclosed : (run : List Entry) (link : Link) → link.status ≢ Closed → (after_sends run link).status ≢ Closed
+after_unclosed [] link unclosed = unclosed
+after_unclosed (Listen address answer ∷ run) link unclosed = after_unclosed run link unclosed
+after_unclosed (Next wants turn piece ∷ run) link unclosed = after_unclosed run link unclosed
+after_unclosed (Send number bytes answer ∷ run) link unclosed = after_unclosed run (sent bytes answer link) (sent_unclosed bytes answer link unclosed)
+after_unclosed (Close number ∷ run) link unclosed = after_unclosed run link unclosed
 
 -- ---- the sends, and what follows them
 
@@ -90,7 +90,7 @@ module _ (table table'' : Kept HubLink) (number place : ℕ) (value value' : Hub
       let after : RunState = with_links (changed number (after_sends first) state.links) state in
       let leads : state_from config (plain first) state ≡ after =
       sends.leads config state meant of ∙ ap (λ (n : ℕ). with_links (changed n (after_sends first) state.links) state) same in
-      let there = focus_changed table number place state.links meant focus (after_sends first) value' (after_number first meant) (after_holds first meant focus.holds)
+      let there = focus_changed table number place state.links meant focus (after_sends first) value' (after_number first meant) (after_unclosed first meant focus.unclosed)
       (sends.represents meant of.represents) in
       let rest = finishes config after (after_sends first meant) there (λ stays. all_sent (after_sends first meant) (sends.represents meant of.represents) stays) in
       record {
@@ -115,10 +115,10 @@ module _ (table table'' : Kept HubLink) (number place : ℕ) (value value' : Hub
 -- ---- a link that is closed, or stays
 
 settled_connected : (link : Link) (status : Status) → status ≢ Closed → IsSettledAs link status → (is_open_status status || is_read_closed_status status) ≡ true
-settled_connected link Open holds settled = refl
-settled_connected link ReadClosed holds settled = refl
-settled_connected link Closing holds settled = absurd settled
-settled_connected link Closed holds settled = absurd (holds refl)
+settled_connected link Open unclosed settled = refl
+settled_connected link ReadClosed unclosed settled = refl
+settled_connected link Closing unclosed settled = absurd settled
+settled_connected link Closed unclosed settled = absurd (unclosed refl)
 
 pub finishes_closed : (table table' : Kept HubLink) (number place : ℕ) → ((meant : Link) → ((other : HubLink) → RepresentsLink (get_or table.values place other) meant) → MayClose meant)
     → table'.wants ≡ remove table.wants place → table'.values ≡ remove table.values place → table'.newest ≡ table.newest → Finishes table table' number place (Ok tt) (Close number ∷ [])
@@ -139,7 +139,7 @@ finishes_kept table table' number place want stays wants values newest config st
     let fresh : record { link = number_at table.wants place; read = want.read; room = want.room } ≡ want_of meant =
     ap (λ (n : ℕ). record { link = n; read = want.read; room = want.room }) (focus.has_number ∙ sym focus.number_is)
     ∙ ap (λ (w : Want). record { link = meant.number; read = w.read; room = w.room }) facts.1 in
-    let kept = focus_kept table number place state.links meant focus table' (settled_connected meant meant.status focus.holds is_settled) is_settled
+    let kept = focus_kept table number place state.links meant focus table' (settled_connected meant meant.status focus.unclosed is_settled) is_settled
     (wants ∙ ap (set table.wants place) fresh) values newest in
     record {
       legal = tt;
@@ -155,23 +155,23 @@ choice : (P : Link → Type 0) (t : Bool) (a b : Link) → P a → P b → P (co
 choice P true a b first second = first
 choice P false a b first second = second
 
-pub ended_holds : KeepsStanding ended
-ended_holds link holds = choice (λ l. l.status ≢ Closed) (is_open link) (with_status ReadClosed link) link read_closed_holds holds
+pub ended_unclosed : KeepsStanding ended
+ended_unclosed link unclosed = choice (λ l. l.status ≢ Closed) (is_open link) (with_status ReadClosed link) link read_closed_unclosed unclosed
 
-pub broken_holds : KeepsStanding broken
-broken_holds link holds = choice (λ l. l.status ≢ Closed) (is_connected link) (with_status Closing link) link closing_holds holds
+pub broken_unclosed : KeepsStanding broken
+broken_unclosed link unclosed = choice (λ l. l.status ≢ Closed) (is_connected link) (with_status Closing link) link closing_unclosed unclosed
 
-pub unblocked_holds : KeepsStanding unblocked
-unblocked_holds link holds = choice (λ l. l.status ≢ Closed) (is_connected link) (record link { blocked = false }) link holds holds
+pub unblocked_unclosed : KeepsStanding unblocked
+unblocked_unclosed link unclosed = choice (λ l. l.status ≢ Closed) (is_connected link) (record link { blocked = false }) link unclosed unclosed
 
 pub changes_found : (f : Link → Link) (table table'' : Kept HubLink) (number place : ℕ) (value value' : HubLink) (result : Result (Unit {0}) Memory) (run : List Entry)
     → ((link : Link) → (f link).number ≡ link.number) → KeepsStanding f → IsAt number table place → ((other : HubLink) → get_or table.values place other ≡ value) → Follows f value value'
     → Settles (record table { values = set table.values place value' }) table'' number place result run → Changes (changed number f) table table'' result run
-changes_found f table table'' number place value value' result run numbers holds at is follows settles config state keeps settled =
+changes_found f table table'' number place value value' result run numbers unclosed at is follows settles config state keeps settled =
     let found = focus_found table number place state.links keeps settled at in
     let represents : RepresentsLink value found.meant = subst (λ (v : HubLink). RepresentsLink v found.meant) (is value) (found.focus.value value) in
     settles config (with_links (changed number f state.links) state) (f found.meant)
-    (focus_changed table number place state.links found.meant found.focus f value' (numbers found.meant) (holds found.meant found.focus.holds) (follows found.meant represents))
+    (focus_changed table number place state.links found.meant found.focus f value' (numbers found.meant) (unclosed found.meant found.focus.unclosed) (follows found.meant represents))
 
 -- no connected link has the number
 abbrev pub AreGone : ℕ → List Link → Type 0

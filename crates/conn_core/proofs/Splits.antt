@@ -106,7 +106,7 @@ pub record CutAt (links first last : List Link) (meant : Link) : Type 0 where
   pub firsts : List Link
   pub lasts : List Link
   pub are : links ≡ firsts ++ meant ∷ lasts
-  pub holds : is_connected meant ≡ true
+  pub unclosed : is_connected meant ≡ true
   pub before : connected firsts ≡ first
   pub after : connected lasts ≡ last
 
@@ -120,7 +120,7 @@ connected_cut (link ∷ links) first last meant is = at_first (is_connected link
     more [] test rest same =
         let head : link ≡ meant = cc in
         let tail : connected links ≡ last = cc in
-        record { firsts = []; lasts = links; are = ap (λ (l : Link). l ∷ links) head; holds = subst (λ (l : Link). is_connected l ≡ true) head test; before = refl; after = tail }
+        record { firsts = []; lasts = links; are = ap (λ (l : Link). l ∷ links) head; unclosed = subst (λ (l : Link). is_connected l ≡ true) head test; before = refl; after = tail }
     more (other ∷ first) test rest same =
         let head : link ≡ other = cc in
         let tail : connected links ≡ first ++ meant ∷ last = cc in
@@ -129,7 +129,7 @@ connected_cut (link ∷ links) first last meant is = at_first (is_connected link
           firsts = link ∷ cut.firsts;
           lasts = cut.lasts;
           are = ap (λ (ls : List Link). link ∷ ls) cut.are;
-          holds = cut.holds;
+          unclosed = cut.unclosed;
           before = connected_yes link cut.firsts test ∙ ap (λ (ls : List Link). link ∷ ls) cut.before ∙ ap (λ (l : Link). l ∷ first) head;
           after = cut.after;
         }
@@ -143,7 +143,7 @@ connected_cut (link ∷ links) first last meant is = at_first (is_connected link
           firsts = link ∷ cut.firsts;
           lasts = cut.lasts;
           are = ap (λ (ls : List Link). link ∷ ls) cut.are;
-          holds = cut.holds;
+          unclosed = cut.unclosed;
           before = connected_no link cut.firsts test ∙ cut.before;
           after = cut.after;
         }

@@ -34,7 +34,7 @@ pub record Focus (table : Kept HubLink) (number place : ℕ) (links : List Link)
   pub last : List Link
   pub are : links ≡ first ++ meant ∷ last
   pub number_is : meant.number ≡ number
-  pub holds : meant.status ≢ Closed
+  pub unclosed : meant.status ≢ Closed
   pub rising : AreRising links
   pub free : (other : ℕ) → is_above other links ≡ is_newer other table.newest
   pub within : place < length table.values

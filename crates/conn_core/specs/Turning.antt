@@ -26,7 +26,7 @@ pub record SinkGot : Type 0 where
 abbrev pub sink_got : Option (List ℕ) → Option ℕ → SinkGot
 sink_got text puts = record { text = text; puts = puts }
 
--- a count of puts after so many more; at its greatest number it stays
+-- a count of puts after n more; at its greatest number it stays
 abbrev pub puts_after : ℕ → ℕ → ℕ
 puts_after zero count = count
 puts_after (suc more) count = count_after (puts_after more count) 1

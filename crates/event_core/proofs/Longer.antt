@@ -1,4 +1,4 @@
--- What a core that represents some arrivals represents once more came.
+-- What a core represents after more arrivals.
 use Rattle.std.proofs.Common.{◌≡◌, ℕ, ◌+◌, false, List, ◌++◌, sym, ap, subst, ◌∙◌}
 use Rattle.ev_types.specs.declared.item.Notice.{Notice}
 use Rattle.stream_meaning.specs.History.{begun, moment_of}

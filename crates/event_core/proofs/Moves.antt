@@ -47,7 +47,7 @@ handled-notices out_a out_b out_c done output first second =
 pub moved-none : (plan : StreamTrees) (streams : IndexedStreams) (state : CoreState) (out : List Notice) (forks : ℕ) → Holds streams state → Moved plan streams state state out forks out forks
 moved-none plan streams state out forks holds = record { holds = holds; made = []; reported = sym (append-nil out); grew = sym (append-nil _); forks = refl }
 
--- no more is reported than what was reported on two ways
+-- what two ways report is what they report together
 pub both-fronts : (a b c : List Notice) → (first : List Notice) × (b ≡ a ++ first) → (second : List Notice) × (c ≡ b ++ second) → (more : List Notice) × (c ≡ a ++ more)
 both-fronts a b c first second = (first.0 ++ second.0, second.1 ∙ ap (λ out. out ++ second.0) first.1 ∙ append_assoc a first.0 second.0)
 

@@ -8,15 +8,25 @@ ghost use Rattle.stream_meaning.specs.Arrivals.{notices_among, writes_among};
 use ev_types::{Memory, Notices, Output, Outputs};
 use live_index::LiveIndex;
 use std::alloc::Global;
+use std::mem;
 
-/// Handles outputs in order: a write enters the index, and a notice is appended to `out`. After `Memory` `out`
-/// begins with what it had.
+/// An empty list in the memory of this one, which is left without any.
+pub(crate) fn reuse(alloc: Global, list: &mut Outputs) -> Outputs
+    ensures { result ≡ [] }
+{
+    let mut outputs = mem::replace(list, Outputs::fresh(alloc)).into_vec();
+    outputs.clear();
+    Outputs::from_vec(outputs)
+}
+
+/// Handles outputs in order: a write enters the index, and a notice is appended to `out`. The list that comes back has
+/// memory for the next outputs, if this one does. After `Memory` `out` begins with what it had.
 pub(crate) fn handle(
     alloc: Global,
     outputs: Outputs,
     index: &mut LiveIndex,
     out: &mut Notices,
-) -> Result<(), Memory>
+) -> Result<Outputs, Memory>
     ensures index { OnOk result ((log : IndexLog) → Represents index.old log
         → Represents index.new (log ++ writes_among outputs)) }
     ensures notices { OnOk result (out.new ≡ out.old ++ notices_among outputs) }
@@ -24,10 +34,11 @@ pub(crate) fn handle(
 {
     let mut outputs = outputs.into_vec();
     if outputs.len() == 1 && write_one(alloc, &mut outputs[0], index)? {
-        return Ok(());
+        outputs.clear();
+        return Ok(Outputs::from_vec(outputs));
     }
     handle_each(alloc, outputs, index, out)?;
-    Ok(())
+    Ok(Outputs::fresh(alloc))
 }
 
 /// Handles the outputs one after another.
@@ -48,7 +59,7 @@ fn handle_each(
     Ok(())
 }
 
-/// Moves the event of a write out into the index, and says whether the output is a write. A notice stays as it is.
+/// Moves the event of a write into the index. The answer is whether the output is a write. A notice stays as it is.
 fn write_one(alloc: Global, output: &mut Output, index: &mut LiveIndex) -> Result<bool, Memory>
     ensures written { IfOk result (λ is_write. is_write ≡ true → (log : IndexLog)
         → Represents index.old log

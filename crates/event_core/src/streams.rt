@@ -12,7 +12,7 @@ ghost use Rattle.live_index.specs.Index.{visited};
 ghost use Rattle.event_core.specs.Streams.{plan_of, Holds, Moved, Visited};
 
 use crate::clock::Clock;
-use crate::outputs::handle;
+use crate::outputs::{handle, reuse};
 use ev_types::{Event, Events, KeepKeys, Memory, Notices, Outputs};
 use live_index::LiveIndex;
 use pred_eval::Pred;
@@ -26,6 +26,8 @@ use stream_tree::Tree;
 pub(crate) struct IndexedStreams {
     tree: Tree,
     index: LiveIndex,
+    // The list of outputs, for its memory.
+    outputs: Outputs,
 }
 
 impl IndexedStreams {
@@ -43,6 +45,7 @@ impl IndexedStreams {
         Ok(IndexedStreams {
             tree: Tree::fresh(alloc, plan, start)?,
             index: LiveIndex::fresh(alloc),
+            outputs: Outputs::fresh(alloc),
         })
     }
 
@@ -69,9 +72,10 @@ impl IndexedStreams {
             steps.old.entries steps.new.entries }
         ensures prefix { IsPrefix out.old out.new }
     {
-        let mut outputs = Outputs::fresh(alloc);
+        let mut outputs = reuse(alloc, &mut self.outputs);
         self.tree.item(alloc, event, now, &mut outputs, steps)?;
-        handle(alloc, outputs, &mut self.index, out)?;
+        let room = handle(alloc, outputs, &mut self.index, out)?;
+        self.outputs = room;
         Ok(())
     }
 
@@ -95,9 +99,10 @@ impl IndexedStreams {
             steps.old.entries steps.new.entries }
         ensures prefix { IsPrefix out.old out.new }
     {
-        let mut outputs = Outputs::fresh(alloc);
+        let mut outputs = reuse(alloc, &mut self.outputs);
         self.tree.tick(alloc, now, &mut outputs, steps)?;
-        handle(alloc, outputs, &mut self.index, out)?;
+        let room = handle(alloc, outputs, &mut self.index, out)?;
+        self.outputs = room;
         Ok(())
     }
 

@@ -32,7 +32,7 @@ IsAfterRun WriteFailed = Unit {0}
 IsAfterRun OutOfMemory = Unit {0}
 IsAfterRun _ = ⊥
 
--- it is read once where the configuration was accepted, unless there was no memory for it
+-- it is read once where the configuration was accepted, unless memory ran out
 abbrev pub IsOtherCount : Ending → ℕ → Type 0
 IsOtherCount (ConfigRefused refusal) count = ⊥
 IsOtherCount (Unread ConfigFile) count = ⊥

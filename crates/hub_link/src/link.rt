@@ -24,7 +24,7 @@ use pred_eval::Patterns;
 use std::alloc::Global;
 use step_count::{Ledger, Steps};
 
-/// One link of a server: the bytes that came on it and are no whole frame, and the replies that were not sent.
+/// One link of a server: the bytes that came on it and are not a whole frame yet, and the replies that were not sent.
 #[derive(Drop)]
 pub struct HubLink {
     number: u64,
@@ -139,7 +139,7 @@ impl HubLink {
         Ok(())
     }
 
-    /// Reads no more. The bytes that came and are no whole frame are dropped.
+    /// Reads no more. The bytes that came and are not a whole frame yet are dropped.
     fn close_input(&mut self, alloc: Global)
         ensures number { number_of self.new ≡ number_of self.old }
         ensures status { self.new.status ≡ Status.ReadClosed }

@@ -53,7 +53,7 @@ busy unsent = codes "busy: " ++ (decimal unsent ++ codes " bytes unsent")
 unfoldable pub oversized : ℕ → List ℕ
 oversized size = codes "frame of " ++ (decimal size ++ (codes " bytes over " ++ decimal BODY_LIMIT))
 
--- the reason for which a query is refused; out of memory is no answer
+-- the reason for which a query is refused; out of memory is not an answer
 unfoldable pub query_refusal : QueryFault → List ℕ
 query_refusal (TooLong size) = codes "query of " ++ (decimal size ++ (codes " bytes over " ++ decimal MAX_BYTES))
 query_refusal (QueryRefused place) = codes "query refused at " ++ decimal place

@@ -13,8 +13,8 @@ pub fn steps_come_in_order()
     ensures legal { LegalInOrder }
 {}
 
-/// A piece that is read of a link adds frames after the earlier ones. They are the frames of the bytes that were left
-/// after the last whole frame, followed by the piece.
+/// A piece that is read from a link adds frames after the earlier ones: those of the bytes after the last whole frame,
+/// together with the piece.
 pub fn messages_come_whole()
     ensures whole { MessagesComeWhole }
     ensures rest { NewFramesAreOfTheRest }

@@ -4,8 +4,8 @@ use ev_types::Event;
 use std::alloc::Global;
 use std::hash::{FoldHasher, Hasher};
 
-/// Numbers of events by hashes of their hosts and services. A hint may be wrong, so that whoever takes one looks at the
-/// event under that number.
+/// Numbers of events by hashes of their hosts and services. A hint may be wrong, so the caller compares the event under
+/// that number.
 #[derive(Drop)]
 pub(crate) struct Hints {
     // One for each remainder of a hash, and 0 where none was noted.
@@ -19,7 +19,7 @@ impl Hints {
         }
     }
 
-    /// The number that was noted last for a hash of the same slot. It is 0 where there was none.
+    /// The number that was noted last for a hash of this slot, or 0 if none was. `None`: there are no slots yet.
     pub(crate) fn number(&self, hash: u64) -> Option<usize> {
         let slot = self.slot(hash)?;
         Some(self.numbers[slot])
@@ -32,8 +32,8 @@ impl Hints {
         }
     }
 
-    /// Makes from two to four slots for each of `count` events, where there are fewer, and forgets what was noted. Out of
-    /// memory, it does nothing.
+    /// Makes four slots for each of `count` events where there are fewer than two for each, and forgets what was noted. If
+    /// memory runs out, nothing changes.
     pub(crate) fn reserve(&mut self, alloc: Global, count: usize) {
         if count <= self.numbers.len() / 2 {
             return;

@@ -64,7 +64,7 @@ impl LiveIndex {
         self.put(alloc, &mut event)
     }
 
-    /// The same for an event that is moved out of where it lies. It is not said what is left there.
+    /// Writes as [`LiveIndex::write`] does, but moves the event out of `event`. What is left there is not specified.
     pub fn put(&mut self, alloc: Global, event: &mut Event) -> Result<(), Memory>
         ensures ok { OnOk result ((log : IndexLog) → Represents self.old log →
             Represents self.new (log ++ Write event.old ∷ [])) }

@@ -55,8 +55,8 @@ impl Store {
         }
     }
 
-    /// Moves an event out into the place of the one of its host and service. One whose state is "expired" stays, and only
-    /// ends that one.
+    /// Moves the event into the store, in place of the one of its host and service. An event whose state is "expired" is
+    /// not moved, and only ends that one.
     pub(crate) fn write(&mut self, alloc: Global, event: &mut Event) -> Result<(), Memory>
         requires { IsStored self.old.numbers self.old.events self.old.due self.old.count }
         ensures stored { OnOk result
@@ -72,7 +72,7 @@ impl Store {
         Ok(())
     }
 
-    /// Moves an event, which is not over, out into the place of the one of its host and service.
+    /// Moves the event, which is not over, into the store, in place of the one of its host and service.
     fn enter(&mut self, alloc: Global, event: &mut Event) -> Result<(), Memory>
         requires stored { IsStored self.old.numbers self.old.events self.old.due self.old.count }
         requires current { is_over event.old ≡ false }
@@ -114,6 +114,7 @@ impl Store {
         if !self.events.contains(number) {
             return None;
         }
+        // A write counts no entries.
         let mut uncounted = Steps::fresh(NoLedger);
         if has_same_key(self.events.read(number, &mut uncounted), event) {
             Some(number)
@@ -156,7 +157,7 @@ impl Store {
         self.count -= 1;
     }
 
-    /// Moves an event out whose host and service, which have this hash, have none.
+    /// Adds the event, whose host and service have this hash and no event yet. It is moved out of `event`.
     fn put(&mut self, alloc: Global, hash: u64, event: &mut Event) -> Result<(), Memory>
         requires stored { IsStored self.old.numbers self.old.events self.old.due self.old.count }
         requires absent { number_at (key_of event.old) self.old.numbers ≡ None }

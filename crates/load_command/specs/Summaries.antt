@@ -26,7 +26,7 @@ summary_line summary =
     ++ (codes " replies " ++ (decimal summary.replies
     ++ (codes " live " ++ (decimal summary.live ++ 10 ∷ [])))))))
 
--- What a load of `count` events came to, from the steps of a server and the calls that it made of its links: the
+-- What a load of `count` events came to, from the steps of a server and the calls that it made on its links: the
 -- notices that the streams gave, the replies that were taken from the client's link, and the events that are live.
 abbrev pub summary_of : ℕ → CoreConfig → List Step → List Entry → Summary
 summary_of count config steps run = record {

@@ -29,7 +29,7 @@ pub(crate) struct Client {
 /// Where a client waits for its next turn.
 #[derive(Clone, Copy, Debug, PartialEq, Eq)]
 pub(crate) enum Waiting {
-    /// It has no turn until the system reports something of it.
+    /// In neither of the two: it waits for a report of the system, or for a send that has to be tried again.
     Nowhere,
     /// In the queue.
     Queued,
@@ -131,7 +131,7 @@ impl Client {
         }
     }
 
-    /// The link broke. It has no other turn unless the system reports something of it.
+    /// The link broke. It has no further turn unless the system reports something of it.
     fn break_off(&mut self, link: u64) -> What
         ensures { result ≡ What.Broken link }
     {

@@ -193,7 +193,7 @@ impl Sockets {
         Ok(what)
     }
 
-    /// The same of the listener. A connection that was given up before it was accepted is none.
+    /// The same of the listener. A connection that was given up before it was accepted does not count.
     fn accept(&mut self, next_link: u64) -> Result<Option<What>, LinksFault>
         ensures within { IfOk result (λ found. IfSome found (IsPieceWithin PIECE_LIMIT)) }
         ensures given { IfOk result (λ found. IfSome found IsGiven) }

@@ -5,7 +5,7 @@ use Rattle.event_core.specs.declared.arrivals.Core.{Core}
 use Rattle.event_core.specs.Core.{Heard, Represents, config_of}
 use Rattle.stream_meaning.specs.Arrivals.{Arrival}
 
--- what has come of notices and forks so far
+-- the notices and the number of forks that were reported so far
 pub record Reported : Type 0 where
   pub notices : List Notice
   pub forks : ℕ

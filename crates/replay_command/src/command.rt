@@ -19,9 +19,9 @@ use step_count::{Ledger, Steps};
 
 /// Carries out `replay CONFIG SCRIPT`: it runs a server over links that play the script.
 ///
-/// In the run a line for each notice goes to `out`. After it goes a line for each link that the script opens, with the
-/// bytes that the link was sent. The line of the ending goes to `err`. A write of it that fails cuts it, and does not
-/// change the status.
+/// In the run a line for each notice goes to `out`. Then follows a line for each link that the script opens, with the
+/// bytes that the link was sent. The line of the ending goes to `err`. If writing it fails, it is cut, and the status
+/// stays.
 ///
 /// | Status | When | Line on `err` |
 /// |---|---|---|

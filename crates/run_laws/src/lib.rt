@@ -1,4 +1,4 @@
-//! Laws of runs: the bytes that were taken of a link are a prefix of its replies, and all of them where bytes were fed.
+//! Laws of runs: the bytes that were taken from a link are a prefix of its replies, and all of them where bytes were fed.
 //! Nothing here runs.
 #![tactic(auto)]
 

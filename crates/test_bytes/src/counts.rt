@@ -80,7 +80,7 @@ fn two_forks_of_one_entry<G: Ledger>(steps: &mut Steps<G>)
 }
 
 #[test]
-fn a_ledger_is_reported_each_step_once(rt: HostRuntime) {
+fn each_step_is_reported_to_a_ledger_once(rt: HostRuntime) {
     let mut steps = Steps::fresh(CountLedger {
         forks: 5,
         entries: 0,

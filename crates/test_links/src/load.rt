@@ -71,7 +71,7 @@ fn listen(alloc: Global, links: &mut LoadLinks) -> Result<ListenAnswer, Memory> 
     Ok(links.listen(alloc, &address))
 }
 
-/// Whether the bytes are taken whole, and so many replies were then counted.
+/// Whether the bytes are taken whole, and `replies` replies were counted after it.
 fn is_counted(alloc: Global, links: &mut LoadLinks, bytes: &[u8], replies: u64) -> bool {
     let count = bytes.len();
     !bytes.is_empty()

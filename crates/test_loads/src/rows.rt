@@ -49,7 +49,7 @@ fn store_of<R: AllocGlobal>(rt: &R, config: &str) -> Result<MemStore, Fail> {
     Ok(MemStore::fresh(rt.alloc(), files, Vec::new(rt.alloc())))
 }
 
-/// An empty sink, whose first put fails if it is told so.
+/// An empty sink, whose first put fails where `fails` is true.
 fn sink<R: AllocGlobal>(rt: &R, fails: bool) -> Result<MemSink, Fail> {
     let mut failing = Vec::new(rt.alloc());
     if fails {

@@ -171,7 +171,7 @@ fn head(alloc: Global, host: &str) -> Result<String, Fail> {
     Ok(format!(in alloc; "0 read 0 000f424b32c7843d2201{host}2ac0843d\n")?)
 }
 
-/// A line in which link 0 reads so many bytes of the letter x.
+/// A line in which link 0 reads `count` bytes of the letter x.
 fn letters(alloc: Global, count: usize) -> Result<String, Fail> {
     let mut line = String::new(alloc);
     line.push_str("0 read 0 ")?;

@@ -45,7 +45,7 @@ fn store_of(alloc: Global, config: &str, file: &[u8]) -> Result<MemStore, Memory
     Ok(MemStore::fresh(alloc, files, Vec::new(alloc)))
 }
 
-/// An empty sink with room for so many bytes, of which the puts with these numbers, from 0, fail.
+/// An empty sink with room for `room` bytes, of which the puts with these numbers, from 0, fail.
 fn sink(alloc: Global, room: u64, failing: &[u64]) -> Result<MemSink, Memory> {
     let failing = Vec::from_slice(alloc, failing)?;
     MemSink::fresh(alloc, room, failing)

@@ -220,7 +220,7 @@ const OUTER: &str = "(sdo (where true (with :service \"s\" (default :ttl 60 (tag
 /// How many streams these are.
 const OUTER_COUNT: usize = 22;
 
-/// So many times the text.
+/// Appends the text `count` times.
 fn push_times(text: &str, count: usize, out: &mut String) -> Result<(), Fail> {
     for _ in 0..count {
         out.push_str(text)?;

@@ -26,7 +26,7 @@ const ANSWERED: &[(&str, &str)] = &[
     ("tagged \"a\"", OK),
 ];
 
-/// Texts that are no queries, and why.
+/// Texts that are not queries, and why.
 const REFUSED: &[(&str, &str)] = &[
     ("host =", "query refused at 6"),
     ("", "query refused at 0"),

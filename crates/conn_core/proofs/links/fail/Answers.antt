@@ -6,7 +6,7 @@ use Rattle.hub_link.proofs.AddedLaws.{added_nothing, added_weaken}
 use Rattle.hub_meaning.specs.Links.{changed, broken}
 use Rattle.hub_meaning.proofs.LinkLaws.{broken_number}
 use Rattle.conn_core.specs.Reaching.{Changes, Settles}
-use Rattle.conn_core.proofs.ReachLaws.{changes_absent, changes_found, broken_fixed, broken_holds}
+use Rattle.conn_core.proofs.ReachLaws.{changes_absent, changes_found, broken_fixed, broken_unclosed}
 use Rattle.conn_core.proofs.links.fail.Goals as goal
 
 pub settle-requires-clause-at : goal.settle-requires-clause-at
@@ -37,7 +37,7 @@ returns-in_err-settle-clause-changes g c =
     rw p.1 (added_weaken (g.L.Links.log c.args.links.now) (g.L.Links.log c.settle.new.links)
     (Settles (record table { values = set table.values place value' }) c.settle.new.table c.args.number place (Err p.0))
     (Changes (changed c.args.number broken) table c.settle.new.table (Err p.0))
-    (λ run settles. changes_found broken table c.settle.new.table c.args.number place value value' (Err p.0) run broken_number broken_holds c.in-Some.ensures at c.fail.ensures.represents settles)
+    (λ run settles. changes_found broken table c.settle.new.table c.args.number place value value' (Err p.0) run broken_number broken_unclosed c.in-Some.ensures at c.fail.ensures.represents settles)
     c.in_err-settle.ensures.settles)
 
 pub returns-clause-changes : goal.returns-clause-changes
@@ -50,5 +50,5 @@ returns-clause-changes g c =
     added_weaken (g.L.Links.log c.args.links.now) (g.L.Links.log c.settle.new.links)
     (Settles (record table { values = set table.values place value' }) c.settle.new.table c.args.number place (Ok tt))
     (Changes (changed c.args.number broken) table c.settle.new.table (Ok tt))
-    (λ run settles. changes_found broken table c.settle.new.table c.args.number place value value' (Ok tt) run broken_number broken_holds c.in-Some.ensures at c.fail.ensures.represents settles)
+    (λ run settles. changes_found broken table c.settle.new.table c.args.number place value value' (Ok tt) run broken_number broken_unclosed c.in-Some.ensures at c.fail.ensures.represents settles)
     c.in_ok-settle.ensures.settles

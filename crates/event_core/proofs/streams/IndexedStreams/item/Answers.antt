@@ -8,18 +8,18 @@ use Rattle.event_core.proofs.streams.IndexedStreams.item.Goals as goal
 
 pub returns-clause-moved : goal.returns-clause-moved
 returns-clause-moved g c = λ state holds at.
-    entry-handled (plan_of c.args.self.now) (In (One c.args.event)) (record { tree = c.item.new.self; index = c.handle.new.index }) c.args.self.now.index state
-    c.fresh-outputs.result c.item.new.out c.args.steps.now c.item.new.steps c.args.out.now c.handle.new.out
-    c.fresh-outputs.ensures (c.in_ok-item.ensures.represents state.history holds.history at) holds.log
-    (c.in_ok-item.ensures.grew state.history holds.history at) c.in_ok-handle.ensures.index c.in_ok-handle.ensures.notices
+    entry-handled (plan_of c.args.self.now) (In (One c.args.event)) (record { tree = c.item.new.self; index = c.handle.new.index; outputs = c.in_ok-room.room }) c.args.self.now.index state
+    c.reuse-outputs.result c.item.new.out c.args.steps.now c.item.new.steps c.args.out.now c.handle.new.out
+    c.reuse-outputs.ensures (c.in_ok-item.ensures.represents state.history holds.history at) holds.log
+    (c.in_ok-item.ensures.grew state.history holds.history at) c.in_ok-room.ensures.index c.in_ok-room.ensures.notices
 
 pub returns-clause-visited : goal.returns-clause-visited
 returns-clause-visited g c = λ state holds at.
     let entries = (c.in_ok-item.ensures.grew state.history holds.history at).entries in
     visited-entry (plan_of c.args.self.now) (In (One c.args.event)) state c.args.steps.now.entries c.item.new.steps.entries (omega (arith, entries))
 
-pub returns-in_err-handle-clause-visited : goal.returns-in_err-handle-clause-visited
-returns-in_err-handle-clause-visited g c = λ state holds at.
+pub returns-in_err-room-clause-visited : goal.returns-in_err-room-clause-visited
+returns-in_err-room-clause-visited g c = λ state holds at.
     let entries = (c.in_ok-item.ensures.grew state.history holds.history at).entries in
     visited-entry (plan_of c.args.self.now) (In (One c.args.event)) state c.args.steps.now.entries c.item.new.steps.entries (omega (arith, entries))
 
