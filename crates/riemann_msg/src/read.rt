@@ -113,12 +113,7 @@ fn put_text(
 }
 
 /// Adds the bytes as a text to the tags. Where they are not UTF-8, the fault is at `place` in the whole message.
-fn push_tag(
-    alloc: Global,
-    tags: &mut Tags,
-    bytes: &[u8],
-    place: usize,
-) -> Result<(), MsgFault>
+fn push_tag(alloc: Global, tags: &mut Tags, bytes: &[u8], place: usize) -> Result<(), MsgFault>
     ensures { Puts (utf8_fault place bytes.now) (tags.old ++ bytes.now ∷ []) result tags.new }
 {
     tags.push(alloc, text_of(alloc, bytes, place)?)?;
