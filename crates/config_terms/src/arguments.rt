@@ -85,8 +85,8 @@ pub(crate) fn misfit(argument: Argument<'_>) -> ConfigWhy
     }
 }
 
-/// The refusal of the argument, which is the form, at its start. The cause is Form for a list or the stream that writes
-/// the index, Name for a symbol that is bound to nothing, and Arguments for any other.
+/// The refusal of the argument, placed at the start of its form. The cause is Form for a list or the stream that writes
+/// the index, Name for a symbol that is bound to nothing, and Arguments for any other argument.
 #[tactic(auto, using(crate::proofs::FormLaws::start_of_form))]
 pub fn unfit(form: &Form, argument: Argument<'_>) -> ConfigFault
     ensures { result ≡ ConfigFault.Refused (start_of (form_tree form.now))

@@ -95,7 +95,7 @@ pub fn argument(start: usize, n: usize, forms: &[Form]) -> Result<&Form, ConfigF
     }
 }
 
-/// There may be no more than n forms.
+/// Refuses more than `n` forms, at the first form too many.
 #[tactic(auto, using(crate::proofs::FormLaws::start_of_form), unfolding(crate::specs::Steps::at_most))]
 pub fn at_most(n: usize, forms: &[Form]) -> Result<(), ConfigFault>
     ensures { GivesAs (λ _. tt) result (at_most n (form_trees forms.now)) }

@@ -8,7 +8,7 @@ use Rattle.ev_types.specs.declared.value.Value.{Value}
 use Rattle.ev_types.specs.Value.{same_value, value_cmp}
 use Rattle.ev_types.specs.Field.{field_value}
 
--- as many parts, each the same
+-- the same number of parts, and each part the same
 abbrev pub same_key : List Value → List Value → Bool
 same_key = pointwise same_value
 

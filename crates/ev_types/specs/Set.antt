@@ -29,7 +29,7 @@ event_at time = record {
   attributes = [];
 }
 
--- a text or nil fits a text
+-- a text field takes a text or nil
 abbrev pub fits_text : Value → Bool
 fits_text Nil = true
 fits_text (Number n) = false

@@ -28,7 +28,7 @@ text_of (Text t) = Some t
 abbrev pub same_value : Value → Value → Bool
 same_value = eq_of_both (on text_of (option_eq bytes_eq)) (on number_of (option_eq int_eq))
 
--- nil and numbers before the texts, which are ordered by their bytes, and nil before the numbers
+-- nil comes first, then the numbers, then the texts by their bytes
 abbrev pub value_cmp : Value → Value → Ordering
 value_cmp = then_cmp (on text_of (option_cmp (slice_cmp nat_cmp))) (on number_of (option_cmp int_cmp))
 
@@ -50,11 +50,11 @@ number_input (Some number) = fed.i64 number
 abbrev pub value_input : Value → fed.HashWrites
 value_input value = text_input (text_of value) ++ number_input (number_of value)
 
--- what has the same kind and the same number or bytes is one value
+-- two values are equal exactly where they are of the same kind and have the same number or bytes
 abbrev pub SameValuesAreEqual : Type 0
 SameValuesAreEqual = (a b : Value) → IsTrue (same_value a b) ↔ (a ≡ b)
 
--- nil, then numbers, then texts by their bytes
+-- nil comes first, then the numbers, then the texts by their bytes
 pub record ValuesAreOrdered : Type 0 where
   pub number_after_nothing : (n : ℤ) → value_cmp Nil (Number n) ≡ Less
   pub text_after_nothing : (t : List ℕ) → value_cmp Nil (Text t) ≡ Less

@@ -72,8 +72,8 @@ pub fn all_fit(sets: &Sets) -> bool
         .all(|set| fits(&set.field, &set.value))
 }
 
-/// Whether the field can be set to the value: a text or nil fits a text and an attribute, a number the time, a number
-/// or nil the metric, and nil or a number of seconds from 0 to [`MAX_TTL`] the ttl.
+/// Whether the field can be set to the value. The time takes a number, the metric a number or nil, the ttl nil or a
+/// number of seconds from 0 to [`MAX_TTL`], and each other field a text or nil.
 pub fn fits(field: &Field, value: &Value) -> bool
     ensures { result ≡ fits field.now value.now }
 {

@@ -26,7 +26,7 @@ pub enum Taken {
     NotYet,
     /// The next frame's length in bytes, which is over [`BODY_LIMIT`].
     TooLong { length: u32 },
-    /// The first frame is whole, and copying its body is out of memory. The frame stays.
+    /// The first frame is whole, but memory ran out for a copy of its body. The frame stays.
     Memory,
 }
 

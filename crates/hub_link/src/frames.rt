@@ -36,7 +36,7 @@ pub(crate) fn answer_frames<P: Patterns, G: Ledger>(
     }
 }
 
-/// Answers the message of the first frame and removes that frame, if it is whole. Whether it is.
+/// Answers the message of the first frame and removes that frame, if it is whole. The answer is whether it was whole.
 fn answer_first<P: Patterns, G: Ledger>(
     alloc: Global,
     input: &mut FrameLink,

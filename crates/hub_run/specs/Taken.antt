@@ -64,7 +64,7 @@ pub record IsStopped (limit : ℕ) (turns : List TakenTurn) : Type 0 where
   pub went_on : MayGoOn limit before
   pub stopped : last.turn.what ≡ Stopped
 
--- as many turns were taken as may be
+-- as many turns were taken as the limit allows, and none stopped the run
 pub record IsAtLimit (limit : ℕ) (turns : List TakenTurn) : Type 0 where
   pub all : length turns ≡ limit
   pub going : AllByRecursion GoesOn turns

@@ -43,7 +43,7 @@ turned_by r Less e h = absurd (true≢false h)
 turned_by r Equal e h = ap is_gt e
 turned_by r Greater e h = ap is_gt e
 
--- what does not come after a comes before or beside it
+-- where a does not come before b, b does not come after a
 pub not_gt_turned : (a b : Event) → is_lt (index_key_cmp a b) ≡ false → is_gt (index_key_cmp b a) ≡ false
 not_gt_turned a b = turned_by (index_key_cmp b a) (index_key_cmp a b) (index_key_total.antisymm b a)
 

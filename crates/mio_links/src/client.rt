@@ -83,7 +83,8 @@ impl Client {
         self.blocked && self.roomy
     }
 
-    /// What happened on the link, which has this number, if anything did that the server waits for. Bytes are read straight into `buf`.
+    /// What happened on the link with this number, if it is something that the server waits for. Bytes are read
+    /// straight into `buf`.
     pub(crate) fn turn(&mut self, link: u64, want: &Want, buf: &mut [u8]) -> Option<What>
         requires { length buf.old ≡ PIECE_LIMIT }
         ensures within { IfSome result (IsPieceWithin PIECE_LIMIT) }

@@ -56,8 +56,8 @@ fn post_all<G: Ledger>(
 ) -> Result<(), Memory>
     ensures now { OnOk result (now_of core.new ≡ now_of core.old) }
     ensures arrives { OnOk result ((arrivals : List Arrival) → Represents core.old arrivals
-        → Arrives core.old core.new arrivals (map Post events) (reported notices.old steps.old.forks)
-        (reported notices.new steps.new.forks)) }
+        → Arrives core.old core.new arrivals (map Post events)
+        (reported notices.old steps.old.forks) (reported notices.new steps.new.forks)) }
 {
     for event in events.into_vec() {
         core.post(alloc, event, notices, steps)?;

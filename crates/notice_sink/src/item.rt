@@ -14,7 +14,7 @@ use std::alloc::Global;
 /// Appends the item. An event is `{`, its present parts with single spaces between them, and `}`. The parts are, in
 /// this order:
 /// - `host=`, `service=`, `state=` and `description=`, each with the quoted text;
-/// - `time=`, `ttl=` and `metric=`, each with the decimal number, the time and the ttl in seconds;
+/// - `time=`, `ttl=` and `metric=`, each with a decimal number, which is in seconds for the time and the ttl;
 /// - `tags=[`, the quoted tags with single spaces between them, and `]`, where there are any;
 /// - for each attribute `@`, its quoted key, and `=` and its quoted value where it has one.
 ///

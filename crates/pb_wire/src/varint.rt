@@ -48,7 +48,7 @@ fn long_varint_at(bytes: &[u8]) -> Result<(u64, usize), WireWhy>
     Ok((value + u64::from(tenth % 2) * unit, WHOLE_BYTES + 1))
 }
 
-/// Appends the shortest varint of the number. Once out of memory, `out` still begins with what it had.
+/// Appends the shortest varint of the number. If memory runs out, `out` still begins with what it had.
 #[tactic(auto, unfolding(crate::specs::Varint::varint))]
 pub fn put_varint(alloc: Global, out: &mut Blob, value: u64) -> Result<(), Memory>
     ensures ok { OnOk result (out.new ≡ out.old ++ varint value) }

@@ -21,7 +21,7 @@ pub enum PutBody<'a> {
 }
 
 /// Appends the shortest spelling of a field, in the Protocol Buffers wire format. Its number is from 1 to 2^29 - 1.
-/// Once out of memory, `out` still begins with what it had.
+/// If memory runs out, `out` still begins with what it had.
 #[tactic(auto, unfolding(crate::specs::Spelling::field_spelling, crate::specs::Spelling::bytes_head))]
 pub fn put_field(
     alloc: Global,
@@ -56,8 +56,8 @@ pub fn put_field(
     Ok(())
 }
 
-/// Appends the tag and the length of a field of `length` bytes, which the bytes themselves are to follow. Its number is
-/// from 1 to 2^29 - 1. Once out of memory, `out` still begins with what it had.
+/// Appends the tag and the length of a field of `length` bytes. The caller appends the bytes after them. The field's
+/// number is from 1 to 2^29 - 1. If memory runs out, `out` still begins with what it had.
 #[tactic(auto, unfolding(crate::specs::Spelling::bytes_head))]
 pub fn put_tag_and_length(
     alloc: Global,

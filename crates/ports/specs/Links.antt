@@ -56,7 +56,7 @@ abbrev pub HasNextCause : ℕ → ℕ → What → Type 0
 HasNextCause old new Failed = Rose old new
 HasNextCause old new _ = new ≡ old
 
--- a read has from one byte to as many as the limit says
+-- a read has at least one byte, and at most the limit
 abbrev pub IsPieceWithin : ℕ → What → Type 0
 IsPieceWithin limit (Read link count) = (0 < count) × (count ≤ limit)
 IsPieceWithin limit _ = Unit {0}

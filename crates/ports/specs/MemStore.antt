@@ -26,7 +26,7 @@ taken_for limit Failed = 0
 taken_for limit TooLong = limit + 1
 taken_for limit Memory = 0
 
--- the store after a read that gave this answer: as before where it is out of memory
+-- the store after a read that gave this answer; if memory ran out, it is the store before
 abbrev pub store_after : MemStore → List ℕ → ℕ → ReadAnswer → MemStore
 store_after store name limit Memory = store
 store_after store name limit (Bytes bytes) = record store {

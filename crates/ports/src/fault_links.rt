@@ -35,7 +35,7 @@ impl FaultLinks {
         }
     }
 
-    /// Counts a call, and whether it fails.
+    /// Counts a call, and answers whether it fails.
     fn count_call(&mut self) -> bool
         ensures fails { result ≡ list_any (λ number.
             number == self.old.calls) self.old.failing.items }

@@ -5,10 +5,10 @@ ghost use Rattle.ports.specs.Playing.{Plays};
 use ev_types::{Items, Text};
 use std::alloc::Global;
 
-/// How many bytes one read of a link gives at most, and how long the buffer of [`Links::next`] is.
+/// The most bytes that one read of a link gives, and the length of the buffer of [`Links::next`].
 pub const PIECE_LIMIT: usize = 65_536;
 
-/// The links to clients, and the clock. A turn is a reading of the clock and what happened on one link, or nothing.
+/// The links to clients, and the clock. A turn is a reading of the clock, and what happened, if something did.
 pub trait Links {
     ghost use Rattle.std.specs.Prelude.{ℕ, List, Option};
     ghost use Rattle.ports.specs.declared.entry.Entry.{Entry};
@@ -78,7 +78,7 @@ pub enum ListenAnswer {
     Memory,
 }
 
-/// A reading of the clock, and what happened on one link, or nothing.
+/// A reading of the clock, and what happened, if something did.
 #[derive(Clone, Copy, Debug, PartialEq, Eq)]
 pub struct Turn {
     /// The reading of the clock, in seconds since 1970.

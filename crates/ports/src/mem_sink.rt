@@ -9,7 +9,7 @@ use ev_types::Memory;
 use std::alloc::Global;
 
 /// A sink in memory, which holds at most `room` bytes. A put with too little room writes the bytes that fit, and fails.
-/// A put takes no memory. The counts stay at 2^64 - 1.
+/// A put allocates no memory. No count rises above 2^64 - 1.
 #[derive(Drop)]
 pub struct MemSink {
     /// All the bytes that it got.
@@ -80,7 +80,7 @@ impl Sink for MemSink {
         ensures fault { OnErr result (Rose self.old.faults self.new.faults) }
         ensures faults { self.old.faults ≤ self.new.faults }
 
-        // Exactly, also what a sink does not have to report.
+        // More than a sink must report: exactly what was written and counted.
         ensures part { self.new.text.items ≡ self.old.text.items
             ++ part_taken self.old bytes.now }
         ensures succeeds { IsOk result ↔ (part_taken self.old bytes.now ≡ bytes.now) }

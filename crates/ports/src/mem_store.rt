@@ -78,7 +78,7 @@ impl Store for MemStore {
         ensures taken { self.old.taken ≤ self.new.taken }
         ensures faults { self.old.faults ≤ self.new.faults }
 
-        // Exactly, also of what no store has to tell.
+        // More than a store must report: the exact answer, and the whole store after it.
         ensures answer { result ≢ ReadAnswer.Memory →
             result ≡ answer_of self.old name.now limit }
         ensures after { self.new ≡ store_after self.old name.now limit result }

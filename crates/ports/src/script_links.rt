@@ -26,7 +26,7 @@ pub struct ScriptLinks {
     poisoned: bool,
 }
 
-/// Where a script is: the number of lines played, the last reading, and the rules of the links.
+/// The state of a script that is played: its lines, how many were played, the last reading, and the rules of the links.
 #[derive(Drop)]
 pub(crate) struct ScriptState {
     pub script: Script,

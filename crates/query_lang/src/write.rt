@@ -26,9 +26,9 @@ pub(crate) enum Under {
 }
 
 /// Appends the rule as a query, with single spaces between the tokens and parentheses only where they are needed: round
-/// All and Any under Not and under All, and round Any under Any. An inequality is written with `not`. The text is read
-/// again as this rule where some query states the rule and the text is within the limits of queries. After `Memory` the
-/// old bytes of `out` are a prefix of it.
+/// All and Any under Not and under All, and round Any under Any. An inequality is written with `not`. Reading the text
+/// gives this rule again, if some query states the rule and the text is within the limits of queries. If memory runs
+/// out, `out` still begins with what it had.
 pub fn write_query(alloc: Global, rule: &Rule, out: &mut Blob) -> Result<(), Memory>
     ensures ok { OnOk result (out.new ≡ out.old ++ spelling (tree_of rule.now)) }
     ensures err { OnErr result (IsPrefix out.old out.new) }

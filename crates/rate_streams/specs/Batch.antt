@@ -18,7 +18,7 @@ batch_poisoned state = state.poisoned
 abbrev pub batch_passes : BatchState → History → List Item
 batch_passes state = batch_items state.count state.windows.secs
 
--- as many events are waiting as a batch has
+-- the waiting events fill a batch
 abbrev pub is_batch_full : BatchState → Bool
 is_batch_full state = nat_le state.count (length state.waiting)
 

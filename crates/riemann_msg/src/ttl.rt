@@ -16,8 +16,8 @@ const ONES: u32 = 150;
 /// The greatest exponent of numbers below 2^31.
 const GREATEST_EXPONENT: u32 = 157;
 
-/// The whole number of seconds that the bits of a binary32 number represent: `None` for fractions, negative numbers,
-/// infinities, what is no number, and from 2^31 on. Both zeros are 0.
+/// The whole number of seconds that the bits of a binary32 number represent. It is `None` for fractions, negative
+/// numbers, infinities, NaNs, and numbers from 2^31 on. Both zeros are 0.
 pub fn ttl_of_bits(bits: u32) -> Option<u32>
     ensures value { result ≡ seconds_of bits }
     ensures whole { (seconds : ℕ) → (result ≡ Some seconds) ↔ IsTtl bits seconds }
@@ -67,8 +67,8 @@ fn whole_of(significand: u32, exponent: u32) -> Option<u32>
     Some(significand >> places)
 }
 
-/// The bits of the binary32 number that a ttl is: 0 is four bytes of zero. Of a number that no bits represent, the
-/// binary digits after the first 24 are left out; from 2^31 on the bits are those of no ttl.
+/// The bits of the binary32 number that equals the ttl; 0 is four bytes of zero. If no bits represent the number, its
+/// binary digits after the first 24 are left out. From 2^31 on, the bits are not those of a ttl.
 pub fn bits_of_ttl(ttl: u32) -> u32
     ensures bits { result ≡ bits_of ttl }
     ensures spells { IsSpellableTtl ttl → IsTtl result ttl }

@@ -17,7 +17,7 @@ use ev_types::{Attr, Blob, Event, Memory, Text};
 use pb_wire::{PutBody, put_field, put_tag_and_length};
 use std::alloc::Global;
 
-/// Appends the spelling of a message. Once out of memory, `out` still begins with what it had.
+/// Appends the spelling of a message. If memory runs out, `out` still begins with what it had.
 pub fn write_msg(alloc: Global, msg: &Msg, out: &mut Blob) -> Result<(), Memory>
     ensures ok { OnOk result (out.new ≡ out.old ++ spelling msg.now) }
     ensures err { OnErr result (IsPrefix out.old out.new) }

@@ -57,7 +57,7 @@ pub fn riemann<S: Store, L: Links, O: Sink, E: Sink, P: Patterns, G: Ledger>(
         (sink_report (E.text err.old) (E.puts err.old) (E.faults err.old))
         (sink_report (E.text err.new) (E.puts err.new) (E.faults err.new)) }
     ensures untouched { IsRefusal result → (out.new ≡ out.old) × (links.new ≡ links.old) }
-    // Out of memory, only commands that write notices to `out` have written to it.
+    // If memory runs out, only commands that write notices to `out` have written to it.
     ensures memory { result ≡ Status.Memory → OnReplay words.now (λ config script. ⊥) →
         OnServe words.now (λ config turns. ⊥) → out.new ≡ out.old }
     // Without a line of its own for the status, only `feed` writes to `err`, where its notices go.

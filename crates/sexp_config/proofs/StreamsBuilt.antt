@@ -167,7 +167,7 @@ symbol_holds may_else n shallow (Some (bound.Pattern text)) name start = tt
 symbol_holds may_else n shallow (Some (bound.Number number)) name start = tt
 symbol_holds may_else n shallow (Some (bound.Keyword key)) name start = tt
 
--- ---- a stream is in one bracket more than the one above it, and so does a list of the rest
+-- ---- a stream is one level below the stream above it, and so is each stream in an `else`
 
 mutual
   unfolding part_at parts_in

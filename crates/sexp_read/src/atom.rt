@@ -38,7 +38,7 @@ fn number_of(run: &[u8]) -> Option<i64>
     }
 }
 
-/// The number that the run is, which begins at `start`. A plus sign is no part of a number.
+/// Reads the run, which begins at `start`, as a number. A number has no plus sign.
 #[tactic(auto, using(crate::proofs::Numbers::number_with_plus))]
 fn number_atom(run: &[u8], start: usize) -> Result<Atom, SexpFault>
     ensures { Gives result (placed start (number_atom_in (number_in run.now))) }

@@ -56,7 +56,8 @@ impl<G: Ledger> Steps<G> {
         ensures forks { self.new.forks ≡ self.old.forks }
         ensures entries { self.new.entries ≡ self.old.entries + 1 }
         ensures forks_reported { G.forks self.new.ledger ≡ G.forks self.old.ledger }
-        ensures entries_reported { G.entries self.new.ledger ≡ one_more (G.entries self.old.ledger) }
+        ensures entries_reported { G.entries self.new.ledger
+            ≡ one_more (G.entries self.old.ledger) }
     {
         self.entries = self.entries.and(&(), &());
         self.ledger.entry();

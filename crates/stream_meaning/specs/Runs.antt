@@ -59,7 +59,7 @@ run_began field (h ▸ Tick) = run_began field h
 run_began field (h ▸ In (One event)) = if differs_from field (last_value field None h) event then moment_of h else run_began field h
 run_began field (h ▸ In (Many es)) = run_began field h
 
--- stable: at the second at which the run has held for so long each event of it, and from then on each one as it comes
+-- stable: each event of the run at the second when the run has lasted `secs`, and from then on each event as it comes
 abbrev pub stable_items : ℕ → Field → History → List Item
 stable_items secs field (since start) = []
 stable_items secs field (h ▸ Tick) = if moment_of (h ▸ Tick) == run_began field h + secs then each (run field h) else []

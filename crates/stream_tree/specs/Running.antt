@@ -107,7 +107,7 @@ given_to (Fork key) = Given ∷ []
 abbrev pub entering : BranchEffects → BranchEffects
 entering effects_in branch h = given_to branch ++ effects_in branch h
 
--- the first nodes, so many, represent one entry more
+-- the first `i` nodes represent one entry more than the others
 abbrev pub FirstRepresent : List (List ℕ) → ℕ → StreamTrees → List Node → History → Entry → Type 0
 FirstRepresent texts zero streams nodes h x = ForestRepresents texts streams nodes h
 FirstRepresent texts (suc i) none nodes h x = ForestRepresents texts none nodes h
@@ -160,7 +160,7 @@ module _ {G : Type 0} (patterns : List Regex) (start moment : ℕ) (old : List O
       ForestRepresents texts streams nodes h → ComesAt start moment h x →
       Stops old before new after x (plan_effects streams (h ▸ x))
 
-  -- wherever the streams represented a history, the first ones, so many, represent the longer one
+  -- wherever the streams represented a history, the first `count` streams represent the longer one
   abbrev pub FirstRun : Entry → List Stream → List Node → ℕ → List Node → Type 0
   FirstRun x streams nodes count nodes' = (texts : List (List ℕ)) (h : History) → AreReadFrom texts patterns →
       ForestRepresents texts (list_trees streams) nodes h → ComesAt start moment h x →

@@ -13,7 +13,7 @@ pub(crate) type Gap<'a> = (&'a str, &'a str);
 pub(crate) type Misfit<'a> = (&'a str, ConfigWhy);
 
 /// What is before each text with a gap: names of a stream, a number, a keyword, a string, a pattern and a number that is
-/// in no range.
+/// outside every range.
 const BOUND: &str = "(let [i (index) n 5 k :host t \"a\" p #\"a\" z -1] ";
 
 /// Lists and symbols that are refused in the place of any argument but a predicate.

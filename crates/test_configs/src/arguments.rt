@@ -115,7 +115,7 @@ const NO_KEEP_KEYS: &[Misfit<'static>] = &[
     ("nil", ConfigWhy::Name),
 ];
 
-/// Where a key of a map is that is no field.
+/// Gaps for the keys of maps, where the keys are not fields.
 const KEY_GAPS: &[Gap<'static>] = &[
     ("(tcp-server {", " 5})"),
     ("(tcp-server {:port 1 ", " 5})"),
@@ -222,7 +222,7 @@ const VALUE_GAPS: &[Gap<'static>] = &[
     ("(streams (changed :metric {:init ", "} index))"),
 ];
 
-/// What is no value.
+/// Forms that are not values.
 const NO_VALUES: &[Misfit<'static>] = &[
     (":host", ConfigWhy::Arguments),
     ("#\"a\"", ConfigWhy::Arguments),

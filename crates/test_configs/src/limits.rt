@@ -271,7 +271,7 @@ fn texts_that_are_no_forms_are_refused_in_order(rt: HostRuntime) -> Result<(), F
         (("(streams ", "(sdo ", 3, "#\"a"), (24, ConfigWhy::Open)),
         (("(streams ", "(sdo ", 3, "[ foo"), (24, ConfigWhy::Open)),
         (("(streams ", "(sdo ", 3, "()"), (19, ConfigWhy::Open)),
-        // before what is no configuration
+        // before forms that are not a configuration
         (("(foo) ", "(sdo ", 1, ""), (6, ConfigWhy::Open)),
         (("(foo) ", "5 ", 9, "5a"), (24, ConfigWhy::Number)),
         // and first of all a text that is too long

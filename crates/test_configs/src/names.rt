@@ -178,7 +178,7 @@ const UNBOUND_GAPS: &[Gap<'static>] = &[
 
 const UNBOUND: &[Misfit<'static>] = &[("", ConfigWhy::Name)];
 
-/// Texts with a form in the gap whose head is bound, or with a name of what is no form of the place.
+/// Texts where the gap has a form with a bound head, or a name of something that is not a form of the place.
 const NO_FORM_GAPS: &[Gap<'static>] = &[
     ("(let [a (index)] (streams ", "(a)))"),
     ("(let [a (index)] (streams (sdo ", "(a))))"),

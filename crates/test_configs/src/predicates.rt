@@ -15,7 +15,7 @@ const PREDICATE_GAPS: &[Gap<'static>] = &[
     ("(streams (where (not (and (or ", ")))))"),
 ];
 
-/// What is no predicate.
+/// Forms that are not predicates.
 const NO_PREDICATES: &[Misfit<'static>] = &[
     ("5", ConfigWhy::Form),
     ("\"ok\"", ConfigWhy::Form),

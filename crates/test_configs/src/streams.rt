@@ -55,7 +55,7 @@ const VECTOR_GAPS: &[Gap<'static>] = &[
     ("(streams (sdo (coalesce (sdo (sdo ", ")))))"),
 ];
 
-/// What is no stream in any of these places.
+/// Forms that are not streams in any of these places.
 const NO_STREAMS: &[Misfit<'static>] = &[
     ("5", ConfigWhy::Form),
     ("\"index\"", ConfigWhy::Form),
@@ -91,7 +91,7 @@ const NO_STREAMS: &[Misfit<'static>] = &[
     ("Index", ConfigWhy::Name),
 ];
 
-/// Streams that get what a `where` does not pass on, where no `where` is.
+/// Streams that get what a `where` does not pass on, in places outside a `where`.
 const ELSES: &[Misfit<'static>] = &[
     ("(else)", ConfigWhy::Form),
     ("(else index)", ConfigWhy::Form),
@@ -133,7 +133,7 @@ const VECTOR_STREAMS: &[Misfit<'static>] = &[
     ("(smap folds/count)", ConfigWhy::Kind),
 ];
 
-/// Where a stream is that gets events, in texts that have no other fault.
+/// Gaps for a stream that gets events, in texts without another fault.
 const EVENT_ENDS: &[Gap<'static>] = &[
     ("(streams ", ")"),
     ("(streams (sdo ", "))"),
@@ -211,7 +211,7 @@ const LACKING_INITS: &[Misfit<'static>] = &[
     ("{:init}", ConfigWhy::Arguments),
 ];
 
-/// Where the first argument of `coalesce` is, which is no number and so a stream.
+/// The gap for the first argument of `coalesce`, which is not a number and so is a stream.
 const COALESCE_GAPS: &[Gap<'static>] = &[("(streams (coalesce ", "))")];
 
 const NO_SECONDS: &[Misfit<'static>] = &[

@@ -107,7 +107,7 @@ fn a_sink_in_memory_takes_what_it_has_room_for(rt: HostRuntime) -> Result<(), Fa
     Ok(())
 }
 
-/// So many bytes that they come in more than one piece.
+/// Enough bytes to come in more than one piece.
 fn content(alloc: Global) -> Result<Vec<u8>, AllocError> {
     let mut bytes = Vec::new(alloc);
     for i in 0..200_000u32 {

@@ -239,7 +239,7 @@ fn an_event_is_got_by_its_host_and_service(rt: HostRuntime) -> Result<(), Fail> 
     Ok(())
 }
 
-/// Whether these events have expired at the moment, which is at most 2^40, and so many stay.
+/// Whether the events that have expired at the moment, which is at most 2^40, are `wanted`, and `live` events stay.
 fn is_reaped(
     alloc: Global,
     index: &mut LiveIndex,

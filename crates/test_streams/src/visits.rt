@@ -62,7 +62,7 @@ fn thousand(alloc: Global) -> Result<LiveIndex, Memory> {
     Ok(index)
 }
 
-/// Whether the query finds so many events, and counts so many entries.
+/// Whether the query finds `found` events and visits `visited` entries.
 fn visits(
     alloc: Global,
     index: &mut LiveIndex,

@@ -281,7 +281,7 @@ fn is_refused(alloc: Global, text: &[u8], at: usize, cause: SexpWhy) -> bool {
     }
 }
 
-/// Whether the text is so many forms.
+/// Whether the text has `count` forms.
 fn has_forms(alloc: Global, text: &[u8], count: usize) -> bool {
     match read_forms(alloc, text) {
         Ok(forms) => forms.len() == count,

@@ -65,7 +65,7 @@ enum Test<'a> {
     Tag(&'a str),
 }
 
-/// The field of the name, or the host where the name is none.
+/// The field with this name, or the host if no field has it.
 fn field(alloc: Global, name: &str) -> Field {
     match Field::named(text(alloc, name)) {
         Some(field) => field,

@@ -16,7 +16,7 @@ use std::collections::BTreeSet;
 use std::marker::Model;
 use step_count::{Ledger, Steps};
 
-/// The moments at which ids are due. An id has one moment at most. The queue takes 16 bytes of a vector for each id up
+/// The moments at which ids are due. An id has one moment at most. The queue takes 16 bytes in a vector for each id up
 /// to the largest that has had a moment, and a pair in an ordered set for each id that has one.
 #[derive(Drop)]
 pub struct DueQueue {

@@ -17,7 +17,7 @@ moving_event_poisoned state = state.poisoned
 abbrev pub moving_event_emissions : MovingEventState → History → List Emission
 moving_event_emissions state h = emitted (moving_event_items state.count h)
 
--- the last events are kept, as many as a vector takes
+-- the last `count` events are kept, or all where fewer came
 pub record MovingEventRepresents (state : MovingEventState) (h : History) : Type 0 where
   pub sound : state.poisoned ≡ false
   pub latest : state.latest ≡ last_of state.count (events h)

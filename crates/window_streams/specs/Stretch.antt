@@ -1,4 +1,5 @@
--- Stretches of event time, numbered from 0 from the first event's time on. A time before that is in none.
+-- Stretches of event time, with numbers from 0. Stretch 0 begins at the first event's time, and no stretch has an
+-- earlier time.
 use Rattle.std.specs.Prelude.{ℕ, ℤ, pos, negsuc, max, Bool, false, nat_lt, ◌==◌, Option, Some, None}
 
 abbrev pub stretch_from : ℤ → Option ℕ

@@ -54,8 +54,8 @@ impl LastEvents {
         Ok(())
     }
 
-    /// Hands out copies of the events in order, and keeps those events that have not expired at the moment `now`, at most
-    /// 2^40. Out of memory, all are kept.
+    /// Hands out copies of the events in order, and keeps those events that have not expired at the moment `now`, which
+    /// is at most 2^40. If memory runs out, all events are kept.
     pub(crate) fn pass(&mut self, alloc: Global, now: u64) -> Result<Events, Memory>
         requires { now ≤ 2 ^ 40 }
         ensures passed { IfOk result (λ passed. passed ≡ self.old) }

@@ -13,7 +13,7 @@ use std::mem;
 /// The numbers of a moving time window.
 #[derive(Clone, Copy, Debug, PartialEq, Eq)]
 pub struct MovingTimeParams {
-    /// An event is passed on while its time is less than `secs` seconds before the latest. It is from 1 to 604,800.
+    /// An event is passed on while its time is less than `secs` seconds before the latest. The range is 1 to 604,800.
     pub secs: u32,
 }
 

@@ -5,7 +5,7 @@ ghost use Rattle.stream_meaning.specs.Emitted.{emitted};
 use ev_types::{Emission, Emissions, Event, Events, Item, Memory};
 use std::alloc::Global;
 
-/// Appends the events as one vector for the children, or nothing where there are none. Out of memory, nothing is
+/// Appends the events as one vector for the children, or nothing where there are none. If memory runs out, nothing is
 /// appended.
 pub(crate) fn send(alloc: Global, events: Events, out: &mut Emissions) -> Result<(), Memory>
     ensures ok { OnOk result (out.new ≡ out.old ++ emitted (vector events)) }
