@@ -1,5 +1,8 @@
-use Rattle.std.specs.Prelude.{ℕ, Bool, false, List, [], ◌∷◌, Option, Some, None}
+use Rattle.std.specs.Prelude.{ℕ, Bool, false, List, Option, Some, None}
 use Rattle.std.specs.Str.{IsValidUpTo, bytes_eq}
+use Rattle.std.specs.String.{string_bytes}
+use Rattle.ev_types.specs.declared.text.Chars.{Chars}
+use Rattle.ev_types.specs.declared.text.Chars.TheVariants.{Inside, Apart}
 use Rattle.ev_types.specs.declared.text.TextFault.{TextFault}
 use Rattle.ev_types.specs.declared.text.TextFault.TheVariants.{Utf8, Memory}
 
@@ -13,7 +16,7 @@ abbrev pub is_text : List ℕ → Option (List ℕ) → Bool
 is_text wanted None = false
 is_text wanted (Some text) = bytes_eq text wanted
 
--- the bytes of a text: those of its long part where that has any, and else those of its short part
-abbrev pub either_of : List ℕ → List ℕ → List ℕ
-either_of short [] = short
-either_of short (byte ∷ long) = byte ∷ long
+-- the bytes of a text's characters
+abbrev pub bytes_of : Chars → List ℕ
+bytes_of (Inside chars) = chars.bytes
+bytes_of (Apart chars) = string_bytes chars

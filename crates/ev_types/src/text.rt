@@ -8,7 +8,7 @@ ghost use Rattle.std.specs.Cmp.Rules.{hashing};
 ghost use Rattle.std.specs.Hash as fed;
 ghost use Rattle.std.proofs.Common.{rules};
 ghost use Rattle.ev_types.specs.declared.text.TextFault.TheVariants.{Memory as out_of_memory};
-ghost use Rattle.ev_types.specs.Text.{either_of, IsNoText};
+ghost use Rattle.ev_types.specs.Text.{bytes_of, IsNoText};
 
 use crate::{Items, Memory};
 use arrayvec::ArrayString;
@@ -26,9 +26,16 @@ const SHORT: usize = 24;
 /// A text, which contracts see as its bytes. They are UTF-8. Texts are ordered by their bytes.
 #[derive(Drop)]
 pub struct Text {
-    // The bytes are in `long` where it has any, and else in `short`.
-    short: ArrayString<SHORT>,
-    long: String,
+    chars: Chars,
+}
+
+/// Where the characters of a text are.
+#[derive(Drop)]
+enum Chars {
+    /// In the text itself.
+    Inside(ArrayString<SHORT>),
+    /// In memory of their own.
+    Apart(String),
 }
 
 /// A list of texts.
@@ -55,7 +62,7 @@ impl From<Memory> for TextFault {
 impl Model for Text {
     ghost Value = { List ℕ };
 
-    ghost view = { λ text. either_of text.short.bytes (string_bytes text.long) };
+    ghost view = { λ text. bytes_of text.chars };
 }
 
 impl Text {
@@ -86,11 +93,10 @@ impl Text {
         if chars.len() > SHORT {
             return Ok(Text::from_string(String::from_str(alloc, chars)?));
         }
-        let mut short = ArrayString::new();
-        short.push_str(chars);
+        let mut inside = ArrayString::new();
+        inside.push_str(chars);
         Ok(Text {
-            short,
-            long: String::new(alloc),
+            chars: Chars::Inside(inside),
         })
     }
 
@@ -99,8 +105,7 @@ impl Text {
         ensures { result ≡ string_bytes chars }
     {
         Text {
-            short: ArrayString::new(),
-            long: chars,
+            chars: Chars::Apart(chars),
         }
     }
 
@@ -114,10 +119,9 @@ impl Text {
     pub fn as_str(&self) -> &str
         ensures { result.now ≡ self.now }
     {
-        if self.long.is_empty() {
-            self.short.as_str()
-        } else {
-            self.long.as_str()
+        match &self.chars {
+            Chars::Inside(chars) => chars.as_str(),
+            Chars::Apart(chars) => chars.as_str(),
         }
     }
 
