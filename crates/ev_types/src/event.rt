@@ -67,6 +67,25 @@ impl Event {
         }
     }
 
+    /// Makes it an event that holds nothing but its time, in seconds since 1970. Its lists of tags and attributes keep
+    /// their memory.
+    pub fn clear(&mut self, time: i64)
+        ensures { self.new ≡ event_at time }
+    {
+        self.host = None;
+        self.service = None;
+        self.state = None;
+        self.description = None;
+        self.tags.clear();
+        self.time = time;
+        self.time_micros = None;
+        self.ttl = None;
+        self.metric = None;
+        self.raw_d = None;
+        self.raw_f = None;
+        self.attributes.clear();
+    }
+
     /// An equal event, in memory of its own.
     pub fn copy(&self, alloc: Global) -> Result<Event, Memory>
         ensures { IfOk result (λ event. event ≡ self.now) }

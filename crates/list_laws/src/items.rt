@@ -1,4 +1,5 @@
-ghost use Rattle.std.specs.Prelude.{◌≡◌, ◌<◌, List, [], ◌∷◌, ◌++◌, length, slice_index_or, OnOk, OnErr};
+ghost use Rattle.std.specs.Prelude.{◌≡◌, ◌<◌, List, [], ◌∷◌, ◌++◌, length, take, slice_index_or, OnOk, OnErr};
+ghost use Rattle.std.specs.Borrow.{sem};
 
 use crate::Memory;
 use std::alloc::Global;
@@ -24,6 +25,8 @@ impl<T> Model for Items<T> {
 }
 
 impl<T: Drop> Items<T> {
+    ghost use Rattle.list_laws.specs.Lending.{LendsItem, LendsItems};
+
     /// The empty list. It takes no memory.
     pub fn fresh(alloc: Global) -> Items<T>
         ensures { result ≡ [] }
@@ -53,6 +56,14 @@ impl<T: Drop> Items<T> {
         self.items.as_slice()
     }
 
+    /// The items, for writing, with no copy.
+    pub fn as_mut_slice(&mut self) -> &mut [T]
+        ensures* writes_back { sem 𝓛 (LendsItems T.row self.entry result) }
+        ensures value { result.now ≡ self.old }
+    {
+        self.items.as_mut_slice()
+    }
+
     pub fn len(&self) -> usize
         ensures { result ≡ length self.now }
     {
@@ -66,6 +77,15 @@ impl<T: Drop> Items<T> {
         &self.items[i]
     }
 
+    /// The item, for writing.
+    pub fn get_mut(&mut self, i: usize) -> &mut T
+        requires { i < length self.old }
+        ensures* writes_back { sem 𝓛 (LendsItem T.row self.entry i result) }
+        ensures value { result.now ≡ slice_index_or self.old i result.now }
+    {
+        &mut self.items[i]
+    }
+
     /// Adds the item at the end. A list of large items takes room for one first, since most such lists have no more.
     #[inline]
     pub fn push(&mut self, _alloc: Global, item: T) -> Result<(), Memory>
@@ -77,5 +97,19 @@ impl<T: Drop> Items<T> {
         }
         self.items.push(item)?;
         Ok(())
+    }
+
+    /// Removes all items. The list keeps its memory.
+    pub fn clear(&mut self)
+        ensures { self.new ≡ [] }
+    {
+        self.items.clear();
+    }
+
+    /// Removes all items but the first `len`. The list keeps its memory.
+    pub fn truncate(&mut self, len: usize)
+        ensures { self.new ≡ take len self.old }
+    {
+        self.items.truncate(len);
     }
 }
