@@ -2,20 +2,21 @@
 use Rattle.std.proofs.Common.{◌≡◌, ℕ, ◌+◌, ◌++◌, Bool, true, false, cond, eqb, List, [], ◌∷◌, length, map, Option, Some, None, ℤ, pos, inl, inr, refl, sym, ap, ◌∙◌, append_assoc}
 use Rattle.std.proofs.lemmas.List.{append-nil}
 use Rattle.std.specs.Option.{option_map, option_or, option_to_list}
-use Rattle.std.specs.Prelude.{IfSome, slice_range}
+use Rattle.std.specs.Prelude.{IfSome, slice_range, unwrap_or}
 use Rattle.std.proofs.lemmas.Bool.{cases_eq, ne_eqb}
 use Rattle.std.proofs.lemmas.List.Elements.{All-from_recursion}
 use Rattle.std.specs.List.{AllByRecursion, flat_map, fold, last_or, filter_map, cons_option}
+use Rattle.ev_types.specs.declared.event.Event.{Event}
+use Rattle.ev_types.specs.Set.{event_at}
 use Rattle.pb_wire.specs.declared.reader.Body.{Body}
 use Rattle.pb_wire.specs.declared.reader.Body.TheVariants.{Varint as body_varint, Eight as body_eight, Bytes as body_bytes, Four as body_four}
 use Rattle.pb_wire.specs.Fields.{FieldAt, fields_of, fields_fault}
 use Rattle.pb_wire.specs.Spelling.{Content, Varint, Eight, Bytes, Four}
 use Rattle.pb_wire.specs.ReadBack.{FieldValue, values_of}
 use Rattle.riemann_msg.specs.declared.read.AttrDraft.{AttrDraft}
-use Rattle.riemann_msg.specs.declared.read.EventDraft.{EventDraft}
 use Rattle.riemann_msg.specs.declared.read.MsgDraft.{MsgDraft}
 use Rattle.riemann_msg.specs.declared.msg.QueryPart.{QueryPart}
-use Rattle.riemann_msg.specs.Value.{bytes_in, eight_in, four_in, bool_in, int64_in, sint64_in, ttl_in, attribute_in, event_in, field_in, all_in, last_in, attribute_of, event_of, query_of, queries_joined, time_from, message_of}
+use Rattle.riemann_msg.specs.Value.{bytes_in, eight_in, four_in, bool_in, int64_in, sint64_in, ttl_in, attribute_in, event_in, field_in, all_in, last_in, attribute_of, event_of, query_of, queries_joined, second_of, message_of}
 use Rattle.riemann_msg.specs.declared.fault.MsgFault.{MsgFault}
 use Rattle.riemann_msg.specs.declared.fault.MsgFault.TheVariants.{Refused, Memory}
 use Rattle.riemann_msg.specs.declared.fault.MsgWhy.TheVariants.{Key as why_key}
@@ -24,7 +25,7 @@ use Rattle.riemann_msg.specs.Spelling.{IsSpellable, IsSpellableEvent}
 use Rattle.riemann_msg.specs.Ttl.{IsSpellableTtl, seconds_of}
 use Rattle.riemann_msg.proofs.TtlBits.{ttl_from_seconds}
 use Rattle.riemann_msg.proofs.Joined.{IsWhole, values_of_all}
-use Rattle.riemann_msg.specs.Draft.{fresh_message, field_at, query_joined, value_at, attribute_with, query_with, event_with, message_with, query_after, no_query, fresh_event}
+use Rattle.riemann_msg.specs.Draft.{fresh_message, field_at, query_joined, value_at, attribute_with, query_with, event_with, message_with, query_after, no_query, rounded, message_in}
 
 pub last_step : {A : Type 0} (o x : Option A) (xs : List A) → last_or (option_or x o) xs ≡ last_or o (cons_option x xs)
 last_step o None xs = refl
@@ -57,31 +58,49 @@ query_fold bytes (f ∷ fields) query = query_fold bytes fields (query_with quer
 
 -- ---- events
 
-abbrev event_grown : EventDraft → List FieldValue → EventDraft
-event_grown draft values = record {
-  time = last_or draft.time (all_in int64_in 1 values);
-  event = record {
-    time = draft.event.time;
-    state = last_or draft.event.state (all_in bytes_in 2 values);
-    service = last_or draft.event.service (all_in bytes_in 3 values);
-    host = last_or draft.event.host (all_in bytes_in 4 values);
-    description = last_or draft.event.description (all_in bytes_in 5 values);
-    tags = draft.event.tags ++ all_in bytes_in 7 values;
-    ttl = last_or draft.event.ttl (all_in ttl_in 8 values);
-    attributes = draft.event.attributes ++ all_in attribute_in 9 values;
-    time_micros = last_or draft.event.time_micros (all_in int64_in 10 values);
-    metric = last_or draft.event.metric (all_in sint64_in 13 values);
-    raw_d = last_or draft.event.raw_d (all_in eight_in 14 values);
-    raw_f = last_or draft.event.raw_f (all_in four_in 15 values);
-  };
+-- the last of some times, or the one before them
+abbrev time_grown : ℤ → List ℤ → ℤ
+time_grown time [] = time
+time_grown time (x ∷ xs) = time_grown x xs
+
+time_step : (time : ℤ) (x : Option ℤ) (xs : List ℤ) → time_grown (unwrap_or x time) xs ≡ time_grown time (cons_option x xs)
+time_step time None xs = refl
+time_step time (Some x) xs = refl
+
+time_after : (other time : ℤ) (xs : List ℤ) → unwrap_or (last_or (Some time) xs) other ≡ time_grown time xs
+time_after other time [] = refl
+time_after other time (x ∷ xs) = time_after other x xs
+
+time_last : (time : ℤ) (xs : List ℤ) → unwrap_or (last_or None xs) time ≡ time_grown time xs
+time_last time [] = refl
+time_last time (x ∷ xs) = time_after time x xs
+
+time_is : (now : ℤ) (micros : Option ℤ) (times : List ℤ) → unwrap_or micros (time_grown now times) ≡ unwrap_or (option_or micros (last_or None times)) now
+time_is now None times = sym (time_last now times)
+time_is now (Some second) times = refl
+
+abbrev event_grown : Event → List FieldValue → Event
+event_grown event values = record {
+  time = time_grown event.time (all_in int64_in 1 values);
+  state = last_or event.state (all_in bytes_in 2 values);
+  service = last_or event.service (all_in bytes_in 3 values);
+  host = last_or event.host (all_in bytes_in 4 values);
+  description = last_or event.description (all_in bytes_in 5 values);
+  tags = event.tags ++ all_in bytes_in 7 values;
+  ttl = last_or event.ttl (all_in ttl_in 8 values);
+  attributes = event.attributes ++ all_in attribute_in 9 values;
+  time_micros = last_or event.time_micros (all_in int64_in 10 values);
+  metric = last_or event.metric (all_in sint64_in 13 values);
+  raw_d = last_or event.raw_d (all_in eight_in 14 values);
+  raw_f = last_or event.raw_f (all_in four_in 15 values);
 }
 
-event_nothing : (draft : EventDraft) → draft ≡ event_grown draft []
-event_nothing draft = simp append-nil
+event_nothing : (event : Event) → event ≡ event_grown event []
+event_nothing event = simp append-nil
 
-event_fold : (bytes : List ℕ) (fields : List FieldAt) (draft : EventDraft) → fold (λ draft field. event_with draft (value_at bytes field)) draft fields ≡ event_grown draft (map (value_at bytes) fields)
-event_fold bytes [] draft = event_nothing draft
-event_fold bytes (f ∷ fields) draft = event_fold bytes fields (event_with draft (value_at bytes f)) ∙ simp (last_step, all_step)
+event_fold : (bytes : List ℕ) (fields : List FieldAt) (event : Event) → fold (λ event field. event_with event (value_at bytes field)) event fields ≡ event_grown event (map (value_at bytes) fields)
+event_fold bytes [] event = event_nothing event
+event_fold bytes (f ∷ fields) event = event_fold bytes fields (event_with event (value_at bytes f)) ∙ simp (last_step, all_step, time_step)
 
 -- ---- messages
 
@@ -92,12 +111,10 @@ queries_step query (Some part) parts = refl
 abbrev message_grown : MsgDraft → List FieldValue → MsgDraft
 message_grown draft values = record {
   now = draft.now;
-  msg = record {
-    ok = last_or draft.msg.ok (all_in bool_in 2 values);
-    error = last_or draft.msg.error (all_in bytes_in 3 values);
-    query = fold query_joined draft.msg.query (all_in bytes_in 5 values);
-    events = draft.msg.events ++ all_in (event_in draft.now) 6 values;
-  };
+  ok = last_or draft.ok (all_in bool_in 2 values);
+  error = last_or draft.error (all_in bytes_in 3 values);
+  query = fold query_joined draft.query (all_in bytes_in 5 values);
+  events = draft.events ++ all_in (event_in draft.now) 6 values;
 }
 
 message_nothing : (draft : MsgDraft) → draft ≡ message_grown draft []
@@ -109,14 +126,15 @@ message_fold bytes (f ∷ fields) draft = message_fold bytes fields (message_wit
 
 -- ---- what was read, where there is no fault
 
-pub event_read : (now : ℤ) (bytes : List ℕ) (base : ℕ) (start draft : EventDraft) (time : ℤ) → start ≡ fresh_event → first_by (event_field_fault bytes) bytes ≡ None
-    → draft ≡ fold (λ draft field. event_with draft (value_at bytes field)) start (fields_of bytes) → time ≡ time_from now draft.event.time_micros draft.time
-    → (option_map (moved base) (event_fault bytes) ≡ None) × (record draft.event { time = time } ≡ event_of now bytes)
+pub event_read : (now : ℤ) (bytes : List ℕ) (base : ℕ) (start read : Event) → start ≡ event_at now → first_by (event_field_fault bytes) bytes ≡ None
+    → read ≡ fold (λ event field. event_with event (value_at bytes field)) start (fields_of bytes)
+    → (option_map (moved base) (event_fault bytes) ≡ None) × (rounded read ≡ event_of now bytes)
 unfolding event_fault event_of values_of
-event_read now bytes base start draft time fresh clean is at =
-    let grown : draft ≡ event_grown fresh_event (map (value_at bytes) (fields_of bytes)) =
-    is ∙ ap (λ (d : EventDraft). fold (λ draft field. event_with draft (value_at bytes field)) d (fields_of bytes)) fresh ∙ event_fold bytes (fields_of bytes) fresh_event in
-    (rw clean refl, ap (λ (t : ℤ). record draft.event { time = t }) at ∙ ap (λ (d : EventDraft). record d.event { time = time_from now d.event.time_micros d.time }) grown)
+event_read now bytes base start read fresh clean is =
+    let values = map (value_at bytes) (fields_of bytes) in
+    let grown : read ≡ event_grown (event_at now) values =
+    is ∙ ap (λ (event : Event). fold (λ event field. event_with event (value_at bytes field)) event (fields_of bytes)) fresh ∙ event_fold bytes (fields_of bytes) (event_at now) in
+    (rw clean refl, ap rounded grown ∙ ap (λ (time : ℤ). record (event_grown (event_at now) values) { time = time }) (time_is now (option_map second_of (last_in int64_in 10 values)) (all_in int64_in 1 values)))
 
 attribute_grows : (bytes : List ℕ) (draft : AttrDraft) → draft ≡ fold (λ draft field. attribute_with draft (value_at bytes field)) (record { key = None; value = None }) (fields_of bytes)
     → draft ≡ record { key = last_in bytes_in 1 (values_of bytes); value = last_in bytes_in 2 (values_of bytes) }
@@ -225,14 +243,14 @@ parts_whole bytes (field ∷ fields) none =
 -- ---- the whole message
 
 pub message_read : (now : ℕ) (bytes : List ℕ) (start draft : MsgDraft) → start ≡ fresh_message (pos now) → first_by (message_field_fault bytes) bytes ≡ None
-    → draft ≡ fold (λ draft field. message_with draft (value_at bytes field)) start (fields_of bytes) → draft.msg ≡ message_of now bytes
+    → draft ≡ fold (λ draft field. message_with draft (value_at bytes field)) start (fields_of bytes) → message_in draft ≡ message_of now bytes
 unfolding message_of values_of
 message_read now bytes start draft fresh clean is =
     let grown : draft ≡ message_grown (fresh_message (pos now)) (map (value_at bytes) (fields_of bytes)) =
     is ∙ ap (λ (d : MsgDraft). fold (λ draft field. message_with draft (value_at bytes field)) d (fields_of bytes)) fresh ∙ message_fold bytes (fields_of bytes) (fresh_message (pos now)) in
     let parts = or_none (first_of (message_field_fault bytes) (fields_of bytes)) (option_map wire_fault (fields_fault bytes)) clean in
-    ap (λ (d : MsgDraft). d.msg) grown
-    ∙ ap (λ (query : Option QueryPart). record (message_grown (fresh_message (pos now)) (map (value_at bytes) (fields_of bytes))).msg { query = query }) (queries_read (all_in bytes_in 5 (map (value_at bytes) (fields_of bytes))) (parts_whole bytes (fields_of bytes) parts.0))
+    ap message_in grown
+    ∙ ap (λ (query : Option QueryPart). record (message_in (message_grown (fresh_message (pos now)) (map (value_at bytes) (fields_of bytes)))) { query = query }) (queries_read (all_in bytes_in 5 (map (value_at bytes) (fields_of bytes))) (parts_whole bytes (fields_of bytes) parts.0))
 
 -- ---- each ttl that is read can be spelled
 

@@ -1,23 +1,23 @@
 -- What is known of a message when its first fields were read: words of the private functions that read. No public clause
 -- cites them.
-use Rattle.std.specs.Prelude.{◌≡◌, ℕ, ◌==◌, if◌then◌else◌, is_some, ℤ, pos, Result, Ok, Err, ◌++◌, List, [], ◌∷◌, Option, Some, None, unwrap_or}
+use Rattle.std.specs.Prelude.{◌≡◌, ℕ, ◌==◌, if◌then◌else◌, is_some, ℤ, Result, Ok, Err, ◌++◌, List, [], ◌∷◌, Option, Some, None, unwrap_or}
 use Rattle.std.specs.Str.{is_utf8}
 use Rattle.std.specs.Option.{option_map, option_or, option_to_list}
 use Rattle.std.specs.List.{fold}
-use Rattle.ev_types.specs.Set.{event_at}
+use Rattle.ev_types.specs.declared.event.Event.{Event}
 use Rattle.pb_wire.specs.declared.reader.Body.{Body}
 use Rattle.pb_wire.specs.Fields.{FieldAt, fields_of}
 use Rattle.pb_wire.specs.Spelling.{content_in}
 use Rattle.pb_wire.specs.ReadBack.{FieldValue}
 use Rattle.riemann_msg.specs.declared.read.AttrDraft.{AttrDraft}
-use Rattle.riemann_msg.specs.declared.read.EventDraft.{EventDraft}
 use Rattle.riemann_msg.specs.declared.read.MsgDraft.{MsgDraft}
+use Rattle.riemann_msg.specs.declared.msg.Msg.{Msg}
 use Rattle.riemann_msg.specs.declared.msg.QueryPart.{QueryPart}
 use Rattle.riemann_msg.specs.declared.fault.MsgFault.{MsgFault}
 use Rattle.riemann_msg.specs.declared.fault.MsgWhy.TheVariants.{Utf8 as why_utf8, Ttl as why_ttl}
 use Rattle.riemann_msg.specs.Ttl.{seconds_of}
 use Rattle.riemann_msg.specs.Fault.{Fault, fault_at, moved, is_among, IsRefusedFor, attribute_fault, query_fault, event_fault}
-use Rattle.riemann_msg.specs.Value.{bytes_in, eight_in, four_in, bool_in, int64_in, sint64_in, ttl_in, attribute_in, event_in, field_in}
+use Rattle.riemann_msg.specs.Value.{bytes_in, eight_in, four_in, bool_in, int64_in, sint64_in, ttl_in, attribute_in, event_in, field_in, second_of}
 use Rattle.riemann_msg.specs.declared.fields.TheConstants.{ATTRIBUTES, DESCRIPTION, ERROR, EVENTS, HOST, KEY, METRIC_D, METRIC_F, METRIC_SINT64, OK, QUERY, SERVICE, STATE, STRING, TAGS, TIME, TIME_MICROS, TTL, VALUE}
 
 abbrev pub field_at : ℕ → Body → ℕ → FieldAt
@@ -33,24 +33,25 @@ attribute_with draft value = record { key = option_or (field_in bytes_in KEY val
 abbrev pub query_with : QueryPart → FieldValue → QueryPart
 query_with query value = record { string = option_or (field_in bytes_in STRING value) query.string }
 
-abbrev pub event_with : EventDraft → FieldValue → EventDraft
-event_with draft value = record {
-  time = option_or (field_in int64_in TIME value) draft.time;
-  event = record {
-    time = draft.event.time;
-    state = option_or (field_in bytes_in STATE value) draft.event.state;
-    service = option_or (field_in bytes_in SERVICE value) draft.event.service;
-    host = option_or (field_in bytes_in HOST value) draft.event.host;
-    description = option_or (field_in bytes_in DESCRIPTION value) draft.event.description;
-    tags = draft.event.tags ++ option_to_list (field_in bytes_in TAGS value);
-    ttl = option_or (field_in ttl_in TTL value) draft.event.ttl;
-    attributes = draft.event.attributes ++ option_to_list (field_in attribute_in ATTRIBUTES value);
-    time_micros = option_or (field_in int64_in TIME_MICROS value) draft.event.time_micros;
-    metric = option_or (field_in sint64_in METRIC_SINT64 value) draft.event.metric;
-    raw_d = option_or (field_in eight_in METRIC_D value) draft.event.raw_d;
-    raw_f = option_or (field_in four_in METRIC_F value) draft.event.raw_f;
-  };
+abbrev pub event_with : Event → FieldValue → Event
+event_with event value = record {
+  time = unwrap_or (field_in int64_in TIME value) event.time;
+  state = option_or (field_in bytes_in STATE value) event.state;
+  service = option_or (field_in bytes_in SERVICE value) event.service;
+  host = option_or (field_in bytes_in HOST value) event.host;
+  description = option_or (field_in bytes_in DESCRIPTION value) event.description;
+  tags = event.tags ++ option_to_list (field_in bytes_in TAGS value);
+  ttl = option_or (field_in ttl_in TTL value) event.ttl;
+  attributes = event.attributes ++ option_to_list (field_in attribute_in ATTRIBUTES value);
+  time_micros = option_or (field_in int64_in TIME_MICROS value) event.time_micros;
+  metric = option_or (field_in sint64_in METRIC_SINT64 value) event.metric;
+  raw_d = option_or (field_in eight_in METRIC_D value) event.raw_d;
+  raw_f = option_or (field_in four_in METRIC_F value) event.raw_f;
 }
+
+-- the event with the second of its time in microseconds, where it has one
+abbrev pub rounded : Event → Event
+rounded event = record event { time = unwrap_or (option_map second_of event.time_micros) event.time }
 
 abbrev pub no_query : QueryPart
 no_query = record { string = None }
@@ -66,19 +67,18 @@ query_after query (Some bytes) = query_joined query bytes
 abbrev pub message_with : MsgDraft → FieldValue → MsgDraft
 message_with draft value = record {
   now = draft.now;
-  msg = record {
-    ok = option_or (field_in bool_in OK value) draft.msg.ok;
-    error = option_or (field_in bytes_in ERROR value) draft.msg.error;
-    query = query_after draft.msg.query (field_in bytes_in QUERY value);
-    events = draft.msg.events ++ option_to_list (field_in (event_in draft.now) EVENTS value);
-  };
+  ok = option_or (field_in bool_in OK value) draft.ok;
+  error = option_or (field_in bytes_in ERROR value) draft.error;
+  query = query_after draft.query (field_in bytes_in QUERY value);
+  events = draft.events ++ option_to_list (field_in (event_in draft.now) EVENTS value);
 }
 
-abbrev pub fresh_event : EventDraft
-fresh_event = record { time = None; event = event_at (pos 0) }
-
 abbrev pub fresh_message : ℤ → MsgDraft
-fresh_message now = record { now = now; msg = record { ok = None; error = None; query = None; events = [] } }
+fresh_message now = record { now = now; ok = None; error = None; query = None; events = [] }
+
+-- the message that the draft has the fields of
+abbrev pub message_in : MsgDraft → Msg
+message_in draft = record { ok = draft.ok; error = draft.error; query = draft.query; events = draft.events }
 
 -- the fault of a body whose tag, and whose bytes, begin at these places of the whole message
 abbrev pub utf8_fault : ℕ → List ℕ → Option Fault

@@ -15,6 +15,6 @@ pub use fault::{MsgFault, MsgWhy};
 pub use law::{small_ttls_are_spellable, written_is_read};
 pub use len::msg_len;
 pub use msg::{Msg, QueryPart};
-pub use read::read_msg;
+pub use read::{read_msg, read_msg_into};
 pub use ttl::{bits_of_ttl, ttl_of_bits};
 pub use write::write_msg;

@@ -1,14 +1,15 @@
 //! Reading messages, field by field.
 
-ghost use Rattle.std.specs.Prelude.{◌≡◌, ℕ, ◌+◌, ◌^◌, ◌<◌, ◌++◌, ◌∷◌, [], List, length, Option, OnOk, IfOk, IfErr, None, pos};
+ghost use Rattle.std.specs.Prelude.{◌≡◌, ℕ, ◌+◌, ◌^◌, ◌<◌, ◌≤◌, ◌++◌, ◌∷◌, [], List, length, take, Option, OnOk, OnErr, IfOk, IfErr, None, pos};
 ghost use Rattle.std.specs.List.{fold};
 ghost use Rattle.std.specs.Option.{option_map};
+ghost use Rattle.ev_types.specs.Set.{event_at};
 ghost use Rattle.pb_wire.specs.Fields.{FieldAt, LiesWithin, fields_of};
 ghost use Rattle.pb_wire.specs.Spelling.{Varint, Eight, Bytes, Four};
-ghost use Rattle.riemann_msg.specs.Value.{event_of, attribute_of, time_from, message_of};
+ghost use Rattle.riemann_msg.specs.Value.{event_of, attribute_of, message_of};
 ghost use Rattle.riemann_msg.specs.Fault.{Fault, moved, first_by, IsRefusedFor, Decodes, attribute_field_fault, event_field_fault, query_field_fault, message_field_fault, attribute_fault, event_fault, first_fault};
 ghost use Rattle.riemann_msg.specs.Spelling.{field, IsSpellable};
-ghost use Rattle.riemann_msg.specs.Draft.{Puts, field_at, value_at, attribute_with, query_with, event_with, message_with, fresh_event, fresh_message, utf8_fault, four_fault, bytes_fault, part_fault};
+ghost use Rattle.riemann_msg.specs.Draft.{Puts, field_at, value_at, attribute_with, query_with, event_with, rounded, message_with, message_in, fresh_message, utf8_fault, four_fault, bytes_fault, part_fault};
 
 use crate::fault::{MsgFault, MsgWhy};
 use crate::fields::{
@@ -18,9 +19,10 @@ use crate::fields::{
 use crate::msg::{Msg, QueryPart};
 use crate::ttl::ttl_of_bits;
 use crate::zigzag::unzigzag;
-use ev_types::{Attr, Attrs, Event, Events, Tags, Text, TextFault};
+use ev_types::{Attr, Attrs, Event, Events, Memory, Tags, Text, TextFault};
 use pb_wire::{Body, FieldReader, Next};
 use std::alloc::Global;
+use std::marker::Model;
 
 /// A message of some kind, of which some fields were read.
 trait Draft {
@@ -214,93 +216,75 @@ impl Draft for QueryPart {
     }
 }
 
-/// The fields of an event. Its time is set aside until all fields were read.
-#[derive(Drop)]
-struct EventDraft {
-    time: Option<i64>,
-    event: Event,
-}
-
-impl EventDraft {
-    fn fresh(alloc: Global) -> EventDraft
-        ensures { result ≡ fresh_event }
-    {
-        EventDraft {
-            time: None,
-            event: Event::at(alloc, 0),
-        }
-    }
-
-    /// Reads a field of the type varint.
-    fn put_varint(&mut self, number: u32, value: u64)
-        ensures { self.new ≡ event_with self.old (field number (Varint value)) }
-    {
-        match number {
-            TIME => self.time = Some(value.cast_signed()),
-            TIME_MICROS => self.event.time_micros = Some(value.cast_signed()),
-            METRIC_SINT64 => self.event.metric = Some(unzigzag(value)),
-            _ => {}
-        }
-    }
-
-    /// Reads a field of eight bytes.
-    fn put_eight(&mut self, number: u32, bits: u64)
-        ensures { self.new ≡ event_with self.old (field number (Eight bits)) }
-    {
-        if number == METRIC_D {
-            self.event.raw_d = Some(bits);
-        }
-    }
-
-    /// Reads a field of four bytes.
-    fn put_four(&mut self, number: u32, bits: u32, place: usize) -> Result<(), MsgFault>
-        ensures { Puts (four_fault number bits place)
-            (event_with self.old (field number (Four bits))) result self.new }
-    {
-        if number == TTL {
-            let Some(ttl) = ttl_of_bits(bits) else {
-                return Err(MsgFault::Refused {
-                    place,
-                    why: MsgWhy::Ttl,
-                });
-            };
-            self.event.ttl = Some(ttl);
-        } else if number == METRIC_F {
-            self.event.raw_f = Some(bits);
-        }
-        Ok(())
-    }
-
-    /// Reads a field of bytes, which begin at `base` in the whole message. Its tag is at `place`.
-    fn put_bytes(
-        &mut self,
-        alloc: Global,
-        number: u32,
-        bytes: &[u8],
-        base: usize,
-        place: usize,
-    ) -> Result<(), MsgFault>
-        requires { base + length bytes.now < 2 ^ 64 }
-        ensures { Puts (bytes_fault number bytes.now base place)
-            (event_with self.old (field number (Bytes bytes.now))) result self.new }
-    {
-        match number {
-            STATE => put_text(alloc, &mut self.event.state, bytes, place)?,
-            SERVICE => put_text(alloc, &mut self.event.service, bytes, place)?,
-            HOST => put_text(alloc, &mut self.event.host, bytes, place)?,
-            DESCRIPTION => put_text(alloc, &mut self.event.description, bytes, place)?,
-            TAGS => push_tag(alloc, &mut self.event.tags, bytes, place)?,
-            ATTRIBUTES => push_attribute(alloc, &mut self.event.attributes, bytes, base)?,
-            _ => {}
-        }
-        Ok(())
+/// Reads a field of the type varint.
+fn put_varint(event: &mut Event, number: u32, value: u64)
+    ensures { event.new ≡ event_with event.old (field number (Varint value)) }
+{
+    match number {
+        TIME => event.time = value.cast_signed(),
+        TIME_MICROS => event.time_micros = Some(value.cast_signed()),
+        METRIC_SINT64 => event.metric = Some(unzigzag(value)),
+        _ => {}
     }
 }
 
-impl Draft for EventDraft {
+/// Reads a field of eight bytes.
+fn put_eight(event: &mut Event, number: u32, bits: u64)
+    ensures { event.new ≡ event_with event.old (field number (Eight bits)) }
+{
+    if number == METRIC_D {
+        event.raw_d = Some(bits);
+    }
+}
+
+/// Reads a field of four bytes.
+fn put_four(event: &mut Event, number: u32, bits: u32, place: usize) -> Result<(), MsgFault>
+    ensures { Puts (four_fault number bits place)
+        (event_with event.old (field number (Four bits))) result event.new }
+{
+    if number == TTL {
+        let Some(ttl) = ttl_of_bits(bits) else {
+            return Err(MsgFault::Refused {
+                place,
+                why: MsgWhy::Ttl,
+            });
+        };
+        event.ttl = Some(ttl);
+    } else if number == METRIC_F {
+        event.raw_f = Some(bits);
+    }
+    Ok(())
+}
+
+/// Reads a field of bytes, which begin at `base` in the whole message. Its tag is at `place`.
+fn put_bytes(
+    event: &mut Event,
+    alloc: Global,
+    number: u32,
+    bytes: &[u8],
+    base: usize,
+    place: usize,
+) -> Result<(), MsgFault>
+    requires { base + length bytes.now < 2 ^ 64 }
+    ensures { Puts (bytes_fault number bytes.now base place)
+        (event_with event.old (field number (Bytes bytes.now))) result event.new }
+{
+    match number {
+        STATE => put_text(alloc, &mut event.state, bytes, place)?,
+        SERVICE => put_text(alloc, &mut event.service, bytes, place)?,
+        HOST => put_text(alloc, &mut event.host, bytes, place)?,
+        DESCRIPTION => put_text(alloc, &mut event.description, bytes, place)?,
+        TAGS => push_tag(alloc, &mut event.tags, bytes, place)?,
+        ATTRIBUTES => push_attribute(alloc, &mut event.attributes, bytes, base)?,
+        _ => {}
+    }
+    Ok(())
+}
+
+impl Draft for Event {
     ghost fault = { event_field_fault };
 
-    ghost with_field = { λ bytes draft field. event_with draft (value_at bytes field) };
+    ghost with_field = { λ bytes event field. event_with event (value_at bytes field) };
 
     fn put(
         &mut self,
@@ -312,70 +296,165 @@ impl Draft for EventDraft {
         place: usize,
     ) -> Result<(), MsgFault> {
         match body {
-            Body::Varint(value) => self.put_varint(number, value),
-            Body::Eight(bits) => self.put_eight(number, bits),
-            Body::Four(bits) => self.put_four(number, bits, base + place)?,
+            Body::Varint(value) => put_varint(self, number, value),
+            Body::Eight(bits) => put_eight(self, number, bits),
+            Body::Four(bits) => put_four(self, number, bits, base + place)?,
             Body::Bytes { start, end } => {
                 let part = &bytes[start..end];
-                self.put_bytes(alloc, number, part, base + start, base + place)?;
+                put_bytes(self, alloc, number, part, base + start, base + place)?;
             }
         }
         Ok(())
     }
 }
 
-/// Reads the bytes, which begin at `base` in the whole message, as an event, and adds it to the events. One without a
-/// time gets `now`.
+/// Reads the bytes, which begin at `base` in the whole message, into the event, in the place of all that it held. One
+/// without a time gets `now`.
 #[tactic(auto, unfolding(crate::specs::Fault::event_fault))]
 fn read_event(
     alloc: Global,
     now: i64,
     bytes: &[u8],
     base: usize,
-    events: &mut Events,
+    event: &mut Event,
 ) -> Result<(), MsgFault>
     requires { base + length bytes.now < 2 ^ 64 }
     ensures { Puts (option_map (moved base) (event_fault bytes.now))
-        (events.old ++ event_of now bytes.now ∷ []) result events.new }
+        (event_of now bytes.now) result event.new }
 {
-    let mut draft = EventDraft::fresh(alloc);
-    read_fields(alloc, bytes, base, &mut draft)?;
-    draft.event.time = time_of(now, draft.event.time_micros, draft.time);
-    events.push(alloc, draft.event)?;
+    event.clear(now);
+    read_fields(alloc, bytes, base, event)?;
+    round_time(event);
     Ok(())
 }
 
-/// The time of an event, in seconds: that in microseconds rounded down where there is one, else the time in seconds,
-/// else `now`.
-fn time_of(now: i64, micros: Option<i64>, time: Option<i64>) -> i64
-    ensures { result ≡ time_from now micros time }
+/// Sets the time of an event that has one in microseconds to that, rounded down to seconds.
+fn round_time(event: &mut Event)
+    ensures { event.new ≡ rounded event.old }
 {
-    match micros {
-        Some(micros) => micros.div_euclid(1_000_000),
-        None => time.unwrap_or(now),
+    if let Some(micros) = event.time_micros {
+        event.time = micros.div_euclid(1_000_000);
     }
+}
+
+/// The events that were read so far: the first `count` of a list. The memory of the others is there to be read into.
+#[derive(Drop)]
+struct EventsDraft {
+    events: Events,
+    count: usize,
+}
+
+impl Model for EventsDraft {
+    ghost use Rattle.std.specs.Prelude.{◌≤◌, List, length, take};
+    ghost use Rattle.ev_types.specs.declared.event.Event.{Event as OneEvent};
+
+    ghost Value = { List OneEvent };
+
+    ghost view = { λ draft. take draft.count draft.events };
+
+    ghost invariant = { λ draft. draft.count ≤ length draft.events };
+}
+
+impl EventsDraft {
+    /// No event, with the memory of `spent`.
+    fn over(spent: Events) -> EventsDraft
+        ensures { result ≡ [] }
+    {
+        EventsDraft {
+            events: spent,
+            count: 0,
+        }
+    }
+
+    /// Reads the bytes, which begin at `base` in the whole message, as one more event. One without a time gets `now`.
+    fn add(&mut self, alloc: Global, now: i64, bytes: &[u8], base: usize) -> Result<(), MsgFault>
+        requires { base + length bytes.now < 2 ^ 64 }
+        ensures { Puts (option_map (moved base) (event_fault bytes.now))
+            (self.old ++ event_of now bytes.now ∷ []) result self.new }
+    {
+        make_room(alloc, &mut self.events, self.count)?;
+        read_event_at(alloc, now, bytes, base, &mut self.events, self.count)?;
+        self.count += 1;
+        Ok(())
+    }
+
+    /// The events that were read.
+    fn into_events(self) -> Events
+        ensures { result ≡ self }
+    {
+        let EventsDraft { events, count } = self;
+        let mut events = events;
+        events.truncate(count);
+        events
+    }
+}
+
+/// Gives the list an event after its first `count` ones, where it has none there.
+fn make_room(alloc: Global, events: &mut Events, count: usize) -> Result<(), Memory>
+    requires { count ≤ length events.old }
+    ensures same { take count events.new ≡ take count events.old }
+    ensures kept { count ≤ length events.new }
+    ensures room { OnOk result (count < length events.new) }
+{
+    if count == events.len() {
+        push_blank(alloc, events)?;
+    }
+    Ok(())
+}
+
+/// Adds an event that holds nothing. It is apart, since it takes long to enter: the event is large.
+#[cold]
+#[inline(never)]
+fn push_blank(alloc: Global, events: &mut Events) -> Result<(), Memory>
+    ensures ok { OnOk result (events.new ≡ events.old ++ event_at (pos 0) ∷ []) }
+    ensures err { OnErr result (events.new ≡ events.old) }
+{
+    events.push(alloc, Event::at(alloc, 0))
+}
+
+/// Reads the bytes, which begin at `base` in the whole message, into the event after the first `count` ones. One
+/// without a time gets `now`.
+fn read_event_at(
+    alloc: Global,
+    now: i64,
+    bytes: &[u8],
+    base: usize,
+    events: &mut Events,
+    count: usize,
+) -> Result<(), MsgFault>
+    requires bytes { base + length bytes.now < 2 ^ 64 }
+    requires room { count < length events.old }
+    ensures reads { Puts (option_map (moved base) (event_fault bytes.now))
+        (take count events.old ++ event_of now bytes.now ∷ []) result (take (count + 1) events.new) }
+    ensures room { count < length events.new }
+    ensures fits { length events.new < 2 ^ 64 }
+{
+    let _len = events.len();
+    read_event(alloc, now, bytes, base, events.get_mut(count))
 }
 
 /// The fields of a message that is read at the second `now`.
 #[derive(Drop)]
 struct MsgDraft {
     now: i64,
-    msg: Msg,
+    ok: Option<bool>,
+    error: Option<Text>,
+    query: Option<QueryPart>,
+    events: EventsDraft,
 }
 
 impl MsgDraft {
-    fn fresh(alloc: Global, now: u64) -> MsgDraft
+    /// No field, with the memory of the events of `spent`.
+    fn over(spent: Events, now: u64) -> MsgDraft
         requires { now < 2 ^ 63 }
         ensures { result ≡ fresh_message (pos now) }
     {
         MsgDraft {
             now: now as i64,
-            msg: Msg {
-                ok: None,
-                error: None,
-                query: None,
-                events: Events::fresh(alloc),
-            },
+            ok: None,
+            error: None,
+            query: None,
+            events: EventsDraft::over(spent),
         }
     }
 
@@ -394,16 +473,35 @@ impl MsgDraft {
             (message_with self.old (field number (Bytes bytes.now))) result self.new }
     {
         match number {
-            ERROR => put_text(alloc, &mut self.msg.error, bytes, place)?,
+            ERROR => put_text(alloc, &mut self.error, bytes, place)?,
             QUERY => {
-                let mut query = self.msg.query.take().unwrap_or(QueryPart { string: None });
+                let mut query = self.query.take().unwrap_or(QueryPart { string: None });
                 read_fields(alloc, bytes, base, &mut query)?;
-                self.msg.query = Some(query);
+                self.query = Some(query);
             }
-            EVENTS => read_event(alloc, self.now, bytes, base, &mut self.msg.events)?,
+            EVENTS => self.events.add(alloc, self.now, bytes, base)?,
             _ => {}
         }
         Ok(())
+    }
+
+    /// The message that was read.
+    fn into_msg(self) -> Msg
+        ensures { result ≡ message_in self }
+    {
+        let MsgDraft {
+            now: _,
+            ok,
+            error,
+            query,
+            events,
+        } = self;
+        Msg {
+            ok,
+            error,
+            query,
+            events: events.into_events(),
+        }
     }
 }
 
@@ -424,7 +522,7 @@ impl Draft for MsgDraft {
         match body {
             Body::Varint(value) => {
                 if number == OK {
-                    self.msg.ok = Some(value != 0);
+                    self.ok = Some(value != 0);
                 }
             }
             Body::Bytes { start, end } => {
@@ -440,14 +538,22 @@ impl Draft for MsgDraft {
 /// Reads the bytes as a message, at the moment `now` in seconds since 1970, which is less than 2^63. An event without a
 /// time gets `now`. `Refused` comes for the first fault in the order of the fields, and then nothing was read.
 /// `Memory`: out of memory.
-#[tactic(auto, unfolding(crate::specs::Fault::first_fault))]
 pub fn read_msg(alloc: Global, body: &[u8], now: u64) -> Result<Msg, MsgFault>
     requires { now < 2 ^ 63 }
     ensures reads { Decodes (first_fault body.now) (message_of now body.now) result }
     ensures spellable { IfOk result IsSpellable }
 {
-    let mut draft = MsgDraft::fresh(alloc, now);
+    read_msg_into(alloc, body, now, Events::fresh(alloc))
+}
+
+/// Reads as [`read_msg`] does, into the memory of `spent`, events that nobody needs any more.
+#[tactic(auto, unfolding(crate::specs::Fault::first_fault))]
+pub fn read_msg_into(alloc: Global, body: &[u8], now: u64, spent: Events) -> Result<Msg, MsgFault>
+    requires { now < 2 ^ 63 }
+    ensures reads { Decodes (first_fault body.now) (message_of now body.now) result }
+    ensures spellable { IfOk result IsSpellable }
+{
+    let mut draft = MsgDraft::over(spent, now);
     read_fields(alloc, body, 0, &mut draft)?;
-    let MsgDraft { now: _, msg } = draft;
-    Ok(msg)
+    Ok(draft.into_msg())
 }
