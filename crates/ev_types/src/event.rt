@@ -68,22 +68,22 @@ impl Event {
     }
 
     /// Makes it an event that holds nothing but its time, in seconds since 1970. Its lists of tags and attributes keep
-    /// their memory.
-    pub fn clear(&mut self, time: i64)
+    /// the memory for at most 16 items each.
+    pub fn clear(&mut self, alloc: Global, time: i64)
         ensures { self.new ≡ event_at time }
     {
         self.host = None;
         self.service = None;
         self.state = None;
         self.description = None;
-        self.tags.clear();
+        self.tags.clear(alloc);
         self.time = time;
         self.time_micros = None;
         self.ttl = None;
         self.metric = None;
         self.raw_d = None;
         self.raw_f = None;
-        self.attributes.clear();
+        self.attributes.clear(alloc);
     }
 
     /// An equal event, in memory of its own.

@@ -9,6 +9,9 @@ use std::mem::size_of_val;
 // An item of more bytes than this is large.
 const LARGE: usize = 64;
 
+// A list that is cleared keeps memory for at most this many items.
+const KEPT: usize = 16;
+
 /// A growing list, which contracts see as the list of its items.
 #[derive(Drop)]
 pub struct Items<T> {
@@ -99,10 +102,14 @@ impl<T: Drop> Items<T> {
         Ok(())
     }
 
-    /// Removes all items. The list keeps its memory.
-    pub fn clear(&mut self)
+    /// Removes all items. A list with memory for at most 16 items keeps it.
+    pub fn clear(&mut self, alloc: Global)
         ensures { self.new ≡ [] }
     {
+        if self.items.capacity() > KEPT {
+            self.items = Vec::new(alloc);
+            return;
+        }
         self.items.clear();
     }
 

@@ -322,7 +322,7 @@ fn read_event(
     ensures { Puts (option_map (moved base) (event_fault bytes.now))
         (event_of now bytes.now) result event.new }
 {
-    event.clear(now);
+    event.clear(alloc, now);
     read_fields(alloc, bytes, base, event)?;
     round_time(event);
     Ok(())
