@@ -1,7 +1,7 @@
 use crate::show::{put_event, shown};
 use ev_types::{Blob, Event, Events, Memory, Text};
 use riemann_msg::{
-    Msg, MsgFault, QueryPart, bits_of_ttl, msg_len, read_msg, ttl_of_bits, write_msg,
+    Msg, MsgFault, QueryPart, bits_of_ttl, msg_len, read_msg, read_msg_into, ttl_of_bits, write_msg,
 };
 use std::alloc::Global;
 use std::fmt::Write;
@@ -51,10 +51,13 @@ fn is_message(alloc: Global, msg: &Msg, front: &str, wanted: &str) -> Result<boo
     }
 }
 
-/// Whether the bytes are this message.
+/// Whether the bytes are this message, also where they are read into the memory of an event with every field.
 fn is_read(alloc: Global, body: &[u8], wanted: &str) -> Result<bool, Fail> {
     let msg = read_msg(alloc, body, NOW)?;
-    is_message(alloc, &msg, "", wanted)
+    let whole = embedded(alloc, WHOLE)?;
+    let spent = read_msg(alloc, whole.as_slice(), NOW)?;
+    let again = read_msg_into(alloc, body, NOW, spent.events)?;
+    Ok(is_message(alloc, &msg, "", wanted)? && is_message(alloc, &again, "", wanted)?)
 }
 
 /// Whether the bytes are this event, read as the one of a message.
