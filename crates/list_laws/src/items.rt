@@ -28,7 +28,7 @@ impl<T> Model for Items<T> {
 }
 
 impl<T: Drop> Items<T> {
-    ghost use Rattle.list_laws.specs.Lending.{LendsItem, LendsItems};
+    ghost use Rattle.list_laws.specs.Lending.{LendsItem};
 
     /// The empty list. It takes no memory.
     pub fn fresh(alloc: Global) -> Items<T>
@@ -57,14 +57,6 @@ impl<T: Drop> Items<T> {
         ensures { result.now ≡ self.now }
     {
         self.items.as_slice()
-    }
-
-    /// The items, for writing, with no copy.
-    pub fn as_mut_slice(&mut self) -> &mut [T]
-        ensures* writes_back { sem 𝓛 (LendsItems T.row self.entry result) }
-        ensures value { result.now ≡ self.old }
-    {
-        self.items.as_mut_slice()
     }
 
     pub fn len(&self) -> usize

@@ -429,6 +429,7 @@ fn read_event_at(
     ensures room { count < length events.new }
     ensures fits { length events.new < 2 ^ 64 }
 {
+    // Each length of a list is less than 2^64, so that the next count is too.
     let _len = events.len();
     read_event(alloc, now, bytes, base, events.get_mut(count))
 }
