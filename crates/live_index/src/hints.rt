@@ -8,49 +8,54 @@ use std::hash::{FoldHasher, Hasher};
 /// that number.
 #[derive(Drop)]
 pub(crate) struct Hints {
-    // One for each remainder of a hash, and 0 where none was noted.
-    numbers: Vec<usize>,
+    // The last two that were noted for each remainder of a hash, and 0 where none was.
+    pairs: Vec<(usize, usize)>,
 }
 
 impl Hints {
     pub(crate) fn fresh(alloc: Global) -> Hints {
         Hints {
-            numbers: Vec::new(alloc),
+            pairs: Vec::new(alloc),
         }
     }
 
-    /// The number that was noted last for a hash of this slot, or 0 if none was. `None`: there are no slots yet.
-    pub(crate) fn number(&self, hash: u64) -> Option<usize> {
+    /// The last two numbers that were noted for hashes of this slot, the later one first, or 0 where none was. `None`:
+    /// there are no slots yet.
+    pub(crate) fn pair(&self, hash: u64) -> Option<(usize, usize)> {
         let slot = self.slot(hash)?;
-        Some(self.numbers[slot])
+        Some(self.pairs[slot])
     }
 
     /// Notes the number for the hash.
     pub(crate) fn note(&mut self, hash: u64, number: usize) {
-        if let Some(slot) = self.slot(hash) {
-            self.numbers[slot] = number;
+        let Some(slot) = self.slot(hash) else {
+            return;
+        };
+        let (last, _) = self.pairs[slot];
+        if last != number {
+            self.pairs[slot] = (number, last);
         }
     }
 
-    /// Makes four slots for each of `count` events where there are fewer than two for each, and forgets what was noted. If
+    /// Makes two slots for each of `count` events where there are fewer than one for each, and forgets what was noted. If
     /// memory runs out, nothing changes.
     pub(crate) fn reserve(&mut self, alloc: Global, count: usize) {
-        if count <= self.numbers.len() / 2 {
+        if count <= self.pairs.len() {
             return;
         }
-        let Some(len) = count.checked_mul(4) else {
+        let Some(len) = count.checked_mul(2) else {
             return;
         };
-        if let Ok(numbers) = vec![in alloc; 0; len] {
-            self.numbers = numbers;
+        if let Ok(pairs) = vec![in alloc; (0, 0); len] {
+            self.pairs = pairs;
         }
     }
 
     /// The slot of the hash, where there are slots.
     fn slot(&self, hash: u64) -> Option<usize>
-        ensures { IfSome result (λ slot. slot < length self.now.numbers.items) }
+        ensures { IfSome result (λ slot. slot < length self.now.pairs.items) }
     {
-        let len = self.numbers.len() as u64;
+        let len = self.pairs.len() as u64;
         if len == 0 {
             return None;
         }

@@ -110,7 +110,19 @@ impl Store {
         ensures { IfSome result (λ number.
             number_at (key_of event.now) self.now.numbers ≡ Some number) }
     {
-        let number = self.hints.number(hash)?;
+        let (last, before) = self.hints.pair(hash)?;
+        match self.if_same_key(last, event) {
+            Some(number) => Some(number),
+            None => self.if_same_key(before, event),
+        }
+    }
+
+    /// The number, if an event of the same host and service has it.
+    fn if_same_key(&self, number: usize, event: &Event) -> Option<usize>
+        requires { IsLinked self.now.numbers self.now.events }
+        ensures { IfSome result (λ number.
+            number_at (key_of event.now) self.now.numbers ≡ Some number) }
+    {
         if !self.events.contains(number) {
             return None;
         }
