@@ -2,7 +2,6 @@
 use Rattle.std.specs.Prelude.{◌≡◌, ◌≢◌, ℕ, zero, suc, ◌≤◌, ◌<◌, ◌^◌, false, if◌then◌else◌, List, [], ◌∷◌, ◌++◌, map, length, take, slice_index_or, Option, Some, None}
 use Rattle.std.specs.List.{flat_map}
 use Rattle.ev_types.specs.declared.field.Field.{Field}
-use Rattle.ev_types.specs.declared.item.Item.TheVariants.{One}
 use Rattle.ev_types.specs.declared.item.Output.{Output}
 use Rattle.ev_types.specs.declared.value.Value.{Value}
 use Rattle.fork_by.specs.declared.table.ForkTable.{ForkTable}
@@ -12,10 +11,10 @@ use Rattle.tick_schedule.specs.Queue.{Sets}
 use Rattle.pred_eval.specs.Search.{AreReadFrom}
 use Rattle.regex.specs.declared.string.regex.Regex.{Regex}
 use Rattle.stream_plan.specs.declared.plan.Stream.{Stream}
-use Rattle.stream_plan.specs.Tree.{KindTree, Index, StreamTree, StreamTrees, stream, none, also, list_trees}
+use Rattle.stream_plan.specs.Tree.{KindTree, StreamTree, StreamTrees, stream, none, also, list_trees}
 use Rattle.stream_meaning.specs.Branches.{same_branch, after_emissions, ticked, with_key}
 use Rattle.stream_meaning.specs.declared.entry.Entry.{Entry}
-use Rattle.stream_meaning.specs.declared.entry.Entry.TheVariants.{Tick, Item as In}
+use Rattle.stream_meaning.specs.declared.entry.Entry.TheVariants.{Tick}
 use Rattle.stream_meaning.specs.Deadlines.{plan_deadline}
 use Rattle.stream_meaning.specs.Emission.{Branch, Children, Otherwise, Fork, Emission}
 use Rattle.stream_meaning.specs.History.{History, ◌▸◌, begun, moment_of, TicksAlone}
@@ -113,11 +112,6 @@ FirstRepresent texts zero streams nodes h x = ForestRepresents texts streams nod
 FirstRepresent texts (suc i) none nodes h x = ForestRepresents texts none nodes h
 FirstRepresent texts (suc i) (also first more) [] h x = ⊥
 FirstRepresent texts (suc i) (also first more) (node ∷ nodes) h x = NodeRepresents texts first node (h ▸ x) × FirstRepresent texts i more nodes h x
-
--- the stream of the kind writes the entry and needs it no more: none that is below it gets it
-abbrev pub IsWritten : KindTree → Entry → Type 0
-IsWritten Index (In (One event)) = Unit {0}
-IsWritten kind x = ⊥
 
 -- the fork of the number represents this history, and all else is as it was
 pub record ForkRan (texts : List (List ℕ)) (streams : StreamTrees) (number : ℕ) (forks forks' : ForkTable Forest) (h : History) : Type 0 where

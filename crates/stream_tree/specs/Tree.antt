@@ -1,6 +1,8 @@
 -- A tree of streams that runs, and the histories that it represents.
-use Rattle.std.specs.Prelude.{◌≡◌, ℕ, ◌+◌, ◌≤◌, Bool, false, List, ◌++◌}
+use Rattle.std.specs.Prelude.{◌≡◌, ◌+◌, ◌≤◌, Bool, false, if◌then◌else◌, List, [], ◌∷◌, ◌++◌}
+use Rattle.ev_types.specs.declared.event.Event.{Event}
 use Rattle.ev_types.specs.declared.item.Output.{Output}
+use Rattle.ev_types.specs.declared.item.Output.TheVariants.{Write}
 use Rattle.list_laws.specs.Prefix.{IsPrefix}
 use Rattle.step_count.specs.Count.{StepCount}
 use Rattle.stream_plan.specs.Ready.{plan_patterns}
@@ -23,6 +25,10 @@ pub record Represents (tree : Tree) (h : History) : Type 0 where
   pub alive : is_poisoned tree ≡ false
   pub begins : begun h ≡ tree.start
   pub represents : ForestRepresents (plan_patterns (plan_of tree)) (plan_of tree) (nodes_of tree.forest) h
+
+-- the outputs, and after them the write of the event where it was answered and not appended
+abbrev pub with_write : Bool → Event → List Output → List Output
+with_write is_written event outputs = if is_written then outputs ++ Write event ∷ [] else outputs
 
 -- The effects are performed in order, and counted: a fork is entered where it is due and where an item comes to it, and
 -- an entry is visited for each fork that is due.

@@ -1,17 +1,17 @@
-ghost use Rattle.std.specs.Prelude.{◌≡◌, ◌≤◌, ◌+◌, ◌^◌, false, [], IfOk, OnOk, OnErr, IsErr, IsOk, IsTrue};
+ghost use Rattle.std.specs.Prelude.{◌≡◌, ◌≤◌, ◌+◌, ◌^◌, true, false, [], IfOk, OnOk, OnErr, IsErr, IsOk, IsTrue};
 ghost use Rattle.ev_types.specs.declared.item.Item.TheVariants.{One};
 ghost use Rattle.stream_meaning.specs.declared.entry.Entry.TheVariants.{Tick, Item as In};
 ghost use Rattle.stream_meaning.specs.History.{History, ◌▸◌, begun, moment_of, TicksAlone};
 ghost use Rattle.stream_meaning.specs.Deadlines.{plan_deadline};
 ghost use Rattle.stream_meaning.specs.Outputs.{plan_effects};
-ghost use Rattle.stream_tree.specs.Running.{Stops};
 ghost use Rattle.list_laws.specs.Prefix.{IsPrefix};
-ghost use Rattle.stream_tree.specs.Tree.{plan_of, is_poisoned, Represents, Performs, PerformsPart};
+ghost use Rattle.stream_tree.specs.Tree.{plan_of, is_poisoned, Represents, with_write, Performs, PerformsPart};
 
 use crate::forest::{Forest, fresh_forest};
-use crate::give::give_forest;
+use crate::give::offer_forest;
 use crate::next::forest_due;
-use ev_types::{Event, Item, Memory, Outputs};
+use crate::run::run_forest;
+use ev_types::{Event, Memory, Output, Outputs};
 use std::alloc::Global;
 use step_count::{Ledger, Steps};
 use stream_meaning::Entry;
@@ -74,9 +74,68 @@ impl Tree {
         ensures sound { OnOk result (is_poisoned self.new ≡ false) }
         ensures prefix { IsPrefix out.old out.new }
     {
-        let entry = Entry::Item(Item::One(event));
-        self.enter(alloc, entry, now, out, steps)?;
+        let mut event = event;
+        if !self.offer(alloc, &mut event, now, out, steps)? {
+            return Ok(());
+        }
+        self.poisoned = true;
+        out.push(alloc, Output::Write(event))?;
+        self.poisoned = false;
         Ok(())
+    }
+
+    /// The event comes to the streams as by [`Tree::item`], but where the last stream of the plan is an `index`, its
+    /// write is not appended: the answer is then true, and `event` is as it was. Else the answer is false, and what is
+    /// left in `event` is not specified.
+    pub fn offer<G: Ledger>(
+        &mut self,
+        alloc: Global,
+        event: &mut Event,
+        now: u64,
+        out: &mut Outputs,
+        steps: &mut Steps<G>,
+    ) -> Result<bool, Memory>
+        requires { now ≤ 2 ^ 40 }
+        ensures plan { plan_of self.new ≡ plan_of self.old }
+        ensures grew { IfOk result (λ is_written. (h : History) → Represents self.old h →
+            moment_of h ≡ now →
+            Performs out.old steps.old (with_write is_written event.old out.new) steps.new
+            (plan_effects (plan_of self.old) (h ▸ In (One event.old)))) }
+        ensures part { OnErr result ((h : History) → Represents self.old h →
+            moment_of h ≡ now →
+            PerformsPart out.old steps.old out.new steps.new
+            (plan_effects (plan_of self.old) (h ▸ In (One event.old)))) }
+        ensures event { IfOk result (λ is_written. is_written ≡ true →
+            event.new ≡ event.old) }
+        ensures represents { OnOk result ((h : History) → Represents self.old h →
+            moment_of h ≡ now →
+            Represents self.new (h ▸ In (One event.old))) }
+        ensures poisoned { IsTrue (is_poisoned self.old) → IsErr result }
+        ensures err { OnErr result (IsTrue (is_poisoned self.new)) }
+        ensures sound { OnOk result (is_poisoned self.new ≡ false) }
+        ensures prefix { IsPrefix out.old out.new }
+    {
+        if self.poisoned {
+            return Err(Memory);
+        }
+        self.poisoned = true;
+        let context = Context {
+            patterns: self.plan.patterns(),
+            moment: now,
+            start: self.start,
+        };
+        let streams = &self.plan.plan().streams;
+        let is_written = offer_forest(
+            alloc,
+            streams,
+            &mut self.forest,
+            event,
+            &context,
+            out,
+            steps,
+        )?;
+        self.poisoned = false;
+        Ok(is_written)
     }
 
     /// One more second has passed, and it is the moment `now`. The outputs of the streams are appended to `out`. Only
@@ -109,46 +168,6 @@ impl Tree {
         ensures sound { OnOk result (is_poisoned self.new ≡ false) }
         ensures prefix { IsPrefix out.old out.new }
     {
-        self.enter(alloc, Entry::Tick, now, out, steps)?;
-        Ok(())
-    }
-
-    /// The least moment at which a stream of the tree passes something on next if only seconds follow. It is exact up to
-    /// the moment 2^40.
-    pub fn next_due(&self) -> Option<u64>
-        ensures { (h : History) → Represents self.now h → moment_of h ≤ 2 ^ 40 →
-            result ≡ plan_deadline (plan_of self.now) h }
-    {
-        forest_due(&self.plan.plan().streams, &self.forest)
-    }
-
-    /// The entry comes to the streams.
-    fn enter<G: Ledger>(
-        &mut self,
-        alloc: Global,
-        entry: Entry,
-        now: u64,
-        out: &mut Outputs,
-        steps: &mut Steps<G>,
-    ) -> Result<(), Memory>
-        requires { now ≤ 2 ^ 40 }
-        ensures plan { plan_of self.new ≡ plan_of self.old }
-        ensures grew { OnOk result ((h : History) → Represents self.old h →
-            moment_of (h ▸ entry) ≡ now →
-            Performs out.old steps.old out.new steps.new
-            (plan_effects (plan_of self.old) (h ▸ entry))) }
-        ensures stops { OnErr result ((h : History) → Represents self.old h →
-            moment_of (h ▸ entry) ≡ now →
-            Stops out.old steps.old out.new steps.new entry
-            (plan_effects (plan_of self.old) (h ▸ entry))) }
-        ensures represents { OnOk result ((h : History) → Represents self.old h →
-            moment_of (h ▸ entry) ≡ now →
-            Represents self.new (h ▸ entry)) }
-        ensures poisoned { IsTrue (is_poisoned self.old) → IsErr result }
-        ensures err { OnErr result (IsTrue (is_poisoned self.new)) }
-        ensures sound { OnOk result (is_poisoned self.new ≡ false) }
-        ensures prefix { IsPrefix out.old out.new }
-    {
         if self.poisoned {
             return Err(Memory);
         }
@@ -159,16 +178,25 @@ impl Tree {
             start: self.start,
         };
         let streams = &self.plan.plan().streams;
-        give_forest(
+        run_forest(
             alloc,
             streams,
             &mut self.forest,
-            entry,
+            &Entry::Tick,
             &context,
             out,
             steps,
         )?;
         self.poisoned = false;
         Ok(())
+    }
+
+    /// The least moment at which a stream of the tree passes something on next if only seconds follow. It is exact up to
+    /// the moment 2^40.
+    pub fn next_due(&self) -> Option<u64>
+        ensures { (h : History) → Represents self.now h → moment_of h ≤ 2 ^ 40 →
+            result ≡ plan_deadline (plan_of self.now) h }
+    {
+        forest_due(&self.plan.plan().streams, &self.forest)
     }
 }
