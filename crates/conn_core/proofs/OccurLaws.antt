@@ -1,6 +1,7 @@
 -- What the occurrence of a turn comes to.
 use Rattle.std.proofs.Common.{◌≡◌, ◌≢◌, ℕ, Bool, true, false, cond, ◌||◌, List, [], ◌∷◌, get_or, set, Result, Ok, Err, refl, ap, sym, ◌∙◌, subst, append-nil}
 use Rattle.std.specs.Prelude.{IsErr, Option, Some, None, OnOk}
+use Rattle.ev_types.specs.declared.event.Event.{Event}
 use Rattle.event_core.specs.declared.arrivals.Core.{Core}
 use Rattle.event_core.specs.Core.{CoreConfig, Represents, config_of}
 use Rattle.framing.specs.Frames.{length_at, partial}
@@ -250,11 +251,11 @@ module _ (number count place : ℕ) (piece : List ℕ) (hub : Hub) (core' : Core
         done = none_ok _ result failed;
       }
 
-  heard_whole : (table' : Kept HubLink) (result : Result (Unit {0}) Memory) (run : List Entry) → HearsPiece piece value value' hub.core core' patterns patterns' old new (Ok tt)
+  heard_whole : (table' : Kept HubLink) (spent : List Event) (result : Result (Unit {0}) Memory) (run : List Entry) → HearsPiece piece value value' hub.core core' patterns patterns' old new (Ok tt)
       → Settles (record hub.table { values = set hub.table.values place value' }) table' number place result run
       → (state : RunState) → IsAt hub (config_of hub.core) state → AreSettled state.links
-      → Occurs (Read number count) piece (record hub { core = core'; table = table' }) patterns patterns' old new result (config_of hub.core) state run
-  heard_whole table' result run hears settles state at settled =
+      → Occurs (Read number count) piece (record hub { core = core'; table = table'; spent = spent }) patterns patterns' old new result (config_of hub.core) state run
+  heard_whole table' spent result run hears settles state at settled =
       let config : CoreConfig = config_of hub.core in
       let found = focus_found hub.table number place state.links at.links settled at_place in
       let meant : Link = found.meant in
@@ -275,8 +276,8 @@ module _ (number count place : ℕ) (piece : List ℕ) (hub : Hub) (core' : Core
         reported = hears.reported;
         possible = possible_there state meant verdicts found.found (hears.possible state meant there);
         legal = subst (IsLegalFrom config (plain run)) (sym is) reach.legal;
-        done = on_ok result (λ ends. subst (λ (s : RunState). Done (record hub { core = core'; table = table' }) config state (state_from config (plain run) s) old new) (sym is)
-            (subst (λ (after : RunState). Done (record hub { core = core'; table = table' }) config state after old new) (sym ends.leads) (record {
+        done = on_ok result (λ ends. subst (λ (s : RunState). Done (record hub { core = core'; table = table'; spent = spent }) config state (state_from config (plain run) s) old new) (sym is)
+            (subst (λ (after : RunState). Done (record hub { core = core'; table = table'; spent = spent }) config state after old new) (sym ends.leads) (record {
               at = record {
                 arrivals = subst (Represents core') (sym heard.arrivals) heard.arrives.represents;
                 config_is = heard.arrives.config;
@@ -290,9 +291,9 @@ module _ (number count place : ℕ) (piece : List ℕ) (hub : Hub) (core' : Core
             }))) reach.ends;
       }
 
-  pub occurs_heard : (table' : Kept HubLink) (result : Result (Unit {0}) Memory) (run : List Entry) → HearsPiece piece value value' hub.core core' patterns patterns' old new (Ok tt)
+  pub occurs_heard : (table' : Kept HubLink) (spent : List Event) (result : Result (Unit {0}) Memory) (run : List Entry) → HearsPiece piece value value' hub.core core' patterns patterns' old new (Ok tt)
       → Settles (record hub.table { values = set hub.table.values place value' }) table' number place result run
-      → OccursFrom (Read number count) piece hub (record hub { core = core'; table = table' }) patterns patterns' old new result run
-  occurs_heard table' result run hears settles config state at settled =
-      subst (λ (c : CoreConfig). Occurs (Read number count) piece (record hub { core = core'; table = table' }) patterns patterns' old new result c state run) at.config_is
-      (heard_whole table' result run hears settles state (record { arrivals = at.arrivals; config_is = refl; now = at.now; links = at.links }) settled)
+      → OccursFrom (Read number count) piece hub (record hub { core = core'; table = table'; spent = spent }) patterns patterns' old new result run
+  occurs_heard table' spent result run hears settles config state at settled =
+      subst (λ (c : CoreConfig). Occurs (Read number count) piece (record hub { core = core'; table = table'; spent = spent }) patterns patterns' old new result c state run) at.config_is
+      (heard_whole table' spent result run hears settles state (record { arrivals = at.arrivals; config_is = refl; now = at.now; links = at.links }) settled)

@@ -15,7 +15,7 @@ ghost use Rattle.stream_meaning.specs.Arrivals.{Arrival, Elapsed};
 use crate::lines::write_lines;
 use crate::links::{change, settle};
 use crate::stop::Stop;
-use ev_types::{Memory, Notices};
+use ev_types::{Events, Memory, Notices};
 use event_core::Core;
 use hub_link::HubLink;
 use link_table::LinkTable;
@@ -35,6 +35,8 @@ const SECONDS_PER_TURN: u64 = 3600;
 pub struct Hub {
     core: Core,
     table: LinkTable<HubLink>,
+    // Events that nobody needs any more, into whose memory the next message is read.
+    spent: Events,
 }
 
 impl Hub {
@@ -48,6 +50,7 @@ impl Hub {
         Ok(Hub {
             core,
             table: LinkTable::fresh(alloc),
+            spent: Events::fresh(alloc),
         })
     }
 
@@ -170,9 +173,15 @@ impl Hub {
         let Some(place) = self.table.find(number) else {
             return Ok(());
         };
-        self.table
-            .value_mut(place)
-            .hear(alloc, piece, &mut self.core, patterns, notices, steps)?;
+        self.table.value_mut(place).hear(
+            alloc,
+            piece,
+            &mut self.spent,
+            &mut self.core,
+            patterns,
+            notices,
+            steps,
+        )?;
         settle(alloc, &mut self.table, number, place, links)?;
         Ok(())
     }

@@ -5,18 +5,20 @@ ghost use Rattle.framing.specs.Frames.{HasFrame};
 ghost use Rattle.hub_link.specs.Answering.{AnswersFirst, AnswersFrames};
 
 use crate::unsent::Unsent;
-use ev_types::{Memory, Notices};
+use ev_types::{Events, Memory, Notices};
 use event_core::Core;
 use frame_link::{FirstFrame, FrameLink};
 use pred_eval::Patterns;
 use std::alloc::Global;
 use step_count::{Ledger, Steps};
 
-/// Answers the messages of all whole frames, in order, and removes these frames.
+/// Answers the messages of all whole frames, in order, and removes these frames. They are read into the memory of
+/// `spent`.
 pub(crate) fn answer_frames<P: Patterns, G: Ledger>(
     alloc: Global,
     input: &mut FrameLink,
     unsent: &mut Unsent,
+    spent: &mut Events,
     core: &mut Core,
     patterns: &mut P,
     notices: &mut Notices,
@@ -29,7 +31,7 @@ pub(crate) fn answer_frames<P: Patterns, G: Ledger>(
     ensures none_left { OnOk result (HasFrame input.new.bytes → ⊥) }
 {
     'frames: loop {
-        let was_whole = answer_first(alloc, input, unsent, core, patterns, notices, steps)?;
+        let was_whole = answer_first(alloc, input, unsent, spent, core, patterns, notices, steps)?;
         if !was_whole {
             return Ok(());
         }
@@ -41,6 +43,7 @@ fn answer_first<P: Patterns, G: Ledger>(
     alloc: Global,
     input: &mut FrameLink,
     unsent: &mut Unsent,
+    spent: &mut Events,
     core: &mut Core,
     patterns: &mut P,
     notices: &mut Notices,
@@ -53,7 +56,7 @@ fn answer_first<P: Patterns, G: Ledger>(
 {
     match input.front() {
         FirstFrame::Whole(body) => {
-            unsent.answer(alloc, body, core, patterns, notices, steps)?;
+            unsent.answer(alloc, body, spent, core, patterns, notices, steps)?;
             let length = body.len();
             input.advance(length);
             Ok(true)

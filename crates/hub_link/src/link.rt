@@ -14,7 +14,7 @@ ghost use Rattle.hub_link.specs.Sending.{IsSent, Sends, can_send, is_over_as, se
 
 use crate::frames::answer_frames;
 use crate::unsent::Unsent;
-use ev_types::{Memory, Notices};
+use ev_types::{Events, Memory, Notices};
 use event_core::Core;
 use frame_link::{FirstFrame, FrameLink};
 use framing::BODY_LIMIT;
@@ -58,12 +58,14 @@ impl HubLink {
     }
 
     /// Reads a piece that came, if the link is open: the events of each whole frame are posted and its reply is appended,
-    /// in order. A length over the limit is answered too, and then no more is read. After `Memory` nothing is known of the
-    /// link.
+    /// in order. A length over the limit is answered too, and then no more is read. The messages are read into the memory
+    /// of `spent`, events that nobody needs any more, and leave other such events there. After `Memory` nothing is known of
+    /// the link.
     pub fn hear<P: Patterns, G: Ledger>(
         &mut self,
         alloc: Global,
         piece: &[u8],
+        spent: &mut Events,
         core: &mut Core,
         patterns: &mut P,
         notices: &mut Notices,
@@ -83,6 +85,7 @@ impl HubLink {
             alloc,
             &mut self.input,
             &mut self.unsent,
+            spent,
             core,
             patterns,
             notices,

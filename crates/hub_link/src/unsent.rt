@@ -4,7 +4,7 @@ ghost use Rattle.hub_meaning.specs.Verdicts.{patterns_state};
 ghost use Rattle.msg_replies.specs.Answering.{AnswersMessage};
 ghost use Rattle.msg_replies.specs.Arriving.{reported};
 
-use ev_types::{Blob, Memory, Notices};
+use ev_types::{Blob, Events, Memory, Notices};
 use event_core::Core;
 use msg_replies::{answer, refuse_length};
 use pred_eval::Patterns;
@@ -65,11 +65,13 @@ impl Unsent {
         }
     }
 
-    /// Posts the events of a message, and appends the reply to it. After `Memory` nothing is known of the replies.
+    /// Posts the events of a message, and appends the reply to it. The message is read into the memory of `spent`. After
+    /// `Memory` nothing is known of the replies.
     pub(crate) fn answer<P: Patterns, G: Ledger>(
         &mut self,
         alloc: Global,
         body: &[u8],
+        spent: &mut Events,
         core: &mut Core,
         patterns: &mut P,
         notices: &mut Notices,
@@ -86,6 +88,7 @@ impl Unsent {
             alloc,
             body,
             unsent,
+            spent,
             core,
             patterns,
             &mut self.later,

@@ -1,6 +1,6 @@
 -- How a message is answered, put together from its steps.
-use Rattle.std.proofs.Common.{◌≡◌, ◌≢◌, ℕ, Bool, true, false, cond, List, [], ◌∷◌, ◌++◌, map, refl, ap, sym, ◌∙◌, subst, arith, append-nil, append_assoc}
-use Rattle.std.proofs.lemmas.List.{map-append}
+use Rattle.std.proofs.Common.{◌≡◌, ◌≢◌, ℕ, ◌+◌, ◌<◌, Bool, true, false, cond, List, [], ◌∷◌, ◌++◌, drop, get_or, length, map, set, take, refl, ap, sym, ◌∙◌, subst, arith, append-nil, append_assoc}
+use Rattle.std.proofs.lemmas.List.{drop-set, drop-set-lt, map-append, set-get_or, take_more}
 use Rattle.std.specs.Prelude.{Option, Some, None, Result, Ok, Err, OnOk, OnErr, option_and_then}
 use Rattle.ev_types.specs.declared.event.Event.{Event}
 use Rattle.event_core.specs.declared.arrivals.Core.{Core}
@@ -200,3 +200,24 @@ posted_more one two three arrivals events event a b c config represents heard be
     } in
     subst (λ (more : List Arrival). Arrives one three arrivals more a c) (sym (map-append Post events (event ∷ [])))
     (arrives_then one two three arrivals (map Post events) (Post event ∷ []) a b c before last)
+
+-- ---- an event that is posted from its place in a list
+
+first-of : (a b : Event) (xs ys : List Event) → a ∷ xs ≡ b ∷ ys → a ≡ b
+first-of a b xs ys same = ap (λ (list : List Event). get_or list 0 a) same
+
+rest-of : (a b : Event) (xs ys : List Event) → a ∷ xs ≡ b ∷ ys → xs ≡ ys
+rest-of a b xs ys same = ap (λ (list : List Event). drop 1 list) same
+
+item-at : (xs : List Event) (i : ℕ) (x : Event) → i < length xs → drop i xs ≡ get_or xs i x ∷ drop (i + 1) xs
+item-at xs i x within = ap (λ (list : List Event). drop i list) (sym (set-get_or xs i x)) ∙ drop-set xs i (get_or xs i x) within
+
+-- `xs` is `ys` from `i` on, and its event `x` at `i` becomes `y`
+pub posted-at : (xs ys : List Event) (i : ℕ) (x y : Event) → i < length ys → length xs ≡ length ys → x ≡ get_or xs i x → drop i xs ≡ drop i ys
+    → (drop (i + 1) (set xs i y) ≡ drop (i + 1) ys) × (take (i + 1) ys ≡ take i ys ++ x ∷ [])
+posted-at xs ys i x y within many is same =
+    let within' : i < length xs = subst (λ (n : ℕ). i < n) (sym many) within in
+    let both : get_or xs i x ∷ drop (i + 1) xs ≡ get_or ys i x ∷ drop (i + 1) ys = sym (item-at xs i x within') ∙ same ∙ item-at ys i x within in (
+      drop-set-lt (i + 1) xs i y (omega arith) ∙ rest-of (get_or xs i x) (get_or ys i x) (drop (i + 1) xs) (drop (i + 1) ys) both,
+      take_more ys i x within ∙ ap (λ (e : Event). take i ys ++ e ∷ []) (sym (is ∙ first-of (get_or xs i x) (get_or ys i x) (drop (i + 1) xs) (drop (i + 1) ys) both)),
+    )

@@ -9,20 +9,26 @@ ghost use Rattle.msg_replies.specs.Answering.{AnswersMessage};
 ghost use Rattle.msg_replies.specs.Arriving.{Arrives, reported};
 
 use crate::queries::answer_query;
-use ev_types::{Blob, Events, Memory, Notices, Text};
+use ev_types::{Blob, Event, Events, Memory, Notices, Text};
 use event_core::Core;
 use framing::BODY_LIMIT;
 use pred_eval::Patterns;
-use riemann_msg::{Msg, MsgFault, MsgWhy, msg_len, read_msg, write_msg};
+use riemann_msg::{Msg, MsgFault, MsgWhy, msg_len, read_msg_into, write_msg};
 use std::alloc::{AllocError, Global};
+use std::mem;
 use step_count::{Ledger, Steps};
 
+/// At most this many events are kept for their memory.
+const SPENT_LIMIT: usize = 128;
+
 /// Posts the events of a message, and appends the reply to it. `unsent` is how many bytes of earlier replies to its link
-/// were not taken.
+/// were not taken. The message is read into the memory of `spent`, events that nobody needs any more, and other such
+/// events are left there.
 pub fn answer<P: Patterns, G: Ledger>(
     alloc: Global,
     body: &[u8],
     unsent: usize,
+    spent: &mut Events,
     core: &mut Core,
     patterns: &mut P,
     replies: &mut Blob,
@@ -35,10 +41,13 @@ pub fn answer<P: Patterns, G: Ledger>(
         replies.old replies.new (reported notices.old steps.old.forks)
         (reported notices.new steps.new.forks) result }
 {
-    match read_msg(alloc, body, core.now()) {
+    let memory = mem::replace(spent, Events::fresh(alloc));
+    match read_msg_into(alloc, body, core.now(), memory) {
         Ok(msg) => {
-            post_all(alloc, msg.events, core, notices, steps)?;
+            let mut events = msg.events.into_vec();
+            post_all(alloc, &mut events, core, notices, steps)?;
             answer_query(alloc, &msg.query, unsent, core, patterns, replies, steps)?;
+            keep(events, spent);
         }
         Err(MsgFault::Refused { place, why }) => refuse_msg(alloc, place, why, replies)?,
         Err(MsgFault::Memory) => return Err(Memory),
@@ -46,21 +55,28 @@ pub fn answer<P: Patterns, G: Ledger>(
     Ok(())
 }
 
-/// The events come to the core, in order.
+/// Keeps the events for their memory, unless they are many.
+fn keep(events: Vec<Event>, spent: &mut Events) {
+    if events.len() <= SPENT_LIMIT {
+        *spent = Events::from_vec(events);
+    }
+}
+
+/// The events come to the core, in order. What is left of them is not specified.
 fn post_all<G: Ledger>(
     alloc: Global,
-    events: Events,
+    events: &mut [Event],
     core: &mut Core,
     notices: &mut Notices,
     steps: &mut Steps<G>,
 ) -> Result<(), Memory>
     ensures now { OnOk result (now_of core.new ≡ now_of core.old) }
     ensures arrives { OnOk result ((arrivals : List Arrival) → Represents core.old arrivals
-        → Arrives core.old core.new arrivals (map Post events)
+        → Arrives core.old core.new arrivals (map Post events.old)
         (reported notices.old steps.old.forks) (reported notices.new steps.new.forks)) }
 {
-    for event in events.into_vec() {
-        core.post(alloc, event, notices, steps)?;
+    for event in events.iter_mut() {
+        core.post_from(alloc, event, notices, steps)?;
     }
     Ok(())
 }

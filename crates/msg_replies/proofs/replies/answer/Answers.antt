@@ -1,4 +1,5 @@
-use Rattle.std.proofs.Common.{ℕ, map, Ok, subst, sym}
+use Rattle.std.proofs.Common.{ℕ, List, map, Ok, subst, sym, ◌∙◌}
+use Rattle.ev_types.specs.declared.event.Event.{Event}
 use Rattle.stream_meaning.specs.Arrivals.{Post}
 use Rattle.msg_replies.specs.Arriving.{Arrives, reported}
 use Rattle.std.proofs.lemmas.Result.{err_from_is_err_and}
@@ -16,7 +17,9 @@ returns-in_ok-answer_query-in-Ok g c =
     answers_accepted c.args.body.now c.args.unsent c.in-Ok.msg c.args.core.now c.post_all.new.core _ _ _ _ _ old _ (Ok tt) (rw (← c.now.ensures.value) c.in-Ok.ensures.reads)
     c.in_ok-post_all-in-Ok.ensures.now c.in_ok-answer_query-in-Ok.ensures.same
     (λ arrivals holds. subst (λ (forks : ℕ). Arrives c.args.core.now c.post_all.new.core arrivals (map Post c.in-Ok.msg.events) old (reported c.post_all.new.notices forks))
-    (sym c.in_ok-answer_query-in-Ok.ensures.forks) (c.in_ok-post_all-in-Ok.ensures.arrives arrivals holds))
+    (sym c.in_ok-answer_query-in-Ok.ensures.forks)
+    (subst (λ (events : List Event). Arrives c.args.core.now c.post_all.new.core arrivals (map Post events) old (reported c.post_all.new.notices c.post_all.new.steps.forks))
+    (c.deref_mut.ensures.value ∙ c.into_vec-events.ensures) (c.in_ok-post_all-in-Ok.ensures.arrives arrivals holds)))
     c.in_ok-answer_query-in-Ok.ensures.answers
 
 pub returns-in_ok-refuse_msg-in-Err-Refused : goal.returns-in_ok-refuse_msg-in-Err-Refused

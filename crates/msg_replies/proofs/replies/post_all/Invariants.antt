@@ -1,4 +1,4 @@
-use Rattle.std.proofs.Common.{◌≡◌, List, map}
+use Rattle.std.proofs.Common.{◌≡◌, List, drop, map, take}
 use Rattle.event_core.specs.Core.{Represents, now_of}
 use Rattle.stream_meaning.specs.Arrivals.{Arrival, Post}
 use Rattle.msg_replies.specs.Arriving.{Arrives, reported}
@@ -7,5 +7,6 @@ use Rattle.msg_replies.proofs.replies.post_all.Given as goal
 abbrev pub invariant-loop-event : goal.invariant-loop-event
 invariant-loop-event g l =
     (now_of l.core ≡ now_of l.fn.core)
+    × (drop l.event-index l.events ≡ drop l.event-index l.fn.events)
     × ((arrivals : List Arrival) → Represents l.fn.core arrivals
-    → Arrives l.fn.core l.core arrivals (map Post l.yielded) (reported l.fn.notices l.fn.steps.forks) (reported l.notices l.steps.forks))
+    → Arrives l.fn.core l.core arrivals (map Post (take l.event-index l.fn.events)) (reported l.fn.notices l.fn.steps.forks) (reported l.notices l.steps.forks))

@@ -41,7 +41,7 @@ returns-in_err-hear-clause-occurs g c count =
     let value = c.value_mut.result.now in
     let value' = c.hear.new.self in
     let table' : Kept HubLink = record hub.table { values = set hub.table.values place value' } in
-    let hub' : Hub = record hub { core = c.hear.new.core; table = table' } in
+    let hub' : Hub = record hub { core = c.hear.new.core; table = table'; spent = c.hear.new.spent } in
     let patterns = patterns_state (g.P.Patterns.refusals c.args.patterns.now) (g.P.Patterns.refused c.args.patterns.now) in
     let patterns' = patterns_state (g.P.Patterns.refusals c.hear.new.patterns) (g.P.Patterns.refused c.hear.new.patterns) in
     let before = reported c.args.notices.now c.args.steps.now.forks in
@@ -59,7 +59,7 @@ returns-in_err-settle-clause-occurs g c count =
     let value = c.value_mut.result.now in
     let value' = c.hear.new.self in
     let table' : Kept HubLink = record hub.table { values = set hub.table.values place value' } in
-    let hub' : Hub = record hub { core = c.hear.new.core; table = c.settle.new.table } in
+    let hub' : Hub = record hub { core = c.hear.new.core; table = c.settle.new.table; spent = c.hear.new.spent } in
     let patterns = patterns_state (g.P.Patterns.refusals c.args.patterns.now) (g.P.Patterns.refused c.args.patterns.now) in
     let patterns' = patterns_state (g.P.Patterns.refusals c.hear.new.patterns) (g.P.Patterns.refused c.hear.new.patterns) in
     let before = reported c.args.notices.now c.args.steps.now.forks in
@@ -68,7 +68,7 @@ returns-in_err-settle-clause-occurs g c count =
     (OccursFrom (Read c.args.number count) c.args.piece.now hub hub' patterns patterns' before after (Err p.0))
     (λ run settles. occurs_heard c.args.number count place c.args.piece.now hub c.hear.new.core value value' patterns patterns' before after c.in-Some.ensures
     (λ other. sym (get_or_read hub.table.values place value c.in-Some.ensures.within c.value_mut.ensures.value other))
-    c.settle.new.table (Err p.0) run c.in_ok-hear.ensures.hears settles)
+    c.settle.new.table c.hear.new.spent (Err p.0) run c.in_ok-hear.ensures.hears settles)
     c.in_err-settle.ensures.settles)
 
 pub returns-clause-occurs : goal.returns-clause-occurs
@@ -78,7 +78,7 @@ returns-clause-occurs g c count =
     let value = c.value_mut.result.now in
     let value' = c.hear.new.self in
     let table' : Kept HubLink = record hub.table { values = set hub.table.values place value' } in
-    let hub' : Hub = record hub { core = c.hear.new.core; table = c.settle.new.table } in
+    let hub' : Hub = record hub { core = c.hear.new.core; table = c.settle.new.table; spent = c.hear.new.spent } in
     let patterns = patterns_state (g.P.Patterns.refusals c.args.patterns.now) (g.P.Patterns.refused c.args.patterns.now) in
     let patterns' = patterns_state (g.P.Patterns.refusals c.hear.new.patterns) (g.P.Patterns.refused c.hear.new.patterns) in
     let before = reported c.args.notices.now c.args.steps.now.forks in
@@ -87,5 +87,5 @@ returns-clause-occurs g c count =
     (OccursFrom (Read c.args.number count) c.args.piece.now hub hub' patterns patterns' before after (Ok tt))
     (λ run settles. occurs_heard c.args.number count place c.args.piece.now hub c.hear.new.core value value' patterns patterns' before after c.in-Some.ensures
     (λ other. sym (get_or_read hub.table.values place value c.in-Some.ensures.within c.value_mut.ensures.value other))
-    c.settle.new.table (Ok tt) run c.in_ok-hear.ensures.hears settles)
+    c.settle.new.table c.hear.new.spent (Ok tt) run c.in_ok-hear.ensures.hears settles)
     c.in_ok-settle.ensures.settles
