@@ -1,6 +1,8 @@
 -- What is reported and counted on the way of streams with an index from one state to another.
-use Rattle.std.proofs.Common.{◌≡◌, ℕ, ◌+◌, List, [], ◌∷◌, ◌++◌, refl, sym, ap, subst, ◌∙◌, append_assoc, arith}
+use Rattle.std.proofs.Common.{◌≡◌, ℕ, ◌+◌, Bool, true, false, List, [], ◌∷◌, ◌++◌, refl, sym, ap, subst, ◌∙◌, append_assoc, arith}
 use Rattle.std.proofs.lemmas.List.{append-nil}
+use Rattle.ev_types.specs.declared.event.Event.{Event}
+use Rattle.ev_types.specs.declared.item.Item.TheVariants.{One}
 use Rattle.ev_types.specs.declared.item.Notice.{Notice}
 use Rattle.ev_types.specs.declared.item.Output.{Output}
 use Rattle.ev_types.specs.declared.item.Output.TheVariants.{Notice as notice, Write as write}
@@ -11,6 +13,7 @@ use Rattle.stream_tree.specs.Tree as tree
 use Rattle.step_count.specs.Count.{StepCount}
 use Rattle.stream_meaning.specs.History.{◌▸◌}
 use Rattle.stream_meaning.specs.declared.entry.Entry.{Entry}
+use Rattle.stream_meaning.specs.declared.entry.Entry.TheVariants.{Item as In}
 use Rattle.stream_meaning.specs.Outputs.{plan_effects, outputs_among, outputs_at, outputs_of, due_among, given_among}
 use Rattle.stream_meaning.specs.Arrivals.{CoreState, writes_among, notices_among, entered}
 use Rattle.event_core.specs.declared.streams.IndexedStreams.{IndexedStreams}
@@ -76,6 +79,27 @@ entry-handled plan x streams held state none outputs before after old new is_non
     let made : outputs ≡ outputs_among hs = grew.outputs ∙ ap (λ (front : List Output). front ++ outputs_among hs) is_none in
     let holds : Holds streams (entered plan x state) = record { history = history; log = subst (λ (all : List Output). Represents streams.index (state.log ++ writes_among all)) made (handled state.log index) } in
     moved-entry plan x streams state old before.forks new after.forks holds (reported ∙ ap (λ (all : List Output). old ++ notices_among all) made) grew.forks
+
+-- an event came to the tree: its write is answered and comes after the outputs, or it is not
+module _ {G : Type 0} (plan : StreamTrees) (event : Event) (streams : IndexedStreams) (held : Index) (state : CoreState) (none outputs : List Output) (before after : StepCount G) (old new : List Notice) (is_written : Bool)
+    (is_none : none ≡ []) (history : tree.Represents streams.tree (state.history ▸ In (One event))) (index : Represents held state.log)
+    (grew : tree.Performs none before (tree.with_write is_written event outputs) after (plan_effects plan (state.history ▸ In (One event)))) where
+  outputs-by : (b : Bool) → is_written ≡ b → tree.Performs none before (tree.with_write b event outputs) after (plan_effects plan (state.history ▸ In (One event)))
+  outputs-by b is = subst (λ (c : Bool). tree.Performs none before (tree.with_write c event outputs) after (plan_effects plan (state.history ▸ In (One event)))) is grew
+
+  pub event-handled : is_written ≡ false → ((log : IndexLog) → Represents held log → Represents streams.index (log ++ writes_among outputs)) → new ≡ old ++ notices_among outputs →
+      Moved plan streams state (entered plan (In (One event)) state) old before.forks new after.forks
+  event-handled is handled reported =
+      entry-handled plan (In (One event)) streams held state none outputs before after old new is_none history index (outputs-by false is) handled reported
+
+  pub event-written : (between : Index) (left : Event) → is_written ≡ true → left ≡ event → ((log : IndexLog) → Represents held log → Represents between (log ++ writes_among outputs)) →
+      ((log : IndexLog) → Represents between log → Represents streams.index (log ++ Write left ∷ [])) → new ≡ old ++ notices_among outputs →
+      Moved plan streams state (entered plan (In (One event)) state) old before.forks new after.forks
+  event-written between left is same handled written reported =
+      let written' = subst (λ (e : Event). (log : IndexLog) → Represents between log → Represents streams.index (log ++ Write e ∷ [])) same written in
+      entry-handled plan (In (One event)) streams held state none (outputs ++ write event ∷ []) before after old new is_none history index (outputs-by true is)
+      (handled-index held between streams.index outputs (write event) handled written')
+      (handled-notices old new new outputs (write event) reported (sym (append-nil new)))
 
 -- two ways, one after the other
 pub moved-then : (plan : StreamTrees) (between streams : IndexedStreams) (a b c : CoreState) (out_a : List Notice) (forks_a : ℕ) (out_b : List Notice) (forks_b : ℕ) (out_c : List Notice) (forks_c : ℕ) →

@@ -14,7 +14,7 @@ use Rattle.stream_plan.specs.Tree.{StreamTrees}
 use Rattle.stream_meaning.specs.History.{◌▸◌, begun, moment_of}
 use Rattle.stream_meaning.specs.declared.entry.Entry.{Entry}
 use Rattle.stream_meaning.specs.declared.entry.Entry.TheVariants.{Tick, Item as In}
-use Rattle.stream_meaning.specs.Outputs.{plan_effects, outputs_at, due_forks, due_among}
+use Rattle.stream_meaning.specs.Outputs.{plan_effects, outputs_at, due_among}
 use Rattle.stream_meaning.specs.Arrivals.{Arrival, Elapsed, Post, CoreState, writes_among, entered, streamed, expired_copies, with_reap, fed_back, swept, arrived, state_from}
 use Rattle.event_core.specs.Counts.{expired_in, reaped_after, visits_to}
 use Rattle.event_core.specs.Core.{CoreConfig, state_by, VisitedFor}

@@ -133,6 +133,34 @@ impl Core {
         ensures err { OnErr result (IsTrue (is_poisoned self.new)) }
         ensures prefix { IsPrefix out.old out.new }
     {
+        let mut event = event;
+        self.post_from(alloc, &mut event, out, steps)?;
+        Ok(())
+    }
+
+    /// Posts as [`Core::post`] does, but moves the event out of `event`. What is left there is not specified.
+    pub fn post_from<G: Ledger>(
+        &mut self,
+        alloc: Global,
+        event: &mut Event,
+        out: &mut Notices,
+        steps: &mut Steps<G>,
+    ) -> Result<(), Memory>
+        ensures config { config_of self.new ≡ config_of self.old }
+        ensures now { now_of self.new ≡ now_of self.old }
+        ensures represents { OnOk result ((arrivals : List Arrival) → Represents self.old arrivals
+            → Represents self.new (arrivals ++ Post event.old ∷ [])) }
+        ensures heard { OnOk result ((arrivals : List Arrival) → Represents self.old arrivals
+            → Heard (config_of self.old) arrivals (Post event.old ∷ [])
+            out.old steps.old.forks out.new steps.new.forks) }
+        ensures entries { (arrivals : List Arrival) → Represents self.old arrivals
+            → VisitedFor (config_of self.old) arrivals (Post event.old ∷ [])
+            steps.old.entries steps.new.entries }
+        ensures poisoned { IsTrue (is_poisoned self.old) → IsErr result }
+        ensures sound { OnOk result (is_poisoned self.new ≡ false) }
+        ensures err { OnErr result (IsTrue (is_poisoned self.new)) }
+        ensures prefix { IsPrefix out.old out.new }
+    {
         if self.poisoned {
             return Err(Memory);
         }

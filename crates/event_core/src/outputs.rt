@@ -10,8 +10,8 @@ use live_index::LiveIndex;
 use std::alloc::Global;
 use std::mem;
 
-/// An empty list in the memory of this one, which is left without any.
-pub(crate) fn reuse(alloc: Global, list: &mut Outputs) -> Outputs
+/// Takes the buffer of the list as an empty list. The list is left without a buffer.
+pub(crate) fn take_buffer(alloc: Global, list: &mut Outputs) -> Outputs
     ensures { result ≡ [] }
 {
     let mut outputs = mem::replace(list, Outputs::fresh(alloc)).into_vec();
@@ -19,8 +19,9 @@ pub(crate) fn reuse(alloc: Global, list: &mut Outputs) -> Outputs
     Outputs::from_vec(outputs)
 }
 
-/// Handles outputs in order: a write enters the index, and a notice is appended to `out`. The list that comes back has
-/// memory for the next outputs, if this one does. After `Memory` `out` begins with what it had.
+/// Handles outputs in order: a write enters the index, and a notice is appended to `out`. The answer is an empty list. It
+/// has the buffer of `outputs` where there was no output, or a write alone, and else none. After `Memory` `out` begins
+/// with what it had.
 pub(crate) fn handle(
     alloc: Global,
     outputs: Outputs,
@@ -33,6 +34,9 @@ pub(crate) fn handle(
     ensures prefix { IsPrefix out.old out.new }
 {
     let mut outputs = outputs.into_vec();
+    if outputs.is_empty() {
+        return Ok(Outputs::from_vec(outputs));
+    }
     if outputs.len() == 1 && write_one(alloc, &mut outputs[0], index)? {
         outputs.clear();
         return Ok(Outputs::from_vec(outputs));

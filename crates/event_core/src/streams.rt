@@ -12,7 +12,7 @@ ghost use Rattle.live_index.specs.Index.{visited};
 ghost use Rattle.event_core.specs.Streams.{plan_of, Holds, Moved, Visited};
 
 use crate::clock::Clock;
-use crate::outputs::{handle, reuse};
+use crate::outputs::{handle, take_buffer};
 use ev_types::{Event, Events, KeepKeys, Memory, Notices, Outputs};
 use live_index::LiveIndex;
 use pred_eval::Pred;
@@ -26,7 +26,7 @@ use stream_tree::Tree;
 pub(crate) struct IndexedStreams {
     tree: Tree,
     index: LiveIndex,
-    // The list of outputs, for its memory.
+    // The list of outputs, for its buffer.
     outputs: Outputs,
 }
 
@@ -49,11 +49,12 @@ impl IndexedStreams {
         })
     }
 
-    /// An event comes to the streams at the moment `now`, the one they are at.
+    /// An event comes to the streams at the moment `now`, the one they are at. It is moved out of `event`, and what is
+    /// left there is not specified.
     pub(crate) fn item<G: Ledger>(
         &mut self,
         alloc: Global,
-        event: Event,
+        event: &mut Event,
         now: u64,
         out: &mut Notices,
         steps: &mut Steps<G>,
@@ -63,19 +64,22 @@ impl IndexedStreams {
         ensures moved { OnOk result ((state : CoreState) → Holds self.old state →
             moment_of state.history ≡ now
             → Moved (plan_of self.old) self.new state
-            (entered (plan_of self.old) (In (One event)) state)
+            (entered (plan_of self.old) (In (One event.old)) state)
             out.old steps.old.forks out.new steps.new.forks) }
         ensures visited { (state : CoreState) → Holds self.old state →
             moment_of state.history ≡ now
             → Visited (plan_of self.old) state
-            (entered (plan_of self.old) (In (One event)) state)
+            (entered (plan_of self.old) (In (One event.old)) state)
             steps.old.entries steps.new.entries }
         ensures prefix { IsPrefix out.old out.new }
     {
-        let mut outputs = reuse(alloc, &mut self.outputs);
-        self.tree.item(alloc, event, now, &mut outputs, steps)?;
-        let room = handle(alloc, outputs, &mut self.index, out)?;
-        self.outputs = room;
+        let mut outputs = take_buffer(alloc, &mut self.outputs);
+        let is_written = self.tree.offer(alloc, event, now, &mut outputs, steps)?;
+        self.outputs = handle(alloc, outputs, &mut self.index, out)?;
+        if !is_written {
+            return Ok(());
+        }
+        self.index.put(alloc, event)?;
         Ok(())
     }
 
@@ -99,10 +103,9 @@ impl IndexedStreams {
             steps.old.entries steps.new.entries }
         ensures prefix { IsPrefix out.old out.new }
     {
-        let mut outputs = reuse(alloc, &mut self.outputs);
+        let mut outputs = take_buffer(alloc, &mut self.outputs);
         self.tree.tick(alloc, now, &mut outputs, steps)?;
-        let room = handle(alloc, outputs, &mut self.index, out)?;
-        self.outputs = room;
+        self.outputs = handle(alloc, outputs, &mut self.index, out)?;
         Ok(())
     }
 
@@ -133,8 +136,8 @@ impl IndexedStreams {
         ensures prefix { IsPrefix out.old out.new }
     {
         for event in expired.into_vec() {
-            let copy = event.reborn(alloc, keep, now)?;
-            self.item(alloc, copy, now, out, steps)?;
+            let mut copy = event.reborn(alloc, keep, now)?;
+            self.item(alloc, &mut copy, now, out, steps)?;
         }
         Ok(())
     }
