@@ -81,18 +81,18 @@ entry-handled plan x streams held state none outputs before after old new is_non
     moved-entry plan x streams state old before.forks new after.forks holds (reported ∙ ap (λ (all : List Output). old ++ notices_among all) made) grew.forks
 
 -- an event came to the tree: its write is answered and comes after the outputs, or it is not
-module _ {G : Type 0} (plan : StreamTrees) (event : Event) (streams : IndexedStreams) (held : Index) (state : CoreState) (none outputs : List Output) (before after : StepCount G) (old new : List Notice) (is_written : Bool)
+module _ {G : Type 0} (plan : StreamTrees) (event : Event) (streams : IndexedStreams) (held : Index) (state : CoreState) (none outputs : List Output) (before after : StepCount G) (old new : List Notice) (is_write_due : Bool)
     (is_none : none ≡ []) (history : tree.Represents streams.tree (state.history ▸ In (One event))) (index : Represents held state.log)
-    (grew : tree.Performs none before (tree.with_write is_written event outputs) after (plan_effects plan (state.history ▸ In (One event)))) where
-  outputs-by : (b : Bool) → is_written ≡ b → tree.Performs none before (tree.with_write b event outputs) after (plan_effects plan (state.history ▸ In (One event)))
+    (grew : tree.Performs none before (tree.with_write is_write_due event outputs) after (plan_effects plan (state.history ▸ In (One event)))) where
+  outputs-by : (b : Bool) → is_write_due ≡ b → tree.Performs none before (tree.with_write b event outputs) after (plan_effects plan (state.history ▸ In (One event)))
   outputs-by b is = subst (λ (c : Bool). tree.Performs none before (tree.with_write c event outputs) after (plan_effects plan (state.history ▸ In (One event)))) is grew
 
-  pub event-handled : is_written ≡ false → ((log : IndexLog) → Represents held log → Represents streams.index (log ++ writes_among outputs)) → new ≡ old ++ notices_among outputs →
+  pub event-handled : is_write_due ≡ false → ((log : IndexLog) → Represents held log → Represents streams.index (log ++ writes_among outputs)) → new ≡ old ++ notices_among outputs →
       Moved plan streams state (entered plan (In (One event)) state) old before.forks new after.forks
   event-handled is handled reported =
       entry-handled plan (In (One event)) streams held state none outputs before after old new is_none history index (outputs-by false is) handled reported
 
-  pub event-written : (between : Index) (left : Event) → is_written ≡ true → left ≡ event → ((log : IndexLog) → Represents held log → Represents between (log ++ writes_among outputs)) →
+  pub event-written : (between : Index) (left : Event) → is_write_due ≡ true → left ≡ event → ((log : IndexLog) → Represents held log → Represents between (log ++ writes_among outputs)) →
       ((log : IndexLog) → Represents between log → Represents streams.index (log ++ Write left ∷ [])) → new ≡ old ++ notices_among outputs →
       Moved plan streams state (entered plan (In (One event)) state) old before.forks new after.forks
   event-written between left is same handled written reported =

@@ -74,9 +74,9 @@ impl IndexedStreams {
         ensures prefix { IsPrefix out.old out.new }
     {
         let mut outputs = take_buffer(alloc, &mut self.outputs);
-        let is_written = self.tree.offer(alloc, event, now, &mut outputs, steps)?;
+        let is_write_due = self.tree.offer(alloc, event, now, &mut outputs, steps)?;
         self.outputs = handle(alloc, outputs, &mut self.index, out)?;
-        if !is_written {
+        if !is_write_due {
             return Ok(());
         }
         self.index.put(alloc, event)?;

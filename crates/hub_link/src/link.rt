@@ -58,9 +58,9 @@ impl HubLink {
     }
 
     /// Reads a piece that came, if the link is open: the events of each whole frame are posted and its reply is appended,
-    /// in order. A length over the limit is answered too, and then no more is read. The messages are read into the memory
-    /// of `spent`, events that nobody needs any more, and leave other such events there. After `Memory` nothing is known of
-    /// the link.
+    /// in order. A length over the limit is answered too, and then no more is read. Each message is read into the memory of
+    /// `spent`, events that nobody needs any more, and leaves its own there, cleared, if they are at most 128. After
+    /// `Memory` nothing is known of the link.
     pub fn hear<P: Patterns, G: Ledger>(
         &mut self,
         alloc: Global,

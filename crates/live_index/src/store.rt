@@ -104,21 +104,21 @@ impl Store {
         }
     }
 
-    /// The number that the hints have for the hash, if it is that of the event's host and service.
+    /// That of the two numbers noted for the hash which is the number of the event's host and service, if one is.
     fn hinted(&self, hash: u64, event: &Event) -> Option<usize>
         requires { IsLinked self.now.numbers self.now.events }
         ensures { IfSome result (λ number.
             number_at (key_of event.now) self.now.numbers ≡ Some number) }
     {
-        let (last, before) = self.hints.pair(hash)?;
-        match self.if_same_key(last, event) {
+        let (last, earlier) = self.hints.pair(hash)?;
+        match self.checked_hint(last, event) {
             Some(number) => Some(number),
-            None => self.if_same_key(before, event),
+            None => self.checked_hint(earlier, event),
         }
     }
 
     /// The number, if an event of the same host and service has it.
-    fn if_same_key(&self, number: usize, event: &Event) -> Option<usize>
+    fn checked_hint(&self, number: usize, event: &Event) -> Option<usize>
         requires { IsLinked self.now.numbers self.now.events }
         ensures { IfSome result (λ number.
             number_at (key_of event.now) self.now.numbers ≡ Some number) }

@@ -22,8 +22,8 @@ use step_count::{Ledger, Steps};
 const SPENT_LIMIT: usize = 128;
 
 /// Posts the events of a message, and appends the reply to it. `unsent` is how many bytes of earlier replies to its link
-/// were not taken. The message is read into the memory of `spent`, events that nobody needs any more, and other such
-/// events are left there.
+/// were not taken. The message is read into the memory of `spent`, events that nobody needs any more. Afterwards its own
+/// events are there, cleared, if it was accepted and they are at most 128, and else none.
 pub fn answer<P: Patterns, G: Ledger>(
     alloc: Global,
     body: &[u8],
@@ -41,8 +41,8 @@ pub fn answer<P: Patterns, G: Ledger>(
         replies.old replies.new (reported notices.old steps.old.forks)
         (reported notices.new steps.new.forks) result }
 {
-    let memory = mem::replace(spent, Events::fresh(alloc));
-    match read_msg_into(alloc, body, core.now(), memory) {
+    let reused = mem::replace(spent, Events::fresh(alloc));
+    match read_msg_into(alloc, body, core.now(), reused) {
         Ok(msg) => {
             let mut events = msg.events.into_vec();
             post_all(alloc, &mut events, core, notices, steps)?;
@@ -62,7 +62,7 @@ fn keep(events: Vec<Event>, spent: &mut Events) {
     }
 }
 
-/// The events come to the core, in order. What is left of them is not specified.
+/// The events come to the core, in order, and are cleared.
 fn post_all<G: Ledger>(
     alloc: Global,
     events: &mut [Event],
@@ -77,6 +77,7 @@ fn post_all<G: Ledger>(
 {
     for event in events.iter_mut() {
         core.post_from(alloc, event, notices, steps)?;
+        event.clear(alloc, 0);
     }
     Ok(())
 }

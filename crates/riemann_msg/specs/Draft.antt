@@ -49,7 +49,7 @@ event_with event value = record {
   raw_f = option_or (field_in four_in METRIC_F value) event.raw_f;
 }
 
--- the event with the second of its time in microseconds, where it has one
+-- the event, whose time is that in microseconds, rounded down to seconds, where it has one
 abbrev pub rounded : Event → Event
 rounded event = record event { time = unwrap_or (option_map second_of event.time_micros) event.time }
 
@@ -76,7 +76,7 @@ message_with draft value = record {
 abbrev pub fresh_message : ℤ → MsgDraft
 fresh_message now = record { now = now; ok = None; error = None; query = None; events = [] }
 
--- the message that the draft has the fields of
+-- the message with the fields of the draft
 abbrev pub message_in : MsgDraft → Msg
 message_in draft = record { ok = draft.ok; error = draft.error; query = draft.query; events = draft.events }
 

@@ -337,7 +337,8 @@ fn round_time(event: &mut Event)
     }
 }
 
-/// The events that were read so far: the first `count` of a list. The memory of the others is there to be read into.
+/// The events that were read so far: the first `count` of a list. The memory of the others can be used for
+/// more events.
 #[derive(Drop)]
 struct EventsDraft {
     events: Events,
@@ -357,7 +358,7 @@ impl Model for EventsDraft {
 
 impl EventsDraft {
     /// No event, with the memory of `spent`.
-    fn over(spent: Events) -> EventsDraft
+    fn reusing(spent: Events) -> EventsDraft
         ensures { result ≡ [] }
     {
         EventsDraft {
@@ -402,7 +403,8 @@ fn make_room(alloc: Global, events: &mut Events, count: usize) -> Result<(), Mem
     Ok(())
 }
 
-/// Adds an event that holds nothing. It is apart, since it takes long to enter: the event is large.
+/// Adds an event that holds nothing. It is never inlined, since its local event is large and would be cleared at each entry
+/// of the caller.
 #[cold]
 #[inline(never)]
 fn push_blank(alloc: Global, events: &mut Events) -> Result<(), Memory>
@@ -425,7 +427,8 @@ fn read_event_at(
     requires bytes { base + length bytes.now < 2 ^ 64 }
     requires room { count < length events.old }
     ensures reads { Puts (option_map (moved base) (event_fault bytes.now))
-        (take count events.old ++ event_of now bytes.now ∷ []) result (take (count + 1) events.new) }
+        (take count events.old ++ event_of now bytes.now ∷ []) result
+        (take (count + 1) events.new) }
     ensures room { count < length events.new }
     ensures fits { length events.new < 2 ^ 64 }
 {
@@ -446,7 +449,7 @@ struct MsgDraft {
 
 impl MsgDraft {
     /// No field, with the memory of the events of `spent`.
-    fn over(spent: Events, now: u64) -> MsgDraft
+    fn reusing(spent: Events, now: u64) -> MsgDraft
         requires { now < 2 ^ 63 }
         ensures { result ≡ fresh_message (pos now) }
     {
@@ -455,7 +458,7 @@ impl MsgDraft {
             ok: None,
             error: None,
             query: None,
-            events: EventsDraft::over(spent),
+            events: EventsDraft::reusing(spent),
         }
     }
 
@@ -547,14 +550,14 @@ pub fn read_msg(alloc: Global, body: &[u8], now: u64) -> Result<Msg, MsgFault>
     read_msg_into(alloc, body, now, Events::fresh(alloc))
 }
 
-/// Reads as [`read_msg`] does, into the memory of `spent`, events that nobody needs any more.
+/// Reads as [`read_msg`] does, into the memory of `spent`, events that nobody needs any more. What they held is lost.
 #[tactic(auto, unfolding(crate::specs::Fault::first_fault))]
 pub fn read_msg_into(alloc: Global, body: &[u8], now: u64, spent: Events) -> Result<Msg, MsgFault>
     requires { now < 2 ^ 63 }
     ensures reads { Decodes (first_fault body.now) (message_of now body.now) result }
     ensures spellable { IfOk result IsSpellable }
 {
-    let mut draft = MsgDraft::over(spent, now);
+    let mut draft = MsgDraft::reusing(spent, now);
     read_fields(alloc, body, 0, &mut draft)?;
     Ok(draft.into_msg())
 }

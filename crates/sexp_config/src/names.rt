@@ -26,7 +26,7 @@ fn name_at(form: &Form) -> Result<&Text, ConfigFault>
     }
 }
 
-/// What a name is bound to when its form is this argument.
+/// What a name is bound to by this form, which is read as the argument.
 fn bound_by(alloc: Global, form: &Form, argument: Argument<'_>) -> Result<Bound, ConfigFault>
     ensures { Gives result (bound_by_argument (form_tree form.now) (argument_in argument.entry)) }
 {

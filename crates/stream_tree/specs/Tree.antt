@@ -28,7 +28,7 @@ pub record Represents (tree : Tree) (h : History) : Type 0 where
 
 -- the outputs, and after them the write of the event where it was answered and not appended
 abbrev pub with_write : Bool → Event → List Output → List Output
-with_write is_written event outputs = if is_written then outputs ++ Write event ∷ [] else outputs
+with_write is_write_due event outputs = if is_write_due then outputs ++ Write event ∷ [] else outputs
 
 -- The effects are performed in order, and counted: a fork is entered where it is due and where an item comes to it, and
 -- an entry is visited for each fork that is due.

@@ -1,5 +1,5 @@
 //! An event that comes to the streams by reference.
-ghost use Rattle.std.specs.Prelude.{◌≡◌, ◌≤◌, true, false, length, IsTrue, IfOk, OnOk, OnErr};
+ghost use Rattle.std.specs.Prelude.{◌≡◌, ◌≤◌, true, length, IsTrue, IfOk, OnOk, OnErr};
 ghost use Rattle.ev_types.specs.declared.event.Event.{Event as StoredEvent};
 ghost use Rattle.ev_types.specs.declared.item.Item.TheVariants.{One};
 ghost use Rattle.list_laws.specs.Prefix.{IsPrefix};
@@ -30,14 +30,14 @@ pub(crate) fn offer_forest<G: Ledger>(
     out: &mut Outputs,
     steps: &mut Steps<G>,
 ) -> Result<bool, Memory>
-    ensures runs { IfOk result (λ is_written. ForestRuns context.now.patterns.now
+    ensures runs { IfOk result (λ is_write_due. ForestRuns context.now.patterns.now
         context.now.start context.now.moment out.old steps.old
-        (with_write is_written event.old out.new) steps.new (In (One event.old))
+        (with_write is_write_due event.old out.new) steps.new (In (One event.old))
         (list_trees streams.now) (nodes_of forest.old) (nodes_of forest.new)) }
     ensures stops { OnErr result (ForestStops context.now.patterns.now context.now.start
         context.now.moment out.old steps.old out.new steps.new (In (One event.old))
         (list_trees streams.now) (nodes_of forest.old)) }
-    ensures event { IfOk result (λ is_written. is_written ≡ true → event.new ≡ event.old) }
+    ensures event { IfOk result (λ is_write_due. is_write_due ≡ true → event.new ≡ event.old) }
     ensures prefix { IsPrefix out.old out.new }
 {
     let count = streams.len().min(forest.nodes.len());
@@ -61,6 +61,7 @@ pub(crate) fn offer_forest<G: Ledger>(
     Ok(true)
 }
 
+/// Whether the kind is an `index`.
 fn is_index(kind: &Kind) -> bool
     ensures { IsTrue result → kind_tree kind.now ≡ index }
 {

@@ -84,9 +84,9 @@ impl Tree {
         Ok(())
     }
 
-    /// The event comes to the streams as by [`Tree::item`], but where the last stream of the plan is an `index`, its
-    /// write is not appended: the answer is then true, and `event` is as it was. Else the answer is false, and what is
-    /// left in `event` is not specified.
+    /// The event comes to the streams as by [`Tree::item`], but the write of a last stream that is an `index` may be left
+    /// to the caller: the answer is then true, and `event` is as it was. Else the answer is false, and what is left in
+    /// `event` is not specified. After `Memory` the tree is poisoned, and a prefix of the outputs was appended.
     pub fn offer<G: Ledger>(
         &mut self,
         alloc: Global,
@@ -97,15 +97,15 @@ impl Tree {
     ) -> Result<bool, Memory>
         requires { now ≤ 2 ^ 40 }
         ensures plan { plan_of self.new ≡ plan_of self.old }
-        ensures grew { IfOk result (λ is_written. (h : History) → Represents self.old h →
+        ensures grew { IfOk result (λ is_write_due. (h : History) → Represents self.old h →
             moment_of h ≡ now →
-            Performs out.old steps.old (with_write is_written event.old out.new) steps.new
+            Performs out.old steps.old (with_write is_write_due event.old out.new) steps.new
             (plan_effects (plan_of self.old) (h ▸ In (One event.old)))) }
         ensures part { OnErr result ((h : History) → Represents self.old h →
             moment_of h ≡ now →
             PerformsPart out.old steps.old out.new steps.new
             (plan_effects (plan_of self.old) (h ▸ In (One event.old)))) }
-        ensures event { IfOk result (λ is_written. is_written ≡ true →
+        ensures event { IfOk result (λ is_write_due. is_write_due ≡ true →
             event.new ≡ event.old) }
         ensures represents { OnOk result ((h : History) → Represents self.old h →
             moment_of h ≡ now →
@@ -125,7 +125,7 @@ impl Tree {
             start: self.start,
         };
         let streams = &self.plan.plan().streams;
-        let is_written = offer_forest(
+        let is_write_due = offer_forest(
             alloc,
             streams,
             &mut self.forest,
@@ -135,7 +135,7 @@ impl Tree {
             steps,
         )?;
         self.poisoned = false;
-        Ok(is_written)
+        Ok(is_write_due)
     }
 
     /// One more second has passed, and it is the moment `now`. The outputs of the streams are appended to `out`. Only

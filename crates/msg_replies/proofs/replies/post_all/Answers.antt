@@ -15,7 +15,7 @@ loop-event-preserved g c =
     let event = get_or c.loop-event.events i c.event-item.result in
     let before = reported c.args.notices.now c.args.steps.now.forks in
     let after = reported c.post_from.new.out c.post_from.new.steps.forks in
-    let at = posted-at c.loop-event.events events i event c.post_from.new.event c.loop-event-test.true c.loop-event.auto.events
+    let at = posted-at c.loop-event.events events i event c.clear.new.self c.loop-event-test.true c.loop-event.auto.events
     (ap (λ (other : Event). get_or c.loop-event.events i other) c.event-item.is) c.loop-event.invariant.1 in (
       c.in_ok-post_from.ensures.now ∙ c.loop-event.invariant.0,
       at.0,

@@ -1,6 +1,6 @@
 use Rattle.std.proofs.Common.{sym, ap, ◌∙◌}
 use Rattle.key_map.specs.Keys.{number_at}
-use Rattle.live_index.proofs.store.Store.if_same_key.Goals as goal
+use Rattle.live_index.proofs.store.Store.checked_hint.Goals as goal
 
 pub returns-then-has_same_key : goal.returns-then-has_same_key
 returns-then-has_same_key c =
