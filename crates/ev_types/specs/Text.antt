@@ -2,7 +2,7 @@ use Rattle.std.specs.Prelude.{ℕ, Bool, false, List, Option, Some, None}
 use Rattle.std.specs.Str.{IsValidUpTo, bytes_eq}
 use Rattle.std.specs.String.{string_bytes}
 use Rattle.ev_types.specs.declared.text.Chars.{Chars}
-use Rattle.ev_types.specs.declared.text.Chars.TheVariants.{Inside, Apart}
+use Rattle.ev_types.specs.declared.text.Chars.TheVariants.{Inline, Heap}
 use Rattle.ev_types.specs.declared.text.TextFault.{TextFault}
 use Rattle.ev_types.specs.declared.text.TextFault.TheVariants.{Utf8, Memory}
 
@@ -17,6 +17,6 @@ is_text wanted None = false
 is_text wanted (Some text) = bytes_eq text wanted
 
 -- the bytes of a text's characters
-abbrev pub bytes_of : Chars → List ℕ
-bytes_of (Inside chars) = chars.bytes
-bytes_of (Apart chars) = string_bytes chars
+abbrev pub chars_bytes : Chars → List ℕ
+chars_bytes (Inline chars) = chars.bytes
+chars_bytes (Heap chars) = string_bytes chars

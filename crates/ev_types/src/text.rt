@@ -8,7 +8,7 @@ ghost use Rattle.std.specs.Cmp.Rules.{hashing};
 ghost use Rattle.std.specs.Hash as fed;
 ghost use Rattle.std.proofs.Common.{rules};
 ghost use Rattle.ev_types.specs.declared.text.TextFault.TheVariants.{Memory as out_of_memory};
-ghost use Rattle.ev_types.specs.Text.{bytes_of, IsNoText};
+ghost use Rattle.ev_types.specs.Text.{chars_bytes, IsNoText};
 
 use crate::{Items, Memory};
 use arrayvec::ArrayString;
@@ -33,9 +33,9 @@ pub struct Text {
 #[derive(Drop)]
 enum Chars {
     /// In the text itself.
-    Inside(ArrayString<SHORT>),
+    Inline(ArrayString<SHORT>),
     /// In memory of their own.
-    Apart(String),
+    Heap(String),
 }
 
 /// A list of texts.
@@ -62,7 +62,7 @@ impl From<Memory> for TextFault {
 impl Model for Text {
     ghost Value = { List ℕ };
 
-    ghost view = { λ text. bytes_of text.chars };
+    ghost view = { λ text. chars_bytes text.chars };
 }
 
 impl Text {
@@ -72,8 +72,8 @@ impl Text {
         ensures text { IfOk result (λ text. IsUtf8 bytes.now × (text ≡ bytes.now)) }
         ensures fault { IfErr result (IsNoText bytes.now) }
     {
-        // Most texts are short and ASCII, which is quicker to test for than UTF-8.
-        if bytes.len() <= SHORT && bytes.is_ascii() {
+        // Most texts are ASCII, which is quicker to test for than UTF-8.
+        if bytes.is_ascii() {
             let chars = unsafe { from_utf8_unchecked(bytes) };
             return Ok(Text::from_str(alloc, chars)?);
         }
@@ -93,10 +93,10 @@ impl Text {
         if chars.len() > SHORT {
             return Ok(Text::from_string(String::from_str(alloc, chars)?));
         }
-        let mut inside = ArrayString::new();
-        inside.push_str(chars);
+        let mut short = ArrayString::new();
+        short.push_str(chars);
         Ok(Text {
-            chars: Chars::Inside(inside),
+            chars: Chars::Inline(short),
         })
     }
 
@@ -105,7 +105,7 @@ impl Text {
         ensures { result ≡ string_bytes chars }
     {
         Text {
-            chars: Chars::Apart(chars),
+            chars: Chars::Heap(chars),
         }
     }
 
@@ -120,8 +120,8 @@ impl Text {
         ensures { result.now ≡ self.now }
     {
         match &self.chars {
-            Chars::Inside(chars) => chars.as_str(),
-            Chars::Apart(chars) => chars.as_str(),
+            Chars::Inline(chars) => chars.as_str(),
+            Chars::Heap(chars) => chars.as_str(),
         }
     }
 

@@ -9,7 +9,7 @@ use std::mem::size_of_val;
 // An item of more bytes than this is large.
 const LARGE: usize = 64;
 
-// A list that is cleared keeps memory for at most this many items.
+// A list that is cleared keeps its memory if that is for at most this many items.
 const KEPT: usize = 16;
 
 /// A growing list, which contracts see as the list of its items.
@@ -94,7 +94,7 @@ impl<T: Drop> Items<T> {
         Ok(())
     }
 
-    /// Removes all items. A list with memory for at most 16 items keeps it.
+    /// Removes all items. The list keeps its memory if that is for at most 16 items.
     pub fn clear(&mut self, alloc: Global)
         ensures { self.new ≡ [] }
     {

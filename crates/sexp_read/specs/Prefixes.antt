@@ -30,7 +30,7 @@ abbrev pub IsFirstFault : List Token → Option Fault → Type 0
 IsFirstFault tokens (Some fault) = Breaks tokens fault
 IsFirstFault tokens None = IsPrefixOfForms tokens
 
--- the fault of the brackets is at the first token that cannot stand there in forms, or that opens one bracket too many
+-- the fault of the brackets is at the first token that cannot be there in forms, or that opens one bracket too many
 abbrev pub FaultsAreFirst : Type 0
 FaultsAreFirst = (tokens : List Token) → IsFirstFault tokens (bracket_fault [] tokens)
 

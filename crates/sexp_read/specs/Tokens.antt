@@ -26,7 +26,7 @@ with_escape place (Some front) read = with_prefix front read
 with_escape place None read = Err (place, Escape)
 
 -- What is quoted from a place on, after the opening quote of a text or pattern that begins at `start`, and the place
--- just past its closing quote. A backslash that is the last byte of the text does not begin an escape.
+-- just past its closing quote. A backslash that is the last byte of the input does not begin an escape.
 abbrev pub quoted_from : Quoted → ℕ → ℕ → List ℕ → Result (List ℕ × ℕ) Fault
 quoted_from kind start place [] = Err (start, Open)
 quoted_from kind start place (b ∷ []) = if b == 34 then Ok ([], place + 1) else Err (start, Open)
