@@ -1,3 +1,4 @@
+pub mod ListLaws
 pub mod MomentLaws
 pub mod QueueLaws
 pub mod ScheduleLaws

@@ -1,10 +1,10 @@
 -- Laws of queues of due moments.
-use Rattle.std.proofs.Common.{◌≡◌, ℕ, Bool, true, false, not, cond, ◌&&◌, ◌||◌, eqb, nat_le, List, [], ◌∷◌, ◌++◌, map, filter, Option, None, Some, arith, refl, sym, ◌∙◌, ap}
+use Rattle.std.proofs.Common.{◌≡◌, ℕ, Bool, true, false, not, cond, ◌||◌, eqb, nat_le, List, [], ◌∷◌, ◌++◌, map, filter, Option, None, Some, arith, refl, sym, ◌∙◌, ap}
 use Rattle.std.specs.List.{All, list_any, AllByRecursion, Contains}
 use Rattle.std.specs.List.Sorted.{IsStrictlySortedBy}
 use Rattle.std.specs.Map.{keys_of}
 use Rattle.std.specs.Ordering.{nat_cmp, is_eq}
-use Rattle.std.specs.Cmp.{tied_then, nat_cmp_total, eq_by_cmp_equiv}
+use Rattle.std.specs.Cmp.{nat_cmp_total, eq_by_cmp_equiv}
 use Rattle.std.specs.declared.cmp.Ordering.TheVariants.{Less}
 use Rattle.std.specs.BTreeMap.{is_at}
 use Rattle.std.proofs.lemmas.Bool.Decides.{nat_tests}
@@ -13,9 +13,8 @@ use Rattle.std.proofs.lemmas.List.Folds.{list_any-append}
 use Rattle.std.proofs.lemmas.Map.Keys.{IsDistinct-from_sorted}
 use Rattle.std.proofs.lemmas.Map.Views.{lookup-from_Contains}
 use Rattle.tick_schedule.specs.Queue.{moment_at, IsRising, due_ids, due_later, without}
-use Rattle.tick_schedule.specs.Schedule.{pair_cmp}
 
--- ---- tests of ids and pairs
+-- ---- tests of ids
 pub at-eqb : (q k : ℕ) → is_at (nat_cmp q) k ≡ eqb q k
 at-eqb q k = grind (arith, nat_tests)
 
@@ -30,12 +29,6 @@ at-true q k h = grind (arith, nat_tests)
 
 pub at-less : (q k : ℕ) → nat_cmp q k ≡ Less → is_at (nat_cmp q) k ≡ false
 at-less q k h = ap is_eq h
-
-pub pair-at : (a b c d : ℕ) → is_at (pair_cmp (a, b)) (c, d) ≡ (eqb a c && eqb b d)
-pair-at a b c d =
-    sym (tied_then (nat_cmp a c) (nat_cmp b d))
-    ∙ ap (λ x. x && is_eq (nat_cmp b d)) (at-eqb a c)
-    ∙ ap (λ x. eqb a c && x) (at-eqb b d)
 
 -- ---- filters
 pub filter-agree : {X : Type 0} (f g : X → Bool) (xs : List X) → All (λ x. f x ≡ g x) xs → filter f xs ≡ filter g xs

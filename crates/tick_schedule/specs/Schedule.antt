@@ -1,39 +1,33 @@
 -- What ties the parts of a queue of due moments.
-use Rattle.std.specs.Prelude.{◌≡◌, ℕ, ◌≤◌, Bool, true, false, eqb, List, [], Option, None, Some, MatchOption}
-use Rattle.std.specs.List.{list_any}
-use Rattle.std.specs.Ordering.{nat_cmp, ordering_then}
-use Rattle.std.specs.declared.cmp.Ordering.{Ordering}
-use Rattle.std.specs.BTreeMap.{is_at}
-use Rattle.tick_schedule.specs.Queue.{moment_at, IsRising, IsNext}
+use Rattle.std.specs.Prelude.{◌≡◌, ℕ, false, eqb, ◌&&◌, List, Option, Some, MatchOption}
+use Rattle.tick_schedule.specs.declared.places.Place.{Place}
+use Rattle.tick_schedule.specs.Lists.{id_at}
+use Rattle.tick_schedule.specs.Moments.{moments_from, place_at}
+use Rattle.tick_schedule.specs.Queue.{IsNext}
 
--- the order of pairs of a moment and an id: by moment, then by id
-abbrev pub pair_cmp : ℕ × ℕ → ℕ × ℕ → Ordering
-pair_cmp x y = ordering_then (nat_cmp x.0 y.0) (nat_cmp x.1 y.1)
+abbrev pub at : ℕ → ℕ → Place
+at moment index = record { moment = moment; index = index }
 
--- whether the pair of the moment and the id is among the pairs
-abbrev pub has_pair : List (ℕ × ℕ) → ℕ → ℕ → Bool
-has_pair order due id = list_any (is_at (pair_cmp (due, id))) order
+-- an id is in a list exactly where its place says
+pub record IsTied (places : List (Option Place)) (lists : List (ℕ × List ℕ)) : Type 0 where
+  pub placed : (id moment index : ℕ) → id_at moment index lists ≡ Some id → place_at id places ≡ Some (at moment index)
+  pub listed : (id moment index : ℕ) → place_at id places ≡ Some (at moment index) → id_at moment index lists ≡ Some id
 
--- whether this is the moment
-abbrev pub is_moment : ℕ → Option ℕ → Bool
-is_moment due None = false
-is_moment due (Some moment) = eqb due moment
+-- the same, but for the id that is given up: its place is in a list, and is no id's place
+pub record IsTiedButOne (place : Place) (places : List (Option Place)) (lists : List (ℕ × List ℕ)) : Type 0 where
+  pub given : ℕ
+  pub is_given : id_at place.moment place.index lists ≡ Some given
+  pub placed : (id moment index : ℕ) → id_at moment index lists ≡ Some id
+      → (eqb moment place.moment && eqb index place.index) ≡ false → place_at id places ≡ Some (at moment index)
+  pub listed : (id moment index : ℕ) → place_at id places ≡ Some (at moment index) → id_at moment index lists ≡ Some id
+  pub apart : (id moment index : ℕ) → place_at id places ≡ Some (at moment index)
+      → (eqb moment place.moment && eqb index place.index) ≡ false
 
--- the pairs are those of the moments
-abbrev pub IsTied : List (ℕ × ℕ) → List (ℕ × ℕ) → Type 0
-IsTied queue order = (due id : ℕ) → has_pair order due id ≡ is_moment due (moment_at id queue)
+-- the same, but for the id at the place that is given up, if there is one
+abbrev pub IsTiedBut : Option Place → List (Option Place) → List (ℕ × List ℕ) → Type 0
+IsTiedBut place places lists = MatchOption place (IsTied places lists) (λ given. IsTiedButOne given places lists)
 
--- the moments by id, the same as pairs by rising moment, and the least moment
-pub record IsSchedule (queue order : List (ℕ × ℕ)) (first : Option ℕ) : Type 0 where
-  pub rising : IsRising queue
-  pub tied : IsTied queue order
-  pub next : IsNext queue first
-
--- the moment of the first pair: some id has it, and no pair has a lesser one
-pub record IsLeastPair (order : List (ℕ × ℕ)) (moment : ℕ) : Type 0 where
-  pub id : ℕ
-  pub has : has_pair order moment id ≡ true
-  pub least : (due other : ℕ) → has_pair order due other ≡ true → moment ≤ due
-
-abbrev pub IsFirst : List (ℕ × ℕ) → Option ℕ → Type 0
-IsFirst order first = MatchOption first (order ≡ []) (IsLeastPair order)
+-- the places of ids, the ids at each moment, and the least moment
+pub record IsSchedule (places : List (Option Place)) (lists : List (ℕ × List ℕ)) (first : Option ℕ) : Type 0 where
+  pub tied : IsTied places lists
+  pub next : IsNext (moments_from 0 places) first

@@ -1,7 +1,9 @@
 //! When numbered things are due.
 #![tactic(auto)]
 
-mod moments;
+mod due_lists;
+mod id_list;
+mod places;
 mod queue;
 
 pub use queue::DueQueue;

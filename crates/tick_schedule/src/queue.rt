@@ -1,40 +1,42 @@
-ghost use Rattle.std.specs.Prelude.{◌≡◌, ◌+◌, ◌≤◌, ◌++◌, [], length, true, false, not, map, filter, nat_le, ◌≢◌, Some, None, MatchOption, IfOk, OnOk, OnErr, IsOk};
-ghost use Rattle.std.specs.List.{list_any, take_while};
-ghost use Rattle.std.specs.List.Sorted.{IsStrictlySortedBy};
-ghost use Rattle.std.specs.BTreeSet.{IsFromIterResult};
+ghost use Rattle.std.specs.Prelude.{◌≡◌, ◌↔◌, IsTrue, ◌+◌, ◌≤◌, ◌++◌, [], length, true, false, not, filter, ◌≢◌, Some, None, IfOk, OnOk, OnErr, IsOk};
+ghost use Rattle.std.specs.List.{list_any};
 ghost use Rattle.list_laws.specs.Prefix.{IsPrefix};
 ghost use Rattle.std.specs.Ordering.{nat_cmp};
 ghost use Rattle.std.specs.BTreeMap.{is_at};
 ghost use Rattle.step_count.specs.Count.{more_by};
+ghost use Rattle.tick_schedule.specs.Moments.{moment_in, moments_from};
 ghost use Rattle.tick_schedule.specs.Queue.{IsRising, Sets, due_ids, due_later, without, IsNext};
-ghost use Rattle.tick_schedule.specs.Schedule.{IsTied, IsFirst, pair_cmp};
+ghost use Rattle.tick_schedule.specs.Schedule.{IsTied, IsTiedBut};
 
-use crate::moments::Moments;
+use crate::due_lists::DueLists;
+use crate::places::{Place, Places};
 use list_laws::{Ids, Memory};
-use std::alloc::{AllocError, Global};
+use std::alloc::Global;
 use std::collections::BTreeSet;
 use std::marker::Model;
 use step_count::{Ledger, Steps};
 
-/// The moments at which ids are due. An id has one moment at most. The queue takes 16 bytes in a vector for each id up
-/// to the largest that has had a moment, and a pair in an ordered set for each id that has one.
+/// The moments at which ids are due. An id has one moment at most. The queue takes 24 bytes in a vector for each id up to
+/// the largest that has had a moment, 8 bytes or more in another for each id that has one, and an entry in an ordered map
+/// for each moment that an id has.
 #[derive(Drop)]
 pub struct DueQueue {
-    moments: Moments,
-    // The same as pairs of a moment and an id, and the least moment.
-    order: BTreeSet<(u64, usize)>,
+    places: Places,
+    // The same by moment, and the least moment.
+    lists: DueLists,
     next: Option<u64>,
 }
 
 impl Model for DueQueue {
     ghost use Rattle.std.specs.Prelude.{ℕ, List};
+    ghost use Rattle.tick_schedule.specs.Moments.{moments_from};
     ghost use Rattle.tick_schedule.specs.Schedule.{IsSchedule};
 
     ghost Value = { List (ℕ × ℕ) };
 
-    ghost view = { λ queue. queue.moments };
+    ghost view = { λ queue. moments_from 0 queue.places };
 
-    ghost invariant = { λ queue. IsSchedule queue.moments queue.order.keys queue.next };
+    ghost invariant = { λ queue. IsSchedule queue.places queue.lists queue.next };
 }
 
 impl DueQueue {
@@ -43,23 +45,27 @@ impl DueQueue {
         ensures { result ≡ [] }
     {
         DueQueue {
-            moments: Moments::fresh(alloc),
-            order: BTreeSet::new(alloc),
+            places: Places::fresh(alloc),
+            lists: DueLists::fresh(alloc),
             next: None,
         }
     }
 
     /// Sets the moment at which the id is due, in place of the one that it had.
-    pub fn set(&mut self, _alloc: Global, id: usize, due: u64) -> Result<(), Memory>
+    pub fn set(&mut self, alloc: Global, id: usize, due: u64) -> Result<(), Memory>
         ensures ok { OnOk result (Sets self.old self.new id (Some due)) }
         ensures err { OnErr result (self.new ≡ self.old) }
         ensures rising { IsRising self.new }
     {
-        if self.moments.get(id) == Some(due) {
+        let before = self.places.get(id);
+        if has_moment(before, due) {
             return Ok(());
         }
-        schedule(&mut self.moments, &mut self.order, id, due)?;
-        self.next = first_moment(&self.order);
+        self.places.reach(id)?;
+        let index = self.lists.push(alloc, due, id)?;
+        self.places.set(id, Place { moment: due, index });
+        give_up(&mut self.places, &mut self.lists, before);
+        self.next = self.lists.first();
         Ok(())
     }
 
@@ -69,11 +75,9 @@ impl DueQueue {
         ensures rest { self.new ≡ without id self.old }
         ensures rising { IsRising self.new }
     {
-        let Some(due) = self.moments.remove(id) else {
-            return;
-        };
-        self.order.remove(&(due, id));
-        self.next = first_moment(&self.order);
+        let before = self.places.remove(id);
+        give_up(&mut self.places, &mut self.lists, before);
+        self.next = self.lists.first();
     }
 
     /// The least moment at which an id is due.
@@ -134,7 +138,7 @@ impl DueQueue {
     fn due_ids(&self, alloc: Global, now: u64) -> Result<BTreeSet<usize>, Memory>
         ensures { IfOk result (λ ids. ids.keys ≡ due_ids now self.now) }
     {
-        Ok(ids_until(alloc, &self.order, now)?)
+        self.lists.ids_until(alloc, now)
     }
 
     /// Removes the moments of the ids.
@@ -172,54 +176,27 @@ fn push_all<G: Ledger>(
     Ok(())
 }
 
-/// The ids of the pairs whose moment is at or before `now`.
-fn ids_until(
-    alloc: Global,
-    order: &BTreeSet<(u64, usize)>,
-    now: u64,
-) -> Result<BTreeSet<usize>, AllocError>
-    ensures ids { IfOk result (IsFromIterResult nat_cmp
-        (map (λ key. key.1) (take_while (λ key. nat_le key.0 now) order.now.keys))) }
-    ensures rising { IsStrictlySortedBy pair_cmp order.now.keys }
+/// Whether the place has this moment.
+fn has_moment(place: Option<Place>, moment: u64) -> bool
+    ensures { IsTrue result ↔ (moment_in place ≡ Some moment) }
 {
-    let due = order.iter().take_while(|key| key.0 <= now);
-    due.map(|key| key.1).collect(alloc)
-}
-
-/// The least moment among the pairs, which is that of the first.
-fn first_moment(order: &BTreeSet<(u64, usize)>) -> Option<u64>
-    ensures { IsFirst order.now.keys result }
-{
-    match order.first() {
-        Some(key) => Some(key.0),
-        None => None,
+    match place {
+        Some(place) => place.moment == moment,
+        None => false,
     }
 }
 
-/// Sets the moment of the id, and changes the pairs with it.
-fn schedule(
-    moments: &mut Moments,
-    order: &mut BTreeSet<(u64, usize)>,
-    id: usize,
-    due: u64,
-) -> Result<(), Memory>
-    ensures tied { IsTied moments.old order.old.keys →
-        IsTied moments.new order.new.keys }
-    ensures ok { OnOk result (Sets moments.old moments.new id (Some due)) }
-    ensures err { OnErr result (moments.new ≡ moments.old) }
-    ensures rising { IsRising moments.old → IsRising moments.new }
+/// Removes the id at the place, if there is one, from the list of its moment. The id that comes to its index has that place
+/// from then on.
+fn give_up(places: &mut Places, lists: &mut DueLists, place: Option<Place>)
+    requires { IsTiedBut place places.old lists.old }
+    ensures tied { IsTied places.new lists.new }
+    ensures moments { moments_from 0 places.new ≡ moments_from 0 places.old }
 {
-    order.insert((due, id))?;
-    let Ok(previous) = moments.insert(id, due) else {
-        order.remove(&(due, id));
-        return Err(Memory);
+    let Some(place) = place else {
+        return;
     };
-    let Some(previous) = previous else {
-        return Ok(());
-    };
-    if previous == due {
-        return Ok(());
+    if let Some(moved) = lists.remove(place.moment, place.index) {
+        places.set(moved, place);
     }
-    order.remove(&(previous, id));
-    Ok(())
 }

@@ -1,35 +1,27 @@
-use Rattle.std.proofs.Common.{ℕ, List, sym, ◌∙◌, ap, subst, refl, None}
-use Rattle.tick_schedule.specs.Schedule.{IsSchedule}
-use Rattle.tick_schedule.specs.Queue.{without}
-use Rattle.tick_schedule.proofs.MomentLaws.{changes}
-use Rattle.tick_schedule.proofs.ScheduleLaws.{cut-tied, next-first}
+use Rattle.std.proofs.Common.{None, cond, eqb, sym, ◌∙◌, ap}
+use Rattle.tick_schedule.specs.Moments.{moments_from, place_at}
+use Rattle.tick_schedule.specs.Queue.{moment_at, without}
+use Rattle.tick_schedule.proofs.MomentLaws.{clear_place, clear_moment, rising, without_slot}
+use Rattle.tick_schedule.proofs.ScheduleLaws.{schedule, tied-given}
 use Rattle.tick_schedule.proofs.queue.DueQueue.clear.Goals as goal
 
-pub returns-in_default-clause-rest : goal.returns-in_default-clause-rest
-returns-in_default-clause-rest c =
-    c.remove.ensures.rest ∙ ap (without c.args.id) c.self.view_is
+pub give_up-requires : goal.give_up-requires
+give_up-requires c =
+    tied-given c.self.inside.places c.remove-before.new.self c.self.inside.lists c.args.id c.remove-before.result c.self.invariant.tied (sym c.remove-before.ensures.removed)
+    (λ other. ap (place_at other) c.remove-before.ensures.rest ∙ clear_place c.self.inside.places c.args.id other)
 
 pub invariant_of-self : goal.invariant_of-self
-invariant_of-self c =
-    let P : List (ℕ × ℕ) → Type 0 = λ queue. IsSchedule queue c.self.inside.order.keys c.self.inside.next in
-    subst P (sym (c.in_default.ensures.absent refl)) (record {
-      rising = c.self.invariant.rising;
-      tied = c.self.invariant.tied;
-      next = c.self.invariant.next;
-    })
+invariant_of-self c = schedule c.give_up.new.places c.give_up.new.lists c.first-self-inside.result c.give_up.ensures.tied c.first-self-inside.ensures
 
-pub invariant_of-self-2 : goal.invariant_of-self-2
-invariant_of-self-2 c =
-    let tied = cut-tied c.self.inside.moments c.remove.new.self c.self.inside.order.keys c.remove-2.new.self.keys
-    c.in-Some.due c.args.id c.self.invariant.tied (sym c.in-Some.ensures.previous) c.remove-2.ensures.updates.0
-    (changes c.self.inside.moments c.remove.new.self c.args.id None c.remove.ensures.sets) in
-    record {
-      rising = c.remove.ensures.rising;
-      tied = tied;
-      next = next-first c.remove.new.self c.remove-2.new.self.keys c.first_moment-self-inside.result
-          c.remove.ensures.rising tied c.first_moment-self-inside.ensures;
-    }
+pub returns-clause-cleared : goal.returns-clause-cleared
+returns-clause-cleared c = λ other.
+    ap (moment_at other) (c.give_up.ensures.moments ∙ ap (moments_from 0) c.remove-before.ensures.rest)
+    ∙ clear_moment c.self.inside.places c.args.id other
+    ∙ ap (λ queue. cond (eqb other c.args.id) None (moment_at other queue)) c.self.view_is
 
 pub returns-clause-rest : goal.returns-clause-rest
 returns-clause-rest c =
-    c.remove.ensures.rest ∙ ap (without c.args.id) c.self.view_is
+    c.give_up.ensures.moments ∙ ap (moments_from 0) c.remove-before.ensures.rest ∙ without_slot c.args.id c.self.inside.places ∙ ap (without c.args.id) c.self.view_is
+
+pub returns-clause-rising : goal.returns-clause-rising
+returns-clause-rising c = rising c.give_up.new.places

@@ -1,10 +1,12 @@
-use Rattle.std.proofs.Common.{◌∙◌, ap}
+use Rattle.std.proofs.Common.{ℕ, ◌∙◌, ap}
+use Rattle.std.specs.BTreeSet.{BTreeSet}
 use Rattle.tick_schedule.specs.Queue.{due_ids}
+use Rattle.tick_schedule.proofs.ListLaws.{if_ok_both}
 use Rattle.tick_schedule.proofs.ScheduleLaws.{due-set}
 use Rattle.tick_schedule.proofs.queue.DueQueue.due_ids.Goals as goal
 
 pub returns : goal.returns
 returns c =
-    due-set c.args.now c.self.inside.moments c.self.inside.order.keys c.in_ok-ids_until.field-0
-    c.in_ok-ids_until.ensures.rising c.self.invariant.rising c.self.invariant.tied c.in_ok-ids_until.ensures.ids
-    ∙ ap (due_ids c.args.now) c.self.view_is
+    if_ok_both c.ids_until.result
+    (λ (ids : BTreeSet ℕ) are sorted. due-set c.args.now c.self.inside.places c.self.inside.lists ids c.self.invariant.tied sorted are ∙ ap (due_ids c.args.now) c.self.view_is)
+    c.ids_until.ensures.ids c.ids_until.ensures.rising
