@@ -1,10 +1,9 @@
 -- How the calls of a script go on, one after another.
-use Rattle.std.proofs.Common.{◌≡◌, ℕ, ◌≤◌, ◌==◌, Bool, true, false, not, cond, List, [], ◌∷◌, ◌++◌, length, drop, fold, filter, Option, Some, refl, sym, ◌∙◌, ap, append-nil, subst, lit<, arith}
-use Rattle.std.specs.List.{flat_map}
+use Rattle.std.proofs.Common.{◌≡◌, ℕ, ◌≤◌, ◌==◌, Bool, true, false, cond, List, [], ◌∷◌, ◌++◌, length, drop, fold, filter, Some, refl, sym, ◌∙◌, ap, append-nil, subst, lit<, arith}
 use Rattle.std.proofs.lemmas.List.Sums.{fold-append}
 use Rattle.std.proofs.lemmas.List.Elements.{filter-append}
 use Rattle.std.proofs.lemmas.List.Concat.{flat_map-append}
-use Rattle.ports.specs.Playing.{AreAnswered, IsAnswered, IsScriptedRun, Played, Playing, SendRules, begun, bytes_taken, first_turn, is_turn_answer, Plays, played, playing, rule_after, rules_at_turn, send_answer, succeeded, taken_by, taken_by_send, with_rule}
+use Rattle.ports.specs.Playing.{AreAnswered, IsAnswered, IsScriptedRun, Playing, SendRules, begun, bytes_taken, first_turn, is_turn_answer, Plays, played, playing, rule_after, rules_at_turn, send_answer, succeeded, taken_by, taken_by_send, with_rule}
 use Rattle.ports.specs.ScriptLinks.{IsPlaying}
 use Rattle.ports.specs.declared.entry.Entry.{Entry}
 use Rattle.ports.specs.declared.entry.Entry.TheVariants.{Listen, Next, Send, Close}
@@ -17,7 +16,6 @@ use Rattle.ports.specs.declared.links.What.{What}
 use Rattle.ports.specs.declared.links.What.TheVariants as what
 use Rattle.ports.specs.Links.{HasListenCause, HasNextCause, entries_of_turn, piece_of}
 use Rattle.ports.specs.declared.script.Script.{Script}
-use Rattle.ports.specs.declared.script.Step.{Step}
 
 answered_more : (state : Playing) (entries : List Entry) (entry : Entry) → AreAnswered state entries
     → IsAnswered (fold played state entries) entry → AreAnswered state (entries ++ entry ∷ [])

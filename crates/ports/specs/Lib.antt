@@ -10,3 +10,4 @@ pub mod Tables
 pub mod Marks
 pub mod ScriptLinks
 pub mod Pieces
+pub mod PieceBytes

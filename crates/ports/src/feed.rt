@@ -4,18 +4,19 @@ ghost use Rattle.ports.specs.Pieces.{feed_script, pieces_of, read_step};
 use crate::links::PIECE_LIMIT;
 use crate::script::{LinkEvent, Piece, Script, ScriptSteps, Step};
 use crate::script_links::ScriptLinks;
+use bytes::Bytes;
 use ev_types::{Blob, Memory};
 use std::alloc::Global;
 
 /// Links on which link 0 opens, reads the bytes in pieces of [`PIECE_LIMIT`], the last with what is left, and ends, all
-/// at second 0. Every send is taken whole.
+/// at second 0. Every send is taken whole. The pieces are parts of the one buffer, and no byte is copied.
 pub fn feed_links(alloc: Global, bytes: Blob) -> Result<ScriptLinks, Memory>
     ensures script { IfOk result (λ links. links.script ≡ feed_script PIECE_LIMIT bytes) }
     ensures log { IfOk result (λ links. links.log ≡ []) }
 {
     let mut steps = ScriptSteps::fresh(alloc);
     push_turn(alloc, LinkEvent::Opened { link: 0 }, &mut steps)?;
-    push_reads(alloc, bytes.as_slice(), &mut steps)?;
+    push_reads(alloc, Bytes::from_vec(bytes.into_vec())?, &mut steps)?;
     push_turn(alloc, LinkEvent::Ended { link: 0 }, &mut steps)?;
     Ok(ScriptLinks::fresh(alloc, Script { start: 0, steps }))
 }
@@ -30,16 +31,15 @@ fn push_turn(alloc: Global, event: LinkEvent, steps: &mut ScriptSteps) -> Result
 
 /// Adds a read of link 0 for each piece of the bytes.
 #[tactic(auto, using(crate::proofs::PieceLemmas::piece_more, crate::proofs::PieceLemmas::pieces_done))]
-fn push_reads(alloc: Global, bytes: &[u8], steps: &mut ScriptSteps) -> Result<(), Memory>
+fn push_reads(alloc: Global, bytes: Bytes, steps: &mut ScriptSteps) -> Result<(), Memory>
     ensures { OnOk result (steps.new ≡ steps.old
-        ++ map read_step (pieces_of PIECE_LIMIT bytes.now)) }
+        ++ map read_step (pieces_of PIECE_LIMIT bytes)) }
 {
     let mut rest = bytes;
     'pieces: while rest.len() > 0 {
-        let (first, more) = rest.split_at(PIECE_LIMIT.min(rest.len()));
-        let piece = Piece::copy_of(alloc, first)?;
+        let first = rest.split_to(PIECE_LIMIT.min(rest.len()))?;
+        let piece = Piece::from_bytes(first);
         push_turn(alloc, LinkEvent::Read { link: 0, piece }, steps)?;
-        rest = more;
     }
     Ok(())
 }

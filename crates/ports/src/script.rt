@@ -1,10 +1,10 @@
-ghost use Rattle.std.specs.Prelude.{◌≡◌, ◌<◌, ◌≤◌, length, take, true, IfOk, MatchOption};
+ghost use Rattle.std.specs.Prelude.{◌≡◌, ◌<◌, ◌≤◌, length, take, true, MatchOption};
 ghost use Rattle.ports.specs.Playing.{bytes_of, is_turn_answer, is_turn, what_of};
 ghost use Rattle.ports.specs.Links.{IsPieceWithin, piece_of};
 
 use crate::links::{PIECE_LIMIT, What};
-use ev_types::{Blob, Items, Memory};
-use std::alloc::Global;
+use bytes::Bytes;
+use ev_types::{Blob, Items};
 use std::marker::Model;
 
 /// What links in memory play: turns, and rules for the sends between them.
@@ -74,17 +74,28 @@ impl LinkEvent {
 /// The bytes of one read, from 1 to [`PIECE_LIMIT`] of them.
 #[derive(Drop)]
 pub struct Piece {
-    bytes: Blob,
+    bytes: PieceBytes,
+}
+
+/// Where the bytes of a piece are.
+#[derive(Drop)]
+enum PieceBytes {
+    /// In memory of their own.
+    Own(Blob),
+    /// In a buffer that other pieces may be parts of too.
+    Shared(Bytes),
 }
 
 impl Model for Piece {
     ghost use Rattle.std.specs.Prelude.{◌<◌, ◌≤◌, ℕ, List, length};
+    ghost use Rattle.ports.specs.PieceBytes.{held_bytes};
 
     ghost Value = { List ℕ };
 
-    ghost view = { λ piece. piece.bytes };
+    ghost view = { λ piece. held_bytes piece.bytes };
 
-    ghost invariant = { λ piece. (0 < length piece.bytes) × (length piece.bytes ≤ 65536) };
+    ghost invariant = { λ piece. (0 < length (held_bytes piece.bytes))
+        × (length (held_bytes piece.bytes) ≤ 65536) };
 }
 
 impl Piece {
@@ -97,17 +108,20 @@ impl Piece {
         if bytes.len() == 0 || bytes.len() > PIECE_LIMIT {
             return None;
         }
-        Some(Piece { bytes })
+        Some(Piece {
+            bytes: PieceBytes::Own(bytes),
+        })
     }
 
-    /// A copy of the bytes.
-    pub(crate) fn copy_of(alloc: Global, bytes: &[u8]) -> Result<Piece, Memory>
-        requires some { 0 < length bytes.now }
-        requires within { length bytes.now ≤ PIECE_LIMIT }
-        ensures { IfOk result (λ piece. piece ≡ bytes.now) }
+    /// The bytes as a piece, with no copy.
+    pub(crate) fn from_bytes(bytes: Bytes) -> Piece
+        requires some { 0 < length bytes }
+        requires within { length bytes ≤ PIECE_LIMIT }
+        ensures { result ≡ bytes }
     {
-        let bytes = Blob::from_slice(alloc, bytes)?;
-        Ok(Piece { bytes })
+        Piece {
+            bytes: PieceBytes::Shared(bytes),
+        }
     }
 
     pub fn as_slice(&self) -> &[u8]
@@ -115,7 +129,10 @@ impl Piece {
         ensures some { 0 < length self.now }
         ensures within { length self.now ≤ PIECE_LIMIT }
     {
-        self.bytes.as_slice()
+        match &self.bytes {
+            PieceBytes::Own(bytes) => bytes.as_slice(),
+            PieceBytes::Shared(bytes) => bytes.as_slice(),
+        }
     }
 
     /// Writes the bytes to the start of `buf`, and gives their number.

@@ -1,7 +1,6 @@
-use Rattle.std.proofs.Common.{◌≡◌, List, drop}
-use Rattle.ports.specs.Playing.{SendRules, from_turn, rules_at_turn}
+use Rattle.std.proofs.Common.{◌≡◌, drop}
+use Rattle.ports.specs.Playing.{from_turn, rules_at_turn}
 use Rattle.ports.specs.Tables.{rules_in}
-use Rattle.ports.specs.declared.script.Step.{Step}
 use Rattle.ports.proofs.rules.apply_rules.Given as goal
 
 abbrev pub invariant-loop-step : goal.invariant-loop-step

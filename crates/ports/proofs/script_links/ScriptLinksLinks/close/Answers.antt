@@ -1,4 +1,3 @@
-use Rattle.std.proofs.Common.{◌++◌, ◌∷◌, []}
 use Rattle.ports.proofs.ScriptLemmas.{playing_closed, plays_some}
 use Rattle.ports.proofs.script_links.ScriptLinksLinks.close.Goals as goal
 
