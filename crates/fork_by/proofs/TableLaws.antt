@@ -1,15 +1,18 @@
 -- Laws of tables of forks.
-use Rattle.std.proofs.Common.{◌≡◌, ℕ, suc, zero, ◌<◌, ◌+◌, Bool, true, false, cond, not, ◌||◌, nat_lt, eqb, List, [], ◌∷◌, ◌++◌, map, filter, length, Option, None, Some, IsSome, position, arith, refl, sym, ◌∙◌, ap, subst}
+use Rattle.std.proofs.Common.{◌≡◌, ℕ, suc, ◌<◌, ◌+◌, Bool, true, false, cond, not, ◌||◌, nat_lt, eqb, List, [], ◌∷◌, filter, length, Option, None, Some, IsSome, position, arith, refl, sym, ◌∙◌, ap, subst}
 use Rattle.std.specs.List.{All, list_any, position_or_len}
 use Rattle.std.specs.Map.{keys_of}
-use Rattle.std.specs.Ordering.{nat_cmp}
 use Rattle.std.specs.Cmp.{nat_cmp_total, eq_by_cmp_equiv}
-use Rattle.indexmap.specs.IndexSet.{insert_key}
 use Rattle.std.proofs.lemmas.Bool.Decides.{nat_tests}
 use Rattle.std.proofs.lemmas.List.Elements.{All-head, All-tail, All-cons, All-nil, All-contains}
 use Rattle.std.proofs.lemmas.Map.Lookups.{exact_unsigned}
 use Rattle.std.proofs.lemmas.Map.Views.{All-keys_from_lookup, Contains-keys_from_lookup, tells_apart}
-use Rattle.tick_schedule.specs.Queue.{moment_at, Sets}
+use Rattle.std.specs.List.{IsDistinct}
+use Rattle.std.specs.List.Sorted.{IsStrictlySortedBy}
+use Rattle.ev_types.specs.Key.{same_key}
+use Rattle.tick_schedule.specs.Queue.{moment_at, IsRising, Sets}
+use Rattle.fork_by.specs.declared.table.ForkTable.{ForkTable}
+use Rattle.fork_by.specs.Table.{fork_keys, fork_list, fork_dues, IsTable}
 
 below_more : (n : ℕ) → nat_lt 0 (suc n) ≡ true
 below_more n = grind (arith, nat_tests)
@@ -54,3 +57,14 @@ within_some bound p (e ∷ es) h =
           (within_some bound p es (All-tail (λ n. n < bound) e.0 (keys_of es) h))
       | false ↦ within_some bound p es (All-tail (λ n. n < bound) e.0 (keys_of es) h)
     ]
+
+-- a table of no forks
+pub no_forks : {F : Type 0} (table : ForkTable F) → fork_keys table ≡ [] → fork_list table ≡ [] → IsDistinct same_key (fork_keys table)
+    → fork_dues table ≡ [] → IsTable table
+unfolding IsStrictlySortedBy
+no_forks table keys forks distinct dues = record {
+  even = ap length keys ∙ sym (ap length forks);
+  distinct = distinct;
+  rising = subst (λ (es : List (ℕ × ℕ)). IsRising es) (sym dues) tt;
+  within = subst (λ (es : List (ℕ × ℕ)). All (λ number. number < length (fork_list table)) (keys_of es)) (sym dues) (All-nil (λ number. number < length (fork_list table)));
+}
