@@ -72,34 +72,35 @@ pub entry-handled : {G : Type 0} (plan : StreamTrees) (x : Entry) (streams : Ind
     none ≡ [] → tree.Represents streams.tree (state.history ▸ x) → Represents held state.log →
     tree.Performs none before outputs after (plan_effects plan (state.history ▸ x)) →
     ((log : IndexLog) → Represents held log → Represents streams.index (log ++ writes_among outputs)) →
-    new ≡ old ++ notices_among outputs →
+    new ≡ old ++ notices_among outputs → streams.outputs ≡ [] →
     Moved plan streams state (entered plan x state) old before.forks new after.forks
-entry-handled plan x streams held state none outputs before after old new is_none history index grew handled reported =
+entry-handled plan x streams held state none outputs before after old new is_none history index grew handled reported left =
     let hs = plan_effects plan (state.history ▸ x) in
     let made : outputs ≡ outputs_among hs = grew.outputs ∙ ap (λ (front : List Output). front ++ outputs_among hs) is_none in
-    let holds : Holds streams (entered plan x state) = record { history = history; log = subst (λ (all : List Output). Represents streams.index (state.log ++ writes_among all)) made (handled state.log index) } in
+    let holds : Holds streams (entered plan x state) = record { history = history; log = subst (λ (all : List Output). Represents streams.index (state.log ++ writes_among all)) made (handled state.log index); outputs = left } in
     moved-entry plan x streams state old before.forks new after.forks holds (reported ∙ ap (λ (all : List Output). old ++ notices_among all) made) grew.forks
 
 -- an event came to the tree: its write is answered and comes after the outputs, or it is not
 module _ {G : Type 0} (plan : StreamTrees) (event : Event) (streams : IndexedStreams) (held : Index) (state : CoreState) (none outputs : List Output) (before after : StepCount G) (old new : List Notice) (is_write_due : Bool)
     (is_none : none ≡ []) (history : tree.Represents streams.tree (state.history ▸ In (One event))) (index : Represents held state.log)
-    (grew : tree.Performs none before (tree.with_write is_write_due event outputs) after (plan_effects plan (state.history ▸ In (One event)))) where
+    (grew : tree.Performs none before (tree.with_write is_write_due event outputs) after (plan_effects plan (state.history ▸ In (One event))))
+    (left : streams.outputs ≡ []) where
   outputs-by : (b : Bool) → is_write_due ≡ b → tree.Performs none before (tree.with_write b event outputs) after (plan_effects plan (state.history ▸ In (One event)))
   outputs-by b is = subst (λ (c : Bool). tree.Performs none before (tree.with_write c event outputs) after (plan_effects plan (state.history ▸ In (One event)))) is grew
 
   pub event-handled : is_write_due ≡ false → ((log : IndexLog) → Represents held log → Represents streams.index (log ++ writes_among outputs)) → new ≡ old ++ notices_among outputs →
       Moved plan streams state (entered plan (In (One event)) state) old before.forks new after.forks
   event-handled is handled reported =
-      entry-handled plan (In (One event)) streams held state none outputs before after old new is_none history index (outputs-by false is) handled reported
+      entry-handled plan (In (One event)) streams held state none outputs before after old new is_none history index (outputs-by false is) handled reported left
 
-  pub event-written : (between : Index) (left : Event) → is_write_due ≡ true → left ≡ event → ((log : IndexLog) → Represents held log → Represents between (log ++ writes_among outputs)) →
-      ((log : IndexLog) → Represents between log → Represents streams.index (log ++ Write left ∷ [])) → new ≡ old ++ notices_among outputs →
+  pub event-written : (between : Index) (given : Event) → is_write_due ≡ true → given ≡ event → ((log : IndexLog) → Represents held log → Represents between (log ++ writes_among outputs)) →
+      ((log : IndexLog) → Represents between log → Represents streams.index (log ++ Write given ∷ [])) → new ≡ old ++ notices_among outputs →
       Moved plan streams state (entered plan (In (One event)) state) old before.forks new after.forks
-  event-written between left is same handled written reported =
+  event-written between given is same handled written reported =
       let written' = subst (λ (e : Event). (log : IndexLog) → Represents between log → Represents streams.index (log ++ Write e ∷ [])) same written in
       entry-handled plan (In (One event)) streams held state none (outputs ++ write event ∷ []) before after old new is_none history index (outputs-by true is)
       (handled-index held between streams.index outputs (write event) handled written')
-      (handled-notices old new new outputs (write event) reported (sym (append-nil new)))
+      (handled-notices old new new outputs (write event) reported (sym (append-nil new))) left
 
 -- two ways, one after the other
 pub moved-then : (plan : StreamTrees) (between streams : IndexedStreams) (a b c : CoreState) (out_a : List Notice) (forks_a : ℕ) (out_b : List Notice) (forks_b : ℕ) (out_c : List Notice) (forks_c : ℕ) →

@@ -1,5 +1,5 @@
 -- What streams with an index represent, and what they do on their way from one state to another.
-use Rattle.std.specs.Prelude.{◌≡◌, ℕ, ◌+◌, ◌≤◌, List, ◌++◌}
+use Rattle.std.specs.Prelude.{◌≡◌, ℕ, ◌+◌, ◌≤◌, List, [], ◌++◌}
 use Rattle.ev_types.specs.declared.item.Notice.{Notice}
 use Rattle.live_index.specs.Index as indexed
 use Rattle.stream_plan.specs.Tree.{StreamTrees}
@@ -11,10 +11,11 @@ use Rattle.event_core.specs.Counts.{notices_in, forks_in, visits_to}
 abbrev pub plan_of : IndexedStreams → StreamTrees
 plan_of streams = tree.plan_of streams.tree
 
--- the streams have come to the history of the state, and their index to its log
+-- the streams have come to the history of the state, and their index to its log; no outputs are left to handle
 pub record Holds (streams : IndexedStreams) (state : CoreState) : Type 0 where
   pub history : tree.Represents streams.tree state.history
   pub log : indexed.Represents streams.index state.log
+  pub outputs : streams.outputs ≡ []
 
 -- the state of the streams was `before` and is `after` now, and the notices of the entries between were appended and
 -- their forks counted

@@ -10,39 +10,31 @@ use live_index::LiveIndex;
 use std::alloc::Global;
 use std::mem;
 
-/// Takes the buffer of the list as an empty list. The list is left without a buffer.
-pub(crate) fn take_buffer(alloc: Global, list: &mut Outputs) -> Outputs
-    ensures { result ≡ [] }
-{
-    let mut outputs = mem::replace(list, Outputs::fresh(alloc)).into_vec();
-    outputs.clear();
-    Outputs::from_vec(outputs)
-}
-
-/// Handles outputs in order: a write enters the index, and a notice is appended to `out`. The answer is an empty list. It
-/// has the buffer of `outputs` where there was no output, or a write alone, and else none. After `Memory` `out` begins
-/// with what it had.
+/// Handles the outputs in order: a write enters the index, and a notice is appended to `out`. None is left in the list,
+/// which keeps its memory where it had one output at most and that was no notice. After `Memory` `out` begins with what it
+/// had.
 pub(crate) fn handle(
     alloc: Global,
-    outputs: Outputs,
+    outputs: &mut Outputs,
     index: &mut LiveIndex,
     out: &mut Notices,
-) -> Result<Outputs, Memory>
+) -> Result<(), Memory>
     ensures index { OnOk result ((log : IndexLog) → Represents index.old log
-        → Represents index.new (log ++ writes_among outputs)) }
-    ensures notices { OnOk result (out.new ≡ out.old ++ notices_among outputs) }
+        → Represents index.new (log ++ writes_among outputs.old)) }
+    ensures notices { OnOk result (out.new ≡ out.old ++ notices_among outputs.old) }
+    ensures left { OnOk result (outputs.new ≡ []) }
     ensures prefix { IsPrefix out.old out.new }
 {
-    let mut outputs = outputs.into_vec();
-    if outputs.is_empty() {
-        return Ok(Outputs::from_vec(outputs));
+    if outputs.len() == 0 {
+        return Ok(());
     }
-    if outputs.len() == 1 && write_one(alloc, &mut outputs[0], index)? {
-        outputs.clear();
-        return Ok(Outputs::from_vec(outputs));
+    let mut list = mem::replace(outputs, Outputs::fresh(alloc)).into_vec();
+    if list.len() == 1 && write_one(alloc, &mut list[0], index)? {
+        list.clear();
+        *outputs = Outputs::from_vec(list);
+        return Ok(());
     }
-    handle_each(alloc, outputs, index, out)?;
-    Ok(Outputs::fresh(alloc))
+    handle_each(alloc, list, index, out)
 }
 
 /// Handles the outputs one after another.

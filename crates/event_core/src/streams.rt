@@ -12,7 +12,7 @@ ghost use Rattle.live_index.specs.Index.{visited};
 ghost use Rattle.event_core.specs.Streams.{plan_of, Holds, Moved, Visited};
 
 use crate::clock::Clock;
-use crate::outputs::{handle, take_buffer};
+use crate::outputs::handle;
 use ev_types::{Event, Events, KeepKeys, Memory, Notices, Outputs};
 use live_index::LiveIndex;
 use pred_eval::Pred;
@@ -26,7 +26,7 @@ use stream_tree::Tree;
 pub(crate) struct IndexedStreams {
     tree: Tree,
     index: LiveIndex,
-    // The list of outputs, for its buffer.
+    // The outputs of the tree. They are handled at once, so only the list's memory is kept from one call to the next.
     outputs: Outputs,
 }
 
@@ -73,9 +73,8 @@ impl IndexedStreams {
             steps.old.entries steps.new.entries }
         ensures prefix { IsPrefix out.old out.new }
     {
-        let mut outputs = take_buffer(alloc, &mut self.outputs);
-        let is_write_due = self.tree.offer(alloc, event, now, &mut outputs, steps)?;
-        self.outputs = handle(alloc, outputs, &mut self.index, out)?;
+        let is_write_due = self.tree.offer(alloc, event, now, &mut self.outputs, steps)?;
+        handle(alloc, &mut self.outputs, &mut self.index, out)?;
         if !is_write_due {
             return Ok(());
         }
@@ -103,9 +102,8 @@ impl IndexedStreams {
             steps.old.entries steps.new.entries }
         ensures prefix { IsPrefix out.old out.new }
     {
-        let mut outputs = take_buffer(alloc, &mut self.outputs);
-        self.tree.tick(alloc, now, &mut outputs, steps)?;
-        self.outputs = handle(alloc, outputs, &mut self.index, out)?;
+        self.tree.tick(alloc, now, &mut self.outputs, steps)?;
+        handle(alloc, &mut self.outputs, &mut self.index, out)?;
         Ok(())
     }
 

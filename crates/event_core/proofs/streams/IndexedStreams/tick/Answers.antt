@@ -8,17 +8,17 @@ use Rattle.event_core.proofs.streams.IndexedStreams.tick.Goals as goal
 pub returns-clause-moved : goal.returns-clause-moved
 returns-clause-moved g c = λ state holds at.
     entry-handled (plan_of c.args.self.now) Tick _ c.args.self.now.index state
-    c.take_buffer-outputs.result c.tick.new.out c.args.steps.now c.tick.new.steps c.args.out.now c.handle.new.out
-    c.take_buffer-outputs.ensures (c.in_ok-tick.ensures.represents state.history holds.history at) holds.log
-    (c.in_ok-tick.ensures.grew state.history holds.history at) c.in_ok-self.ensures.index c.in_ok-self.ensures.notices
+    c.args.self.now.outputs c.tick.new.out c.args.steps.now c.tick.new.steps c.args.out.now c.handle.new.out
+    holds.outputs (c.in_ok-tick.ensures.represents state.history holds.history at) holds.log
+    (c.in_ok-tick.ensures.grew state.history holds.history at) c.in_ok-handle.ensures.index c.in_ok-handle.ensures.notices c.in_ok-handle.ensures.left
 
 pub returns-clause-visited : goal.returns-clause-visited
 returns-clause-visited g c = λ state holds at.
     let entries = (c.in_ok-tick.ensures.grew state.history holds.history at).entries in
     visited-entry (plan_of c.args.self.now) Tick state c.args.steps.now.entries c.tick.new.steps.entries (omega (arith, entries))
 
-pub returns-in_err-self-clause-visited : goal.returns-in_err-self-clause-visited
-returns-in_err-self-clause-visited g c = λ state holds at.
+pub returns-in_err-handle-clause-visited : goal.returns-in_err-handle-clause-visited
+returns-in_err-handle-clause-visited g c = λ state holds at.
     let entries = (c.in_ok-tick.ensures.grew state.history holds.history at).entries in
     visited-entry (plan_of c.args.self.now) Tick state c.args.steps.now.entries c.tick.new.steps.entries (omega (arith, entries))
 
