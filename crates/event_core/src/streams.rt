@@ -73,7 +73,9 @@ impl IndexedStreams {
             steps.old.entries steps.new.entries }
         ensures prefix { IsPrefix out.old out.new }
     {
-        let is_write_due = self.tree.offer(alloc, event, now, &mut self.outputs, steps)?;
+        let is_write_due = self
+            .tree
+            .offer(alloc, event, now, &mut self.outputs, steps)?;
         handle(alloc, &mut self.outputs, &mut self.index, out)?;
         if !is_write_due {
             return Ok(());
