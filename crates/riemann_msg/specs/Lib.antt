@@ -5,3 +5,4 @@ pub mod Draft
 pub mod Spelling
 pub mod ReadBack
 pub mod Reply
+pub mod Cleared

@@ -1,11 +1,12 @@
 //! Reading messages, field by field.
 
-ghost use Rattle.std.specs.Prelude.{◌≡◌, ℕ, ◌+◌, ◌^◌, ◌<◌, ◌≤◌, ◌++◌, ◌∷◌, [], List, length, take, Option, OnOk, OnErr, IfOk, IfErr, None, pos};
+ghost use Rattle.std.specs.Prelude.{◌≡◌, ℕ, ◌+◌, ◌^◌, ◌<◌, ◌≤◌, ◌++◌, ◌∷◌, [], List, drop, length, take, Option, OnOk, OnErr, IfOk, IfErr, None, pos};
 ghost use Rattle.std.specs.List.{fold};
 ghost use Rattle.std.specs.Option.{option_map};
 ghost use Rattle.ev_types.specs.Set.{event_at};
 ghost use Rattle.pb_wire.specs.Fields.{FieldAt, LiesWithin, fields_of};
 ghost use Rattle.pb_wire.specs.Spelling.{Varint, Eight, Bytes, Four};
+ghost use Rattle.riemann_msg.specs.Cleared.{AreCleared};
 ghost use Rattle.riemann_msg.specs.Value.{event_of, attribute_of, message_of};
 ghost use Rattle.riemann_msg.specs.Fault.{Fault, moved, first_by, IsRefusedFor, Decodes, attribute_field_fault, event_field_fault, query_field_fault, message_field_fault, attribute_fault, event_fault, first_fault};
 ghost use Rattle.riemann_msg.specs.Spelling.{field, IsSpellable};
@@ -17,6 +18,7 @@ use crate::fields::{
     QUERY, SERVICE, STATE, STRING, TAGS, TIME, TIME_MICROS, TTL, VALUE,
 };
 use crate::msg::{Msg, QueryPart};
+use crate::spent::SpentEvents;
 use crate::ttl::ttl_of_bits;
 use crate::zigzag::unzigzag;
 use ev_types::{Attr, Attrs, Event, Events, Memory, Tags, Text, TextFault};
@@ -308,8 +310,8 @@ impl Draft for Event {
     }
 }
 
-/// Reads the bytes, which begin at `base` in the whole message, into the event, in the place of all that it held. One
-/// without a time gets `now`.
+/// Reads the bytes, which begin at `base` in the whole message, into an event that is cleared. One without a time gets
+/// `now`.
 #[tactic(auto, unfolding(crate::specs::Fault::event_fault))]
 fn read_event(
     alloc: Global,
@@ -318,11 +320,12 @@ fn read_event(
     base: usize,
     event: &mut Event,
 ) -> Result<(), MsgFault>
-    requires { base + length bytes.now < 2 ^ 64 }
+    requires fits { base + length bytes.now < 2 ^ 64 }
+    requires cleared { event.old ≡ event_at (pos 0) }
     ensures { Puts (option_map (moved base) (event_fault bytes.now))
         (event_of now bytes.now) result event.new }
 {
-    event.clear(alloc, now);
+    event.time = now;
     read_fields(alloc, bytes, base, event)?;
     round_time(event);
     Ok(())
@@ -337,8 +340,8 @@ fn round_time(event: &mut Event)
     }
 }
 
-/// The events that were read so far: the first `count` of a list. The memory of the others can be used for
-/// more events.
+/// The events that were read so far: the first `count` of a list. The others are cleared, and their memory can be used
+/// for more events.
 #[derive(Drop)]
 struct EventsDraft {
     events: Events,
@@ -346,37 +349,40 @@ struct EventsDraft {
 }
 
 impl Model for EventsDraft {
-    ghost use Rattle.std.specs.Prelude.{◌≤◌, List, length, take};
+    ghost use Rattle.std.specs.Prelude.{◌≤◌, List, drop, length, take};
     ghost use Rattle.ev_types.specs.declared.event.Event.{Event as OneEvent};
+    ghost use Rattle.riemann_msg.specs.Cleared.{AreCleared};
 
     ghost Value = { List OneEvent };
 
     ghost view = { λ draft. take draft.count draft.events };
 
-    ghost invariant = { λ draft. draft.count ≤ length draft.events };
+    ghost invariant = { λ draft. (draft.count ≤ length draft.events)
+        × AreCleared (drop draft.count draft.events) };
 }
 
 impl EventsDraft {
     /// No event, with the memory of `spent`.
-    fn reusing(spent: Events) -> EventsDraft
+    fn reusing(spent: SpentEvents) -> EventsDraft
         ensures { result ≡ [] }
     {
         EventsDraft {
-            events: spent,
+            events: spent.into_events(),
             count: 0,
         }
     }
 
-    /// Reads the bytes, which begin at `base` in the whole message, as one more event. One without a time gets `now`.
+    /// Reads the bytes, which begin at `base` in the whole message, as one more event. One without a time gets `now`. An
+    /// event that is refused counts too, since it holds what was read of it before its fault.
     fn add(&mut self, alloc: Global, now: i64, bytes: &[u8], base: usize) -> Result<(), MsgFault>
         requires { base + length bytes.now < 2 ^ 64 }
         ensures { Puts (option_map (moved base) (event_fault bytes.now))
             (self.old ++ event_of now bytes.now ∷ []) result self.new }
     {
         make_room(alloc, &mut self.events, self.count)?;
-        read_event_at(alloc, now, bytes, base, &mut self.events, self.count)?;
+        let read = read_event_at(alloc, now, bytes, base, &mut self.events, self.count);
         self.count += 1;
-        Ok(())
+        read
     }
 
     /// The events that were read.
@@ -390,11 +396,14 @@ impl EventsDraft {
     }
 }
 
-/// Gives the list an event after its first `count` ones, where it has none there.
+/// Gives the list an event after its first `count` ones, where it has none there. Those after the first `count` are
+/// cleared.
 fn make_room(alloc: Global, events: &mut Events, count: usize) -> Result<(), Memory>
-    requires { count ≤ length events.old }
+    requires count { count ≤ length events.old }
+    requires cleared { AreCleared (drop count events.old) }
     ensures same { take count events.new ≡ take count events.old }
     ensures kept { count ≤ length events.new }
+    ensures cleared { AreCleared (drop count events.new) }
     ensures room { OnOk result (count < length events.new) }
 {
     if count == events.len() {
@@ -415,7 +424,7 @@ fn push_blank(alloc: Global, events: &mut Events) -> Result<(), Memory>
 }
 
 /// Reads the bytes, which begin at `base` in the whole message, into the event after the first `count` ones. One
-/// without a time gets `now`.
+/// without a time gets `now`. Those after the first `count` are cleared before, and those after it stay so.
 fn read_event_at(
     alloc: Global,
     now: i64,
@@ -426,10 +435,12 @@ fn read_event_at(
 ) -> Result<(), MsgFault>
     requires bytes { base + length bytes.now < 2 ^ 64 }
     requires room { count < length events.old }
+    requires cleared { AreCleared (drop count events.old) }
     ensures reads { Puts (option_map (moved base) (event_fault bytes.now))
         (take count events.old ++ event_of now bytes.now ∷ []) result
         (take (count + 1) events.new) }
     ensures room { count < length events.new }
+    ensures cleared { AreCleared (drop (count + 1) events.new) }
     ensures fits { length events.new < 2 ^ 64 }
 {
     // Each length of a list is less than 2^64, so that the next count is too.
@@ -448,8 +459,8 @@ struct MsgDraft {
 }
 
 impl MsgDraft {
-    /// No field, with the memory of the events of `spent`.
-    fn reusing(spent: Events, now: u64) -> MsgDraft
+    /// No field, with the memory of `spent`.
+    fn reusing(spent: SpentEvents, now: u64) -> MsgDraft
         requires { now < 2 ^ 63 }
         ensures { result ≡ fresh_message (pos now) }
     {
@@ -547,12 +558,17 @@ pub fn read_msg(alloc: Global, body: &[u8], now: u64) -> Result<Msg, MsgFault>
     ensures reads { Decodes (first_fault body.now) (message_of now body.now) result }
     ensures spellable { IfOk result IsSpellable }
 {
-    read_msg_into(alloc, body, now, Events::fresh(alloc))
+    read_msg_into(alloc, body, now, SpentEvents::fresh(alloc))
 }
 
-/// Reads as [`read_msg`] does, into the memory of `spent`, events that nobody needs any more. What they held is lost.
+/// Reads as [`read_msg`] does, into the memory of `spent`.
 #[tactic(auto, unfolding(crate::specs::Fault::first_fault))]
-pub fn read_msg_into(alloc: Global, body: &[u8], now: u64, spent: Events) -> Result<Msg, MsgFault>
+pub fn read_msg_into(
+    alloc: Global,
+    body: &[u8],
+    now: u64,
+    spent: SpentEvents,
+) -> Result<Msg, MsgFault>
     requires { now < 2 ^ 63 }
     ensures reads { Decodes (first_fault body.now) (message_of now body.now) result }
     ensures spellable { IfOk result IsSpellable }

@@ -1,7 +1,10 @@
+ghost use Rattle.riemann_msg.specs.Cleared.{AreCleared};
+
 use crate::show::{put_event, shown};
 use ev_types::{Blob, Event, Events, Memory, Text};
 use riemann_msg::{
-    Msg, MsgFault, QueryPart, bits_of_ttl, msg_len, read_msg, read_msg_into, ttl_of_bits, write_msg,
+    Msg, MsgFault, QueryPart, SpentEvents, bits_of_ttl, msg_len, read_msg, read_msg_into,
+    ttl_of_bits, write_msg,
 };
 use std::alloc::Global;
 use std::fmt::Write;
@@ -51,12 +54,24 @@ fn is_message(alloc: Global, msg: &Msg, front: &str, wanted: &str) -> Result<boo
     }
 }
 
+/// Clears each event, so that the memory of all can be used again.
+fn clear_all(alloc: Global, events: &mut [Event])
+    ensures { AreCleared events.new }
+{
+    for event in events.iter_mut() {
+        event.clear(alloc, 0);
+    }
+}
+
 /// Whether the bytes are this message, also where they are read into the memory of an event with every field.
 fn is_read(alloc: Global, body: &[u8], wanted: &str) -> Result<bool, Fail> {
     let msg = read_msg(alloc, body, NOW)?;
     let whole = embedded(alloc, WHOLE)?;
-    let spent = read_msg(alloc, whole.as_slice(), NOW)?;
-    let again = read_msg_into(alloc, body, NOW, spent.events)?;
+    let earlier = read_msg(alloc, whole.as_slice(), NOW)?;
+    let mut events = earlier.events.into_vec();
+    clear_all(alloc, &mut events);
+    let spent = SpentEvents::of_cleared(alloc, events);
+    let again = read_msg_into(alloc, body, NOW, spent)?;
     Ok(is_message(alloc, &msg, "", wanted)? && is_message(alloc, &again, "", wanted)?)
 }
 
