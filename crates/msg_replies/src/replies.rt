@@ -3,6 +3,7 @@ ghost use Rattle.std.specs.String.{string_bytes};
 ghost use Rattle.event_core.specs.Core.{Represents, now_of, config_of};
 ghost use Rattle.hub_meaning.specs.Replies.{accepted, framed, message_refusal, refused, reply_to_oversized, oversized};
 ghost use Rattle.hub_meaning.specs.Verdicts.{patterns_state};
+ghost use Rattle.riemann_msg.specs.Cleared.{AreCleared};
 ghost use Rattle.riemann_msg.specs.Spelling.{spelling};
 ghost use Rattle.stream_meaning.specs.Arrivals.{Arrival, Post};
 ghost use Rattle.msg_replies.specs.Answering.{AnswersMessage};
@@ -13,22 +14,19 @@ use ev_types::{Blob, Event, Events, Memory, Notices, Text};
 use event_core::Core;
 use framing::BODY_LIMIT;
 use pred_eval::Patterns;
-use riemann_msg::{Msg, MsgFault, MsgWhy, msg_len, read_msg_into, write_msg};
+use riemann_msg::{Msg, MsgFault, MsgWhy, SpentEvents, msg_len, read_msg_into, write_msg};
 use std::alloc::{AllocError, Global};
 use std::mem;
 use step_count::{Ledger, Steps};
 
-/// At most this many events are kept for their memory.
-const SPENT_LIMIT: usize = 128;
-
 /// Posts the events of a message, and appends the reply to it. `unsent` is how many bytes of earlier replies to its link
-/// were not taken. The message is read into the memory of `spent`, events that nobody needs any more. Afterwards its own
-/// events are there, cleared, if it was accepted and they are at most 128, and else none.
+/// were not taken. The message is read into the memory of `spent`. Afterwards its own events are there, if it was accepted
+/// and they are at most 128, and else none.
 pub fn answer<P: Patterns, G: Ledger>(
     alloc: Global,
     body: &[u8],
     unsent: usize,
-    spent: &mut Events,
+    spent: &mut SpentEvents,
     core: &mut Core,
     patterns: &mut P,
     replies: &mut Blob,
@@ -41,25 +39,18 @@ pub fn answer<P: Patterns, G: Ledger>(
         replies.old replies.new (reported notices.old steps.old.forks)
         (reported notices.new steps.new.forks) result }
 {
-    let reused = mem::replace(spent, Events::fresh(alloc));
+    let reused = mem::replace(spent, SpentEvents::fresh(alloc));
     match read_msg_into(alloc, body, core.now(), reused) {
         Ok(msg) => {
             let mut events = msg.events.into_vec();
             post_all(alloc, &mut events, core, notices, steps)?;
             answer_query(alloc, &msg.query, unsent, core, patterns, replies, steps)?;
-            keep(events, spent);
+            *spent = SpentEvents::of_cleared(alloc, events);
         }
         Err(MsgFault::Refused { place, why }) => refuse_msg(alloc, place, why, replies)?,
         Err(MsgFault::Memory) => return Err(Memory),
     }
     Ok(())
-}
-
-/// Keeps the events for their memory, unless they are many.
-fn keep(events: Vec<Event>, spent: &mut Events) {
-    if events.len() <= SPENT_LIMIT {
-        *spent = Events::from_vec(events);
-    }
 }
 
 /// The events come to the core, in order, and are cleared.
@@ -74,6 +65,7 @@ fn post_all<G: Ledger>(
     ensures arrives { OnOk result ((arrivals : List Arrival) → Represents core.old arrivals
         → Arrives core.old core.new arrivals (map Post events.old)
         (reported notices.old steps.old.forks) (reported notices.new steps.new.forks)) }
+    ensures cleared { OnOk result (AreCleared events.new) }
 {
     for event in events.iter_mut() {
         core.post_from(alloc, event, notices, steps)?;
