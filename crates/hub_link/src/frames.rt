@@ -5,10 +5,11 @@ ghost use Rattle.framing.specs.Frames.{HasFrame};
 ghost use Rattle.hub_link.specs.Answering.{AnswersFirst, AnswersFrames};
 
 use crate::unsent::Unsent;
-use ev_types::{Events, Memory, Notices};
+use ev_types::{Memory, Notices};
 use event_core::Core;
 use frame_link::{FirstFrame, FrameLink};
 use pred_eval::Patterns;
+use riemann_msg::SpentEvents;
 use std::alloc::Global;
 use step_count::{Ledger, Steps};
 
@@ -18,7 +19,7 @@ pub(crate) fn answer_frames<P: Patterns, G: Ledger>(
     alloc: Global,
     input: &mut FrameLink,
     unsent: &mut Unsent,
-    spent: &mut Events,
+    spent: &mut SpentEvents,
     core: &mut Core,
     patterns: &mut P,
     notices: &mut Notices,
@@ -43,7 +44,7 @@ fn answer_first<P: Patterns, G: Ledger>(
     alloc: Global,
     input: &mut FrameLink,
     unsent: &mut Unsent,
-    spent: &mut Events,
+    spent: &mut SpentEvents,
     core: &mut Core,
     patterns: &mut P,
     notices: &mut Notices,

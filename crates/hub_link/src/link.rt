@@ -14,13 +14,14 @@ ghost use Rattle.hub_link.specs.Sending.{IsSent, Sends, can_send, is_over_as, se
 
 use crate::frames::answer_frames;
 use crate::unsent::Unsent;
-use ev_types::{Events, Memory, Notices};
+use ev_types::{Memory, Notices};
 use event_core::Core;
 use frame_link::{FirstFrame, FrameLink};
 use framing::BODY_LIMIT;
 use hub_meaning::Status;
 use ports::{Links, SendAnswer, Want};
 use pred_eval::Patterns;
+use riemann_msg::SpentEvents;
 use std::alloc::Global;
 use step_count::{Ledger, Steps};
 
@@ -59,13 +60,12 @@ impl HubLink {
 
     /// Reads a piece that came, if the link is open: the events of each whole frame are posted and its reply is appended,
     /// in order. A length over the limit is answered too, and then no more is read. Each message is read into the memory of
-    /// `spent`, events that nobody needs any more, and leaves its own there, cleared, if they are at most 128. After
-    /// `Memory` nothing is known of the link.
+    /// `spent`, and leaves its own events there, if they are at most 128. After `Memory` nothing is known of the link.
     pub fn hear<P: Patterns, G: Ledger>(
         &mut self,
         alloc: Global,
         piece: &[u8],
-        spent: &mut Events,
+        spent: &mut SpentEvents,
         core: &mut Core,
         patterns: &mut P,
         notices: &mut Notices,

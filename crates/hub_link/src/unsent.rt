@@ -4,10 +4,11 @@ ghost use Rattle.hub_meaning.specs.Verdicts.{patterns_state};
 ghost use Rattle.msg_replies.specs.Answering.{AnswersMessage};
 ghost use Rattle.msg_replies.specs.Arriving.{reported};
 
-use ev_types::{Blob, Events, Memory, Notices};
+use ev_types::{Blob, Memory, Notices};
 use event_core::Core;
 use msg_replies::{answer, refuse_length};
 use pred_eval::Patterns;
+use riemann_msg::SpentEvents;
 use std::alloc::Global;
 use std::marker::Model;
 use std::mem;
@@ -71,7 +72,7 @@ impl Unsent {
         &mut self,
         alloc: Global,
         body: &[u8],
-        spent: &mut Events,
+        spent: &mut SpentEvents,
         core: &mut Core,
         patterns: &mut P,
         notices: &mut Notices,
