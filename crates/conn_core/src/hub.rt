@@ -15,12 +15,13 @@ ghost use Rattle.stream_meaning.specs.Arrivals.{Arrival, Elapsed};
 use crate::lines::write_lines;
 use crate::links::{change, settle};
 use crate::stop::Stop;
-use ev_types::{Events, Memory, Notices};
+use ev_types::{Memory, Notices};
 use event_core::Core;
 use hub_link::HubLink;
 use link_table::LinkTable;
 use ports::{Links, Sink, Turn, Wants, What};
 use pred_eval::Patterns;
+use riemann_msg::SpentEvents;
 use std::alloc::Global;
 use step_count::{Ledger, Steps};
 
@@ -36,7 +37,7 @@ pub struct Hub {
     core: Core,
     table: LinkTable<HubLink>,
     // Events that nobody needs any more, into whose memory the next message is read.
-    spent: Events,
+    spent: SpentEvents,
 }
 
 impl Hub {
@@ -50,7 +51,7 @@ impl Hub {
         Ok(Hub {
             core,
             table: LinkTable::fresh(alloc),
-            spent: Events::fresh(alloc),
+            spent: SpentEvents::fresh(alloc),
         })
     }
 
