@@ -14,7 +14,7 @@ use Rattle.std.proofs.lemmas.List.Folds.{list_any-append}
 use Rattle.std.proofs.lemmas.Map.Keys.{IsDistinct-from_sorted}
 use Rattle.std.proofs.lemmas.Map.Views.{lookup-from_Contains}
 use Rattle.std.proofs.lemmas.List.Sums.{take_while-cons}
-use Rattle.tick_schedule.specs.Lists.{AddsAt, AreListedBy, HaveIds, IsEarliest, IsListedBy, Removes, RemovesAt, id_at, id_in, ids_by, ids_of, list_at}
+use Rattle.tick_schedule.specs.Lists.{AddsAt, AreListedBy, HaveIds, ListChange, IsEarliest, IsListedBy, Removes, RemovesAt, id_at, id_in, ids_by, ids_of, list_at}
 use Rattle.tick_schedule.proofs.QueueLaws.{at-eqb, at-same, at-true, eqb-comm}
 
 pub bool_cases : (b : Bool) → (b ≡ true) ⊎ (b ≡ false)
@@ -49,11 +49,12 @@ get-past [] i h = refl
 get-past (x ∷ ids) zero h = absurd (omega (arith, h))
 get-past (x ∷ ids) (suc i) h = get-past ids i (omega (arith, h))
 
--- ---- the lists of all moments
--- the moment has this list or none now, and every other moment has what it had
-abbrev pub ListChange : List (ℕ × List ℕ) → List (ℕ × List ℕ) → ℕ → Option (List ℕ) → Type 0
-ListChange old new moment given = (m : ℕ) → list_at m new ≡ cond (is_at (nat_cmp moment) m) given (list_at m old)
+pub get-within : (ids : List ℕ) (i : ℕ) → IsSome (slice_get ids i) → i < length ids
+get-within [] i h = absurd (cc)
+get-within (x ∷ ids) zero h = omega (arith)
+get-within (x ∷ ids) (suc i) h = let rest : i < length ids = get-within ids i h in omega (arith, rest)
 
+-- ---- the lists of all moments
 at-flip : (moment m : ℕ) → is_at (nat_cmp moment) m ≡ eqb m moment
 at-flip moment m = at-eqb moment m ∙ eqb-comm moment m
 
@@ -76,6 +77,37 @@ module _ (old new : List (ℕ × List ℕ)) (moment : ℕ) where
           | inr apart ↦ rw apart refl
         ];
   }
+
+  -- the first id of a moment
+  pub opens : (id : ℕ) → list_at moment old ≡ None → ListChange old new moment (Some (id ∷ [])) → AddsAt old new moment 0 id
+  opens id none change = record {
+    free = ap (id_in 0) none;
+    ids = λ m i.
+        changed (Some (id ∷ [])) change m i
+        ∙ elim (bool_cases (eqb m moment)) [
+          | inl same ↦ rw same (let is : m ≡ moment = eqb-true m moment same in
+              get-push [] id i
+              ∙ ap (λ (list : Option (List ℕ)). cond (eqb i 0) (Some id) (id_in i list)) (sym (ap (λ k. list_at k old) is ∙ none)))
+          | inr apart ↦ rw apart refl
+        ];
+  }
+
+  -- a list without ids is removed
+  pub closes : (first : List (ℕ × List ℕ)) (index : ℕ) (moved : Option ℕ) → RemovesAt first old moment index moved → list_at moment old ≡ Some []
+      → ListChange old new moment None → RemovesAt first new moment index moved
+  closes first index moved r empty change = record {
+    last = r.last;
+    is_last = r.is_last;
+    ids = λ m i. same-ids m i ∙ r.ids m i;
+  }
+    where
+      same-ids : (m i : ℕ) → id_at m i new ≡ id_at m i old
+      same-ids m i =
+          changed None change m i
+          ∙ elim (bool_cases (eqb m moment)) [
+            | inl same ↦ rw same (sym (ap (λ k. id_at k i old) (eqb-true m moment same) ∙ ap (id_in i) empty))
+            | inr apart ↦ rw apart refl
+          ]
 
   pub removes : (ids left : List ℕ) (index : ℕ) (moved : Option ℕ) → list_at moment old ≡ Some ids → ListChange old new moment (Some left)
       → Removes ids left index moved → RemovesAt old new moment index moved

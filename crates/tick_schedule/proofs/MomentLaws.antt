@@ -9,8 +9,7 @@ use Rattle.std.specs.BTreeMap.{is_at}
 use Rattle.std.proofs.lemmas.Bool.Decides.{nat_tests}
 use Rattle.std.proofs.lemmas.List.{get_or-set_other}
 use Rattle.std.proofs.lemmas.Grind.{get_or-set_at}
-use Rattle.tick_schedule.specs.declared.places.Place.{Place}
-use Rattle.tick_schedule.specs.Moments.{moment_in, moments_from, place_at}
+use Rattle.tick_schedule.specs.Moments.{Place, moment_in, moments_from, place_at}
 use Rattle.tick_schedule.specs.Queue.{moment_at, without, IsRising, Sets}
 use Rattle.tick_schedule.proofs.QueueLaws.{keeps_all}
 

@@ -13,11 +13,10 @@ use Rattle.std.proofs.lemmas.List.Elements.{All-head, All-tail, All-contains, Al
 use Rattle.std.proofs.lemmas.Map.Keys.{IsDistinct-from_sorted}
 use Rattle.std.proofs.lemmas.Map.Lookups.{btree_set_from_contains, exact_unsigned}
 use Rattle.std.proofs.lemmas.Map.Views.{All-values_from_lookup}
-use Rattle.tick_schedule.specs.declared.places.Place.{Place}
 use Rattle.tick_schedule.specs.Lists.{AddsAt, AreListedBy, IsFirst, IsEarliest, IsListedBy, RemovesAt, id_at}
-use Rattle.tick_schedule.specs.Moments.{moment_in, moments_from, place_at}
+use Rattle.tick_schedule.specs.Moments.{Place, at, moment_in, moments_from, place_at}
 use Rattle.tick_schedule.specs.Queue.{moment_at, IsRising, Sets, due_ids, IsNext}
-use Rattle.tick_schedule.specs.Schedule.{at, IsTied, IsTiedButOne, IsTiedBut, IsSchedule}
+use Rattle.tick_schedule.specs.Schedule.{IsTied, IsTiedButOne, IsTiedBut, IsSchedule}
 use Rattle.tick_schedule.proofs.QueueLaws.{at-same, is_by, due-is_by}
 use Rattle.tick_schedule.proofs.ListLaws.{and-true, bool_cases, eqb-false, eqb-same, eqb-true}
 use Rattle.tick_schedule.proofs.MomentLaws.{held, rising}
@@ -85,8 +84,8 @@ module _ (places places' : List (Option Place)) (lists lists' : List (ℕ × Lis
 
   pub tied-moved : (place : Place) → place_at id places ≡ Some place → IsTiedButOne place places' lists'
   tied-moved place was = record {
-    given = id;
-    is_given = add-apart place.moment place.index not_here ∙ here;
+    leaving = id;
+    is_leaving = add-apart place.moment place.index not_here ∙ here;
     placed = λ x m i h apart. placed-by x m i h (λ is.
         let same : place ≡ at m i = some-is place (at m i) (sym was ∙ is) in
         let yes : (eqb m place.moment && eqb i place.index) ≡ true = both m place.moment i place.index (ap (λ (p : Place). p.moment) (sym same)) (ap (λ (p : Place). p.index) (sym same)) in cc);
@@ -132,12 +131,12 @@ tied-same places places' lists tied same = record {
   listed = λ x m i h. tied.listed x m i (sym (same x) ∙ h);
 }
 
--- ---- an id gives its place up
+-- ---- an id leaves its place
 pub tied-cleared : (places places' : List (Option Place)) (lists : List (ℕ × List ℕ)) (id : ℕ) (place : Place) → IsTied places lists
     → place_at id places ≡ Some place → ((x : ℕ) → place_at x places' ≡ cond (eqb x id) None (place_at x places)) → IsTiedButOne place places' lists
 tied-cleared places places' lists id place tied was clears = record {
-  given = id;
-  is_given = here;
+  leaving = id;
+  is_leaving = here;
   placed = λ x m i h apart.
       (let at_x : place_at x places ≡ Some (at m i) = tied.placed x m i h in
       elim (bool_cases (eqb x id)) [
@@ -167,17 +166,17 @@ tied-cleared places places' lists id place tied was clears = record {
           | inr other ↦ clears x ∙ ap (λ b. cond b None (place_at x places)) other
         ]
 
-pub tied-given : (places places' : List (Option Place)) (lists : List (ℕ × List ℕ)) (id : ℕ) (known : Option Place) → IsTied places lists
+pub tied-leaving : (places places' : List (Option Place)) (lists : List (ℕ × List ℕ)) (id : ℕ) (known : Option Place) → IsTied places lists
     → place_at id places ≡ known → ((x : ℕ) → place_at x places' ≡ cond (eqb x id) None (place_at x places)) → IsTiedBut known places' lists
-tied-given places places' lists id None tied none clears =
+tied-leaving places places' lists id None tied none clears =
     tied-same places places' lists tied (λ x. clears x
     ∙ elim (bool_cases (eqb x id)) as (λ _. cond (eqb x id) None (place_at x places) ≡ place_at x places) [
       | inl same ↦ rw same (sym (ap (λ y. place_at y places) (eqb-true x id same) ∙ none))
       | inr other ↦ rw other refl
     ])
-tied-given places places' lists id (Some place) tied was clears = tied-cleared places places' lists id place tied was clears
+tied-leaving places places' lists id (Some place) tied was clears = tied-cleared places places' lists id place tied was clears
 
--- ---- the place that was given up goes to the id that comes there
+-- ---- the place that was left goes to the id that comes there
 module _ (places : List (Option Place)) (lists lists' : List (ℕ × List ℕ)) (place : Place) (tied : IsTiedButOne place places lists) where
   remove-at : (moved : Option ℕ) (r : RemovesAt lists lists' place.moment place.index moved) (m i : ℕ) → eqb m place.moment ≡ true
       → id_at m i lists' ≡ cond (eqb i place.index) moved (cond (eqb i r.last) None (id_at m i lists))

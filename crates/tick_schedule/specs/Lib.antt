@@ -1,4 +1,5 @@
 pub mod Lists
 pub mod Moments
+pub mod Numbers
 pub mod Queue
 pub mod Schedule

@@ -23,6 +23,10 @@ id_in index (Some ids) = slice_get ids index
 abbrev pub id_at : ℕ → ℕ → List (ℕ × List ℕ) → Option ℕ
 id_at moment index lists = id_in index (list_at moment lists)
 
+-- the moment has this list or none now, and every other moment has what it had
+abbrev pub ListChange : List (ℕ × List ℕ) → List (ℕ × List ℕ) → ℕ → Option (List ℕ) → Type 0
+ListChange old new moment given = (m : ℕ) → list_at m new ≡ (if is_at (nat_cmp moment) m then given else list_at m old)
+
 -- a moment without ids has no list
 abbrev pub HaveIds : List (ℕ × List ℕ) → Type 0
 HaveIds lists = (moment : ℕ) → list_at moment lists ≢ Some []

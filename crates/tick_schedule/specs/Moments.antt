@@ -1,6 +1,13 @@
 -- The places of ids, as a list with a slot for each id from 0 on.
 use Rattle.std.specs.Prelude.{ℕ, suc, List, [], ◌∷◌, slice_index_or, Option, None, Some}
-use Rattle.tick_schedule.specs.declared.places.Place.{Place}
+
+-- where an id is: the moment at which it is due, and its index in the list of that moment
+pub record Place : Type 0 where
+  pub moment : ℕ
+  pub index : ℕ
+
+abbrev pub at : ℕ → ℕ → Place
+at moment index = record { moment = moment; index = index }
 
 -- the place of the id, if it has one
 abbrev pub place_at : ℕ → List (Option Place) → Option Place

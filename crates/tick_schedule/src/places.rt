@@ -1,16 +1,60 @@
 ghost use Rattle.std.specs.Prelude.{◌≡◌, ℕ, ◌<◌, [], length, slice_set, None, OnOk};
-ghost use Rattle.tick_schedule.specs.Moments.{moments_from, place_at};
+ghost use Rattle.tick_schedule.specs.Moments.{at, moments_from, place_at};
 
 use list_laws::Memory;
 use std::alloc::Global;
 use std::marker::Model;
 use std::mem;
 
-/// Where an id is: the moment at which it is due, and its index among the ids of that moment.
-#[derive(Clone, Copy)]
+/// Where an id is: the moment at which it is due, and its index among the ids of that moment. The number of their list is
+/// kept too. Contracts do not see it, so who uses it tests that the list has that moment.
+#[derive(Drop)]
 pub(crate) struct Place {
-    pub(crate) moment: u64,
-    pub(crate) index: usize,
+    moment: u64,
+    index: usize,
+    list: usize,
+}
+
+impl Model for Place {
+    ghost use Rattle.tick_schedule.specs.Moments.{Place, at};
+
+    ghost Value = { Place };
+
+    ghost view = { λ place. at place.moment place.index };
+}
+
+impl Place {
+    pub(crate) fn new(moment: u64, index: usize, list: usize) -> Place
+        ensures { result ≡ at moment index }
+    {
+        Place {
+            moment,
+            index,
+            list,
+        }
+    }
+
+    pub(crate) fn moment(&self) -> u64
+        ensures { result ≡ self.now.moment }
+    {
+        self.moment
+    }
+
+    pub(crate) fn index(&self) -> usize
+        ensures { result ≡ self.now.index }
+    {
+        self.index
+    }
+
+    pub(crate) fn list(&self) -> usize {
+        self.list
+    }
+
+    fn copied(&self) -> Place
+        ensures { result ≡ self.now }
+    {
+        Place::new(self.moment, self.index, self.list)
+    }
 }
 
 /// The place of each id that has one. An id takes memory for each id below it.
@@ -21,9 +65,9 @@ pub(crate) struct Places {
 
 impl Model for Places {
     ghost use Rattle.std.specs.Prelude.{List, Option};
-    ghost use Rattle.tick_schedule.specs.declared.places.Place.{Place as StoredPlace};
+    ghost use Rattle.tick_schedule.specs.Moments.{Place};
 
-    ghost Value = { List (Option StoredPlace) };
+    ghost Value = { List (Option Place) };
 
     ghost view = { λ places. places.by_id.items };
 }
@@ -42,10 +86,10 @@ impl Places {
     pub(crate) fn get(&self, id: usize) -> Option<Place>
         ensures { result ≡ place_at id self.now }
     {
-        if id >= self.by_id.len() {
-            return None;
+        match self.by_id.get(id) {
+            Some(Some(place)) => Some(place.copied()),
+            _ => None,
         }
-        self.by_id[id]
     }
 
     /// Makes a slot for the place of the id.

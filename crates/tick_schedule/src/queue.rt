@@ -16,9 +16,9 @@ use std::collections::BTreeSet;
 use std::marker::Model;
 use step_count::{Ledger, Steps};
 
-/// The moments at which ids are due. An id has one moment at most. The queue takes 24 bytes in a vector for each id up to
-/// the largest that has had a moment, 8 bytes or more in another for each id that has one, and an entry in an ordered map
-/// for each moment that an id has.
+/// The moments at which ids are due. An id has one moment at most. The queue takes 32 bytes in a vector for each id up to
+/// the largest that has had a moment, 8 bytes or more in another for each id that has one, and for each moment that an id
+/// has a list and an entry in an ordered map.
 #[derive(Drop)]
 pub struct DueQueue {
     places: Places,
@@ -58,13 +58,13 @@ impl DueQueue {
         ensures rising { IsRising self.new }
     {
         let before = self.places.get(id);
-        if has_moment(before, due) {
+        if has_moment(&before, due) {
             return Ok(());
         }
         self.places.reach(id)?;
-        let index = self.lists.push(alloc, due, id)?;
-        self.places.set(id, Place { moment: due, index });
-        give_up(&mut self.places, &mut self.lists, before);
+        let place = self.lists.push(alloc, due, id)?;
+        self.places.set(id, place);
+        remove_from_list(&mut self.places, &mut self.lists, before);
         self.next = self.lists.first();
         Ok(())
     }
@@ -76,7 +76,7 @@ impl DueQueue {
         ensures rising { IsRising self.new }
     {
         let before = self.places.remove(id);
-        give_up(&mut self.places, &mut self.lists, before);
+        remove_from_list(&mut self.places, &mut self.lists, before);
         self.next = self.lists.first();
     }
 
@@ -177,18 +177,18 @@ fn push_all<G: Ledger>(
 }
 
 /// Whether the place has this moment.
-fn has_moment(place: Option<Place>, moment: u64) -> bool
-    ensures { IsTrue result ↔ (moment_in place ≡ Some moment) }
+fn has_moment(place: &Option<Place>, moment: u64) -> bool
+    ensures { IsTrue result ↔ (moment_in place.now ≡ Some moment) }
 {
     match place {
-        Some(place) => place.moment == moment,
+        Some(place) => place.moment() == moment,
         None => false,
     }
 }
 
 /// Removes the id at the place, if there is one, from the list of its moment. The id that comes to its index has that place
 /// from then on.
-fn give_up(places: &mut Places, lists: &mut DueLists, place: Option<Place>)
+fn remove_from_list(places: &mut Places, lists: &mut DueLists, place: Option<Place>)
     requires { IsTiedBut place places.old lists.old }
     ensures tied { IsTied places.new lists.new }
     ensures moments { moments_from 0 places.new ≡ moments_from 0 places.old }
@@ -196,7 +196,7 @@ fn give_up(places: &mut Places, lists: &mut DueLists, place: Option<Place>)
     let Some(place) = place else {
         return;
     };
-    if let Some(moved) = lists.remove(place.moment, place.index) {
+    if let Some(moved) = lists.remove(&place) {
         places.set(moved, place);
     }
 }

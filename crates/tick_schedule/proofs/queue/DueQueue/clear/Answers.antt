@@ -2,26 +2,26 @@ use Rattle.std.proofs.Common.{None, cond, eqb, sym, ◌∙◌, ap}
 use Rattle.tick_schedule.specs.Moments.{moments_from, place_at}
 use Rattle.tick_schedule.specs.Queue.{moment_at, without}
 use Rattle.tick_schedule.proofs.MomentLaws.{clear_place, clear_moment, rising, without_slot}
-use Rattle.tick_schedule.proofs.ScheduleLaws.{schedule, tied-given}
+use Rattle.tick_schedule.proofs.ScheduleLaws.{schedule, tied-leaving}
 use Rattle.tick_schedule.proofs.queue.DueQueue.clear.Goals as goal
 
-pub give_up-requires : goal.give_up-requires
-give_up-requires c =
-    tied-given c.self.inside.places c.remove-before.new.self c.self.inside.lists c.args.id c.remove-before.result c.self.invariant.tied (sym c.remove-before.ensures.removed)
+pub remove_from_list-requires : goal.remove_from_list-requires
+remove_from_list-requires c =
+    tied-leaving c.self.inside.places c.remove-before.new.self c.self.inside.lists c.args.id c.remove-before.result c.self.invariant.tied (sym c.remove-before.ensures.removed)
     (λ other. ap (place_at other) c.remove-before.ensures.rest ∙ clear_place c.self.inside.places c.args.id other)
 
 pub invariant_of-self : goal.invariant_of-self
-invariant_of-self c = schedule c.give_up.new.places c.give_up.new.lists c.first-self-inside.result c.give_up.ensures.tied c.first-self-inside.ensures
+invariant_of-self c = schedule c.remove_from_list.new.places c.remove_from_list.new.lists c.first-self-inside.result c.remove_from_list.ensures.tied c.first-self-inside.ensures
 
 pub returns-clause-cleared : goal.returns-clause-cleared
 returns-clause-cleared c = λ other.
-    ap (moment_at other) (c.give_up.ensures.moments ∙ ap (moments_from 0) c.remove-before.ensures.rest)
+    ap (moment_at other) (c.remove_from_list.ensures.moments ∙ ap (moments_from 0) c.remove-before.ensures.rest)
     ∙ clear_moment c.self.inside.places c.args.id other
     ∙ ap (λ queue. cond (eqb other c.args.id) None (moment_at other queue)) c.self.view_is
 
 pub returns-clause-rest : goal.returns-clause-rest
 returns-clause-rest c =
-    c.give_up.ensures.moments ∙ ap (moments_from 0) c.remove-before.ensures.rest ∙ without_slot c.args.id c.self.inside.places ∙ ap (without c.args.id) c.self.view_is
+    c.remove_from_list.ensures.moments ∙ ap (moments_from 0) c.remove-before.ensures.rest ∙ without_slot c.args.id c.self.inside.places ∙ ap (without c.args.id) c.self.view_is
 
 pub returns-clause-rising : goal.returns-clause-rising
-returns-clause-rising c = rising c.give_up.new.places
+returns-clause-rising c = rising c.remove_from_list.new.places

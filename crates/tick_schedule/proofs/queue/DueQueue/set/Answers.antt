@@ -1,7 +1,6 @@
 use Rattle.std.proofs.Common.{Some, cond, eqb, sym, ◌∙◌, ap, subst}
-use Rattle.tick_schedule.specs.Moments.{moment_in, moments_from, place_at}
+use Rattle.tick_schedule.specs.Moments.{at, moment_in, moments_from, place_at}
 use Rattle.tick_schedule.specs.Queue.{moment_at, IsRising}
-use Rattle.tick_schedule.specs.Schedule.{at}
 use Rattle.tick_schedule.proofs.MomentLaws.{held, rising, set_moment, set_place}
 use Rattle.tick_schedule.proofs.ScheduleLaws.{moment-stays, schedule, tied-after, tied-same}
 use Rattle.tick_schedule.proofs.queue.DueQueue.set.Goals as goal
@@ -12,28 +11,30 @@ returns-then-has_moment-clause-rising c = subst IsRising c.self.view_is (rising 
 pub returns-in_err-reach-clause-rising : goal.returns-in_err-reach-clause-rising
 returns-in_err-reach-clause-rising c = rising c.reach.new.self
 
-pub returns-in_err-index-clause-rising : goal.returns-in_err-index-clause-rising
-returns-in_err-index-clause-rising c = rising c.reach.new.self
+pub returns-in_err-place-clause-rising : goal.returns-in_err-place-clause-rising
+returns-in_err-place-clause-rising c = rising c.reach.new.self
 
-pub give_up-requires : goal.give_up-requires
-give_up-requires c =
-    tied-after c.reach.new.self c.set.new.self c.self.inside.lists c.push.new.self c.args.due c.in_ok-index.index c.args.id
+pub remove_from_list-requires : goal.remove_from_list-requires
+remove_from_list-requires c =
+    tied-after c.reach.new.self c.set.new.self c.self.inside.lists c.push.new.self c.args.due c.in_ok-place.place.index c.args.id
     (tied-same c.self.inside.places c.reach.new.self c.self.inside.lists c.self.invariant.tied c.reach.ensures.places)
-    c.in_ok-index.ensures.ok
-    (λ other. ap (place_at other) c.set.ensures ∙ set_place c.reach.new.self c.args.id other (Some (at c.args.due c.in_ok-index.index)) c.in_ok-reach.ensures.slot)
+    c.in_ok-place.ensures.ok
+    (λ other. ap (place_at other) c.set.ensures ∙ set_place c.reach.new.self c.args.id other (Some c.in_ok-place.place) c.in_ok-reach.ensures.slot
+    ∙ ap (λ m. cond (eqb other c.args.id) (Some (at m c.in_ok-place.place.index)) (place_at other c.reach.new.self)) c.in_ok-place.ensures.moment)
     c.get-before.result (c.reach.ensures.places c.args.id ∙ sym c.get-before.ensures)
 
 pub invariant_of-self-2 : goal.invariant_of-self-2
-invariant_of-self-2 c = schedule c.give_up.new.places c.give_up.new.lists c.first-self-inside.result c.give_up.ensures.tied c.first-self-inside.ensures
+invariant_of-self-2 c = schedule c.remove_from_list.new.places c.remove_from_list.new.lists c.first-self-inside.result c.remove_from_list.ensures.tied c.first-self-inside.ensures
 
 pub returns-clause-ok : goal.returns-clause-ok
 returns-clause-ok c = λ other.
-    ap (moment_at other) (c.give_up.ensures.moments ∙ ap (moments_from 0) c.set.ensures)
-    ∙ set_moment c.reach.new.self c.args.id (Some (at c.args.due c.in_ok-index.index)) c.in_ok-reach.ensures.slot other
+    ap (moment_at other) (c.remove_from_list.ensures.moments ∙ ap (moments_from 0) c.set.ensures)
+    ∙ set_moment c.reach.new.self c.args.id (Some c.in_ok-place.place) c.in_ok-reach.ensures.slot other
+    ∙ ap (λ moment. cond (eqb other c.args.id) (Some moment) (moment_at other (moments_from 0 c.reach.new.self))) c.in_ok-place.ensures.moment
     ∙ ap (λ queue. cond (eqb other c.args.id) (Some c.args.due) (moment_at other queue)) (c.reach.ensures.moments ∙ c.self.view_is)
 
 pub returns-clause-rising : goal.returns-clause-rising
-returns-clause-rising c = rising c.give_up.new.places
+returns-clause-rising c = rising c.remove_from_list.new.places
 
 pub returns-then-has_moment-clause-ok : goal.returns-then-has_moment-clause-ok
 returns-then-has_moment-clause-ok c = λ other.

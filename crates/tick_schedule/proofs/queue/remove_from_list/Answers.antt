@@ -1,10 +1,9 @@
 use Rattle.std.proofs.Common.{◌≡◌, ℕ, List, Option, Some, refl, ◌∙◌, ap, subst}
-use Rattle.tick_schedule.specs.declared.places.Place.{Place}
-use Rattle.tick_schedule.specs.Moments.{moments_from, place_at}
+use Rattle.tick_schedule.specs.Moments.{Place, moments_from, place_at}
 use Rattle.tick_schedule.specs.Schedule.{IsTiedBut, IsTiedButOne}
 use Rattle.tick_schedule.proofs.MomentLaws.{has_slot, same_moment, set_place}
 use Rattle.tick_schedule.proofs.ScheduleLaws.{moved-from, tied-filled}
-use Rattle.tick_schedule.proofs.queue.give_up.Goals as goal
+use Rattle.tick_schedule.proofs.queue.remove_from_list.Goals as goal
 
 given : (known : Option Place) (place : Place) (places : List (Option Place)) (lists : List (ℕ × List ℕ)) → known ≡ Some place
     → IsTiedBut known places lists → IsTiedButOne place places lists
