@@ -1,8 +1,10 @@
 ghost use Rattle.std.specs.Prelude.{◌<◌, length, IfSome};
 
 use ev_types::Event;
-use std::alloc::Global;
+use std::alloc::{AllocError, Global};
 use std::hash::{FoldHasher, Hasher};
+
+const FIRST_SLOTS: usize = 16;
 
 /// Numbers of events by hashes of their hosts and services. A hint may be wrong, so the caller compares the event under
 /// that number.
@@ -37,18 +39,26 @@ impl Hints {
         }
     }
 
-    /// Makes two slots for each of `count` events where there are fewer than one for each, and forgets what was noted. If
-    /// memory runs out, nothing changes.
+    /// Doubles the slots where there are fewer than `count`. What was noted stays: the remainder of a hash by the double
+    /// number of slots is that by the number before, or as much more as there were. If memory runs out, nothing changes.
     pub(crate) fn reserve(&mut self, alloc: Global, count: usize) {
         if count <= self.pairs.len() {
             return;
         }
-        let Some(len) = count.checked_mul(2) else {
-            return;
-        };
-        if let Ok(pairs) = vec![in alloc; (0, 0); len] {
+        if let Ok(pairs) = self.doubled(alloc) {
             self.pairs = pairs;
         }
+    }
+
+    /// The slots twice, one copy after the other, or the first slots.
+    fn doubled(&self, alloc: Global) -> Result<Vec<(usize, usize)>, AllocError> {
+        if self.pairs.is_empty() {
+            return vec![in alloc; (0, 0); FIRST_SLOTS];
+        }
+        let mut pairs = Vec::with_capacity(alloc, self.pairs.len().saturating_mul(2))?;
+        pairs.extend_from_slice(&self.pairs)?;
+        pairs.extend_from_slice(&self.pairs)?;
+        Ok(pairs)
     }
 
     /// The slot of the hash, where there are slots.
