@@ -27,7 +27,7 @@ CheckCause config LinksFailed = ⊥
 CheckCause config (ScriptRefused line) = ⊥
 CheckCause config _ = Unit {0}
 
--- the file is a configuration whose patterns were built, and of its canonical text so much was written
+-- the file is a configuration whose patterns were built, and `Wrote` holds of its canonical text
 abbrev pub WritesText : Content → (List ℕ → Type 0) → Type 0
 WritesText content Wrote = ForConfig content (λ config. AreBuilt config.plan × Wrote (canonical_text config))
 

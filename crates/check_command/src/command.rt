@@ -135,9 +135,6 @@ fn build_text<P: Patterns>(
 {
     let mut text = Blob::fresh(alloc);
     write_config(alloc, &config, &mut text)?;
-    match build_ready(alloc, config.plan, patterns) {
-        Ok(_) => Ok(text),
-        Err(BuildFault::Pattern { number }) => Err(BuildFault::Pattern { number }),
-        Err(BuildFault::Memory) => Err(BuildFault::Memory),
-    }
+    build_ready(alloc, config.plan, patterns)?;
+    Ok(text)
 }

@@ -23,6 +23,7 @@ pub fn build_ready<P: Patterns>(
 {
     match build_plan(alloc, plan, patterns) {
         Ok(ready) => {
+            // The contract of this call says that the patterns were built.
             let _built = ready.patterns();
             Ok(ready)
         }

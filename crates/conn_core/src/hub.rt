@@ -62,6 +62,7 @@ impl Hub {
         self.table.wants()
     }
 
+    /// The streams, and their index.
     pub fn core(&self) -> &Core
         ensures { result.now ≡ core_of self.now }
     {

@@ -75,7 +75,7 @@ fn add(alloc: Global, table: &mut LinkTable<HubLink>, number: u64) -> Result<(),
     requires { is_newer number table.old.newest ≡ true }
     ensures { OnOk result (AddsLink number table.old table.new) }
 {
-    let link = HubLink::open(alloc, number, true);
+    let link = HubLink::open(alloc, number);
     table.add(alloc, link.want(), link)?;
     Ok(())
 }

@@ -16,9 +16,9 @@ use std::alloc::Global;
 use step_count::{Ledger, Steps};
 use stream_plan::ReadyPlan;
 
-/// The streams of a plan, the index that they write to, and a clock of seconds. What expires in the index is looked for
-/// every `interval` seconds, and comes to the streams again. After `Memory` a core is poisoned, and each later call
-/// that can answer `Memory` does.
+/// The streams of a plan, the index that they write to, and a clock of seconds. Every `interval` seconds the events that
+/// have expired are removed from the index, and a copy of each comes to the streams. After `Memory` a core is poisoned,
+/// and each later call that can answer `Memory` does.
 #[derive(Drop)]
 pub struct Core {
     streams: IndexedStreams,

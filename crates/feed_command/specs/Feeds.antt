@@ -32,7 +32,7 @@ use Rattle.sexp_config.specs.Config.{IsConfigOf}
 -- ---- the run
 
 -- The bytes came on link 0 in a run to its last turn, and the notice lines of all turns were written to the error
--- stream. Then of the replies on that link so much was written to the output.
+-- stream. Then `Wrote` holds of the replies on that link.
 pub record FeedsAll (setup : Setup) (bytes : List ℕ) (old new : Reports) (Wrote : List ℕ → Type 0) : Type 0 where
   pub run : List Entry
   pub scripted : IsScriptedRun (feed_script PIECE_LIMIT bytes) run

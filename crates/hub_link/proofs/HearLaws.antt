@@ -1,6 +1,6 @@
 -- How messages are answered one after another, and what the link is then.
-use Rattle.std.proofs.Common.{◌≡◌, ℕ, ◌+◌, ◌<◌, ◌≤◌, Bool, true, false, List, [], ◌∷◌, ◌++◌, length, map, take, drop, refl, ap, sym, ◌∙◌, subst, arith, append-nil, append_assoc, length-append}
-use Rattle.std.specs.Prelude.{IfSome, Option, Some, None, Result, Ok, Err, OnOk}
+use Rattle.std.proofs.Common.{◌≡◌, ℕ, ◌≤◌, Bool, true, false, List, [], ◌∷◌, ◌++◌, length, map, refl, ap, sym, ◌∙◌, subst, arith, append-nil, append_assoc, length-append}
+use Rattle.std.specs.Prelude.{IfSome, Option, None, Ok, Err}
 use Rattle.std.proofs.lemmas.List.{drop-append-le, map-append}
 use Rattle.event_core.specs.declared.arrivals.Core.{Core}
 use Rattle.event_core.specs.Core.{CoreConfig, Represents, config_of, now_of, state_by}
@@ -15,7 +15,7 @@ use Rattle.hub_meaning.specs.Messages.{posts_of}
 use Rattle.hub_meaning.specs.Replies.{reply_to}
 use Rattle.hub_meaning.specs.Runs.{Talk, all_answered, answered, with_reply}
 use Rattle.hub_meaning.specs.Verdicts.{AfterVerdicts, IsOfRule, IsPossible, Message, PatternsState, Refusal, built_rule, judged}
-use Rattle.msg_replies.specs.Answering.{AfterVerdict, AnswersMessage, Replies}
+use Rattle.msg_replies.specs.Answering.{AnswersMessage, Replies}
 use Rattle.msg_replies.specs.Arriving.{Arrives, Reported}
 use Rattle.msg_replies.proofs.AnswerLaws.{arrives_nothing, arrives_then}
 use Rattle.msg_replies.proofs.VerdictLaws.{more_verdicts, no_verdicts}

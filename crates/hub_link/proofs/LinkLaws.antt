@@ -1,5 +1,5 @@
 -- How a link that a piece comes on follows what it represents.
-use Rattle.std.proofs.Common.{◌≡◌, ℕ, ◌≤◌, ◌<◌, ◌==◌, ◌↔◌, Bool, true, false, cond, ◌&&◌, ◌||◌, List, [], ◌∷◌, ◌++◌, length, refl, ap, sym, ◌∙◌, subst, arith, append-nil}
+use Rattle.std.proofs.Common.{◌≡◌, ℕ, ◌≤◌, ◌==◌, ◌↔◌, Bool, true, false, cond, ◌&&◌, ◌||◌, List, [], ◌∷◌, ◌++◌, length, refl, ap, sym, ◌∙◌, subst, arith, append-nil}
 use Rattle.std.specs.Prelude.{IsTrue, Option, Result, Ok, Err, OnOk, nat_le, nat_lt}
 use Rattle.std.proofs.lemmas.Bool.{and_parts, eqb-true, leb-true, ltb-true}
 use Rattle.std.proofs.lemmas.Bool.Decides.{nat_tests}
@@ -17,14 +17,14 @@ use Rattle.hub_meaning.specs.declared.status.Status.{Status}
 use Rattle.hub_meaning.specs.declared.status.Status.TheVariants.{Open, ReadClosed, Closing, Closed}
 use Rattle.hub_meaning.specs.Replies.{reply_to_oversized}
 use Rattle.hub_meaning.specs.Runs.{RunState, Talk, all_answered, answered, cut_off, is_oversized, messages_in, new_frames, talk_of, with_reply}
-use Rattle.hub_meaning.specs.Verdicts.{AfterVerdicts, Message, PatternsState, Refusal, judged}
+use Rattle.hub_meaning.specs.Verdicts.{Message, PatternsState, Refusal, judged}
 use Rattle.hub_meaning.proofs.RunLaws.{new_frames_rest}
-use Rattle.msg_replies.specs.Arriving.{Arrives, Reported}
+use Rattle.msg_replies.specs.Arriving.{Reported}
 use Rattle.msg_replies.proofs.AnswerLaws.{arrives_nothing}
 use Rattle.msg_replies.proofs.VerdictLaws.{no_verdicts}
 use Rattle.hub_link.specs.declared.link.HubLink.{HubLink}
 use Rattle.hub_link.specs.Answering.{Answered, AnswersFrames, IsTalk}
-use Rattle.hub_link.specs.Hearing.{Hears, HearsPiece, IsAt, read_talk, talk_after}
+use Rattle.hub_link.specs.Hearing.{HearsPiece, IsAt, read_talk, talk_after}
 use Rattle.hub_link.specs.HubLink.{Follows, RepresentsLink}
 use Rattle.hub_link.specs.Sending.{is_over_as}
 use Rattle.hub_link.proofs.HearLaws.{none_refused, unsent_with_reply, within_with_reply}

@@ -1,6 +1,6 @@
 -- What sends to one link do to the state of a run.
-use Rattle.std.proofs.Common.{◌≡◌, ◌≢◌, ℕ, zero, suc, ◌+◌, ◌-◌, ◌<◌, ◌≤◌, ◌==◌, Bool, true, false, cond, not, ◌&&◌, ◌||◌, List, [], ◌∷◌, ◌++◌, length, map, take, drop, refl, ap, sym, ◌∙◌, subst, arith, length-append, length-drop, length-take}
-use Rattle.std.specs.Prelude.{Option, Some, None, nat_lt}
+use Rattle.std.proofs.Common.{◌≡◌, ℕ, zero, suc, ◌+◌, ◌-◌, ◌<◌, ◌≤◌, ◌==◌, Bool, true, false, cond, not, ◌&&◌, ◌||◌, List, [], ◌∷◌, ◌++◌, length, take, drop, refl, ap, sym, ◌∙◌, subst, arith, length-append, length-drop, length-take}
+use Rattle.std.specs.Prelude.{Some, nat_lt}
 use Rattle.std.proofs.lemmas.Bool.{eqb-true, eq-eqb, lt-ltb, ltb-true, and_parts}
 use Rattle.std.proofs.lemmas.List.{drop-drop, length-take-le, take-take}
 use Rattle.event_core.specs.Core.{CoreConfig}
@@ -9,12 +9,12 @@ use Rattle.ports.specs.declared.entry.Entry.TheVariants.{Listen, Next, Send, Clo
 use Rattle.ports.specs.declared.links.SendAnswer.{SendAnswer}
 use Rattle.ports.specs.declared.links.SendAnswer.TheVariants.{Took, Later, Failed, Memory}
 use Rattle.ports.specs.Links.{send_entries, IsWithin}
-use Rattle.hub_meaning.specs.Legal.{IsLegalFrom, IsSettled, IsSettledAs, MayClose, MayCloseAs, MaySend}
-use Rattle.hub_meaning.specs.Links.{Link, changed, find_link, has_number, is_connected, is_open, is_open_status, is_read_closed_status, sent, unsent, with_status}
+use Rattle.hub_meaning.specs.Legal.{IsLegalFrom, IsSettledAs, MayCloseAs, MaySend}
+use Rattle.hub_meaning.specs.Links.{Link, changed, find_link, has_number, is_open_status, is_read_closed_status, sent, unsent, with_status}
 use Rattle.hub_meaning.specs.declared.status.Status.{Status}
 use Rattle.hub_meaning.specs.declared.status.Status.TheVariants.{Open, ReadClosed, Closing, Closed}
 use Rattle.hub_meaning.specs.Runs.{RunState, Step, plain, state_from, with_links}
-use Rattle.hub_meaning.proofs.LinkLaws.{KeepsNumber, found_number}
+use Rattle.hub_meaning.proofs.LinkLaws.{KeepsNumber}
 use Rattle.hub_meaning.proofs.RunLaws.{legal_append, state_append}
 use Rattle.hub_link.specs.declared.link.HubLink.{HubLink}
 use Rattle.hub_link.specs.HubLink.{RepresentsLink, number_of}

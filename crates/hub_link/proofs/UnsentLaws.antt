@@ -1,12 +1,11 @@
 -- What is unsent, in two buffers.
-use Rattle.std.proofs.Common.{◌≡◌, ℕ, ◌+◌, ◌-◌, ◌<◌, ◌≤◌, List, [], ◌∷◌, ◌++◌, length, take, drop, refl, ap, sym, ◌∙◌, subst, arith, append-nil, append_assoc, length-append, length-drop}
-use Rattle.std.specs.Prelude.{Result, Ok, Err, OnOk}
-use Rattle.std.proofs.lemmas.List.{drop-append-le, drop-drop, drop_at, take_all, take-append-le}
-use Rattle.std.proofs.Math.Seq.{drop-append-add}
+use Rattle.std.proofs.Common.{◌≡◌, ℕ, ◌<◌, ◌≤◌, List, [], ◌∷◌, ◌++◌, length, take, drop, refl, ap, sym, ◌∙◌, arith, append_assoc, length-drop}
+use Rattle.std.specs.Prelude.{Result}
+use Rattle.std.proofs.lemmas.List.{take_all, take-append-le}
 use Rattle.event_core.specs.declared.arrivals.Core.{Core}
 use Rattle.list_laws.specs.declared.memory.Memory.{Memory}
 use Rattle.hub_meaning.specs.Verdicts.{PatternsState}
-use Rattle.msg_replies.specs.Answering.{AnswersMessage, Replies}
+use Rattle.msg_replies.specs.Answering.{AnswersMessage}
 use Rattle.msg_replies.specs.Arriving.{Reported}
 use Rattle.msg_replies.proofs.AnswerLaws.{on_ok}
 
@@ -47,16 +46,3 @@ later_first taken first later all = ap (λ (bytes : List ℕ). bytes ++ later) (
 pub later_next : (taken : ℕ) (first later : List ℕ) → length first ≤ taken → later ≡ take (length later) (drop taken first ++ later)
 later_next taken first later all =
     sym (take_all (length later) later (let same : length later ≤ length later = omega arith in same)) ∙ ap (take (length later)) (later_first taken first later all)
-
--- some of the first buffer are taken
-pub advanced_within : (taken count : ℕ) (first later : List ℕ) → taken ≤ length first → count < length first - taken → drop (taken + count) first ++ later ≡ drop count (drop taken first ++ later)
-advanced_within taken count first later within less =
-    ap (λ (bytes : List ℕ). bytes ++ later) (sym (drop-drop count taken first))
-    ∙ sym (drop-append-le count (drop taken first) later (omega (arith, length-drop taken first)))
-
--- all of the first buffer are taken, and some of the later one
-pub advanced_past : (taken count : ℕ) (first later : List ℕ) → taken ≤ length first → length first - taken ≤ count → drop (count - (length first - taken)) later ++ [] ≡ drop count (drop taken first ++ later)
-advanced_past taken count first later within more =
-    append-nil (drop (count - (length first - taken)) later)
-    ∙ sym (drop-append-add (drop taken first) later (count - (length first - taken)))
-    ∙ ap (λ (n : ℕ). drop n (drop taken first ++ later)) (let same : length (drop taken first) + (count - (length first - taken)) ≡ count = omega (arith, length-drop taken first) in same)

@@ -36,22 +36,23 @@ pub struct HubLink {
 }
 
 impl HubLink {
-    /// A link on which nothing came. Where there is no room for it, it is to be closed at once. It takes no memory.
-    pub fn open(alloc: Global, number: u64, has_room: bool) -> HubLink
+    /// A link on which nothing came, of those that are served. It takes no memory.
+    pub fn open(alloc: Global, number: u64) -> HubLink
         ensures number { number_of result ≡ number }
         ensures represents { (links : List Link)
-            → has_room ≡ nat_lt (length (connected links)) connected_limit
+            → nat_lt (length (connected links)) connected_limit ≡ true
             → RepresentsLink result (new_link number links) }
     {
         HubLink {
             number,
-            status: first_status(has_room),
+            status: Status::Open,
             blocked: false,
             input: FrameLink::fresh(alloc),
             unsent: Unsent::fresh(alloc),
         }
     }
 
+    /// Its number among all links that were opened.
     pub fn number(&self) -> u64
         ensures { result ≡ number_of self.now }
     {
@@ -105,7 +106,7 @@ impl HubLink {
         }
     }
 
-    /// Whether it is open, or no more of it is read.
+    /// Whether it is open or read-closed.
     fn is_connected(&self) -> bool
         ensures { result ≡ (is_open_status self.now.status
             || is_read_closed_status self.now.status) }
@@ -200,7 +201,7 @@ impl HubLink {
         }
     }
 
-    /// Whether the link is to be closed: it does not work, it is one too many, or no more is read of it and all was sent.
+    /// Whether the link is to be closed: it does not work, or no more is read of it and all was sent.
     pub fn is_over(&self) -> bool
         ensures { (meant : Link) → RepresentsLink self.now meant →
             IsTrue result ↔ MayClose meant }
@@ -281,17 +282,6 @@ fn memory_left(answer: SendAnswer) -> Result<(), Memory>
     match answer {
         SendAnswer::Memory => Err(Memory),
         SendAnswer::Took { .. } | SendAnswer::Later | SendAnswer::Failed => Ok(()),
-    }
-}
-
-/// The status of a link on which nothing came.
-fn first_status(has_room: bool) -> Status
-    ensures { result ≡ (if has_room then Status.Open else Status.Closing) }
-{
-    if has_room {
-        Status::Open
-    } else {
-        Status::Closing
     }
 }
 

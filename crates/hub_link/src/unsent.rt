@@ -118,5 +118,9 @@ impl Unsent {
         }
         self.first = mem::replace(&mut self.later, Blob::fresh(alloc));
         self.taken = count - rest;
+        if self.taken == self.first.len() {
+            self.first = Blob::fresh(alloc);
+            self.taken = 0;
+        }
     }
 }

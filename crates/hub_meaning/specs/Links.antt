@@ -34,7 +34,7 @@ is_read_closed_status Closed = false
 abbrev pub is_open : Link → Bool
 is_open link = is_open_status link.status
 
--- it is open, or no more of it is read
+-- it is open or read-closed
 abbrev pub is_connected : Link → Bool
 is_connected link = is_open_status link.status || is_read_closed_status link.status
 

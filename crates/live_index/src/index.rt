@@ -53,7 +53,7 @@ impl LiveIndex {
     }
 
     /// Writes an event in the place of the live one of its host and service. One whose state is "expired" only
-    /// ends that one. After `Memory` the index is poisoned.
+    /// removes that one. After `Memory` the index is poisoned.
     pub fn write(&mut self, alloc: Global, event: Event) -> Result<(), Memory>
         ensures ok { OnOk result ((log : IndexLog) → Represents self.old log →
             Represents self.new (log ++ Write event ∷ [])) }

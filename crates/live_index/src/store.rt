@@ -24,9 +24,10 @@ use std::mem;
 use step_count::{Ledger, NoLedger, Steps};
 use tick_schedule::DueQueue;
 
-// After how many seconds an event without a ttl expires, and the greatest moment.
+// After how many seconds an event without a ttl expires.
 const DEFAULT_TTL: u32 = 60;
 
+// The last moment of the clock. An event that expires later stays until another one takes its place.
 const LAST_MOMENT: i128 = 1 << 40;
 
 /// The events of an index, by host and by service, absent before present.

@@ -18,7 +18,17 @@ use std::alloc::Global;
 use step_count::{Ledger, Steps};
 
 /// Carries out `load CONFIG N START`, with `count` for N: it runs a server over a generated load of `count` events.
-/// What the load came to goes to `out`, and the line of the ending to `err`.
+/// What the load came to goes to `out`, and the line of the ending to `err`. A write of that line that fails cuts it, and
+/// does not change the status.
+///
+/// | Status | When | Line on `err` |
+/// |---|---|---|
+/// | `Done` | the load was served, and what it came to is written | no |
+/// | `SinkFault` | `out` got only a prefix of what the load came to | no |
+/// | `Config` | the configuration is not valid, or a pattern of it is refused | yes |
+/// | `ReadFault` | the configuration could not be read | yes |
+/// | `TooLong` | the configuration has over `command_io::CONFIG_LIMIT` bytes | yes |
+/// | `Memory` | out of memory; `out` gets nothing | yes |
 pub fn load<S: Store, O: Sink, E: Sink, P: Patterns, G: Ledger>(
     alloc: Global,
     config: &Text,

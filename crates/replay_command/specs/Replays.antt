@@ -25,8 +25,8 @@ use Rattle.replay_command.specs.Scripts.{IsScript, RefusesScript}
 
 -- ---- the run
 
--- The run came to its last turn, and the notice lines of all turns were written. Then of the lines of the links so much
--- was written.
+-- The run came to its last turn, and the notice lines of all turns were written. Then `Wrote` holds of the lines of the
+-- links.
 pub record PlaysAll (setup : Setup) (script : Script) (old new : Reports) (Wrote : Option (List ℕ) → List ℕ → Type 0) : Type 0 where
   pub run : List Entry
   -- what the output reported before the lines of the links

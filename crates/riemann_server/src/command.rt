@@ -44,7 +44,7 @@ pub(crate) fn command_of<'a>(words: &'a [Text]) -> Option<Command<'a>>
     }
 }
 
-/// The command of two arguments.
+/// The command with one argument after its name.
 fn command_on_one<'a>(command: &'a Text, config: &'a Text) -> Option<Command<'a>>
     ensures { MatchOption result (IsUsage (command.now ∷ (config.now ∷ [])))
         (λ found. IsCommandOf (command.now ∷ (config.now ∷ [])) found) }
@@ -61,7 +61,7 @@ fn command_on_one<'a>(command: &'a Text, config: &'a Text) -> Option<Command<'a>
     }
 }
 
-/// The command of three arguments.
+/// The command with two arguments after its name.
 fn command_on_two<'a>(command: &'a Text, config: &'a Text, file: &'a Text) -> Option<Command<'a>>
     ensures { MatchOption result (IsUsage (command.now ∷ (config.now ∷ (file.now ∷ []))))
         (λ found. IsCommandOf (command.now ∷ (config.now ∷ (file.now ∷ []))) found) }
@@ -78,7 +78,7 @@ fn command_on_two<'a>(command: &'a Text, config: &'a Text, file: &'a Text) -> Op
     }
 }
 
-/// The command of four arguments.
+/// The command with three arguments after its name.
 fn command_on_three<'a>(
     command: &'a Text,
     config: &'a Text,

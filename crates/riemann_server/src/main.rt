@@ -30,10 +30,10 @@ fn main(rt: HostRuntime) -> ExitCode {
         put_line(&mut err, &[MEMORY_LINE]);
         return exit_code(Status::Memory);
     };
-    let words = program::words(&rt);
+    let arguments = program::arguments(&rt);
     let status = program::run(
         rt.alloc(),
-        words,
+        arguments,
         &mut store,
         &mut links,
         &mut out,

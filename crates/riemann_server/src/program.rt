@@ -12,9 +12,9 @@ use std::rt::Env;
 use std::{env, io};
 use step_count::{Ledger, Steps};
 
-const VERSION: &str = "riemann 0.1.0\n";
+pub(crate) const VERSION: &str = "riemann 0.1.0\n";
 
-const HELP: &str = "usage: riemann COMMAND
+pub(crate) const HELP: &str = "usage: riemann COMMAND
 
 commands:
   feed CONFIG FILE        answer the messages in FILE; the replies go to standard output,
@@ -32,36 +32,36 @@ options:
 ";
 
 /// Why the arguments of the command line could not be read.
-pub(crate) enum WordsFault {
+pub(crate) enum ArgumentsFault {
     /// One of them is not UTF-8.
-    NoText,
+    NotUtf8,
     Memory,
 }
 
 /// The arguments of the command line after the program's name.
-pub(crate) fn words<R: Env + AllocGlobal>(rt: &R) -> Result<Vec<Text>, WordsFault> {
+pub(crate) fn arguments<R: Env + AllocGlobal>(rt: &R) -> Result<Vec<Text>, ArgumentsFault> {
     let all = env::args(rt).map_err(fault_of)?;
-    let mut words = Vec::new(rt.alloc());
-    for word in all.skip(1) {
-        words
-            .push(Text::from_string(word))
-            .map_err(|_| WordsFault::Memory)?;
+    let mut arguments = Vec::new(rt.alloc());
+    for argument in all.skip(1) {
+        arguments
+            .push(Text::from_string(argument))
+            .map_err(|_| ArgumentsFault::Memory)?;
     }
-    Ok(words)
+    Ok(arguments)
 }
 
-fn fault_of(error: io::Error) -> WordsFault {
+fn fault_of(error: io::Error) -> ArgumentsFault {
     if error.kind() == io::ErrorKind::OutOfMemory {
-        WordsFault::Memory
+        ArgumentsFault::Memory
     } else {
-        WordsFault::NoText
+        ArgumentsFault::NotUtf8
     }
 }
 
 /// Answers `--help` and `--version`, and carries out any other command.
 pub(crate) fn run<S: Store, L: Links, O: Sink, E: Sink, P: Patterns, G: Ledger>(
     alloc: Global,
-    words: Result<Vec<Text>, WordsFault>,
+    arguments: Result<Vec<Text>, ArgumentsFault>,
     store: &mut S,
     links: &mut L,
     out: &mut O,
@@ -69,17 +69,17 @@ pub(crate) fn run<S: Store, L: Links, O: Sink, E: Sink, P: Patterns, G: Ledger>(
     patterns: &mut P,
     steps: &mut Steps<G>,
 ) -> Status {
-    match words {
-        Ok(words) => match words.as_slice() {
-            [word] if word.is(b"--help") => put_text(out, HELP),
-            [word] if word.is(b"--version") => put_text(out, VERSION),
+    match arguments {
+        Ok(arguments) => match arguments.as_slice() {
+            [option] if option.is(b"--help") => put_text(out, HELP),
+            [option] if option.is(b"--version") => put_text(out, VERSION),
             words => riemann(alloc, words, store, links, out, err, patterns, steps),
         },
-        Err(WordsFault::NoText) => {
+        Err(ArgumentsFault::NotUtf8) => {
             put_line(err, &[USAGE]);
             Status::Usage
         }
-        Err(WordsFault::Memory) => {
+        Err(ArgumentsFault::Memory) => {
             put_line(err, &[MEMORY_LINE]);
             Status::Memory
         }

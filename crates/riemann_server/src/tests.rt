@@ -1,6 +1,7 @@
 //! The call of the program over files and streams in memory.
 
-use crate::{Status, riemann};
+use crate::Status;
+use crate::program::{self, ArgumentsFault};
 use ev_types::{Blob, Text, Texts};
 use ports::{FaultLinks, MemSink, MemStore};
 use pred_eval::ListPatterns;
@@ -12,6 +13,7 @@ use step_count::{NoLedger, Steps};
 mod check;
 mod faults;
 mod feed;
+mod options;
 mod queries;
 mod serve;
 
@@ -90,7 +92,17 @@ fn run<R: AllocGlobal>(
     files: &[(&str, &[u8])],
     failing: Failing<'_>,
 ) -> Result<Ended, Fail> {
-    let texts = owned_words(rt, words)?;
+    let arguments = owned_words(rt, words)?;
+    run_arguments(rt, Ok(arguments), files, failing)
+}
+
+/// The same where the arguments were read, or were not.
+fn run_arguments<R: AllocGlobal>(
+    rt: &R,
+    arguments: Result<Vec<Text>, ArgumentsFault>,
+    files: &[(&str, &[u8])],
+    failing: Failing<'_>,
+) -> Result<Ended, Fail> {
     let mut store = store_of(rt, files, failing.reads)?;
     let mut links = links_of(rt, failing.script, failing.links)?;
     let mut out = sink(rt, failing.out)?;
@@ -100,9 +112,9 @@ fn run<R: AllocGlobal>(
         refused: Texts::fresh(rt.alloc()),
     };
     let mut steps = Steps::fresh(NoLedger);
-    let status = riemann(
+    let status = program::run(
         rt.alloc(),
-        texts.as_slice(),
+        arguments,
         &mut store,
         &mut links,
         &mut out,

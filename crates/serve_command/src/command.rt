@@ -16,7 +16,18 @@ use std::alloc::Global;
 use step_count::{Ledger, Steps};
 
 /// Carries out `serve CONFIG --turns N`, with `turns` for N: it runs a server over the links, for at most `turns`
-/// turns. Notice lines go to `out`, and the line of the ending to `err`.
+/// turns. Notice lines go to `out`, and the line of the ending to `err`. A write of that line that fails cuts it, and does
+/// not change the status.
+///
+/// | Status | When | Line on `err` |
+/// |---|---|---|
+/// | `Done` | the turns were taken, or the links stopped the run | no |
+/// | `SinkFault` | a notice line could not be written | no |
+/// | `LinkFault` | the address could not be listened on, or a turn could not be had of the links | yes |
+/// | `Config` | the configuration is not valid, or a pattern of it is refused | yes |
+/// | `ReadFault` | the configuration could not be read | yes |
+/// | `TooLong` | the configuration has over `command_io::CONFIG_LIMIT` bytes | yes |
+/// | `Memory` | out of memory; `out` may have got notice lines | yes |
 pub fn serve<S: Store, L: Links, O: Sink, E: Sink, P: Patterns, G: Ledger>(
     alloc: Global,
     config: &Text,

@@ -77,10 +77,10 @@ module _ (texts : List (List ℕ)) (plan : StreamTrees) (first : ℕ) (Means Bes
   otherwise_put None keys received x children otherwise forks otherwise' fits represents now = record { children = represents.children; otherwise = now; is_table = represents.is_table; no_forks = represents.no_forks }
   otherwise_put (Some fields) keys received x children otherwise forks otherwise' fits represents now = absurd fits
 
-  forks_stand : (shape : Option (List Field)) (keys : List (List Value)) (received : Received) (key : List Value) (below : Below) → FitsBranch shape (Fork key) →
+  forks_represent : (shape : Option (List Field)) (keys : List (List Value)) (received : Received) (key : List Value) (below : Below) → FitsBranch shape (Fork key) →
       BelowRepresents texts plan first Means Beside shape keys received below → CanFork texts plan first × ForksRepresent Means (plan_deadline plan) keys (λ k. received (Fork k)) below.forks
-  forks_stand None keys received key below fits represents = absurd fits
-  forks_stand (Some fields) keys received key below fits represents = (represents.can_fork, represents.forks)
+  forks_represent None keys received key below fits represents = absurd fits
+  forks_represent (Some fields) keys received key below fits represents = (represents.can_fork, represents.forks)
 
   forks_put : (shape : Option (List Field)) (keys keys' : List (List Value)) (received received' : Received) (key : List Value) (children otherwise : List Node) (forks forks' : ForkTable Forest) → FitsBranch shape (Fork key) →
       BelowRepresents texts plan first Means Beside shape keys received (record { children = children; otherwise = otherwise; forks = forks }) → ForksRepresent Means (plan_deadline plan) keys' (λ k. received' (Fork k)) forks' →
@@ -149,17 +149,17 @@ module _ (start moment : ℕ) where
     fork_found texts keys received fits represents unseen comes =
         let plan = children_of (opened s) in
         let trees : list_trees streams ≡ children_of (opened s) = ap list_trees is ∙ sym (children_of-opened s) in
-        let here = forks_stand texts plan first (ForestRepresents texts plan) (ForestRepresents texts (otherwise_of (opened s))) (forked_by (kind_of (opened s))) keys received key (below_of children otherwise forks) fits represents in
+        let here = forks_represent texts plan first (ForestRepresents texts plan) (ForestRepresents texts (otherwise_of (opened s))) (forked_by (kind_of (opened s))) keys received key (below_of children otherwise forks) fits represents in
         subst (λ (trees : StreamTrees). IsFound trees first start key forks found number) trees finds texts keys (λ k. received (Fork k)) here.0 here.1 (unseen_fits (forked_by (kind_of (opened s))) keys received key fits unseen) comes.begins
 
     holds_there : (texts : List (List ℕ)) (keys : List (List Value)) (received : Received) → FoundAt texts (children_of (opened s)) key keys (λ k. received (Fork k)) found number →
         ComesAt start moment (received (Fork key)) x → ForkComes start moment texts (children_of (opened s)) number found (received (Fork key)) x
     holds_there texts keys received at comes = record {
-      is_table = at.forks_stand.is_table;
-      within = let even = even_keys found (with_key key keys) at.forks_stand.is_table at.forks_stand.keys_are in omega (arith, even, at.within);
+      is_table = at.forks_represent.is_table;
+      within = let even = even_keys found (with_key key keys) at.forks_represent.is_table at.forks_represent.keys_are in omega (arith, even, at.within);
       fork = λ other.
           subst (λ (k : List Value). ForestRepresents texts (children_of (opened s)) (nodes_of (get_or (fork_list found) number other)) (received (Fork k))) at.at_key
-          (at.forks_stand.each number other at.within);
+          (at.forks_represent.each number other at.within);
       comes = comes;
     }
 

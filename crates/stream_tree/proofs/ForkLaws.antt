@@ -101,7 +101,7 @@ found_known streams first start key forks number found texts keys received can r
     let place = position-Some (same_key key) keys number [] at in
     let is : get_or keys number [] ≡ key = sym ((same_key_decides key (get_or keys number [])).0 place.1) in
     let same : with_key key keys ≡ keys = with_key_known key keys (among_at key keys number place.0 is) in record {
-      forks_stand = subst (λ (ks : List (List Value)). ForksRepresent (ForestRepresents texts streams) (plan_deadline streams) ks received forks) (sym same) represents;
+      forks_represent = subst (λ (ks : List (List Value)). ForksRepresent (ForestRepresents texts streams) (plan_deadline streams) ks received forks) (sym same) represents;
       within = subst (λ (ks : List (List Value)). number < length ks) (sym same) place.0;
       at_key = subst (λ (ks : List (List Value)). get_or ks number [] ≡ key) (sym same) is;
     }
@@ -142,7 +142,7 @@ found_new streams first start next key forks forks' fork number absent fresh num
     (each_new n other (omega (arith, within, many)) even holds_new) in
     let dues : (n : ℕ) → n < length (keys ++ key ∷ []) → fork_due n forks' ≡ plan_deadline streams (received (get_or (keys ++ key ∷ []) n [])) =
     λ n within. ap (moment_at n) same_dues ∙ due_new n (omega (arith, within, many)) even alone in record {
-      forks_stand = subst (λ (ks : List (List Value)). ForksRepresent Means (plan_deadline streams) ks received forks') (sym same) (record {
+      forks_represent = subst (λ (ks : List (List Value)). ForksRepresent Means (plan_deadline streams) ks received forks') (sym same) (record {
         is_table = table none represents.is_table;
         keys_are = keys_are none ∙ ap (λ (ks : List (List Value)). ks ++ key ∷ []) represents.keys_are;
         each = each;
@@ -184,7 +184,7 @@ pub fork_goes_on : (texts : List (List ℕ)) (streams : StreamTrees) (x : Entry)
     ForksRepresent (ForestRepresents texts streams) (plan_deadline streams) (with_key key keys) (λ k. extended (Fork key) x received (Fork k)) forks'
 fork_goes_on texts streams x key keys received forks forks' number found ran = record {
   is_table = ran.is_table;
-  keys_are = ran.keys ∙ found.forks_stand.keys_are;
+  keys_are = ran.keys ∙ found.forks_represent.keys_are;
   each = λ n other within. each_at n other within (eqb n number) refl;
   dues = λ n within. due_at n within (eqb n number) refl;
 }
@@ -196,7 +196,7 @@ fork_goes_on texts streams x key keys received forks forks' number found ran = r
     is_other a b e = grind (arith, nat_tests)
 
     distinct : IsDistinct same_key (with_key key keys)
-    distinct = subst (λ (ks : List (List Value)). IsDistinct same_key ks) found.forks_stand.keys_are found.forks_stand.is_table.distinct
+    distinct = subst (λ (ks : List (List Value)). IsDistinct same_key ks) found.forks_represent.keys_are found.forks_represent.is_table.distinct
 
     -- the fork of the key got the entry, and no other one
     got : (k : List Value) (b : Bool) → same_key key k ≡ b → extended (Fork key) x received (Fork k) ≡ cond b (received (Fork k) ▸ x) (received (Fork k))
@@ -221,7 +221,7 @@ fork_goes_on texts streams x key keys received forks forks' number found ran = r
         subst (λ (h : History). ForestRepresents texts streams (nodes_of (get_or (fork_list forks') n other)) h)
         (sym (got (get_or (with_key key keys) n []) false (apart n within (is_other n number e))))
         (subst (λ (f : Forest). ForestRepresents texts streams (nodes_of f) (received (Fork (get_or (with_key key keys) n [])))) (sym (ran.elsewhere n other (is_other n number e)))
-        (found.forks_stand.each n other within))
+        (found.forks_represent.each n other within))
 
     due_at : (n : ℕ) → n < length (with_key key keys) → (b : Bool) → eqb n number ≡ b → fork_due n forks' ≡ plan_deadline streams (extended (Fork key) x received (Fork (get_or (with_key key keys) n [])))
     due_at n within true e =
@@ -229,7 +229,7 @@ fork_goes_on texts streams x key keys received forks forks' number found ran = r
         ∙ ap (plan_deadline streams) (sym (got_same (get_or (with_key key keys) n []) (ap (λ (m : ℕ). get_or (with_key key keys) m []) (sym (is_same n number e)) ∙ found.at_key)))
     due_at n within false e =
         ran.dues n ∙ ap (λ (b : Bool). cond b (plan_deadline streams (received (Fork key) ▸ x)) (fork_due n forks)) e
-        ∙ found.forks_stand.dues n within
+        ∙ found.forks_represent.dues n within
         ∙ ap (plan_deadline streams) (sym (got (get_or (with_key key keys) n []) false (apart n within (is_other n number e))))
 
 -- a fork that is not there still has ticks alone

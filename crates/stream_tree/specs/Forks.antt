@@ -12,7 +12,7 @@ use Rattle.stream_tree.specs.Forest.{CanFork, ForksRepresent, ForestRepresents}
 
 -- the number is that of the fork of the key, which has received what it had received before
 pub record FoundAt (texts : List (List ℕ)) (streams : StreamTrees) (key : List Value) (keys : List (List Value)) (received : List Value → History) (forks : ForkTable Forest) (number : ℕ) : Type 0 where
-  pub forks_stand : ForksRepresent (ForestRepresents texts streams) (plan_deadline streams) (with_key key keys) received forks
+  pub forks_represent : ForksRepresent (ForestRepresents texts streams) (plan_deadline streams) (with_key key keys) received forks
   pub within : number < length (with_key key keys)
   pub at_key : slice_index_or (with_key key keys) number [] ≡ key
 

@@ -4,7 +4,7 @@ use Rattle.std.specs.List.{All, Contains, list_any, AllByRecursion, take_while, 
 use Rattle.std.specs.List.Sorted.{IsStrictlySortedBy}
 use Rattle.std.specs.Map.{keys_of}
 use Rattle.std.specs.Option.{IsSome}
-use Rattle.std.specs.Ordering.{nat_cmp, is_gt}
+use Rattle.std.specs.Ordering.{nat_cmp}
 use Rattle.std.specs.declared.cmp.Ordering.TheVariants.{Less}
 use Rattle.std.specs.BTreeMap.{is_at}
 use Rattle.std.proofs.lemmas.Bool.Decides.{nat_tests}
@@ -131,7 +131,7 @@ module _ (old new : List (ℕ × List ℕ)) (moment : ℕ) where
 
 -- ---- the least moment
 pub earliest : (lists : List (ℕ × List ℕ)) (moment : ℕ) (ids : List ℕ) → HaveIds lists → list_at moment lists ≡ Some ids
-    → ((m : ℕ) → IsSome (list_at m lists) → is_gt (nat_cmp moment m) ≡ false) → IsEarliest lists moment
+    → ((m : ℕ) → IsSome (list_at m lists) → moment ≤ m) → IsEarliest lists moment
 earliest lists moment [] have is least = absurd (have moment is)
 earliest lists moment (id ∷ ids) have is least = record {
   id = id;
@@ -141,8 +141,7 @@ earliest lists moment (id ∷ ids) have is least = record {
   where
     found : (m i other : ℕ) → id_at m i lists ≡ Some other → (list : Option (List ℕ)) → list_at m lists ≡ list → moment ≤ m
     found m i other h None at = absurd (let none : id_at m i lists ≡ None = ap (id_in i) at in cc)
-    found m i other h (Some list) at =
-        let after : is_gt (nat_cmp moment m) ≡ false = least m (subst IsSome (sym at) refl) in grind (arith, nat_tests, after)
+    found m i other h (Some list) at = least m (subst IsSome (sym at) refl)
 
 -- ---- the ids that are due by a moment
 found-after : (moment m : ℕ) (ids : List ℕ) (lists : List (ℕ × List ℕ)) → AllByRecursion (λ k. nat_cmp moment k ≡ Less) (keys_of lists)

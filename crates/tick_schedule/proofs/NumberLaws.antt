@@ -6,10 +6,10 @@ use Rattle.std.specs.Ordering.{nat_cmp}
 use Rattle.std.specs.BTreeMap.{is_at}
 use Rattle.std.proofs.lemmas.Bool.{cases_eq}
 use Rattle.tick_schedule.specs.declared.due_lists.DueList.{DueList}
-use Rattle.tick_schedule.specs.Lists.{AddsAt, HaveIds, ListChange, Removes, RemovesAt, id_at, id_in, list_at}
-use Rattle.tick_schedule.specs.Numbers.{AreNumbered, IsListOf, Relists, ids_in, list_under, list_with, lists_of, number_at}
+use Rattle.tick_schedule.specs.Lists.{AddsAt, HaveIds, IsEarliest, IsFirst, ListChange, Removes, RemovesAt, id_at, id_in, list_at}
+use Rattle.tick_schedule.specs.Numbers.{AreNumbered, IsFirstNumber, IsListOf, Relists, ids_in, list_under, list_with, lists_of, number_at}
 use Rattle.tick_schedule.proofs.QueueLaws.{at-same, at-true}
-use Rattle.tick_schedule.proofs.ListLaws.{adds, bool_cases, get-within, removes}
+use Rattle.tick_schedule.proofs.ListLaws.{adds, bool_cases, earliest, get-within, removes}
 
 some-is : {A : Type 0} (a b : A) → Some a ≡ Some b → a ≡ b
 some-is a b h = cc
@@ -50,6 +50,18 @@ has-number moment numbers slots h = found (number_at moment numbers) refl
     found : (known : Option ℕ) → number_at moment numbers ≡ known → IsSome (number_at moment numbers)
     found None is = absurd (none-is-not-some (list_at moment (lists_of numbers slots)) (list-none moment numbers slots is) h)
     found (Some number) is = subst IsSome (sym is) refl
+
+-- the least moment that has a number is the earliest at which an id is due
+pub first-of : (numbers : List (ℕ × ℕ)) (slots : List (Option DueList)) (first : Option ℕ) → HaveIds (lists_of numbers slots)
+    → IsFirstNumber numbers first → IsFirst (lists_of numbers slots) first
+first-of numbers slots None have none = ap (λ n. lists_of n slots) none
+first-of numbers slots (Some moment) have is = found (number_at moment numbers) refl
+  where
+    found : (known : Option ℕ) → number_at moment numbers ≡ known → IsEarliest (lists_of numbers slots) moment
+    found None at = absurd (none-is-not-some (number_at moment numbers) at is.0)
+    found (Some number) at =
+        earliest (lists_of numbers slots) moment (ids_in (list_under number slots)) have
+        (list-with moment number (list_under number slots) numbers slots at refl) (λ m some. is.1 m (has-number m numbers slots some))
 
 -- ---- a change of one list, and of the number of its moment
 module _ (numbers numbers' : List (ℕ × ℕ)) (slots slots' : List (Option DueList)) (moment number : ℕ) (n : AreNumbered numbers slots)

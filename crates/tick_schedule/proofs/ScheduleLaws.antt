@@ -16,7 +16,7 @@ use Rattle.std.proofs.lemmas.Map.Views.{All-values_from_lookup}
 use Rattle.tick_schedule.specs.Lists.{AddsAt, AreListedBy, IsFirst, IsEarliest, IsListedBy, RemovesAt, id_at}
 use Rattle.tick_schedule.specs.Moments.{Place, at, moment_in, moments_from, place_at}
 use Rattle.tick_schedule.specs.Queue.{moment_at, IsRising, Sets, due_ids, IsNext}
-use Rattle.tick_schedule.specs.Schedule.{IsTied, IsTiedButOne, IsTiedBut, IsSchedule}
+use Rattle.tick_schedule.specs.Schedule.{IsTied, IsTiedButOne, IsTiedBut}
 use Rattle.tick_schedule.proofs.QueueLaws.{at-same, is_by, due-is_by}
 use Rattle.tick_schedule.proofs.ListLaws.{and-true, bool_cases, eqb-false, eqb-same, eqb-true}
 use Rattle.tick_schedule.proofs.MomentLaws.{held, rising}
@@ -324,10 +324,6 @@ next-first places lists (Some moment) tied h = (
       (λ id. least_value places lists moment tied h id (moment_at id (moments_from 0 places)) refl),
 )
 
-pub schedule : (places : List (Option Place)) (lists : List (ℕ × List ℕ)) (first : Option ℕ) → IsTied places lists → IsFirst lists first
-    → IsSchedule places lists first
-schedule places lists first tied is = record { tied = tied; next = next-first places lists first tied is }
-
 -- ---- whether something is due
 pub due-none : (now next : ℕ) (queue : List (ℕ × ℕ)) → All (λ m. next ≤ m) (values_of queue) → nat_le next now ≡ false → due_ids now queue ≡ []
 due-none now next [] h late = refl
@@ -409,20 +405,19 @@ moment-stays id due queue is other =
       | inr apart ↦ rw apart refl
     ]
 
-pub none_due : (now next : ℕ) (queue view : List (ℕ × ℕ)) (first : Option ℕ) → queue ≡ view → first ≡ Some next → IsNext queue first
-    → nat_le next now ≡ false → due_ids now view ≡ []
-none_due now next queue view first is at h late =
+pub none_due : (now next : ℕ) (queue : List (ℕ × ℕ)) (first : Option ℕ) → first ≡ Some next → IsNext queue first
+    → nat_le next now ≡ false → due_ids now queue ≡ []
+none_due now next queue first at h late =
     let P : Option ℕ → Type 0 = λ known. IsNext queue known in let least : IsNext queue (Some next) = subst P at h in
-    rw (sym is) (due-none now next queue least.1 late)
+    due-none now next queue least.1 late
 
-pub some_due : (now next : ℕ) (queue view : List (ℕ × ℕ)) (first : Option ℕ) → queue ≡ view → first ≡ Some next → IsNext queue first
-    → nat_le next now ≡ true → due_ids now view ≢ []
-some_due now next queue view first is at h due none =
+pub some_due : (now next : ℕ) (queue : List (ℕ × ℕ)) (first : Option ℕ) → first ≡ Some next → IsNext queue first
+    → nat_le next now ≡ true → due_ids now queue ≢ []
+some_due now next queue first at h due none =
     let P : Option ℕ → Type 0 = λ known. IsNext queue known in let least : IsNext queue (Some next) = subst P at h in
-    due-some now next queue least.0 due (ap (due_ids now) is ∙ none)
+    due-some now next queue least.0 due none
 
-pub never_due : (now : ℕ) (queue view : List (ℕ × ℕ)) (first : Option ℕ) → queue ≡ view → first ≡ None → IsNext queue first
-    → due_ids now view ≡ []
-never_due now queue view first is at h =
+pub never_due : (now : ℕ) (queue : List (ℕ × ℕ)) (first : Option ℕ) → first ≡ None → IsNext queue first → due_ids now queue ≡ []
+never_due now queue first at h =
     let P : Option ℕ → Type 0 = λ known. IsNext queue known in let least : IsNext queue None = subst P at h in
-    rw (sym is) (due-empty now queue least)
+    due-empty now queue least

@@ -1,9 +1,10 @@
 -- How the ids of each moment are kept: lists under numbers, and the number of each moment's list.
-use Rattle.std.specs.Prelude.{◌≡◌, ◌≢◌, ℕ, List, [], map, slice_index_or, Option, None, Some, MatchOption}
+use Rattle.std.specs.Prelude.{◌≡◌, ◌≢◌, ℕ, ◌≤◌, List, [], map, slice_index_or, Option, None, Some, IsSome, MatchOption}
 use Rattle.std.specs.Map.{lookup}
 use Rattle.std.specs.Ordering.{nat_cmp}
 use Rattle.std.specs.BTreeMap.{is_at}
 use Rattle.tick_schedule.specs.declared.due_lists.DueList.{DueList}
+use Rattle.tick_schedule.specs.Lists.{HaveIds}
 
 -- the list under the number, if there is one
 abbrev pub list_under : ℕ → List (Option DueList) → Option DueList
@@ -28,6 +29,17 @@ IsListOf moment slot = MatchOption slot ⊥ (λ list. list.moment ≡ moment)
 pub record AreNumbered (numbers : List (ℕ × ℕ)) (slots : List (Option DueList)) : Type 0 where
   pub numbered : (moment number : ℕ) → number_at moment numbers ≡ Some number → IsListOf moment (list_under number slots)
   pub listed : (number : ℕ) (list : DueList) → list_under number slots ≡ Some list → number_at list.moment numbers ≡ Some number
+
+-- the least moment that has a number
+abbrev pub IsFirstNumber : List (ℕ × ℕ) → Option ℕ → Type 0
+IsFirstNumber numbers first = MatchOption first (numbers ≡ []) (λ moment. IsSome (number_at moment numbers)
+    × ((other : ℕ) → IsSome (number_at other numbers) → moment ≤ other))
+
+-- the lists, their numbers, and the first moment
+pub record AreDue (numbers : List (ℕ × ℕ)) (slots : List (Option DueList)) (first : Option ℕ) : Type 0 where
+  pub numbered : AreNumbered numbers slots
+  pub have_ids : HaveIds (lists_of numbers slots)
+  pub is_first : IsFirstNumber numbers first
 
 -- the number has this list or none now, and every other number has what it had
 pub record Relists (old new : List (Option DueList)) (number : ℕ) (list : Option DueList) : Type 0 where

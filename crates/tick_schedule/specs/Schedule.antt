@@ -1,8 +1,7 @@
 -- What ties the parts of a queue of due moments.
 use Rattle.std.specs.Prelude.{◌≡◌, ℕ, false, eqb, ◌&&◌, List, Option, Some, MatchOption}
 use Rattle.tick_schedule.specs.Lists.{id_at}
-use Rattle.tick_schedule.specs.Moments.{Place, at, moments_from, place_at}
-use Rattle.tick_schedule.specs.Queue.{IsNext}
+use Rattle.tick_schedule.specs.Moments.{Place, at, place_at}
 
 -- an id is in a list exactly where its place says
 pub record IsTied (places : List (Option Place)) (lists : List (ℕ × List ℕ)) : Type 0 where
@@ -22,8 +21,3 @@ pub record IsTiedButOne (place : Place) (places : List (Option Place)) (lists : 
 -- the same, but for the id that leaves this place, if there is one
 abbrev pub IsTiedBut : Option Place → List (Option Place) → List (ℕ × List ℕ) → Type 0
 IsTiedBut place places lists = MatchOption place (IsTied places lists) (λ left. IsTiedButOne left places lists)
-
--- the places of ids, the ids at each moment, and the least moment
-pub record IsSchedule (places : List (Option Place)) (lists : List (ℕ × List ℕ)) (first : Option ℕ) : Type 0 where
-  pub tied : IsTied places lists
-  pub next : IsNext (moments_from 0 places) first

@@ -5,7 +5,7 @@ ghost use Rattle.std.specs.List.Sorted.{IsStrictlySortedBy};
 ghost use Rattle.std.specs.Map.{keys_of};
 ghost use Rattle.std.specs.Ordering.{nat_cmp};
 ghost use Rattle.tick_schedule.specs.Lists.{AddsAt, AreListedBy, HaveIds, IsFirst, ListChange, Removes, RemovesAt, id_at, ids_of, list_at};
-ghost use Rattle.tick_schedule.specs.Numbers.{AreNumbered, IsListOf, Relists, list_under, list_with, lists_of, number_at};
+ghost use Rattle.tick_schedule.specs.Numbers.{AreNumbered, IsFirstNumber, IsListOf, Relists, list_under, list_with, lists_of, number_at};
 
 use crate::id_list::IdList;
 use crate::places::Place;
@@ -22,8 +22,10 @@ pub(crate) struct DueLists {
     numbers: BTreeMap<u64, usize>,
     lists: Slab<DueList>,
 
+    // The least moment that has a list.
+    first: Option<u64>,
     // The number of the list that got an id last, which is often that of the next id too.
-    last: usize,
+    recent: usize,
 }
 
 /// The ids that are due at one moment.
@@ -35,15 +37,13 @@ struct DueList {
 
 impl Model for DueLists {
     ghost use Rattle.std.specs.Prelude.{ℕ, List};
-    ghost use Rattle.tick_schedule.specs.Lists.{HaveIds};
-    ghost use Rattle.tick_schedule.specs.Numbers.{AreNumbered, lists_of};
+    ghost use Rattle.tick_schedule.specs.Numbers.{AreDue, lists_of};
 
     ghost Value = { List (ℕ × List ℕ) };
 
     ghost view = { λ due. lists_of due.numbers.entries due.lists.slots };
 
-    ghost invariant = { λ due. AreNumbered due.numbers.entries due.lists.slots
-        × HaveIds (lists_of due.numbers.entries due.lists.slots) };
+    ghost invariant = { λ due. AreDue due.numbers.entries due.lists.slots due.first };
 }
 
 impl DueLists {
@@ -54,7 +54,8 @@ impl DueLists {
         DueLists {
             numbers: BTreeMap::new(alloc),
             lists: Slab::new(alloc),
-            last: 0,
+            first: None,
+            recent: 0,
         }
     }
 
@@ -64,12 +65,13 @@ impl DueLists {
         ensures moment { IfOk result (λ place. place.moment ≡ moment) }
         ensures err { OnErr result (self.new ≡ self.old) }
     {
-        let Some(list) = number_of(&self.numbers, &self.lists, moment, self.last) else {
-            self.last = open(alloc, &mut self.numbers, &mut self.lists, moment, id)?;
-            return Ok(Place::new(moment, 0, self.last));
+        let Some(list) = number_of(&self.numbers, &self.lists, moment, self.recent) else {
+            self.recent = open(alloc, &mut self.numbers, &mut self.lists, moment, id)?;
+            self.first = first_moment(&self.numbers);
+            return Ok(Place::new(moment, 0, self.recent));
         };
         let index = push_at(&mut self.lists, list, id)?;
-        self.last = list;
+        self.recent = list;
         Ok(Place::new(moment, index, list))
     }
 
@@ -85,6 +87,7 @@ impl DueLists {
         let (moved, is_empty) = remove_at(&mut self.lists, list, place.index());
         if is_empty {
             close(&mut self.numbers, &mut self.lists, moment, list);
+            self.first = first_moment(&self.numbers);
         }
         moved
     }
@@ -93,10 +96,7 @@ impl DueLists {
     pub(crate) fn first(&self) -> Option<u64>
         ensures { IsFirst self.now result }
     {
-        match self.numbers.first_key_value() {
-            Some((moment, _)) => Some(*moment),
-            None => None,
-        }
+        self.first
     }
 
     /// The ids that are due at or before the moment.
@@ -136,6 +136,16 @@ fn is_list_of(lists: &Slab<DueList>, number: usize, moment: u64) -> bool
     }
 }
 
+/// The least moment that has a number.
+fn first_moment(numbers: &BTreeMap<u64, usize>) -> Option<u64>
+    ensures { IsFirstNumber numbers.now.entries result }
+{
+    match numbers.first_key_value() {
+        Some((moment, _)) => Some(*moment),
+        None => None,
+    }
+}
+
 /// Makes a list for the moment, which has none, with the id in it. The answer is its number.
 fn open(
     alloc: Global,
@@ -153,6 +163,7 @@ fn open(
         moment (Some (id ∷ []))) }
     ensures err { OnErr result (lists_of numbers.new.entries lists.new.slots
         ≡ lists_of numbers.old.entries lists.old.slots) }
+    ensures same { OnErr result (numbers.new.entries ≡ numbers.old.entries) }
 {
     let ids = IdList::of(alloc, id)?;
     lists.reserve(1)?;

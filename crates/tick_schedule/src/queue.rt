@@ -22,21 +22,20 @@ use step_count::{Ledger, Steps};
 #[derive(Drop)]
 pub struct DueQueue {
     places: Places,
-    // The same by moment, and the least moment.
+    // The same by moment.
     lists: DueLists,
-    next: Option<u64>,
 }
 
 impl Model for DueQueue {
     ghost use Rattle.std.specs.Prelude.{ℕ, List};
     ghost use Rattle.tick_schedule.specs.Moments.{moments_from};
-    ghost use Rattle.tick_schedule.specs.Schedule.{IsSchedule};
+    ghost use Rattle.tick_schedule.specs.Schedule.{IsTied};
 
     ghost Value = { List (ℕ × ℕ) };
 
     ghost view = { λ queue. moments_from 0 queue.places };
 
-    ghost invariant = { λ queue. IsSchedule queue.places queue.lists queue.next };
+    ghost invariant = { λ queue. IsTied queue.places queue.lists };
 }
 
 impl DueQueue {
@@ -47,7 +46,6 @@ impl DueQueue {
         DueQueue {
             places: Places::fresh(alloc),
             lists: DueLists::fresh(alloc),
-            next: None,
         }
     }
 
@@ -65,7 +63,6 @@ impl DueQueue {
         let place = self.lists.push(alloc, due, id)?;
         self.places.set(id, place);
         remove_from_list(&mut self.places, &mut self.lists, before);
-        self.next = self.lists.first();
         Ok(())
     }
 
@@ -77,14 +74,13 @@ impl DueQueue {
     {
         let before = self.places.remove(id);
         remove_from_list(&mut self.places, &mut self.lists, before);
-        self.next = self.lists.first();
     }
 
     /// The least moment at which an id is due.
     pub fn next_due(&self) -> Option<u64>
         ensures { IsNext self.now result }
     {
-        self.next
+        self.lists.first()
     }
 
     /// Appends the ids that are due at or before the moment `now`, by rising id, and removes their moments. It counts one
@@ -128,7 +124,7 @@ impl DueQueue {
         ensures some { result ≡ true → due_ids now self.now ≢ [] }
         ensures rising { IsRising self.now }
     {
-        match self.next {
+        match self.lists.first() {
             Some(next) => next <= now,
             None => false,
         }

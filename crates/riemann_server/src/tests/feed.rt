@@ -182,7 +182,7 @@ fn messages_are_answered_in_order(rt: HostRuntime) -> Result<(), Fail> {
 }
 
 #[test]
-fn the_last_event_of_a_place_is_found(rt: HostRuntime) -> Result<(), Fail> {
+fn the_last_event_of_a_key_is_found(rt: HostRuntime) -> Result<(), Fail> {
     check_rows(&rt, LAST_FOUND)
 }
 

@@ -74,7 +74,7 @@ fn check_refused<R: AllocGlobal + Abort>(rt: &R, parts: &[&str], reason: &str) -
 }
 
 #[test]
-fn a_query_that_is_none_is_refused_at_its_place(rt: HostRuntime) -> Result<(), Fail> {
+fn a_query_that_is_not_valid_is_refused_at_its_place(rt: HostRuntime) -> Result<(), Fail> {
     for (query, reason) in REFUSED {
         let asked = asked(&rt, query)?;
         check_refused(&rt, &[asked.as_str()], reason)?;

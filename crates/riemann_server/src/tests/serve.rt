@@ -2,6 +2,7 @@
 
 use super::{Failing, NOTHING_FAILS, compare, run};
 use crate::Status;
+use ev_types::Blob;
 use std::process::Abort;
 use std::test::Fail;
 
@@ -22,6 +23,21 @@ const EIGHT_EVENTS: &str = "start 100
 113 read 0 000000053203220161
 120 idle
 ";
+
+/// The lines of the eight events, in order.
+const LINES: &[&str] = &[
+    FIRST,
+    "102 \"r\" [{host=\"a\" time=102}]\n",
+    "103 \"r\" [{host=\"a\" time=103}]\n",
+    "110 \"r\" [{host=\"a\" time=104} {host=\"a\" time=105}]\n",
+    "111 \"r\" [{host=\"a\" time=111}]\n",
+    "112 \"r\" [{host=\"a\" time=112}]\n",
+    "120 \"r\" [{host=\"a\" time=113}]\n",
+];
+
+/// How many of these lines are written before the call of this number, from 0, of the links: `listen`, and then `next`
+/// for each turn.
+const LINES_BEFORE: &[usize] = &[0, 0, 0, 1, 2, 3, 3, 3, 5, 6, 6, 7];
 
 const FIRST: &str = "101 \"r\" [{host=\"a\" time=101}]\n";
 
@@ -62,6 +78,23 @@ fn check<R: AllocGlobal + Abort>(
     Ok(())
 }
 
+/// Serves the eight events, and compares how that ends: so many of their lines were written.
+fn check_lines<R: AllocGlobal + Abort>(
+    rt: &R,
+    failing: Failing<'_>,
+    count: usize,
+    status: Status,
+    line: &str,
+) -> Result<(), Fail> {
+    let mut written = Blob::fresh(rt.alloc());
+    for text in LINES.iter().take(count) {
+        written.append(rt.alloc(), text.as_bytes())?;
+    }
+    let run = run(rt, &["serve", "c"], &[("c", ROLLING.as_bytes())], failing)?;
+    compare(rt, &run, status, written.as_slice(), line);
+    Ok(())
+}
+
 #[test]
 fn a_server_takes_as_many_turns_as_it_may(rt: HostRuntime) -> Result<(), Fail> {
     let playing = Failing {
@@ -83,28 +116,26 @@ fn a_server_takes_as_many_turns_as_it_may(rt: HostRuntime) -> Result<(), Fail> {
 
 #[test]
 fn links_that_fail_end_the_server(rt: HostRuntime) -> Result<(), Fail> {
-    for (call, text) in [(0, ""), (1, ""), (3, FIRST)] {
+    for (call, count) in LINES_BEFORE.iter().enumerate() {
         let failing = Failing {
             script: EIGHT_EVENTS,
-            links: &[call],
+            links: &[call as u64],
             ..NOTHING_FAILS
         };
-        let wanted = (Status::LinkFault, text, LINKS_FAILED);
-        check(&rt, &["serve", "c"], ROLLING, failing, wanted)?;
+        check_lines(&rt, failing, *count, Status::LinkFault, LINKS_FAILED)?;
     }
     Ok(())
 }
 
 #[test]
 fn a_line_that_cannot_be_written_ends_the_server(rt: HostRuntime) -> Result<(), Fail> {
-    for (put, text) in [(0, ""), (1, FIRST)] {
+    for count in 0..LINES.len() {
         let failing = Failing {
             script: EIGHT_EVENTS,
-            out: &[put],
+            out: &[count as u64],
             ..NOTHING_FAILS
         };
-        let wanted = (Status::SinkFault, text, "");
-        check(&rt, &["serve", "c"], ROLLING, failing, wanted)?;
+        check_lines(&rt, failing, count, Status::SinkFault, "")?;
     }
     Ok(())
 }

@@ -7,10 +7,10 @@ use Rattle.tick_schedule.proofs.NumberLaws.{Pushed, is-list, list-none, pushed}
 use Rattle.tick_schedule.proofs.due_lists.DueLists.push.Goals as goal
 
 is_pushed : (c : goal.After-new-2) → Pushed c.self.inside.numbers.entries c.self.inside.lists.slots c.push_at.new.lists.slots c.args.moment c.in-Some.list
-    c.in_ok-index.index c.self.invariant.0 (sym c.in-Some.ensures) c.args.id
+    c.in_ok-index.index c.self.invariant.numbered (sym c.in-Some.ensures) c.args.id
 is_pushed c =
     pushed c.self.inside.numbers.entries c.self.inside.lists.slots c.push_at.new.lists.slots c.args.moment c.in-Some.list
-    c.in_ok-index.index c.self.invariant.0 (sym c.in-Some.ensures) c.args.id c.in_ok-index.ensures.ok
+    c.in_ok-index.index c.self.invariant.numbered (sym c.in-Some.ensures) c.args.id c.in_ok-index.ensures.ok
 
 pub returns-in_default-clause-ok : goal.returns-in_default-clause-ok
 returns-in_default-clause-ok c =
@@ -22,10 +22,14 @@ returns-in_default-clause-ok c =
 
 pub push_at-requires : goal.push_at-requires
 push_at-requires c =
-    is-list c.self.inside.numbers.entries c.self.inside.lists.slots c.self.inside.lists.slots c.args.moment c.in-Some.list 0 c.self.invariant.0 (sym c.in-Some.ensures)
+    is-list c.self.inside.numbers.entries c.self.inside.lists.slots c.self.inside.lists.slots c.args.moment c.in-Some.list 0 c.self.invariant.numbered (sym c.in-Some.ensures)
 
 pub invariant_of-self-2 : goal.invariant_of-self-2
-invariant_of-self-2 c = ((is_pushed c).numbered, (is_pushed c).have_ids c.self.invariant.1)
+invariant_of-self-2 c = record {
+  numbered = (is_pushed c).numbered;
+  have_ids = (is_pushed c).have_ids c.self.invariant.have_ids;
+  is_first = c.self.invariant.is_first;
+}
 
 pub returns-clause-ok : goal.returns-clause-ok
 returns-clause-ok c =

@@ -27,7 +27,7 @@ pub remove_at-moved-requires : goal.remove_at-moved-requires
 remove_at-moved-requires c =
     let lists = lists_of c.self.inside.numbers.entries c.self.inside.lists.slots in
     within c.self.inside.numbers.entries c.self.inside.lists.slots c.self.inside.lists.slots c.moment-moment.result c.in-Some.list c.index.result
-    c.self.invariant.0 (sym c.in-Some.ensures)
+    c.self.invariant.numbered (sym c.in-Some.ensures)
     (subst IsSome (sym (ap (λ m. id_at m c.index.result lists) c.moment-moment.ensures
     ∙ ap (λ i. id_at c.args.place.now.moment i lists) c.index.ensures
     ∙ ap (id_at c.args.place.now.moment c.args.place.now.index) c.self.view_is)) c.requires)
@@ -35,30 +35,34 @@ remove_at-moved-requires c =
 pub close-requires-clause-numbered : goal.close-requires-clause-numbered
 close-requires-clause-numbered c =
     (removed c.self.inside.numbers.entries c.self.inside.lists.slots c.remove_at-moved.new.lists.slots c.moment-moment.result c.in-Some.list c.index.result
-    c.self.invariant.0 (sym c.in-Some.ensures) c.remove_at-moved.result.0 c.remove_at-moved.result.1 c.remove_at-moved.ensures).numbered
+    c.self.invariant.numbered (sym c.in-Some.ensures) c.remove_at-moved.result.0 c.remove_at-moved.result.1 c.remove_at-moved.ensures).numbered
 
 pub invariant_of-self : goal.invariant_of-self
 invariant_of-self c =
     let r = removed c.self.inside.numbers.entries c.self.inside.lists.slots c.remove_at-moved.new.lists.slots c.moment-moment.result c.in-Some.list c.index.result
-    c.self.invariant.0 (sym c.in-Some.ensures) c.remove_at-moved.result.0 c.remove_at-moved.result.1 c.remove_at-moved.ensures in (
-      c.close.ensures.numbered,
-      none-left (lists_of c.self.inside.numbers.entries c.self.inside.lists.slots) (lists_of c.self.inside.numbers.entries c.remove_at-moved.new.lists.slots)
-          (lists_of c.close.new.numbers.entries c.close.new.lists.slots) c.moment-moment.result r.left c.self.invariant.1 r.changes c.close.ensures.closed,
-    )
+    c.self.invariant.numbered (sym c.in-Some.ensures) c.remove_at-moved.result.0 c.remove_at-moved.result.1 c.remove_at-moved.ensures in
+    record {
+      numbered = c.close.ensures.numbered;
+      have_ids = none-left (lists_of c.self.inside.numbers.entries c.self.inside.lists.slots) (lists_of c.self.inside.numbers.entries c.remove_at-moved.new.lists.slots)
+          (lists_of c.close.new.numbers.entries c.close.new.lists.slots) c.moment-moment.result r.left c.self.invariant.have_ids r.changes c.close.ensures.closed;
+      is_first = c.first_moment-self-inside.ensures;
+    }
 
 pub invariant_of-self-else-is_empty : goal.invariant_of-self-else-is_empty
 invariant_of-self-else-is_empty c =
     let r = removed c.self.inside.numbers.entries c.self.inside.lists.slots c.remove_at-moved.new.lists.slots c.moment-moment.result c.in-Some.list c.index.result
-    c.self.invariant.0 (sym c.in-Some.ensures) c.remove_at-moved.result.0 c.remove_at-moved.result.1 c.remove_at-moved.ensures in (
-      r.numbered,
-      some-left (lists_of c.self.inside.numbers.entries c.self.inside.lists.slots) (lists_of c.self.inside.numbers.entries c.remove_at-moved.new.lists.slots)
-          c.moment-moment.result r.left c.remove_at-moved.result.1 c.self.invariant.1 r.changes r.empty c.if-is_empty.false,
-    )
+    c.self.invariant.numbered (sym c.in-Some.ensures) c.remove_at-moved.result.0 c.remove_at-moved.result.1 c.remove_at-moved.ensures in
+    record {
+      numbered = r.numbered;
+      have_ids = some-left (lists_of c.self.inside.numbers.entries c.self.inside.lists.slots) (lists_of c.self.inside.numbers.entries c.remove_at-moved.new.lists.slots)
+          c.moment-moment.result r.left c.remove_at-moved.result.1 c.self.invariant.have_ids r.changes r.empty c.if-is_empty.false;
+      is_first = c.self.invariant.is_first;
+    }
 
 pub returns-then-is_empty : goal.returns-then-is_empty
 returns-then-is_empty c =
     let r = removed c.self.inside.numbers.entries c.self.inside.lists.slots c.remove_at-moved.new.lists.slots c.moment-moment.result c.in-Some.list c.index.result
-    c.self.invariant.0 (sym c.in-Some.ensures) c.remove_at-moved.result.0 c.remove_at-moved.result.1 c.remove_at-moved.ensures in
+    c.self.invariant.numbered (sym c.in-Some.ensures) c.remove_at-moved.result.0 c.remove_at-moved.result.1 c.remove_at-moved.ensures in
     let old = lists_of c.self.inside.numbers.entries c.self.inside.lists.slots in
     let new = lists_of c.self.inside.numbers.entries c.remove_at-moved.new.lists.slots in
     let last = lists_of c.close.new.numbers.entries c.close.new.lists.slots in
@@ -70,7 +74,7 @@ returns-then-is_empty c =
 pub returns-else-is_empty : goal.returns-else-is_empty
 returns-else-is_empty c =
     let r = removed c.self.inside.numbers.entries c.self.inside.lists.slots c.remove_at-moved.new.lists.slots c.moment-moment.result c.in-Some.list c.index.result
-    c.self.invariant.0 (sym c.in-Some.ensures) c.remove_at-moved.result.0 c.remove_at-moved.result.1 c.remove_at-moved.ensures in
+    c.self.invariant.numbered (sym c.in-Some.ensures) c.remove_at-moved.result.0 c.remove_at-moved.result.1 c.remove_at-moved.ensures in
     said (lists_of c.self.inside.numbers.entries c.self.inside.lists.slots) c.args.self.now (lists_of c.self.inside.numbers.entries c.remove_at-moved.new.lists.slots)
     c.moment-moment.result c.args.place.now.moment c.index.result c.args.place.now.index c.remove_at-moved.result.0
     c.self.view_is c.moment-moment.ensures c.index.ensures r.removes

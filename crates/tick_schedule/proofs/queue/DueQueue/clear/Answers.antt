@@ -2,16 +2,13 @@ use Rattle.std.proofs.Common.{None, cond, eqb, sym, ◌∙◌, ap}
 use Rattle.tick_schedule.specs.Moments.{moments_from, place_at}
 use Rattle.tick_schedule.specs.Queue.{moment_at, without}
 use Rattle.tick_schedule.proofs.MomentLaws.{clear_place, clear_moment, rising, without_slot}
-use Rattle.tick_schedule.proofs.ScheduleLaws.{schedule, tied-leaving}
+use Rattle.tick_schedule.proofs.ScheduleLaws.{tied-leaving}
 use Rattle.tick_schedule.proofs.queue.DueQueue.clear.Goals as goal
 
 pub remove_from_list-requires : goal.remove_from_list-requires
 remove_from_list-requires c =
-    tied-leaving c.self.inside.places c.remove-before.new.self c.self.inside.lists c.args.id c.remove-before.result c.self.invariant.tied (sym c.remove-before.ensures.removed)
+    tied-leaving c.self.inside.places c.remove-before.new.self c.self.inside.lists c.args.id c.remove-before.result c.self.invariant (sym c.remove-before.ensures.removed)
     (λ other. ap (place_at other) c.remove-before.ensures.rest ∙ clear_place c.self.inside.places c.args.id other)
-
-pub invariant_of-self : goal.invariant_of-self
-invariant_of-self c = schedule c.remove_from_list.new.places c.remove_from_list.new.lists c.first-self-inside.result c.remove_from_list.ensures.tied c.first-self-inside.ensures
 
 pub returns-clause-cleared : goal.returns-clause-cleared
 returns-clause-cleared c = λ other.

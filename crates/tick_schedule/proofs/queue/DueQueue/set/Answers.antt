@@ -2,7 +2,7 @@ use Rattle.std.proofs.Common.{Some, cond, eqb, sym, ◌∙◌, ap, subst}
 use Rattle.tick_schedule.specs.Moments.{at, moment_in, moments_from, place_at}
 use Rattle.tick_schedule.specs.Queue.{moment_at, IsRising}
 use Rattle.tick_schedule.proofs.MomentLaws.{held, rising, set_moment, set_place}
-use Rattle.tick_schedule.proofs.ScheduleLaws.{moment-stays, schedule, tied-after, tied-same}
+use Rattle.tick_schedule.proofs.ScheduleLaws.{moment-stays, tied-after, tied-same}
 use Rattle.tick_schedule.proofs.queue.DueQueue.set.Goals as goal
 
 pub returns-then-has_moment-clause-rising : goal.returns-then-has_moment-clause-rising
@@ -17,14 +17,11 @@ returns-in_err-place-clause-rising c = rising c.reach.new.self
 pub remove_from_list-requires : goal.remove_from_list-requires
 remove_from_list-requires c =
     tied-after c.reach.new.self c.set.new.self c.self.inside.lists c.push.new.self c.args.due c.in_ok-place.place.index c.args.id
-    (tied-same c.self.inside.places c.reach.new.self c.self.inside.lists c.self.invariant.tied c.reach.ensures.places)
+    (tied-same c.self.inside.places c.reach.new.self c.self.inside.lists c.self.invariant c.reach.ensures.places)
     c.in_ok-place.ensures.ok
     (λ other. ap (place_at other) c.set.ensures ∙ set_place c.reach.new.self c.args.id other (Some c.in_ok-place.place) c.in_ok-reach.ensures.slot
     ∙ ap (λ m. cond (eqb other c.args.id) (Some (at m c.in_ok-place.place.index)) (place_at other c.reach.new.self)) c.in_ok-place.ensures.moment)
     c.get-before.result (c.reach.ensures.places c.args.id ∙ sym c.get-before.ensures)
-
-pub invariant_of-self-2 : goal.invariant_of-self-2
-invariant_of-self-2 c = schedule c.remove_from_list.new.places c.remove_from_list.new.lists c.first-self-inside.result c.remove_from_list.ensures.tied c.first-self-inside.ensures
 
 pub returns-clause-ok : goal.returns-clause-ok
 returns-clause-ok c = λ other.
