@@ -32,6 +32,7 @@ options:
 ";
 
 /// Why the arguments of the command line could not be read.
+#[derive(Drop)]
 pub(crate) enum ArgumentsFault {
     /// One of them is not UTF-8.
     NotUtf8,
