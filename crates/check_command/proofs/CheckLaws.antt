@@ -4,8 +4,8 @@ use Rattle.std.specs.Prelude.{Option}
 use Rattle.ports.specs.Counts.{IsStill, Rose}
 use Rattle.ports.specs.Reading.{Content, IsHeld}
 use Rattle.ports.specs.declared.store.StoreRead.{StoreRead}
-use Rattle.sexp_config.specs.declared.config.Config.{Config}
-use Rattle.sexp_config.specs.Config.{IsConfigOf}
+use Rattle.command_io.specs.sexp_config.declared.config.Config.{Config}
+use Rattle.command_io.specs.sexp_config.Config.{IsConfigOf}
 use Rattle.command_io.specs.declared.ending.ConfigRefusal.{ConfigRefusal}
 use Rattle.command_io.specs.declared.ending.ConfigRefusal.TheVariants as refusals
 use Rattle.command_io.specs.declared.ending.Ending.{Ending}
@@ -23,7 +23,7 @@ use Rattle.command_io.specs.Endings.{IsComplete, IsDoneOrMemory, IsReadOnce, Rea
 use Rattle.command_io.specs.Fetches.{IsFetchFault, ending_of_fetch}
 use Rattle.command_io.specs.Files.{ReadMore, good_read}
 use Rattle.command_io.specs.Reports.{SinkReport}
-use Rattle.hub_meaning.specs.Verdicts.{PatternsState}
+use Rattle.command_io.specs.hub_meaning.Verdicts.{PatternsState}
 use Rattle.command_io.proofs.ConfigLaws.{HoldsConfig, config_not_refused, for_config, refuses_pattern}
 use Rattle.command_io.proofs.EndingLaws.{not_over}
 use Rattle.command_io.proofs.ReadLaws.{read_alone}

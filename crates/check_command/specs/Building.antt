@@ -4,15 +4,15 @@ use Rattle.ports.specs.Counts.{Rose}
 use Rattle.ports.specs.Writing.{Got, GotPrefix}
 use Rattle.pred_eval.specs.declared.patterns.BuildFault.{BuildFault}
 use Rattle.pred_eval.specs.declared.patterns.BuildFault.TheVariants as build
-use Rattle.sexp_config.specs.declared.config.Config.{Config}
-use Rattle.sexp_config.specs.Canonical.{canonical_text}
+use Rattle.command_io.specs.sexp_config.declared.config.Config.{Config}
+use Rattle.command_io.specs.sexp_config.Canonical.{canonical_text}
 use Rattle.stream_plan.specs.Ready.{plan_patterns}
 use Rattle.command_io.specs.declared.ending.ConfigRefusal.TheVariants.{Pattern}
 use Rattle.command_io.specs.declared.ending.Ending.{Ending}
 use Rattle.command_io.specs.declared.ending.Ending.TheVariants.{Finished, ConfigRefused, WriteFailed, OutOfMemory}
 use Rattle.command_io.specs.Building.{AreBuilt, IsRefusedPattern}
 use Rattle.command_io.specs.Reports.{SinkReport}
-use Rattle.hub_meaning.specs.Verdicts.{PatternsState}
+use Rattle.command_io.specs.hub_meaning.Verdicts.{PatternsState}
 
 -- the text of a configuration whose patterns were built, or why it was not made
 abbrev pub BuildsText : Config → PatternsState → PatternsState → Result (List ℕ) BuildFault → Type 0

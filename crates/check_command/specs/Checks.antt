@@ -3,9 +3,9 @@ use Rattle.std.specs.Prelude.{◌≡◌, ℕ, ◌≤◌, List, [], ◌∷◌, le
 use Rattle.ports.specs.Counts.{IsStill, Rose}
 use Rattle.ports.specs.Reading.{Content, IsHeld, IsOverLimit}
 use Rattle.ports.specs.Writing.{Got, GotPrefix}
-use Rattle.sexp_config.specs.declared.config.Config.{Config as Configuration}
-use Rattle.sexp_config.specs.Canonical.{canonical_text}
-use Rattle.sexp_config.specs.Config.{IsConfigOf}
+use Rattle.command_io.specs.sexp_config.declared.config.Config.{Config as Configuration}
+use Rattle.command_io.specs.sexp_config.Canonical.{canonical_text}
+use Rattle.command_io.specs.sexp_config.Config.{IsConfigOf}
 use Rattle.command_io.specs.declared.ending.Ending.{Ending}
 use Rattle.command_io.specs.declared.ending.Ending.TheVariants.{Finished, ConfigRefused, Unread, OverLimit, BytesLeft, WriteFailed, LinksFailed, ScriptRefused}
 use Rattle.command_io.specs.declared.ending.Source.TheVariants.{ConfigFile, OtherFile}
@@ -15,7 +15,7 @@ use Rattle.command_io.specs.Building.{AreBuilt}
 use Rattle.command_io.specs.Configs.{ForConfig, RefusesConfig}
 use Rattle.command_io.specs.Endings.{HasNoConfig, IsComplete, IsDoneOrMemory, IsReadOnce, ReadsFiles, Says, TookMore, status_of}
 use Rattle.command_io.specs.Reports.{Reports, SinkReport}
-use Rattle.hub_meaning.specs.Verdicts.{PatternsState}
+use Rattle.command_io.specs.hub_meaning.Verdicts.{PatternsState}
 
 -- what an ending says of the contents of the file
 abbrev pub CheckCause : Content → Ending → Type 0

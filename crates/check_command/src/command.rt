@@ -5,15 +5,15 @@ ghost use Rattle.check_command.specs.Building.{BuildsText, EndsCheck};
 ghost use Rattle.check_command.specs.Checks.{CheckCause, CheckWrites, Checks};
 ghost use Rattle.command_io.specs.Endings.{HasNoConfig, HasNoLine, IsComplete, IsReadOnce, IsRefusalOrMemory, ReadsFiles, TookMore, status_of};
 ghost use Rattle.command_io.specs.Reports.{LinksReport, reports, sink_report, store_report};
-ghost use Rattle.hub_meaning.specs.Verdicts.{patterns_state};
+ghost use Rattle.command_io.specs.hub_meaning.Verdicts.{patterns_state};
 
+use command_io::sexp_config::{Config, write_config};
 use command_io::{
     CONFIG_LIMIT, ConfigRefusal, Ending, Status, build_ready, fetch_config, put_all, report,
 };
 use ev_types::{Blob, Text};
 use ports::{Sink, Store};
 use pred_eval::{BuildFault, Patterns};
-use sexp_config::{Config, write_config};
 use std::alloc::Global;
 
 /// Carries out `check CONFIG`: it reads the configuration, builds its patterns, and writes its canonical text to `out`.

@@ -1,1 +1,2 @@
 pub mod SetupLaws
+pub use Rattle.command_io.proofs as command_io_proofs

@@ -1,10 +1,10 @@
 -- What a command knows that has no configuration.
 use Rattle.std.proofs.Common.{◌≡◌, ℕ, ◌≤◌, List, length, refl, arith}
-use Rattle.hub_meaning.specs.Verdicts.{PatternsState}
+use Rattle.hub_run.specs.hub_meaning.Verdicts.{PatternsState}
 use Rattle.ports.specs.Counts.{IsStill, Rose}
 use Rattle.ports.specs.Reading.{Content, IsHeld}
-use Rattle.sexp_config.specs.declared.config.Config.{Config}
-use Rattle.sexp_config.specs.Config.{IsConfigOf}
+use Rattle.command_io.specs.sexp_config.declared.config.Config.{Config}
+use Rattle.command_io.specs.sexp_config.Config.{IsConfigOf}
 use Rattle.command_io.specs.declared.ending.Ending.{Ending}
 use Rattle.command_io.specs.declared.ending.Ending.TheVariants.{Finished, ConfigRefused, Unread, OverLimit, BytesLeft, WriteFailed, LinksFailed, ScriptRefused, OutOfMemory}
 use Rattle.command_io.specs.declared.ending.Source.TheVariants.{ConfigFile, OtherFile}

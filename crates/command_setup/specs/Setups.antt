@@ -1,13 +1,13 @@
 -- What a configuration says that a server is run with, and why a command has no such configuration.
 use Rattle.std.specs.Prelude.{◌≡◌, ℕ, ◌+◌, List, ◌++◌, codes, Result, Ok, Err}
 use Rattle.std.specs.Fmt.{decimal}
-use Rattle.conn_core.specs.Turning.{sink_got}
-use Rattle.hub_meaning.specs.Verdicts.{PatternsState}
+use Rattle.hub_run.specs.conn_core.Turning.{sink_got}
+use Rattle.hub_run.specs.hub_meaning.Verdicts.{PatternsState}
 use Rattle.hub_run.specs.Runs.{RunReport, run_report}
 use Rattle.hub_run.specs.declared.setup.Setup.{Setup}
 use Rattle.ports.specs.Counts.{Rose, RoseBy}
 use Rattle.ports.specs.Reading.{Content, IsOverLimit}
-use Rattle.sexp_config.specs.declared.config.Config.{Config}
+use Rattle.command_io.specs.sexp_config.declared.config.Config.{Config}
 use Rattle.stream_plan.specs.Ready.{plan_patterns}
 use Rattle.command_io.specs.Building.{AreBuilt, IsRefusedPattern}
 use Rattle.command_io.specs.Configs.{ForConfig, RefusesConfig}

@@ -1,18 +1,18 @@
 ghost use Rattle.std.specs.Prelude.{◌≡◌, ◌≤◌, [], ◌∷◌, length, IfErr, IfOk, OnOk};
-ghost use Rattle.hub_meaning.specs.Verdicts.{patterns_state};
-ghost use Rattle.sexp_config.specs.Expiry.{IsInterval};
+ghost use Rattle.hub_run.specs.hub_meaning.Verdicts.{patterns_state};
+ghost use Rattle.command_io.specs.sexp_config.Expiry.{IsInterval};
 ghost use Rattle.stream_plan.specs.Ready.{plan_patterns};
 ghost use Rattle.command_io.specs.Endings.{HasNoConfig, IsReadOnce, ReadsFiles};
 ghost use Rattle.command_io.specs.Files.{ReadMore, good_read};
 ghost use Rattle.command_io.specs.Reports.{store_report};
 ghost use Rattle.command_setup.specs.Setups.{MakesSetup, RefusesSetup, SetsUp, address_text};
 
+use command_io::sexp_config::Config;
 use command_io::{CONFIG_LIMIT, ConfigRefusal, Ending, build_ready, fetch_config};
 use ev_types::{Memory, Text};
 use hub_run::Setup;
 use ports::Store;
 use pred_eval::{BuildFault, Patterns};
-use sexp_config::Config;
 use std::alloc::Global;
 
 /// Reads the configuration in the file of the name, builds its patterns, and gives what a server is run with. An error

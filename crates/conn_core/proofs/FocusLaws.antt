@@ -4,11 +4,11 @@ use Rattle.std.specs.Prelude.{Some}
 use Rattle.std.specs.List.{remove}
 use Rattle.std.proofs.lemmas.List.{drop-set-lt, get_or-set_same, map-append, take-set, set_split, length-set}
 use Rattle.std.proofs.lemmas.List.{length-map}
-use Rattle.hub_meaning.specs.Laws.{AreRising}
-use Rattle.hub_meaning.specs.Legal.{AreSettled, IsSettled}
-use Rattle.hub_meaning.specs.declared.status.Status.{Status}
-use Rattle.hub_meaning.specs.declared.status.Status.TheVariants.{Closed}
-use Rattle.hub_meaning.specs.Links.{Link, changed, closed, connected, find_link, is_above, is_connected, is_open_status, is_read_closed_status, want_of, wants_of}
+use Rattle.hub_link.specs.hub_meaning.Laws.{AreRising}
+use Rattle.hub_link.specs.hub_meaning.Legal.{AreSettled, IsSettled}
+use Rattle.hub_link.specs.hub_meaning.declared.status.Status.{Status}
+use Rattle.hub_link.specs.hub_meaning.declared.status.Status.TheVariants.{Closed}
+use Rattle.hub_link.specs.hub_meaning.Links.{Link, changed, closed, connected, find_link, is_above, is_connected, is_open_status, is_read_closed_status, want_of, wants_of}
 use Rattle.hub_link.specs.declared.link.HubLink.{HubLink}
 use Rattle.hub_link.specs.HubLink.{RepresentsLink}
 use Rattle.link_table.specs.Kept.{Kept, IsAt, is_newer, number_at}

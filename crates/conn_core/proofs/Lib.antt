@@ -6,3 +6,5 @@ pub mod LineLaws
 pub mod NoticeLaws
 pub mod OccurLaws
 pub mod TurnLaws
+pub use Rattle.hub_link.proofs.hub_meaning_proofs
+pub use Rattle.hub_link.proofs.msg_replies_proofs

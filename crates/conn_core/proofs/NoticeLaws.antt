@@ -5,16 +5,16 @@ use Rattle.ev_types.specs.declared.event.Event.{Event}
 use Rattle.ev_types.specs.declared.item.Item.TheVariants.{One}
 use Rattle.ev_types.specs.declared.item.Notice.{Notice}
 use Rattle.ev_types.specs.declared.settings.Expiry.{Expiry}
-use Rattle.event_core.specs.Core.{CoreConfig, notices_by}
-use Rattle.event_core.specs.Counts.{notices_in}
-use Rattle.event_core.proofs.Moves.{notices-append}
-use Rattle.hub_meaning.specs.Clock.{next_moment}
-use Rattle.hub_meaning.specs.Links.{Link, find_link, is_open}
-use Rattle.hub_meaning.specs.Messages.{posts_of}
-use Rattle.hub_meaning.specs.Runs.{RunState, Step, Talk, after_entry, after_step, all_answered, answered, first_state, messages_in, notices_after, occurred, passed, read_by, state_after, state_from, talk_of, turned, with_talk}
+use Rattle.hub_link.specs.event_core.Core.{CoreConfig, notices_by}
+use Rattle.hub_link.specs.event_core.Counts.{notices_in}
+use Rattle.hub_link.proofs.event_core_proofs.Moves.{notices-append}
+use Rattle.hub_link.specs.hub_meaning.Clock.{next_moment}
+use Rattle.hub_link.specs.hub_meaning.Links.{Link, find_link, is_open}
+use Rattle.hub_link.specs.hub_meaning.Messages.{posts_of}
+use Rattle.hub_link.specs.hub_meaning.Runs.{RunState, Step, Talk, after_entry, after_step, all_answered, answered, first_state, messages_in, notices_after, occurred, passed, read_by, state_after, state_from, talk_of, turned, with_talk}
 use Rattle.ports.specs.Playing.{is_turn_answer}
-use Rattle.hub_meaning.specs.Verdicts.{Message, Refusal}
-use Rattle.hub_meaning.proofs.RunLaws.{state_append}
+use Rattle.hub_link.specs.hub_meaning.Verdicts.{Message, Refusal}
+use Rattle.hub_link.proofs.hub_meaning_proofs.RunLaws.{state_append}
 use Rattle.ports.specs.declared.entry.Entry.{Entry}
 use Rattle.ports.specs.declared.entry.Entry.TheVariants.{Listen, Next, Send, Close}
 use Rattle.ports.specs.declared.links.Turn.{Turn}

@@ -2,26 +2,26 @@
 use Rattle.std.proofs.Common.{◌≡◌, ◌≢◌, ℕ, Bool, true, false, cond, ◌||◌, List, [], ◌∷◌, get_or, set, Result, Ok, Err, refl, ap, sym, ◌∙◌, subst, append-nil}
 use Rattle.std.specs.Prelude.{IsErr, Option, Some, None, OnOk}
 use Rattle.ev_types.specs.declared.event.Event.{Event}
-use Rattle.event_core.specs.declared.arrivals.Core.{Core}
-use Rattle.event_core.specs.Core.{CoreConfig, Represents, config_of}
+use Rattle.hub_link.specs.event_core.declared.arrivals.Core.{Core}
+use Rattle.hub_link.specs.event_core.Core.{CoreConfig, Represents, config_of}
 use Rattle.framing.specs.Frames.{length_at, partial}
-use Rattle.hub_meaning.specs.Legal.{AreSettled, IsLegalFrom, VerdictsIf, VerdictsIn, VerdictsOn}
-use Rattle.hub_meaning.specs.declared.status.Status.{Status}
-use Rattle.hub_meaning.specs.declared.status.Status.TheVariants.{Open, ReadClosed, Closing, Closed}
-use Rattle.hub_meaning.specs.Links.{Link, changed, find_link, is_connected, is_open, is_open_status, is_read_closed_status, with_status}
-use Rattle.hub_meaning.specs.Replies.{reply_to_oversized}
-use Rattle.hub_meaning.specs.Runs.{RunState, Talk, all_answered, answered, cut_off, is_oversized, messages_in, occurred, plain, read_by, read_from, state_from, talk_of, with_links, with_reply, with_talk}
-use Rattle.hub_meaning.specs.Verdicts.{Message, PatternsState, Refusal}
-use Rattle.hub_meaning.proofs.LinkLaws.{all_found, found_number}
+use Rattle.hub_link.specs.hub_meaning.Legal.{AreSettled, IsLegalFrom, VerdictsIf, VerdictsIn, VerdictsOn}
+use Rattle.hub_link.specs.hub_meaning.declared.status.Status.{Status}
+use Rattle.hub_link.specs.hub_meaning.declared.status.Status.TheVariants.{Open, ReadClosed, Closing, Closed}
+use Rattle.hub_link.specs.hub_meaning.Links.{Link, changed, find_link, is_connected, is_open, is_open_status, is_read_closed_status, with_status}
+use Rattle.hub_link.specs.hub_meaning.Replies.{reply_to_oversized}
+use Rattle.hub_link.specs.hub_meaning.Runs.{RunState, Talk, all_answered, answered, cut_off, is_oversized, messages_in, occurred, plain, read_by, read_from, state_from, talk_of, with_links, with_reply, with_talk}
+use Rattle.hub_link.specs.hub_meaning.Verdicts.{Message, PatternsState, Refusal}
+use Rattle.hub_link.proofs.hub_meaning_proofs.LinkLaws.{all_found, found_number}
 use Rattle.hub_link.specs.declared.link.HubLink.{HubLink}
 use Rattle.hub_link.specs.Hearing.{Hears, HearsPiece, talk_after}
 use Rattle.hub_link.specs.Hearing as hearing
 use Rattle.hub_link.specs.HubLink.{RepresentsLink}
 use Rattle.link_table.specs.Kept.{IsAbsent, IsAt as IsAtPlace, Kept}
 use Rattle.list_laws.specs.declared.memory.Memory.{Memory}
-use Rattle.msg_replies.specs.Arriving.{Reported}
-use Rattle.msg_replies.proofs.AnswerLaws.{heard_nothing}
-use Rattle.msg_replies.proofs.VerdictLaws.{no_verdicts}
+use Rattle.hub_link.specs.msg_replies.Arriving.{Reported}
+use Rattle.hub_link.proofs.msg_replies_proofs.AnswerLaws.{heard_nothing}
+use Rattle.hub_link.proofs.msg_replies_proofs.VerdictLaws.{no_verdicts}
 use Rattle.ports.specs.declared.entry.Entry.{Entry}
 use Rattle.ports.specs.declared.links.What.{What}
 use Rattle.ports.specs.declared.links.What.TheVariants.{Idle, Opened, Read, Ended, Broken, Room, Stopped, Failed, Memory as NoMemory}

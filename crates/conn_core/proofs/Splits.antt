@@ -5,9 +5,9 @@ use Rattle.std.specs.List.{AllByRecursion}
 use Rattle.std.proofs.lemmas.Bool.{eq-eqb, ne_eqb}
 use Rattle.std.proofs.lemmas.List.{map-append}
 use Rattle.std.proofs.lemmas.List.Elements.{filter-append}
-use Rattle.hub_meaning.specs.Laws.{AreAbove, AreRising}
-use Rattle.hub_meaning.specs.Legal.{AreSettled}
-use Rattle.hub_meaning.specs.Links.{Link, changed, connected, find_link, is_above, is_connected, want_of, wants_of}
+use Rattle.hub_link.specs.hub_meaning.Laws.{AreAbove, AreRising}
+use Rattle.hub_link.specs.hub_meaning.Legal.{AreSettled}
+use Rattle.hub_link.specs.hub_meaning.Links.{Link, changed, connected, find_link, is_above, is_connected, want_of, wants_of}
 use Rattle.hub_link.specs.declared.link.HubLink.{HubLink}
 use Rattle.hub_link.specs.HubLink.{RepresentsLink}
 use Rattle.conn_core.specs.Keeping.{AreBeside}

@@ -2,20 +2,20 @@
 use Rattle.std.proofs.Common.{◌≡◌, ◌≢◌, ℕ, ◌+◌, ◌-◌, arith, Bool, true, false, cond, List, [], ◌∷◌, ◌++◌, replicate, Result, Ok, Err, refl, ap, sym, ◌∙◌, subst, append_assoc}
 use Rattle.std.specs.Prelude.{IsErr, Option, Some, None, OnErr, OnOk}
 use Rattle.ev_types.specs.declared.item.Notice.{Notice}
-use Rattle.event_core.specs.declared.arrivals.Core.{Core}
-use Rattle.event_core.specs.Core.{CoreConfig, Heard, Represents, forks_by, notices_by, now_of}
-use Rattle.hub_meaning.specs.Clock.{next_moment}
-use Rattle.hub_meaning.specs.Legal.{AreSettled, IsLegal, IsLegalFrom, VerdictsIf, VerdictsIn, VerdictsOn}
-use Rattle.hub_meaning.specs.Links.{Link, find_link, is_open}
-use Rattle.hub_meaning.specs.Runs.{RunState, Step, after_step, first_state, new_frames, notices_after, occurred, passed, plain, state_after, state_from, talk_of}
+use Rattle.hub_link.specs.event_core.declared.arrivals.Core.{Core}
+use Rattle.hub_link.specs.event_core.Core.{CoreConfig, Heard, Represents, forks_by, notices_by, now_of}
+use Rattle.hub_link.specs.hub_meaning.Clock.{next_moment}
+use Rattle.hub_link.specs.hub_meaning.Legal.{AreSettled, IsLegal, IsLegalFrom, VerdictsIf, VerdictsIn, VerdictsOn}
+use Rattle.hub_link.specs.hub_meaning.Links.{Link, find_link, is_open}
+use Rattle.hub_link.specs.hub_meaning.Runs.{RunState, Step, after_step, first_state, new_frames, notices_after, occurred, passed, plain, state_after, state_from, talk_of}
 use Rattle.ports.specs.Playing.{is_turn_answer}
-use Rattle.hub_meaning.specs.Verdicts.{PatternsState, Refusal}
-use Rattle.hub_meaning.proofs.RunLaws.{legal_append, state_append}
+use Rattle.hub_link.specs.hub_meaning.Verdicts.{PatternsState, Refusal}
+use Rattle.hub_link.proofs.hub_meaning_proofs.RunLaws.{legal_append, state_append}
 use Rattle.hub_link.proofs.HearLaws.{none_refused}
 use Rattle.list_laws.specs.declared.memory.Memory.{Memory}
-use Rattle.msg_replies.specs.Arriving.{Arrives, Reported, reported}
-use Rattle.msg_replies.proofs.AnswerLaws.{heard_then}
-use Rattle.msg_replies.proofs.VerdictLaws.{no_verdicts}
+use Rattle.hub_link.specs.msg_replies.Arriving.{Arrives, Reported, reported}
+use Rattle.hub_link.proofs.msg_replies_proofs.AnswerLaws.{heard_then}
+use Rattle.hub_link.proofs.msg_replies_proofs.VerdictLaws.{no_verdicts}
 use Rattle.notice_sink.specs.Lines.{lines_of}
 use Rattle.ports.specs.declared.entry.Entry.{Entry}
 use Rattle.ports.specs.declared.links.Turn.{Turn}

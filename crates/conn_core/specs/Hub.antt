@@ -1,9 +1,9 @@
 -- What a hub represents.
 use Rattle.std.specs.Prelude.{◌≡◌, List}
-use Rattle.event_core.specs.Core.{CoreConfig, Represents, config_of, now_of}
-use Rattle.event_core.specs.declared.arrivals.Core.{Core}
-use Rattle.hub_meaning.specs.Legal.{AreSettled, IsLegal}
-use Rattle.hub_meaning.specs.Runs.{RunState, Step, state_after}
+use Rattle.hub_link.specs.event_core.Core.{CoreConfig, Represents, config_of, now_of}
+use Rattle.hub_link.specs.event_core.declared.arrivals.Core.{Core}
+use Rattle.hub_link.specs.hub_meaning.Legal.{AreSettled, IsLegal}
+use Rattle.hub_link.specs.hub_meaning.Runs.{RunState, Step, state_after}
 use Rattle.ports.specs.declared.links.Want.{Want}
 use Rattle.conn_core.specs.Keeping.{Keeps}
 use Rattle.conn_core.specs.declared.hub.Hub.{Hub}

@@ -1,8 +1,8 @@
 -- What is kept of the links of a state.
 use Rattle.std.specs.Prelude.{◌≡◌, ℕ, List, [], ◌∷◌}
 use Rattle.link_table.specs.Kept.{Kept, is_newer}
-use Rattle.hub_meaning.specs.Laws.{AreRising}
-use Rattle.hub_meaning.specs.Links.{Link, connected, is_above, wants_of}
+use Rattle.hub_link.specs.hub_meaning.Laws.{AreRising}
+use Rattle.hub_link.specs.hub_meaning.Links.{Link, connected, is_above, wants_of}
 use Rattle.hub_link.specs.declared.link.HubLink.{HubLink}
 use Rattle.hub_link.specs.HubLink.{RepresentsLink}
 

@@ -4,3 +4,6 @@ pub mod Reaching
 pub mod Hub
 pub mod Turning
 pub mod Occurring
+pub use Rattle.hub_link.specs.event_core
+pub use Rattle.hub_link.specs as hub_link
+pub use Rattle.hub_link.specs.hub_meaning

@@ -1,11 +1,11 @@
 -- What the occurrence of a turn does, once the seconds up to its moment have passed.
 use Rattle.std.specs.Prelude.{◌≡◌, ℕ, List, ◌++◌, Option, Result, OnOk}
-use Rattle.event_core.specs.Core.{CoreConfig, Heard}
-use Rattle.hub_meaning.specs.Legal.{AreSettled, IsLegalFrom, VerdictsIn}
-use Rattle.hub_meaning.specs.Runs.{RunState, occurred, plain, state_from}
-use Rattle.hub_meaning.specs.Verdicts.{AfterVerdicts, PatternsState, Refusal}
+use Rattle.hub_link.specs.event_core.Core.{CoreConfig, Heard}
+use Rattle.hub_link.specs.hub_meaning.Legal.{AreSettled, IsLegalFrom, VerdictsIn}
+use Rattle.hub_link.specs.hub_meaning.Runs.{RunState, occurred, plain, state_from}
+use Rattle.hub_link.specs.hub_meaning.Verdicts.{AfterVerdicts, PatternsState, Refusal}
 use Rattle.list_laws.specs.declared.memory.Memory.{Memory}
-use Rattle.msg_replies.specs.Arriving.{Reported}
+use Rattle.hub_link.specs.msg_replies.Arriving.{Reported}
 use Rattle.ports.specs.declared.entry.Entry.{Entry}
 use Rattle.ports.specs.declared.links.What.{What}
 use Rattle.stream_meaning.specs.Arrivals.{Arrival}

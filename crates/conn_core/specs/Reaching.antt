@@ -1,11 +1,11 @@
 -- What the calls of a turn do to the links, from the state after its occurrence.
 use Rattle.std.specs.Prelude.{◌≡◌, ◌≢◌, ℕ, suc, ◌<◌, List, [], ◌∷◌, ◌++◌, length, take, drop, slice_index_or, Some, Result, OnOk}
-use Rattle.event_core.specs.Core.{CoreConfig}
-use Rattle.hub_meaning.specs.Laws.{AreRising}
-use Rattle.hub_meaning.specs.Legal.{AreSettled, IsLegalFrom, IsSettled, MayClose}
-use Rattle.hub_meaning.specs.declared.status.Status.TheVariants.{Closed}
-use Rattle.hub_meaning.specs.Links.{Link, broken, changed, connected, connected_limit, ended, is_above, new_link, opened, unblocked, want_of, wants_of}
-use Rattle.hub_meaning.specs.Runs.{RunState, plain, state_from, with_links}
+use Rattle.hub_link.specs.event_core.Core.{CoreConfig}
+use Rattle.hub_link.specs.hub_meaning.Laws.{AreRising}
+use Rattle.hub_link.specs.hub_meaning.Legal.{AreSettled, IsLegalFrom, IsSettled, MayClose}
+use Rattle.hub_link.specs.hub_meaning.declared.status.Status.TheVariants.{Closed}
+use Rattle.hub_link.specs.hub_meaning.Links.{Link, broken, changed, connected, connected_limit, ended, is_above, new_link, opened, unblocked, want_of, wants_of}
+use Rattle.hub_link.specs.hub_meaning.Runs.{RunState, plain, state_from, with_links}
 use Rattle.hub_link.specs.declared.link.HubLink.{HubLink}
 use Rattle.hub_link.specs.HubLink.{RepresentsLink}
 use Rattle.link_table.specs.Kept.{Kept, is_newer, number_at}

@@ -2,10 +2,10 @@
 use Rattle.std.specs.Prelude.{◌≡◌, ◌≢◌, ℕ, zero, suc, ◌+◌, List, [], ◌∷◌, ◌++◌, length, Option, Result, Err, OnOk, OnErr}
 use Rattle.std.specs.Option.{option_map}
 use Rattle.ev_types.specs.declared.item.Notice.{Notice}
-use Rattle.event_core.specs.Core.{CoreConfig, forks_by}
-use Rattle.hub_meaning.specs.Legal.{IsLegal}
-use Rattle.hub_meaning.specs.Runs.{Step, notices_after, plain, state_after}
-use Rattle.hub_meaning.specs.Verdicts.{AfterVerdicts, PatternsState, Refusal}
+use Rattle.hub_link.specs.event_core.Core.{CoreConfig, forks_by}
+use Rattle.hub_link.specs.hub_meaning.Legal.{IsLegal}
+use Rattle.hub_link.specs.hub_meaning.Runs.{Step, notices_after, plain, state_after}
+use Rattle.hub_link.specs.hub_meaning.Verdicts.{AfterVerdicts, PatternsState, Refusal}
 use Rattle.notice_sink.specs.Lines.{lines_of}
 use Rattle.ports.specs.declared.entry.Entry.{Entry}
 use Rattle.ports.specs.declared.entry.Entry.TheVariants.{Next}

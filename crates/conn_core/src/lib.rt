@@ -7,4 +7,6 @@ mod links;
 mod stop;
 
 pub use hub::Hub;
+pub use hub_link;
+pub use hub_link::{event_core, hub_meaning, msg_replies};
 pub use stop::Stop;

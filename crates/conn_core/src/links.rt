@@ -2,7 +2,7 @@ ghost use Rattle.std.specs.Prelude.{◌≡◌, true, Ok, OnOk};
 ghost use Rattle.conn_core.specs.Known.{AreUnclosed, IsOpenedBy, IsUnclosed};
 ghost use Rattle.conn_core.specs.Reaching.{links_after, AddsLink, Changes, Finishes, Settles};
 ghost use Rattle.hub_link.specs.Added.{Added};
-ghost use Rattle.hub_meaning.specs.Links.{broken, changed, ended, opened, unblocked};
+ghost use Rattle.hub_link.specs.hub_meaning.Links.{broken, changed, ended, opened, unblocked};
 ghost use Rattle.link_table.specs.Kept.{is_newer, IsAt};
 ghost use Rattle.ports.specs.Playing.{Plays};
 

@@ -1,15 +1,15 @@
 -- What is known once bytes were fed, from what the run and the replies say.
 use Rattle.std.proofs.Common.{◌≡◌, ℕ, List, [], ◌∷◌, length, refl, inr, subst, arith}
-use Rattle.command_io.specs.Reports.{Reports}
-use Rattle.command_io.specs.declared.ending.Ending.{Ending}
-use Rattle.command_io.specs.declared.ending.Ending.TheVariants.{Finished, ConfigRefused, Unread, OverLimit, BytesLeft, WriteFailed, LinksFailed, ScriptRefused, OutOfMemory}
-use Rattle.command_setup.specs.Setups.{run_report_of}
+use Rattle.file_run.specs.command_io.Reports.{Reports}
+use Rattle.file_run.specs.command_io.declared.ending.Ending.{Ending}
+use Rattle.file_run.specs.command_io.declared.ending.Ending.TheVariants.{Finished, ConfigRefused, Unread, OverLimit, BytesLeft, WriteFailed, LinksFailed, ScriptRefused, OutOfMemory}
+use Rattle.file_run.specs.command_setup.Setups.{run_report_of}
 use Rattle.file_run.specs.Runs.{RunsWhole}
 use Rattle.framing.specs.Frames.{partial}
-use Rattle.hub_meaning.specs.Runs.{state_after}
-use Rattle.hub_run.specs.Runs.{config_at}
-use Rattle.hub_run.specs.Taken.{steps_of}
-use Rattle.hub_run.specs.declared.setup.Setup.{Setup}
+use Rattle.file_run.specs.hub_meaning.Runs.{state_after}
+use Rattle.file_run.specs.hub_run.Runs.{config_at}
+use Rattle.file_run.specs.hub_run.Taken.{steps_of}
+use Rattle.file_run.specs.hub_run.declared.setup.Setup.{Setup}
 use Rattle.ports.specs.Pieces.{feed_script}
 use Rattle.ports.specs.Playing.{bytes_taken}
 use Rattle.ports.specs.Writing.{Got, GotPrefix}

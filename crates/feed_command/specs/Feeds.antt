@@ -1,23 +1,23 @@
 -- What `feed CONFIG FILE` promises.
 use Rattle.std.specs.Prelude.{◌≡◌, ◌≢◌, ℕ, ◌≤◌, ◌⊎◌, List, [], ◌∷◌, length, Err}
-use Rattle.command_io.specs.Endings.{HasNoConfig, IsComplete, ReadsFiles, Says, status_of}
-use Rattle.command_io.specs.Reports.{IsIdle, Reports, SinkReport}
-use Rattle.command_io.specs.declared.ending.Ending.{Ending}
-use Rattle.command_io.specs.declared.ending.Ending.TheVariants.{Finished, BytesLeft, WriteFailed, OutOfMemory}
-use Rattle.command_io.specs.declared.limits.TheConstants.{CONFIG_LIMIT, FILE_LIMIT}
-use Rattle.command_io.specs.declared.status.Status.{Status}
-use Rattle.command_io.specs.declared.status.Status.TheVariants.{Done, Memory, Truncated}
-use Rattle.command_setup.specs.Setups.{RefusesSetup, SetsUp, run_report_of}
-use Rattle.conn_core.specs.declared.hub.Hub.{Hub}
+use Rattle.file_run.specs.command_io.Endings.{HasNoConfig, IsComplete, ReadsFiles, Says, status_of}
+use Rattle.file_run.specs.command_io.Reports.{IsIdle, Reports, SinkReport}
+use Rattle.file_run.specs.command_io.declared.ending.Ending.{Ending}
+use Rattle.file_run.specs.command_io.declared.ending.Ending.TheVariants.{Finished, BytesLeft, WriteFailed, OutOfMemory}
+use Rattle.file_run.specs.command_io.declared.limits.TheConstants.{CONFIG_LIMIT, FILE_LIMIT}
+use Rattle.file_run.specs.command_io.declared.status.Status.{Status}
+use Rattle.file_run.specs.command_io.declared.status.Status.TheVariants.{Done, Memory, Truncated}
+use Rattle.file_run.specs.command_setup.Setups.{RefusesSetup, SetsUp, run_report_of}
+use Rattle.file_run.specs.conn_core.declared.hub.Hub.{Hub}
 use Rattle.file_run.specs.Files.{IsFile, ReadCounts, RefusesFile}
 use Rattle.file_run.specs.Runs.{RunsScript, most_turns}
 use Rattle.framing.specs.Frames.{partial}
-use Rattle.hub_meaning.specs.Runs.{state_after}
-use Rattle.hub_run.specs.Runs.{Finishes, config_at}
-use Rattle.hub_run.specs.Taken.{steps_of}
-use Rattle.hub_run.specs.declared.fault.RunFault.{RunFault}
-use Rattle.hub_run.specs.declared.fault.RunFault.TheVariants as cause
-use Rattle.hub_run.specs.declared.setup.Setup.{Setup}
+use Rattle.file_run.specs.hub_meaning.Runs.{state_after}
+use Rattle.file_run.specs.hub_run.Runs.{Finishes, config_at}
+use Rattle.file_run.specs.hub_run.Taken.{steps_of}
+use Rattle.file_run.specs.hub_run.declared.fault.RunFault.{RunFault}
+use Rattle.file_run.specs.hub_run.declared.fault.RunFault.TheVariants as cause
+use Rattle.file_run.specs.hub_run.declared.setup.Setup.{Setup}
 use Rattle.ports.specs.Counts.{IsStill, Rose}
 use Rattle.ports.specs.Pieces.{feed_script}
 use Rattle.ports.specs.Playing.{IsScriptedRun}
@@ -26,8 +26,8 @@ use Rattle.ports.specs.Writing.{Got, GotPrefix}
 use Rattle.ports.specs.declared.entry.Entry.{Entry}
 use Rattle.ports.specs.declared.links.TheConstants.{PIECE_LIMIT}
 use Rattle.run_laws.specs.Taking.{replies_on}
-use Rattle.sexp_config.specs.declared.config.Config.{Config as Configuration}
-use Rattle.sexp_config.specs.Config.{IsConfigOf}
+use Rattle.file_run.specs.sexp_config.declared.config.Config.{Config as Configuration}
+use Rattle.file_run.specs.sexp_config.Config.{IsConfigOf}
 
 -- ---- the run
 

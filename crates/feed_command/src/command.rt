@@ -1,18 +1,18 @@
 ghost use Rattle.std.specs.Prelude.{◌≡◌, ◌≢◌, ◌≤◌, ◌⊎◌, [], ◌∷◌};
 ghost use Rattle.std.specs.Option.{ForSome};
-ghost use Rattle.command_io.specs.Endings.{HasNoConfig, IsComplete, IsRefusalOrMemory, ReadsFiles, status_of};
-ghost use Rattle.command_io.specs.Reports.{LinksReport, reports, sink_report, store_report};
+ghost use Rattle.file_run.specs.command_io.Endings.{HasNoConfig, IsComplete, IsRefusalOrMemory, ReadsFiles, status_of};
+ghost use Rattle.file_run.specs.command_io.Reports.{LinksReport, reports, sink_report, store_report};
 ghost use Rattle.feed_command.specs.Feeds.{FeedEnds, Feeds, FileEnds};
 ghost use Rattle.file_run.specs.Files.{OtherReads, ReadCounts};
-ghost use Rattle.hub_meaning.specs.Verdicts.{patterns_state};
+ghost use Rattle.file_run.specs.hub_meaning.Verdicts.{patterns_state};
 ghost use Rattle.ports.specs.Counts.{Rose};
 
 use crate::serve::serve_bytes;
-use command_io::{Ending, Status, report};
-use command_setup::fetch_setup;
 use ev_types::Text;
+use file_run::command_io::{Ending, Status, report};
+use file_run::command_setup::fetch_setup;
+use file_run::hub_run::Setup;
 use file_run::read_other;
-use hub_run::Setup;
 use ports::{Sink, Store};
 use pred_eval::Patterns;
 use std::alloc::Global;

@@ -1,19 +1,19 @@
 ghost use Rattle.std.specs.Prelude.{◌≡◌, ℕ, ◌≤◌, List, [], length};
 ghost use Rattle.std.specs.Option.{ForSome};
-ghost use Rattle.command_io.specs.Endings.{IsComplete, IsRefusalOrMemory, status_of};
-ghost use Rattle.command_io.specs.Reports.{LinksReport, StoreReport, reports, sink_report};
+ghost use Rattle.file_run.specs.command_io.Endings.{IsComplete, IsRefusalOrMemory, status_of};
+ghost use Rattle.file_run.specs.command_io.Reports.{LinksReport, StoreReport, reports, sink_report};
 ghost use Rattle.feed_command.specs.Feeding.{WritesReplies};
 ghost use Rattle.feed_command.specs.Feeds.{BytesEnd};
 ghost use Rattle.file_run.specs.Files.{IsAfterRun};
 ghost use Rattle.framing.specs.Frames.{partial};
-ghost use Rattle.hub_meaning.specs.Verdicts.{patterns_state};
+ghost use Rattle.file_run.specs.hub_meaning.Verdicts.{patterns_state};
 ghost use Rattle.ports.specs.Pieces.{feed_script};
 
 use crate::left::bytes_left;
-use command_io::{Ending, put_all};
 use ev_types::Blob;
+use file_run::command_io::{Ending, put_all};
+use file_run::hub_run::{RunFault, Setup};
 use file_run::run_script;
-use hub_run::{RunFault, Setup};
 use ports::{PIECE_LIMIT, ScriptLinks, Sink, feed_links};
 use pred_eval::Patterns;
 use run_laws::feeds_are_answered;

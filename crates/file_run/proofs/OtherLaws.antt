@@ -1,22 +1,22 @@
 -- What a command read of its two files, from what one read after another answered.
 use Rattle.std.proofs.Common.{◌≡◌, ℕ, suc, ◌≤◌, List, [], ◌∷◌, length, map, take, refl, ap, ◌∙◌, arith}
 use Rattle.std.specs.Prelude.{Option}
-use Rattle.command_io.proofs.Sinks.{appended_twice}
-use Rattle.command_io.specs.Endings.{HasNoConfig, HaveFailed, IsComplete, IsReadOnce, IsRefusal, ReadsFiles, status_of}
-use Rattle.command_io.specs.Files.{IsFileFault, LastFailed, ReadMore, bad_read, good_read, read_name, reads_of_fault}
-use Rattle.command_io.specs.Fetches.{ending_of_file}
-use Rattle.command_io.specs.Reports.{StoreReport}
-use Rattle.command_io.specs.declared.ending.Ending.{Ending}
-use Rattle.command_io.specs.declared.ending.Ending.TheVariants.{Finished, ConfigRefused, Unread, OverLimit, BytesLeft, WriteFailed, LinksFailed, ScriptRefused, OutOfMemory}
-use Rattle.command_io.specs.declared.ending.Source.TheVariants.{ConfigFile, OtherFile}
-use Rattle.command_io.specs.declared.limits.TheConstants.{FILE_LIMIT}
-use Rattle.command_io.specs.declared.read.FileFault.{FileFault}
-use Rattle.command_io.specs.declared.read.FileFault.TheVariants as file
-use Rattle.command_io.specs.declared.status.Status.TheVariants.{ReadFault}
-use Rattle.command_io.proofs.EndingLaws.{not_over}
+use Rattle.command_setup.proofs.command_io_proofs.Sinks.{appended_twice}
+use Rattle.command_setup.specs.command_io.Endings.{HasNoConfig, HaveFailed, IsComplete, IsReadOnce, IsRefusal, ReadsFiles, status_of}
+use Rattle.command_setup.specs.command_io.Files.{IsFileFault, LastFailed, ReadMore, bad_read, good_read, read_name, reads_of_fault}
+use Rattle.command_setup.specs.command_io.Fetches.{ending_of_file}
+use Rattle.command_setup.specs.command_io.Reports.{StoreReport}
+use Rattle.command_setup.specs.command_io.declared.ending.Ending.{Ending}
+use Rattle.command_setup.specs.command_io.declared.ending.Ending.TheVariants.{Finished, ConfigRefused, Unread, OverLimit, BytesLeft, WriteFailed, LinksFailed, ScriptRefused, OutOfMemory}
+use Rattle.command_setup.specs.command_io.declared.ending.Source.TheVariants.{ConfigFile, OtherFile}
+use Rattle.command_setup.specs.command_io.declared.limits.TheConstants.{FILE_LIMIT}
+use Rattle.command_setup.specs.command_io.declared.read.FileFault.{FileFault}
+use Rattle.command_setup.specs.command_io.declared.read.FileFault.TheVariants as file
+use Rattle.command_setup.specs.command_io.declared.status.Status.TheVariants.{ReadFault}
+use Rattle.command_setup.proofs.command_io_proofs.EndingLaws.{not_over}
 use Rattle.command_setup.specs.Setups.{RefusesSetup, SetsUp}
-use Rattle.hub_meaning.specs.Verdicts.{PatternsState}
-use Rattle.hub_run.specs.declared.setup.Setup.{Setup}
+use Rattle.command_setup.specs.hub_meaning.Verdicts.{PatternsState}
+use Rattle.command_setup.specs.hub_run.declared.setup.Setup.{Setup}
 use Rattle.ports.specs.Counts.{IsStill, Rose}
 use Rattle.ports.specs.Reading.{Content, IsHeld}
 use Rattle.ports.specs.declared.store.StoreRead.{StoreRead}

@@ -1,12 +1,12 @@
 ghost use Rattle.std.specs.Prelude.{◌≡◌, ◌≢◌, ◌≤◌, [], Err, IfErr, OnOk};
 ghost use Rattle.std.specs.Option.{ForSome};
-ghost use Rattle.conn_core.specs.Turning.{sink_got};
-ghost use Rattle.hub_meaning.specs.Verdicts.{patterns_state};
-ghost use Rattle.hub_run.specs.Runs.{run_report};
+ghost use Rattle.command_setup.specs.conn_core.Turning.{sink_got};
+ghost use Rattle.command_setup.specs.hub_meaning.Verdicts.{patterns_state};
+ghost use Rattle.command_setup.specs.hub_run.Runs.{run_report};
 ghost use Rattle.ports.specs.Counts.{Rose};
 ghost use Rattle.file_run.specs.Runs.{RunsScript, RunsWhole};
 
-use hub_run::{RunFault, Setup, run};
+use command_setup::hub_run::{RunFault, Setup, run};
 use ports::{ScriptLinks, Sink};
 use pred_eval::Patterns;
 use std::alloc::Global;

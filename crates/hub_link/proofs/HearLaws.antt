@@ -2,19 +2,19 @@
 use Rattle.std.proofs.Common.{◌≡◌, ℕ, ◌≤◌, Bool, true, false, List, [], ◌∷◌, ◌++◌, length, map, refl, ap, sym, ◌∙◌, subst, arith, append-nil, append_assoc, length-append}
 use Rattle.std.specs.Prelude.{IfSome, Option, None, Ok, Err}
 use Rattle.std.proofs.lemmas.List.{drop-append-le, map-append}
-use Rattle.event_core.specs.declared.arrivals.Core.{Core}
-use Rattle.event_core.specs.Core.{CoreConfig, Represents, config_of, now_of, state_by}
+use Rattle.msg_replies.specs.event_core.declared.arrivals.Core.{Core}
+use Rattle.msg_replies.specs.event_core.Core.{CoreConfig, Represents, config_of, now_of, state_by}
 use Rattle.frame_link.specs.Held.{Held, HandsOut}
 use Rattle.framing.specs.Frames.{HasFrame, after_frame, first_body, frames_of, partial}
 use Rattle.framing.proofs.FrameLaws.{frames_at_frame, frames_at_none}
 use Rattle.list_laws.specs.declared.memory.Memory.{Memory}
 use Rattle.stream_meaning.specs.Arrivals.{Arrival}
-use Rattle.hub_meaning.specs.Legal.{ArePossible}
-use Rattle.hub_meaning.specs.Links.{Link, unsent}
-use Rattle.hub_meaning.specs.Messages.{posts_of}
-use Rattle.hub_meaning.specs.Replies.{reply_to}
-use Rattle.hub_meaning.specs.Runs.{Talk, all_answered, answered, with_reply}
-use Rattle.hub_meaning.specs.Verdicts.{AfterVerdicts, IsOfRule, IsPossible, Message, PatternsState, Refusal, built_rule, judged}
+use Rattle.msg_replies.specs.hub_meaning.Legal.{ArePossible}
+use Rattle.msg_replies.specs.hub_meaning.Links.{Link, unsent}
+use Rattle.msg_replies.specs.hub_meaning.Messages.{posts_of}
+use Rattle.msg_replies.specs.hub_meaning.Replies.{reply_to}
+use Rattle.msg_replies.specs.hub_meaning.Runs.{Talk, all_answered, answered, with_reply}
+use Rattle.msg_replies.specs.hub_meaning.Verdicts.{AfterVerdicts, IsOfRule, IsPossible, Message, PatternsState, Refusal, built_rule, judged}
 use Rattle.msg_replies.specs.Answering.{AnswersMessage, Replies}
 use Rattle.msg_replies.specs.Arriving.{Arrives, Reported}
 use Rattle.msg_replies.proofs.AnswerLaws.{arrives_nothing, arrives_then}

@@ -3,22 +3,22 @@ use Rattle.std.proofs.Common.{◌≡◌, ℕ, ◌≤◌, ◌==◌, ◌↔◌, Bo
 use Rattle.std.specs.Prelude.{IsTrue, Option, Result, Ok, Err, OnOk, nat_le, nat_lt}
 use Rattle.std.proofs.lemmas.Bool.{and_parts, eqb-true, leb-true, ltb-true}
 use Rattle.std.proofs.lemmas.Bool.Decides.{nat_tests}
-use Rattle.event_core.specs.declared.arrivals.Core.{Core}
-use Rattle.event_core.specs.Core.{CoreConfig, config_of, now_of}
+use Rattle.msg_replies.specs.event_core.declared.arrivals.Core.{Core}
+use Rattle.msg_replies.specs.event_core.Core.{CoreConfig, config_of, now_of}
 use Rattle.frame_link.specs.Held.{Held, pushed}
 use Rattle.framing.specs.Frames.{HasFrame, IsOversized, frames_of, length_at, partial}
 use Rattle.framing.specs.declared.TheConstants.{BODY_LIMIT}
 use Rattle.framing.proofs.FrameLaws.{oversized_has_none, partial_append, partial_at_none, partial_of_nothing}
 use Rattle.list_laws.specs.declared.memory.Memory.{Memory}
 use Rattle.ports.specs.declared.links.Want.{Want}
-use Rattle.hub_meaning.specs.Legal.{ArePossible, AreVerdicts, MayClose, MayCloseAs, VerdictsIf}
-use Rattle.hub_meaning.specs.Links.{Link, broken, connected, connected_limit, ended, is_connected, is_open, is_open_status, is_read_closed_status, new_link, unblocked, unsent, want_of, with_status}
-use Rattle.hub_meaning.specs.declared.status.Status.{Status}
-use Rattle.hub_meaning.specs.declared.status.Status.TheVariants.{Open, ReadClosed, Closing, Closed}
-use Rattle.hub_meaning.specs.Replies.{reply_to_oversized}
-use Rattle.hub_meaning.specs.Runs.{RunState, Talk, all_answered, answered, cut_off, is_oversized, messages_in, new_frames, talk_of, with_reply}
-use Rattle.hub_meaning.specs.Verdicts.{Message, PatternsState, Refusal, judged}
-use Rattle.hub_meaning.proofs.RunLaws.{new_frames_rest}
+use Rattle.msg_replies.specs.hub_meaning.Legal.{ArePossible, AreVerdicts, MayClose, MayCloseAs, VerdictsIf}
+use Rattle.msg_replies.specs.hub_meaning.Links.{Link, broken, connected, connected_limit, ended, is_connected, is_open, is_open_status, is_read_closed_status, new_link, unblocked, unsent, want_of, with_status}
+use Rattle.msg_replies.specs.hub_meaning.declared.status.Status.{Status}
+use Rattle.msg_replies.specs.hub_meaning.declared.status.Status.TheVariants.{Open, ReadClosed, Closing, Closed}
+use Rattle.msg_replies.specs.hub_meaning.Replies.{reply_to_oversized}
+use Rattle.msg_replies.specs.hub_meaning.Runs.{RunState, Talk, all_answered, answered, cut_off, is_oversized, messages_in, new_frames, talk_of, with_reply}
+use Rattle.msg_replies.specs.hub_meaning.Verdicts.{Message, PatternsState, Refusal, judged}
+use Rattle.msg_replies.proofs.hub_meaning_proofs.RunLaws.{new_frames_rest}
 use Rattle.msg_replies.specs.Arriving.{Reported}
 use Rattle.msg_replies.proofs.AnswerLaws.{arrives_nothing}
 use Rattle.msg_replies.proofs.VerdictLaws.{no_verdicts}

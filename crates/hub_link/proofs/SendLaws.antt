@@ -3,19 +3,19 @@ use Rattle.std.proofs.Common.{◌≡◌, ℕ, zero, suc, ◌+◌, ◌-◌, ◌<�
 use Rattle.std.specs.Prelude.{Some, nat_lt}
 use Rattle.std.proofs.lemmas.Bool.{eqb-true, eq-eqb, lt-ltb, ltb-true, and_parts}
 use Rattle.std.proofs.lemmas.List.{drop-drop, length-take-le, take-take}
-use Rattle.event_core.specs.Core.{CoreConfig}
+use Rattle.msg_replies.specs.event_core.Core.{CoreConfig}
 use Rattle.ports.specs.declared.entry.Entry.{Entry}
 use Rattle.ports.specs.declared.entry.Entry.TheVariants.{Listen, Next, Send, Close}
 use Rattle.ports.specs.declared.links.SendAnswer.{SendAnswer}
 use Rattle.ports.specs.declared.links.SendAnswer.TheVariants.{Took, Later, Failed, Memory}
 use Rattle.ports.specs.Links.{send_entries, IsWithin}
-use Rattle.hub_meaning.specs.Legal.{IsLegalFrom, IsSettledAs, MayCloseAs, MaySend}
-use Rattle.hub_meaning.specs.Links.{Link, changed, find_link, has_number, is_open_status, is_read_closed_status, sent, unsent, with_status}
-use Rattle.hub_meaning.specs.declared.status.Status.{Status}
-use Rattle.hub_meaning.specs.declared.status.Status.TheVariants.{Open, ReadClosed, Closing, Closed}
-use Rattle.hub_meaning.specs.Runs.{RunState, Step, plain, state_from, with_links}
-use Rattle.hub_meaning.proofs.LinkLaws.{KeepsNumber}
-use Rattle.hub_meaning.proofs.RunLaws.{legal_append, state_append}
+use Rattle.msg_replies.specs.hub_meaning.Legal.{IsLegalFrom, IsSettledAs, MayCloseAs, MaySend}
+use Rattle.msg_replies.specs.hub_meaning.Links.{Link, changed, find_link, has_number, is_open_status, is_read_closed_status, sent, unsent, with_status}
+use Rattle.msg_replies.specs.hub_meaning.declared.status.Status.{Status}
+use Rattle.msg_replies.specs.hub_meaning.declared.status.Status.TheVariants.{Open, ReadClosed, Closing, Closed}
+use Rattle.msg_replies.specs.hub_meaning.Runs.{RunState, Step, plain, state_from, with_links}
+use Rattle.msg_replies.proofs.hub_meaning_proofs.LinkLaws.{KeepsNumber}
+use Rattle.msg_replies.proofs.hub_meaning_proofs.RunLaws.{legal_append, state_append}
 use Rattle.hub_link.specs.declared.link.HubLink.{HubLink}
 use Rattle.hub_link.specs.HubLink.{RepresentsLink, number_of}
 use Rattle.hub_link.specs.Sending.{AreSendsTo, IsOf, IsSent, Sends, after_sends, can_send, sendable}

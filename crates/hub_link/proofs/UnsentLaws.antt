@@ -2,9 +2,9 @@
 use Rattle.std.proofs.Common.{◌≡◌, ℕ, ◌<◌, ◌≤◌, List, [], ◌∷◌, ◌++◌, length, take, drop, refl, ap, sym, ◌∙◌, arith, append_assoc, length-drop}
 use Rattle.std.specs.Prelude.{Result}
 use Rattle.std.proofs.lemmas.List.{take_all, take-append-le}
-use Rattle.event_core.specs.declared.arrivals.Core.{Core}
+use Rattle.msg_replies.specs.event_core.declared.arrivals.Core.{Core}
 use Rattle.list_laws.specs.declared.memory.Memory.{Memory}
-use Rattle.hub_meaning.specs.Verdicts.{PatternsState}
+use Rattle.msg_replies.specs.hub_meaning.Verdicts.{PatternsState}
 use Rattle.msg_replies.specs.Answering.{AnswersMessage}
 use Rattle.msg_replies.specs.Arriving.{Reported}
 use Rattle.msg_replies.proofs.AnswerLaws.{on_ok}

@@ -1,15 +1,15 @@
 -- How the frames that a link holds are answered, one after another.
 use Rattle.std.specs.Prelude.{◌≡◌, ℕ, ◌≤◌, Bool, true, false, List, ◌++◌, length, Option, Result, Ok, Err, OnOk}
-use Rattle.event_core.specs.declared.arrivals.Core.{Core}
-use Rattle.event_core.specs.Core.{Represents, config_of, now_of}
+use Rattle.msg_replies.specs.event_core.declared.arrivals.Core.{Core}
+use Rattle.msg_replies.specs.event_core.Core.{Represents, config_of, now_of}
 use Rattle.frame_link.specs.Held.{Held, HandsOut}
 use Rattle.framing.specs.Frames.{HasFrame, first_body, frames_of, partial}
 use Rattle.list_laws.specs.declared.memory.Memory.{Memory}
 use Rattle.stream_meaning.specs.Arrivals.{Arrival}
-use Rattle.hub_meaning.specs.Legal.{ArePossible}
-use Rattle.hub_meaning.specs.Links.{unsent}
-use Rattle.hub_meaning.specs.Runs.{Talk, all_answered}
-use Rattle.hub_meaning.specs.Verdicts.{AfterVerdicts, Message, PatternsState, Refusal, judged}
+use Rattle.msg_replies.specs.hub_meaning.Legal.{ArePossible}
+use Rattle.msg_replies.specs.hub_meaning.Links.{unsent}
+use Rattle.msg_replies.specs.hub_meaning.Runs.{Talk, all_answered}
+use Rattle.msg_replies.specs.hub_meaning.Verdicts.{AfterVerdicts, Message, PatternsState, Refusal, judged}
 use Rattle.msg_replies.specs.Answering.{AnswersMessage}
 use Rattle.msg_replies.specs.Arriving.{Arrives, Reported}
 

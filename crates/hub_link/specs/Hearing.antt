@@ -1,13 +1,13 @@
 -- What a piece that comes on a link does to the core, the patterns and the link.
 use Rattle.std.specs.Prelude.{◌≡◌, ℕ, if◌then◌else◌, List, ◌++◌, Option, Result, OnOk}
-use Rattle.event_core.specs.declared.arrivals.Core.{Core}
-use Rattle.event_core.specs.Core.{CoreConfig, Represents, config_of, now_of}
+use Rattle.msg_replies.specs.event_core.declared.arrivals.Core.{Core}
+use Rattle.msg_replies.specs.event_core.Core.{CoreConfig, Represents, config_of, now_of}
 use Rattle.list_laws.specs.declared.memory.Memory.{Memory}
 use Rattle.stream_meaning.specs.Arrivals.{Arrival}
-use Rattle.hub_meaning.specs.Legal.{VerdictsIf}
-use Rattle.hub_meaning.specs.Links.{Link, is_open}
-use Rattle.hub_meaning.specs.Runs.{RunState, Talk, all_answered, cut_off, messages_in, talk_of}
-use Rattle.hub_meaning.specs.Verdicts.{AfterVerdicts, PatternsState, Refusal}
+use Rattle.msg_replies.specs.hub_meaning.Legal.{VerdictsIf}
+use Rattle.msg_replies.specs.hub_meaning.Links.{Link, is_open}
+use Rattle.msg_replies.specs.hub_meaning.Runs.{RunState, Talk, all_answered, cut_off, messages_in, talk_of}
+use Rattle.msg_replies.specs.hub_meaning.Verdicts.{AfterVerdicts, PatternsState, Refusal}
 use Rattle.msg_replies.specs.Arriving.{Arrives, Reported}
 use Rattle.hub_link.specs.declared.link.HubLink.{HubLink}
 use Rattle.hub_link.specs.HubLink.{RepresentsLink}

@@ -1,7 +1,7 @@
 -- What a link of a server represents.
 use Rattle.std.specs.Prelude.{◌≡◌, ℕ, ◌≤◌, true, false, length}
 use Rattle.framing.specs.Frames.{partial}
-use Rattle.hub_meaning.specs.Links.{Link, is_open, unsent}
+use Rattle.msg_replies.specs.hub_meaning.Links.{Link, is_open, unsent}
 use Rattle.hub_link.specs.declared.link.HubLink.{HubLink}
 
 abbrev pub number_of : HubLink → ℕ

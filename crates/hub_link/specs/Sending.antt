@@ -1,13 +1,13 @@
 -- What sends to one link do.
 use Rattle.std.specs.Prelude.{◌≡◌, ℕ, Bool, true, false, not, ◌==◌, ◌&&◌, ◌||◌, if◌then◌else◌, nat_lt, List, [], ◌∷◌, length, Some}
-use Rattle.event_core.specs.Core.{CoreConfig}
+use Rattle.msg_replies.specs.event_core.Core.{CoreConfig}
 use Rattle.ports.specs.declared.entry.Entry.{Entry}
 use Rattle.ports.specs.declared.entry.Entry.TheVariants.{Listen, Next, Send, Close}
-use Rattle.hub_meaning.specs.Legal.{IsLegalFrom, IsSettled, MayClose}
-use Rattle.hub_meaning.specs.Links.{Link, changed, find_link, is_open_status, is_read_closed_status, sent}
-use Rattle.hub_meaning.specs.declared.status.Status.{Status}
-use Rattle.hub_meaning.specs.declared.status.Status.TheVariants.{Open, ReadClosed, Closing, Closed}
-use Rattle.hub_meaning.specs.Runs.{RunState, plain, state_from, with_links}
+use Rattle.msg_replies.specs.hub_meaning.Legal.{IsLegalFrom, IsSettled, MayClose}
+use Rattle.msg_replies.specs.hub_meaning.Links.{Link, changed, find_link, is_open_status, is_read_closed_status, sent}
+use Rattle.msg_replies.specs.hub_meaning.declared.status.Status.{Status}
+use Rattle.msg_replies.specs.hub_meaning.declared.status.Status.TheVariants.{Open, ReadClosed, Closing, Closed}
+use Rattle.msg_replies.specs.hub_meaning.Runs.{RunState, plain, state_from, with_links}
 use Rattle.hub_link.specs.declared.link.HubLink.{HubLink}
 use Rattle.hub_link.specs.HubLink.{RepresentsLink, number_of}
 

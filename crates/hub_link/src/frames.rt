@@ -1,13 +1,13 @@
 ghost use Rattle.std.specs.Prelude.{◌≡◌, OnOk};
-ghost use Rattle.hub_meaning.specs.Verdicts.{patterns_state};
+ghost use Rattle.msg_replies.specs.hub_meaning.Verdicts.{patterns_state};
 ghost use Rattle.msg_replies.specs.Arriving.{reported};
 ghost use Rattle.framing.specs.Frames.{HasFrame};
 ghost use Rattle.hub_link.specs.Answering.{AnswersFirst, AnswersFrames};
 
 use crate::unsent::Unsent;
 use ev_types::{Memory, Notices};
-use event_core::Core;
 use frame_link::{FirstFrame, FrameLink};
+use msg_replies::event_core::Core;
 use pred_eval::Patterns;
 use riemann_msg::SpentEvents;
 use std::alloc::Global;

@@ -6,3 +6,5 @@ mod link;
 mod unsent;
 
 pub use link::HubLink;
+pub use msg_replies;
+pub use msg_replies::{event_core, hub_meaning};

@@ -1,9 +1,9 @@
 ghost use Rattle.std.specs.Prelude.{◌≡◌, ◌≢◌, ◌↔◌, ◌<◌, ◌||◌, ◌++◌, if◌then◌else◌, true, length, nat_lt, IsTrue, OnOk, List};
-ghost use Rattle.hub_meaning.specs.Replies.{reply_to_oversized};
-ghost use Rattle.hub_meaning.specs.Legal.{MayClose};
-ghost use Rattle.hub_meaning.specs.Links.{Link, broken, connected, connected_limit, ended, is_open, is_open_status, is_read_closed_status, new_link, sent, unblocked, want_of};
-ghost use Rattle.hub_meaning.specs.Runs.{cut_off};
-ghost use Rattle.hub_meaning.specs.Verdicts.{patterns_state};
+ghost use Rattle.msg_replies.specs.hub_meaning.Replies.{reply_to_oversized};
+ghost use Rattle.msg_replies.specs.hub_meaning.Legal.{MayClose};
+ghost use Rattle.msg_replies.specs.hub_meaning.Links.{Link, broken, connected, connected_limit, ended, is_open, is_open_status, is_read_closed_status, new_link, sent, unblocked, want_of};
+ghost use Rattle.msg_replies.specs.hub_meaning.Runs.{cut_off};
+ghost use Rattle.msg_replies.specs.hub_meaning.Verdicts.{patterns_state};
 ghost use Rattle.msg_replies.specs.Arriving.{reported};
 ghost use Rattle.ports.specs.Links.{IsWithin};
 ghost use Rattle.ports.specs.Playing.{Plays};
@@ -15,10 +15,10 @@ ghost use Rattle.hub_link.specs.Sending.{IsSent, Sends, can_send, is_over_as, se
 use crate::frames::answer_frames;
 use crate::unsent::Unsent;
 use ev_types::{Memory, Notices};
-use event_core::Core;
 use frame_link::{FirstFrame, FrameLink};
 use framing::BODY_LIMIT;
-use hub_meaning::Status;
+use msg_replies::event_core::Core;
+use msg_replies::hub_meaning::Status;
 use ports::{Links, SendAnswer, Want};
 use pred_eval::Patterns;
 use riemann_msg::SpentEvents;

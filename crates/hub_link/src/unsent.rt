@@ -1,11 +1,11 @@
 ghost use Rattle.std.specs.Prelude.{◌≡◌, ◌<◌, ◌≤◌, ◌++◌, [], length, take, drop, OnOk};
-ghost use Rattle.hub_meaning.specs.Replies.{reply_to_oversized};
-ghost use Rattle.hub_meaning.specs.Verdicts.{patterns_state};
+ghost use Rattle.msg_replies.specs.hub_meaning.Replies.{reply_to_oversized};
+ghost use Rattle.msg_replies.specs.hub_meaning.Verdicts.{patterns_state};
 ghost use Rattle.msg_replies.specs.Answering.{AnswersMessage};
 ghost use Rattle.msg_replies.specs.Arriving.{reported};
 
 use ev_types::{Blob, Memory, Notices};
-use event_core::Core;
+use msg_replies::event_core::Core;
 use msg_replies::{answer, refuse_length};
 use pred_eval::Patterns;
 use riemann_msg::SpentEvents;

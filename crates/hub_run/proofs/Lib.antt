@@ -3,3 +3,4 @@ pub mod TakenLaws
 pub mod TurnLaws
 pub mod LoopLaws
 pub mod EndLaws
+pub use Rattle.conn_core.proofs.hub_meaning_proofs

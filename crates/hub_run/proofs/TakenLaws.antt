@@ -5,14 +5,14 @@ use Rattle.std.specs.List.{AllByRecursion, list_any}
 use Rattle.std.proofs.lemmas.Grind.{flat_map-append}
 use Rattle.std.proofs.lemmas.List.Folds.{list_any-append}
 use Rattle.ev_types.specs.declared.item.Notice.{Notice}
-use Rattle.event_core.specs.Core.{CoreConfig, forks_by}
-use Rattle.hub_link.specs.Added.{IsSendOrClose}
-use Rattle.hub_meaning.specs.Legal.{IsLegal}
+use Rattle.conn_core.specs.event_core.Core.{CoreConfig, forks_by}
+use Rattle.conn_core.specs.hub_link.Added.{IsSendOrClose}
+use Rattle.conn_core.specs.hub_meaning.Legal.{IsLegal}
 use Rattle.ports.specs.Playing.{is_turn_answer}
-use Rattle.hub_meaning.specs.Runs.{Step, notices_after, state_after}
-use Rattle.hub_meaning.specs.Verdicts.{AfterVerdicts, PatternsState, Refusal, is_refused, refused_text, texts_refused}
+use Rattle.conn_core.specs.hub_meaning.Runs.{Step, notices_after, state_after}
+use Rattle.conn_core.specs.hub_meaning.Verdicts.{AfterVerdicts, PatternsState, Refusal, is_refused, refused_text, texts_refused}
 use Rattle.list_laws.specs.Counts.{Rose}
-use Rattle.msg_replies.proofs.VerdictLaws.{appended_twice, no_verdicts}
+use Rattle.conn_core.proofs.msg_replies_proofs.VerdictLaws.{appended_twice, no_verdicts}
 use Rattle.notice_sink.specs.Lines.{lines_of, notice_line}
 use Rattle.ports.specs.declared.entry.Entry.{Entry}
 use Rattle.ports.specs.declared.links.Turn.{Turn}

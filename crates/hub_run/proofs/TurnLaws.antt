@@ -1,7 +1,7 @@
 -- How a turn is asked for, and then taken.
 use Rattle.std.proofs.Common.{◌≡◌, ◌≢◌, ℕ, inl, inr, List, [], ◌∷◌, ◌++◌, Result, Ok, Err, refl, ap, sym, ◌∙◌, subst}
 use Rattle.std.specs.Prelude.{Option, Some, None}
-use Rattle.hub_link.specs.Added.{Added}
+use Rattle.conn_core.specs.hub_link.Added.{Added}
 use Rattle.ports.specs.declared.entry.Entry.{Entry}
 use Rattle.ports.specs.declared.entry.Entry.TheVariants.{Next}
 use Rattle.ports.specs.declared.links.Turn.{Turn}

@@ -1,3 +1,6 @@
 pub mod Taken
 pub mod Runs
 pub mod Taking
+pub use Rattle.conn_core.specs as conn_core
+pub use Rattle.conn_core.specs.event_core
+pub use Rattle.conn_core.specs.hub_meaning

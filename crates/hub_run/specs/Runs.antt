@@ -5,12 +5,12 @@ use Rattle.conn_core.specs.Hub.{Follows}
 use Rattle.conn_core.specs.Turning.{GotLines, SinkGot}
 use Rattle.conn_core.specs.declared.hub.Hub.{Hub}
 use Rattle.ev_types.specs.declared.item.Notice.{Notice}
-use Rattle.event_core.specs.Core.{CoreConfig, forks_by}
-use Rattle.hub_meaning.specs.Clock.{first_moment}
-use Rattle.hub_meaning.specs.Legal.{AreSettled, IsLegal}
-use Rattle.hub_meaning.specs.Links.{wants_of}
-use Rattle.hub_meaning.specs.Runs.{notices_after, state_after}
-use Rattle.hub_meaning.specs.Verdicts.{AfterVerdicts, PatternsState}
+use Rattle.conn_core.specs.event_core.Core.{CoreConfig, forks_by}
+use Rattle.conn_core.specs.hub_meaning.Clock.{first_moment}
+use Rattle.conn_core.specs.hub_meaning.Legal.{AreSettled, IsLegal}
+use Rattle.conn_core.specs.hub_meaning.Links.{wants_of}
+use Rattle.conn_core.specs.hub_meaning.Runs.{notices_after, state_after}
+use Rattle.conn_core.specs.hub_meaning.Verdicts.{AfterVerdicts, PatternsState}
 use Rattle.notice_sink.specs.Lines.{lines_of}
 use Rattle.ports.specs.Links.{grown}
 use Rattle.ports.specs.Writing.{Got}

@@ -2,10 +2,10 @@
 use Rattle.std.specs.Prelude.{◌≡◌, ◌≢◌, ℕ, ◌<◌, ◌⊎◌, true, List, [], ◌∷◌, ◌++◌, length, Option}
 use Rattle.std.specs.List.{AllByRecursion, flat_map}
 use Rattle.conn_core.specs.Turning.{turn_step}
-use Rattle.hub_link.specs.Added.{IsSendOrClose}
-use Rattle.hub_meaning.specs.Runs.{Step, plain}
+use Rattle.conn_core.specs.hub_link.Added.{IsSendOrClose}
+use Rattle.conn_core.specs.hub_meaning.Runs.{Step, plain}
 use Rattle.ports.specs.Playing.{is_turn_answer}
-use Rattle.hub_meaning.specs.Verdicts.{Refusal}
+use Rattle.conn_core.specs.hub_meaning.Verdicts.{Refusal}
 use Rattle.ports.specs.declared.entry.Entry.{Entry}
 use Rattle.ports.specs.declared.entry.Entry.TheVariants.{Next}
 use Rattle.ports.specs.declared.links.Turn.{Turn}

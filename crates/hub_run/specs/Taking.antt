@@ -6,10 +6,10 @@ use Rattle.conn_core.specs.Turning.{TurnsFrom}
 use Rattle.conn_core.specs.declared.hub.Hub.{Hub}
 use Rattle.conn_core.specs.declared.stop.Stop.{Stop}
 use Rattle.conn_core.specs.declared.stop.Stop.TheVariants.{SinkFault, Memory as NoMemory}
-use Rattle.event_core.specs.Core.{CoreConfig}
-use Rattle.hub_link.specs.Added.{IsSendOrClose}
-use Rattle.hub_meaning.specs.Links.{wants_of}
-use Rattle.hub_meaning.specs.Runs.{state_after}
+use Rattle.conn_core.specs.event_core.Core.{CoreConfig}
+use Rattle.conn_core.specs.hub_link.Added.{IsSendOrClose}
+use Rattle.conn_core.specs.hub_meaning.Links.{wants_of}
+use Rattle.conn_core.specs.hub_meaning.Runs.{state_after}
 use Rattle.ports.specs.Playing.{is_turn_answer}
 use Rattle.ports.specs.Links.{piece_of}
 use Rattle.ports.specs.declared.entry.Entry.{Entry}

@@ -7,6 +7,8 @@ mod setup;
 mod start;
 mod turn;
 
+pub use conn_core;
+pub use conn_core::{event_core, hub_meaning};
 pub use fault::RunFault;
 pub use server::run;
 pub use setup::Setup;

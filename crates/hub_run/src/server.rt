@@ -3,7 +3,7 @@ ghost use Rattle.std.specs.Option.{ForSome};
 ghost use Rattle.conn_core.specs.Hub.{wants_in};
 ghost use Rattle.conn_core.specs.Known.{AreUnclosed};
 ghost use Rattle.conn_core.specs.Turning.{sink_got};
-ghost use Rattle.hub_meaning.specs.Verdicts.{patterns_state};
+ghost use Rattle.conn_core.specs.hub_meaning.Verdicts.{patterns_state};
 ghost use Rattle.hub_run.specs.Runs.{AddsRun, RunsTo, run_report};
 ghost use Rattle.hub_run.specs.Taking.{TakesAll};
 ghost use Rattle.ports.specs.Counts.{Rose};

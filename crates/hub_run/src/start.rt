@@ -8,8 +8,8 @@ ghost use Rattle.ports.specs.Playing.{Plays};
 
 use crate::{RunFault, Setup};
 use conn_core::Hub;
+use conn_core::event_core::Core;
 use ev_types::{Memory, Text};
-use event_core::Core;
 use ports::{Links, ListenAnswer, PIECE_LIMIT};
 use std::alloc::Global;
 

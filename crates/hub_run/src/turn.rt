@@ -2,7 +2,7 @@ ghost use Rattle.std.specs.Prelude.{◌≡◌, ◌≢◌, ◌↔◌, ◌≤◌, 
 ghost use Rattle.conn_core.specs.Hub.{wants_in};
 ghost use Rattle.conn_core.specs.Known.{AreUnclosed};
 ghost use Rattle.conn_core.specs.Turning.{sink_got};
-ghost use Rattle.hub_meaning.specs.Verdicts.{patterns_state};
+ghost use Rattle.conn_core.specs.hub_meaning.Verdicts.{patterns_state};
 ghost use Rattle.hub_run.specs.Runs.{AddsRun, run_report};
 ghost use Rattle.hub_run.specs.Taking.{AsksFor, TakesTurn};
 ghost use Rattle.ports.specs.Counts.{Rose};

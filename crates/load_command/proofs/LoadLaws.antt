@@ -1,21 +1,21 @@
 -- What `load` promises, from what its parts say.
 use Rattle.std.proofs.Common.{◌≡◌, ℕ, ◌≤◌, List, [], ◌∷◌, length, refl, sym, subst, inl, inr, arith}
 use Rattle.std.specs.Prelude.{Option}
-use Rattle.hub_meaning.specs.Verdicts.{PatternsState}
-use Rattle.hub_run.specs.declared.setup.Setup.{Setup}
+use Rattle.command_setup.specs.hub_meaning.Verdicts.{PatternsState}
+use Rattle.command_setup.specs.hub_run.declared.setup.Setup.{Setup}
 use Rattle.ports.specs.Counts.{IsStill, Rose}
 use Rattle.ports.specs.Reading.{Content, IsHeld}
 use Rattle.ports.specs.declared.store.StoreRead.{StoreRead}
-use Rattle.sexp_config.specs.declared.config.Config.{Config}
-use Rattle.sexp_config.specs.Config.{IsConfigOf}
-use Rattle.command_io.specs.declared.ending.Ending.{Ending}
-use Rattle.command_io.specs.declared.ending.Ending.TheVariants.{Finished, ConfigRefused, Unread, OverLimit, BytesLeft, WriteFailed, LinksFailed, ScriptRefused, OutOfMemory}
-use Rattle.command_io.specs.declared.limits.TheConstants.{CONFIG_LIMIT}
-use Rattle.command_io.specs.declared.status.Status.TheVariants.{ReadFault, SinkFault, LinkFault}
-use Rattle.command_io.specs.Endings.{IsComplete, IsDoneOrMemory, IsReadOnce, ReadsFiles, status_of}
-use Rattle.command_io.specs.Files.{ReadMore, good_read}
-use Rattle.command_io.specs.Reports.{Reports as Reporting, SinkReport}
-use Rattle.command_io.proofs.ReadLaws.{read_alone}
+use Rattle.command_setup.specs.sexp_config.declared.config.Config.{Config}
+use Rattle.command_setup.specs.sexp_config.Config.{IsConfigOf}
+use Rattle.command_setup.specs.command_io.declared.ending.Ending.{Ending}
+use Rattle.command_setup.specs.command_io.declared.ending.Ending.TheVariants.{Finished, ConfigRefused, Unread, OverLimit, BytesLeft, WriteFailed, LinksFailed, ScriptRefused, OutOfMemory}
+use Rattle.command_setup.specs.command_io.declared.limits.TheConstants.{CONFIG_LIMIT}
+use Rattle.command_setup.specs.command_io.declared.status.Status.TheVariants.{ReadFault, SinkFault, LinkFault}
+use Rattle.command_setup.specs.command_io.Endings.{IsComplete, IsDoneOrMemory, IsReadOnce, ReadsFiles, status_of}
+use Rattle.command_setup.specs.command_io.Files.{ReadMore, good_read}
+use Rattle.command_setup.specs.command_io.Reports.{Reports as Reporting, SinkReport}
+use Rattle.command_setup.proofs.command_io_proofs.ReadLaws.{read_alone}
 use Rattle.command_setup.proofs.SetupLaws.{refused_for_memory, refused_not_linked, refused_not_written, refused_rose}
 use Rattle.load_command.specs.Loads.{LoadEnds, RunEnds, WritesSummary}
 use Rattle.load_command.specs.declared.summary.Summary.{Summary}

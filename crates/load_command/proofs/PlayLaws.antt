@@ -1,19 +1,19 @@
 -- What a run over a load comes to, from what its parts say.
 use Rattle.std.proofs.Common.{◌≡◌, ℕ, zero, suc, ◌+◌, ◌<◌, List, [], ◌∷◌, ◌++◌, length, refl, sym, ap, ◌∙◌, subst, inl, arith}
 use Rattle.std.specs.Prelude.{min, None, Option, Some, Result, Ok, Err}
-use Rattle.conn_core.specs.Hub.{core_of}
-use Rattle.conn_core.specs.Turning.{CountedPuts, puts_after}
-use Rattle.conn_core.specs.declared.hub.Hub.{Hub}
-use Rattle.event_core.specs.Core.{Represents, config_of, state_by}
-use Rattle.event_core.specs.declared.arrivals.Core.{Core}
+use Rattle.command_setup.specs.conn_core.Hub.{core_of}
+use Rattle.command_setup.specs.conn_core.Turning.{CountedPuts, puts_after}
+use Rattle.command_setup.specs.conn_core.declared.hub.Hub.{Hub}
+use Rattle.command_setup.specs.event_core.Core.{Represents, config_of, state_by}
+use Rattle.command_setup.specs.event_core.declared.arrivals.Core.{Core}
 use Rattle.framing.specs.Frames.{frames_of}
-use Rattle.hub_meaning.specs.Runs.{state_after}
-use Rattle.hub_meaning.specs.Verdicts.{PatternsState}
-use Rattle.hub_run.specs.Runs.{AddsRun, Finishes, RunsTo, config_at}
-use Rattle.hub_run.specs.Taken.{steps_of}
-use Rattle.hub_run.specs.declared.fault.RunFault.{RunFault}
-use Rattle.hub_run.specs.declared.fault.RunFault.TheVariants.{Memory}
-use Rattle.hub_run.specs.declared.setup.Setup.{Setup}
+use Rattle.command_setup.specs.hub_meaning.Runs.{state_after}
+use Rattle.command_setup.specs.hub_meaning.Verdicts.{PatternsState}
+use Rattle.command_setup.specs.hub_run.Runs.{AddsRun, Finishes, RunsTo, config_at}
+use Rattle.command_setup.specs.hub_run.Taken.{steps_of}
+use Rattle.command_setup.specs.hub_run.declared.fault.RunFault.{RunFault}
+use Rattle.command_setup.specs.hub_run.declared.fault.RunFault.TheVariants.{Memory}
+use Rattle.command_setup.specs.hub_run.declared.setup.Setup.{Setup}
 use Rattle.index_log.specs.Live.{live_events}
 use Rattle.load_links.specs.Load.{load_script}
 use Rattle.ports.specs.Counts.{greatest}

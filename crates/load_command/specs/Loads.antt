@@ -1,18 +1,18 @@
 -- What `load CONFIG N START` promises.
 use Rattle.std.specs.Prelude.{◌≡◌, ℕ, ◌≤◌, ◌⊎◌, List, [], ◌∷◌, length}
-use Rattle.hub_meaning.specs.Verdicts.{PatternsState}
-use Rattle.hub_run.specs.declared.setup.Setup.{Setup}
+use Rattle.command_setup.specs.hub_meaning.Verdicts.{PatternsState}
+use Rattle.command_setup.specs.hub_run.declared.setup.Setup.{Setup}
 use Rattle.ports.specs.Counts.{IsStill, Rose}
 use Rattle.ports.specs.Reading.{Content, IsHeld}
 use Rattle.ports.specs.Writing.{Got, GotPrefix}
-use Rattle.sexp_config.specs.declared.config.Config.{Config}
-use Rattle.sexp_config.specs.Config.{IsConfigOf}
-use Rattle.command_io.specs.declared.ending.Ending.{Ending}
-use Rattle.command_io.specs.declared.ending.Ending.TheVariants.{Finished, WriteFailed, OutOfMemory}
-use Rattle.command_io.specs.declared.limits.TheConstants.{CONFIG_LIMIT}
-use Rattle.command_io.specs.declared.status.Status.{Status}
-use Rattle.command_io.specs.Endings.{HasNoConfig, IsComplete, IsDoneOrMemory, IsReadOnce, ReadsFiles, Says, status_of}
-use Rattle.command_io.specs.Reports.{IsIdle, Reports, SinkReport}
+use Rattle.command_setup.specs.sexp_config.declared.config.Config.{Config}
+use Rattle.command_setup.specs.sexp_config.Config.{IsConfigOf}
+use Rattle.command_setup.specs.command_io.declared.ending.Ending.{Ending}
+use Rattle.command_setup.specs.command_io.declared.ending.Ending.TheVariants.{Finished, WriteFailed, OutOfMemory}
+use Rattle.command_setup.specs.command_io.declared.limits.TheConstants.{CONFIG_LIMIT}
+use Rattle.command_setup.specs.command_io.declared.status.Status.{Status}
+use Rattle.command_setup.specs.command_io.Endings.{HasNoConfig, IsComplete, IsDoneOrMemory, IsReadOnce, ReadsFiles, Says, status_of}
+use Rattle.command_setup.specs.command_io.Reports.{IsIdle, Reports, SinkReport}
 use Rattle.command_setup.specs.Setups.{RefusesSetup, SetsUp}
 use Rattle.load_command.specs.Summaries.{IsCutOff, IsPlayed, summary_line}
 use Rattle.load_command.specs.declared.summary.Summary.{Summary}

@@ -1,16 +1,16 @@
 -- What a load comes to.
 use Rattle.std.specs.Prelude.{◌≡◌, ℕ, List, [], ◌∷◌, ◌++◌, codes, length, min, None, Some, Result, Ok, Err}
 use Rattle.std.specs.Fmt.{decimal}
-use Rattle.conn_core.specs.Turning.{sink_got}
-use Rattle.conn_core.specs.declared.hub.Hub.{Hub}
-use Rattle.event_core.specs.Core.{CoreConfig, state_by}
+use Rattle.command_setup.specs.conn_core.Turning.{sink_got}
+use Rattle.command_setup.specs.conn_core.declared.hub.Hub.{Hub}
+use Rattle.command_setup.specs.event_core.Core.{CoreConfig, state_by}
 use Rattle.framing.specs.Frames.{frames_of}
-use Rattle.hub_meaning.specs.Runs.{Step, notices_after, state_after}
-use Rattle.hub_meaning.specs.Verdicts.{PatternsState}
-use Rattle.hub_run.specs.Runs.{Finishes, RunReport, RunsTo, config_at, run_report}
-use Rattle.hub_run.specs.Taken.{steps_of}
-use Rattle.hub_run.specs.declared.fault.RunFault.TheVariants.{Memory}
-use Rattle.hub_run.specs.declared.setup.Setup.{Setup}
+use Rattle.command_setup.specs.hub_meaning.Runs.{Step, notices_after, state_after}
+use Rattle.command_setup.specs.hub_meaning.Verdicts.{PatternsState}
+use Rattle.command_setup.specs.hub_run.Runs.{Finishes, RunReport, RunsTo, config_at, run_report}
+use Rattle.command_setup.specs.hub_run.Taken.{steps_of}
+use Rattle.command_setup.specs.hub_run.declared.fault.RunFault.TheVariants.{Memory}
+use Rattle.command_setup.specs.hub_run.declared.setup.Setup.{Setup}
 use Rattle.index_log.specs.Live.{live_events}
 use Rattle.load_links.specs.Load.{load_script}
 use Rattle.ports.specs.Counts.{greatest}

@@ -1,17 +1,17 @@
 ghost use Rattle.std.specs.Prelude.{◌≡◌, ◌≢◌, ◌≤◌, [], ◌∷◌};
 ghost use Rattle.std.specs.Option.{ForSome};
-ghost use Rattle.hub_meaning.specs.Verdicts.{patterns_state};
+ghost use Rattle.command_setup.specs.hub_meaning.Verdicts.{patterns_state};
 ghost use Rattle.ports.specs.Counts.{Rose};
-ghost use Rattle.command_io.specs.Endings.{HasNoConfig, HasNoLine, IsComplete, IsReadOnce, IsRefusalOrMemory, ReadsFiles, status_of};
-ghost use Rattle.command_io.specs.Reports.{LinksReport, SinkReport, reports, sink_report, store_report};
+ghost use Rattle.command_setup.specs.command_io.Endings.{HasNoConfig, HasNoLine, IsComplete, IsReadOnce, IsRefusalOrMemory, ReadsFiles, status_of};
+ghost use Rattle.command_setup.specs.command_io.Reports.{LinksReport, SinkReport, reports, sink_report, store_report};
 ghost use Rattle.load_command.specs.Loads.{LoadEnds, Loads, RunEnds, WritesSummary};
 
 use crate::play::{EVENT_LIMIT, play};
 use crate::summary::Summary;
-use command_io::{Ending, Status, put_all, report};
+use command_setup::command_io::{Ending, Status, put_all, report};
 use command_setup::fetch_setup;
+use command_setup::hub_run::{RunFault, Setup};
 use ev_types::Text;
-use hub_run::{RunFault, Setup};
 use ports::{Sink, Store};
 use pred_eval::Patterns;
 use std::alloc::Global;

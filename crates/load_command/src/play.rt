@@ -1,11 +1,11 @@
 ghost use Rattle.std.specs.Prelude.{◌≡◌, ◌≤◌, IfErr, IfOk, OnErr};
 ghost use Rattle.std.specs.Option.{ForSome};
-ghost use Rattle.hub_meaning.specs.Verdicts.{patterns_state};
-ghost use Rattle.hub_run.specs.declared.fault.RunFault.TheVariants.{Memory as out_of_memory};
+ghost use Rattle.command_setup.specs.hub_meaning.Verdicts.{patterns_state};
+ghost use Rattle.command_setup.specs.hub_run.declared.fault.RunFault.TheVariants.{Memory as out_of_memory};
 ghost use Rattle.load_command.specs.Summaries.{IsCutOff, IsPlayed};
 
 use crate::summary::Summary;
-use hub_run::{RunFault, Setup, run};
+use command_setup::hub_run::{RunFault, Setup, run};
 use load_links::LoadLinks;
 use ports::CountSink;
 use pred_eval::Patterns;

@@ -3,8 +3,8 @@ use Rattle.std.proofs.Common.{◌≡◌, ◌≢◌, ℕ, ◌+◌, ◌<◌, Bool,
 use Rattle.std.proofs.lemmas.List.{drop-set, drop-set-lt, map-append, set-get_or, take_more}
 use Rattle.std.specs.Prelude.{Option, Some, None, Result, Ok, Err, OnOk, OnErr, option_and_then}
 use Rattle.ev_types.specs.declared.event.Event.{Event}
-use Rattle.event_core.specs.declared.arrivals.Core.{Core}
-use Rattle.event_core.specs.Core.{Heard, Represents, CoreConfig, now_of, notices_by, config_of, state_by}
+use Rattle.hub_meaning.specs.event_core.declared.arrivals.Core.{Core}
+use Rattle.hub_meaning.specs.event_core.Core.{Heard, Represents, CoreConfig, now_of, notices_by, config_of, state_by}
 use Rattle.index_log.specs.Live.{IndexLog}
 use Rattle.list_laws.specs.declared.memory.Memory.{Memory}
 use Rattle.pred_eval.specs.Tree.{Tree}

@@ -1,7 +1,7 @@
 -- How one message is answered.
 use Rattle.std.specs.Prelude.{◌≡◌, ℕ, ◌≤◌, false, IsTrue, IfSome, OnOk, is_some, if◌then◌else◌, List, ◌++◌, Option, None, Result, option_and_then, option_map, option_to_list}
-use Rattle.event_core.specs.declared.arrivals.Core.{Core}
-use Rattle.event_core.specs.Core.{Represents, now_of, config_of, state_by}
+use Rattle.hub_meaning.specs.event_core.declared.arrivals.Core.{Core}
+use Rattle.hub_meaning.specs.event_core.Core.{Represents, now_of, config_of, state_by}
 use Rattle.index_log.specs.Live.{IndexLog}
 use Rattle.list_laws.specs.Counts.{Rose}
 use Rattle.list_laws.specs.declared.memory.Memory.{Memory}

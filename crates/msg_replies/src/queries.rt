@@ -1,6 +1,6 @@
 ghost use Rattle.std.specs.Prelude.{◌≡◌, ◌≢◌, ◌^◌, ◌<◌, ◌≤◌, ◌++◌, ◌∷◌, [], false, filter, length, OnOk, IfOk, codes, Some, None, option_and_then, List};
 ghost use Rattle.std.specs.String.{string_bytes};
-ghost use Rattle.event_core.specs.Core.{Represents, now_of, config_of, state_by};
+ghost use Rattle.hub_meaning.specs.event_core.Core.{Represents, now_of, config_of, state_by};
 ghost use Rattle.hub_meaning.specs.Messages.{query_text, rule_of_query, rule_read};
 ghost use Rattle.hub_meaning.specs.Replies.{answer_to_query, answer_to_rule, answer_to_text, busy, found, framed, limited, over_limit, pattern_refusal, query_refusal, refused};
 ghost use Rattle.hub_meaning.specs.Verdicts.{is_busy, patterns_state};
@@ -12,8 +12,8 @@ ghost use Rattle.msg_replies.specs.Answering.{AnswersQuery, asked_of};
 
 use crate::replies::{accept, put_frame, refuse};
 use ev_types::{Blob, Events, Memory};
-use event_core::Core;
 use framing::BODY_LIMIT;
+use hub_meaning::event_core::Core;
 use pred_eval::{BuildFault, Patterns, Pred, Rule};
 use query_lang::{MAX_BYTES, QueryFault, read_query};
 use riemann_msg::{Msg, QueryPart, msg_len};

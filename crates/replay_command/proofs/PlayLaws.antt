@@ -1,12 +1,12 @@
 -- What is known once a script was played, from what its run and the lines of the links say.
 use Rattle.std.proofs.Common.{◌≡◌, ℕ, List, inr}
-use Rattle.command_io.specs.Endings.{IsComplete}
-use Rattle.command_io.specs.Reports.{Reports, SinkReport}
-use Rattle.command_io.specs.declared.ending.Ending.{Ending}
-use Rattle.command_io.specs.declared.ending.Ending.TheVariants.{Finished, ConfigRefused, Unread, OverLimit, BytesLeft, WriteFailed, LinksFailed, ScriptRefused, OutOfMemory}
-use Rattle.command_setup.specs.Setups.{run_report_of}
+use Rattle.file_run.specs.command_io.Endings.{IsComplete}
+use Rattle.file_run.specs.command_io.Reports.{Reports, SinkReport}
+use Rattle.file_run.specs.command_io.declared.ending.Ending.{Ending}
+use Rattle.file_run.specs.command_io.declared.ending.Ending.TheVariants.{Finished, ConfigRefused, Unread, OverLimit, BytesLeft, WriteFailed, LinksFailed, ScriptRefused, OutOfMemory}
+use Rattle.file_run.specs.command_setup.Setups.{run_report_of}
 use Rattle.file_run.specs.Runs.{RunsWhole}
-use Rattle.hub_run.specs.declared.setup.Setup.{Setup}
+use Rattle.file_run.specs.hub_run.declared.setup.Setup.{Setup}
 use Rattle.link_lines.specs.LinkLines.{link_lines}
 use Rattle.ports.specs.declared.entry.Entry.{Entry}
 use Rattle.ports.specs.declared.script.Script.{Script}

@@ -1,22 +1,22 @@
 -- What `replay` promises, from what its parts say.
 use Rattle.std.proofs.Common.{◌≡◌, ℕ, ◌≤◌, List, length, inl, inr, subst, arith}
 use Rattle.std.specs.Prelude.{Ok}
-use Rattle.command_io.specs.Endings.{IsDoneOrMemory, status_of}
-use Rattle.command_io.specs.Reports.{LinksReport, Reports, SinkReport, StoreReport, reports}
-use Rattle.command_io.specs.declared.ending.Ending.{Ending}
-use Rattle.command_io.specs.declared.ending.Ending.TheVariants.{Finished, ConfigRefused, Unread, OverLimit, BytesLeft, WriteFailed, LinksFailed, ScriptRefused, OutOfMemory}
-use Rattle.command_io.specs.declared.limits.TheConstants.{CONFIG_LIMIT, FILE_LIMIT}
-use Rattle.command_io.specs.declared.status.Status.TheVariants.{ReadFault, SinkFault, LinkFault}
-use Rattle.command_setup.proofs.SetupLaws.{refused_for_memory, refused_not_linked, refused_not_written, refused_rose}
-use Rattle.command_setup.specs.Setups.{SetsUp}
-use Rattle.hub_meaning.specs.Verdicts.{PatternsState}
-use Rattle.hub_run.specs.declared.setup.Setup.{Setup}
+use Rattle.file_run.specs.command_io.Endings.{IsDoneOrMemory, status_of}
+use Rattle.file_run.specs.command_io.Reports.{LinksReport, Reports, SinkReport, StoreReport, reports}
+use Rattle.file_run.specs.command_io.declared.ending.Ending.{Ending}
+use Rattle.file_run.specs.command_io.declared.ending.Ending.TheVariants.{Finished, ConfigRefused, Unread, OverLimit, BytesLeft, WriteFailed, LinksFailed, ScriptRefused, OutOfMemory}
+use Rattle.file_run.specs.command_io.declared.limits.TheConstants.{CONFIG_LIMIT, FILE_LIMIT}
+use Rattle.file_run.specs.command_io.declared.status.Status.TheVariants.{ReadFault, SinkFault, LinkFault}
+use Rattle.file_run.proofs.command_setup_proofs.SetupLaws.{refused_for_memory, refused_not_linked, refused_not_written, refused_rose}
+use Rattle.file_run.specs.command_setup.Setups.{SetsUp}
+use Rattle.file_run.specs.hub_meaning.Verdicts.{PatternsState}
+use Rattle.file_run.specs.hub_run.declared.setup.Setup.{Setup}
 use Rattle.ports.specs.Counts.{IsStill, Rose}
 use Rattle.ports.specs.Reading.{Content, IsHeld}
 use Rattle.ports.specs.declared.script.Script.{Script}
 use Rattle.script_text.specs.Scripts.{script_of}
-use Rattle.sexp_config.specs.declared.config.Config.{Config}
-use Rattle.sexp_config.specs.Config.{IsConfigOf}
+use Rattle.file_run.specs.sexp_config.declared.config.Config.{Config}
+use Rattle.file_run.specs.sexp_config.Config.{IsConfigOf}
 use Rattle.replay_command.proofs.ScriptLaws.{script_refused_for_memory, script_refused_since, script_rose}
 use Rattle.replay_command.specs.Replays.{PlayEnds, ReplayEnds, ScriptEnds}
 use Rattle.replay_command.specs.Scripts.{RefusesScript}

@@ -1,14 +1,14 @@
 -- What is known of a script, from what its file and its text say.
 use Rattle.std.proofs.Common.{◌≡◌, ℕ, ◌≤◌, List, [], ◌∷◌, length, refl, subst, sym}
 use Rattle.std.specs.Prelude.{Option, Result, Ok, Err, IfErr}
-use Rattle.command_io.proofs.EndingLaws.{reported_of}
-use Rattle.command_io.specs.Endings.{IsComplete, status_of}
-use Rattle.command_io.specs.Files.{ForHeld, ReadMore, good_read}
-use Rattle.command_io.specs.Reports.{StoreReport}
-use Rattle.command_io.specs.declared.ending.Ending.{Ending}
-use Rattle.command_io.specs.declared.ending.Ending.TheVariants.{Finished, ConfigRefused, Unread, OverLimit, BytesLeft, WriteFailed, LinksFailed, ScriptRefused, OutOfMemory}
-use Rattle.command_io.specs.declared.limits.TheConstants.{FILE_LIMIT}
-use Rattle.command_io.specs.declared.status.Status.TheVariants.{ReadFault}
+use Rattle.file_run.proofs.command_io_proofs.EndingLaws.{reported_of}
+use Rattle.file_run.specs.command_io.Endings.{IsComplete, status_of}
+use Rattle.file_run.specs.command_io.Files.{ForHeld, ReadMore, good_read}
+use Rattle.file_run.specs.command_io.Reports.{StoreReport}
+use Rattle.file_run.specs.command_io.declared.ending.Ending.{Ending}
+use Rattle.file_run.specs.command_io.declared.ending.Ending.TheVariants.{Finished, ConfigRefused, Unread, OverLimit, BytesLeft, WriteFailed, LinksFailed, ScriptRefused, OutOfMemory}
+use Rattle.file_run.specs.command_io.declared.limits.TheConstants.{FILE_LIMIT}
+use Rattle.file_run.specs.command_io.declared.status.Status.TheVariants.{ReadFault}
 use Rattle.file_run.proofs.OtherLaws.{file_refused_for_memory, file_refused_since, file_rose}
 use Rattle.file_run.specs.Files.{IsFile, OtherReads, ReadsOther, RefusesFile}
 use Rattle.ports.specs.Counts.{IsStill, Rose}

@@ -1,8 +1,8 @@
 -- What is known once the script was played.
 use Rattle.std.specs.Prelude.{◌≡◌, ℕ, List}
-use Rattle.command_io.specs.Reports.{SinkReport}
-use Rattle.command_io.specs.declared.ending.Ending.{Ending}
-use Rattle.command_io.specs.declared.ending.Ending.TheVariants.{Finished, WriteFailed, OutOfMemory}
+use Rattle.file_run.specs.command_io.Reports.{SinkReport}
+use Rattle.file_run.specs.command_io.declared.ending.Ending.{Ending}
+use Rattle.file_run.specs.command_io.declared.ending.Ending.TheVariants.{Finished, WriteFailed, OutOfMemory}
 use Rattle.ports.specs.Counts.{Rose}
 use Rattle.ports.specs.Writing.{Got, GotPrefix}
 

@@ -1,17 +1,17 @@
 -- What `replay CONFIG SCRIPT` promises.
 use Rattle.std.specs.Prelude.{◌≡◌, ℕ, ◌≤◌, ◌⊎◌, List, [], ◌∷◌, length, Option, Ok, Err}
-use Rattle.command_io.specs.Endings.{HasNoConfig, IsComplete, IsDoneOrMemory, ReadsFiles, Says, status_of}
-use Rattle.command_io.specs.Reports.{IsIdle, Reports, SinkReport}
-use Rattle.command_io.specs.declared.ending.Ending.{Ending}
-use Rattle.command_io.specs.declared.ending.Ending.TheVariants.{Finished, WriteFailed, OutOfMemory}
-use Rattle.command_io.specs.declared.limits.TheConstants.{CONFIG_LIMIT, FILE_LIMIT}
-use Rattle.command_io.specs.declared.status.Status.{Status}
-use Rattle.command_setup.specs.Setups.{RefusesSetup, SetsUp, run_report_of}
+use Rattle.file_run.specs.command_io.Endings.{HasNoConfig, IsComplete, IsDoneOrMemory, ReadsFiles, Says, status_of}
+use Rattle.file_run.specs.command_io.Reports.{IsIdle, Reports, SinkReport}
+use Rattle.file_run.specs.command_io.declared.ending.Ending.{Ending}
+use Rattle.file_run.specs.command_io.declared.ending.Ending.TheVariants.{Finished, WriteFailed, OutOfMemory}
+use Rattle.file_run.specs.command_io.declared.limits.TheConstants.{CONFIG_LIMIT, FILE_LIMIT}
+use Rattle.file_run.specs.command_io.declared.status.Status.{Status}
+use Rattle.file_run.specs.command_setup.Setups.{RefusesSetup, SetsUp, run_report_of}
 use Rattle.file_run.specs.Files.{ReadCounts}
 use Rattle.file_run.specs.Runs.{RunsScript, RunsWhole}
-use Rattle.hub_run.specs.declared.fault.RunFault.{RunFault}
-use Rattle.hub_run.specs.declared.fault.RunFault.TheVariants as cause
-use Rattle.hub_run.specs.declared.setup.Setup.{Setup}
+use Rattle.file_run.specs.hub_run.declared.fault.RunFault.{RunFault}
+use Rattle.file_run.specs.hub_run.declared.fault.RunFault.TheVariants as cause
+use Rattle.file_run.specs.hub_run.declared.setup.Setup.{Setup}
 use Rattle.link_lines.specs.LinkLines.{link_lines}
 use Rattle.ports.specs.Counts.{IsStill, Rose}
 use Rattle.ports.specs.Reading.{Content, IsHeld}
@@ -19,8 +19,8 @@ use Rattle.ports.specs.Writing.{Got, GotPrefix}
 use Rattle.ports.specs.declared.entry.Entry.{Entry}
 use Rattle.ports.specs.declared.script.Script.{Script}
 use Rattle.script_text.specs.Scripts.{script_of}
-use Rattle.sexp_config.specs.declared.config.Config.{Config as Configuration}
-use Rattle.sexp_config.specs.Config.{IsConfigOf}
+use Rattle.file_run.specs.sexp_config.declared.config.Config.{Config as Configuration}
+use Rattle.file_run.specs.sexp_config.Config.{IsConfigOf}
 use Rattle.replay_command.specs.Scripts.{IsScript, RefusesScript}
 
 -- ---- the run

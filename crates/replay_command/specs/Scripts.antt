@@ -1,10 +1,10 @@
 -- What is known of a script that was read, or could not be.
 use Rattle.std.specs.Prelude.{◌≡◌, ℕ, ◌≤◌, List, length, Ok, Err}
-use Rattle.command_io.specs.Files.{ForHeld}
-use Rattle.command_io.specs.Reports.{StoreReport}
-use Rattle.command_io.specs.declared.ending.Ending.{Ending}
-use Rattle.command_io.specs.declared.ending.Ending.TheVariants.{ScriptRefused, OutOfMemory}
-use Rattle.command_io.specs.declared.limits.TheConstants.{FILE_LIMIT}
+use Rattle.file_run.specs.command_io.Files.{ForHeld}
+use Rattle.file_run.specs.command_io.Reports.{StoreReport}
+use Rattle.file_run.specs.command_io.declared.ending.Ending.{Ending}
+use Rattle.file_run.specs.command_io.declared.ending.Ending.TheVariants.{ScriptRefused, OutOfMemory}
+use Rattle.file_run.specs.command_io.declared.limits.TheConstants.{FILE_LIMIT}
 use Rattle.file_run.specs.Files.{RefusesFile}
 use Rattle.ports.specs.Reading.{Content}
 use Rattle.ports.specs.declared.script.Script.{Script}

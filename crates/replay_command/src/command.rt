@@ -1,17 +1,17 @@
 ghost use Rattle.std.specs.Prelude.{◌≡◌, ◌≢◌, ◌≤◌, [], ◌∷◌};
 ghost use Rattle.std.specs.Option.{ForSome};
-ghost use Rattle.command_io.specs.Endings.{HasNoConfig, HasNoLine, IsComplete, IsRefusal, ReadsFiles, status_of};
-ghost use Rattle.command_io.specs.Reports.{LinksReport, SinkReport, reports, sink_report, store_report};
+ghost use Rattle.file_run.specs.command_io.Endings.{HasNoConfig, HasNoLine, IsComplete, IsRefusal, ReadsFiles, status_of};
+ghost use Rattle.file_run.specs.command_io.Reports.{LinksReport, SinkReport, reports, sink_report, store_report};
 ghost use Rattle.file_run.specs.Files.{OtherReads, ReadCounts};
-ghost use Rattle.hub_meaning.specs.Verdicts.{patterns_state};
+ghost use Rattle.file_run.specs.hub_meaning.Verdicts.{patterns_state};
 ghost use Rattle.ports.specs.Counts.{Rose};
 ghost use Rattle.replay_command.specs.Replays.{ReplayEnds, Replays, ScriptEnds};
 
 use crate::play::{fetch_script, play};
-use command_io::{Ending, Status, report};
-use command_setup::fetch_setup;
 use ev_types::Text;
-use hub_run::Setup;
+use file_run::command_io::{Ending, Status, report};
+use file_run::command_setup::fetch_setup;
+use file_run::hub_run::Setup;
 use ports::{Sink, Store};
 use pred_eval::Patterns;
 use std::alloc::Global;

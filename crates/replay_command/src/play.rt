@@ -1,19 +1,19 @@
 ghost use Rattle.std.specs.Prelude.{◌≡◌, ◌≤◌, [], Ok, IfErr, IfOk, OnOk};
 ghost use Rattle.std.specs.Option.{ForSome};
-ghost use Rattle.command_io.specs.Endings.{HasNoConfig, IsComplete};
-ghost use Rattle.command_io.specs.Reports.{LinksReport, SinkReport, StoreReport, reports, sink_report, store_report};
+ghost use Rattle.file_run.specs.command_io.Endings.{HasNoConfig, IsComplete};
+ghost use Rattle.file_run.specs.command_io.Reports.{LinksReport, SinkReport, StoreReport, reports, sink_report, store_report};
 ghost use Rattle.file_run.specs.Files.{IsAfterRun, ReadsOther};
-ghost use Rattle.hub_meaning.specs.Verdicts.{patterns_state};
+ghost use Rattle.file_run.specs.hub_meaning.Verdicts.{patterns_state};
 ghost use Rattle.link_lines.specs.LinkLines.{link_lines};
 ghost use Rattle.replay_command.specs.Playing.{WritesLines};
 ghost use Rattle.replay_command.specs.Replays.{PlayEnds};
 ghost use Rattle.replay_command.specs.Scripts.{IsScript, RefusesScript, RefusesText};
 ghost use Rattle.script_text.specs.Scripts.{script_of};
 
-use command_io::Ending;
 use ev_types::Text;
+use file_run::command_io::Ending;
+use file_run::hub_run::{RunFault, Setup};
 use file_run::{read_other, run_script};
-use hub_run::{RunFault, Setup};
 use link_lines::{LineFault, write_link_lines};
 use ports::{ScriptLinks, Sink, Store};
 use pred_eval::Patterns;

@@ -3,7 +3,7 @@ use Rattle.std.proofs.Common.{◌≡◌, ℕ, ◌==◌, Bool, true, false, cond,
 use Rattle.std.specs.Prelude.{Option, Some, None}
 use Rattle.std.specs.List.{AllByRecursion}
 use Rattle.std.proofs.lemmas.List.{drop_at}
-use Rattle.event_core.specs.Core.{CoreConfig}
+use Rattle.hub_run.specs.event_core.Core.{CoreConfig}
 use Rattle.list_laws.specs.Prefix.{IsPrefix}
 use Rattle.ports.specs.Pieces.{feed_script, pieces_of, read_step}
 use Rattle.ports.specs.Playing.{AreAnswered, IsAnswered, Playing, begun, bytes_taken, first_turn, is_turn_answer, played, rule_after, rules_at_turn, send_answer, succeeded, takes_all, what_of}
@@ -18,14 +18,14 @@ use Rattle.ports.specs.declared.rules.SendRule.{SendRule}
 use Rattle.ports.specs.declared.script.LinkEvent.TheVariants as event
 use Rattle.ports.specs.declared.script.Step as script_step
 use Rattle.ports.specs.declared.script.Step.TheVariants.{Turn as turn_step, Take, Fail}
-use Rattle.hub_meaning.specs.Clock.{next_moment}
-use Rattle.hub_meaning.specs.Laws.{AreRising, SentPrefix}
-use Rattle.hub_meaning.specs.Legal.{AreSettled, IsLegal, IsLegalFrom, MayCome}
-use Rattle.hub_meaning.specs.Links.{Link, changed, find_link, sent, unsent}
-use Rattle.hub_meaning.specs.Runs.{RunState, Step, after_entry, after_step, entry_of, first_state, occurred, passed, state_after, state_from, turned}
-use Rattle.hub_meaning.specs.Verdicts.{Refusal}
-use Rattle.hub_meaning.proofs.LinkLaws.{all_found}
-use Rattle.hub_meaning.proofs.PrefixLaws.{prefixes_are_sent_lem, rising_entry}
+use Rattle.hub_run.specs.hub_meaning.Clock.{next_moment}
+use Rattle.hub_run.specs.hub_meaning.Laws.{AreRising, SentPrefix}
+use Rattle.hub_run.specs.hub_meaning.Legal.{AreSettled, IsLegal, IsLegalFrom, MayCome}
+use Rattle.hub_run.specs.hub_meaning.Links.{Link, changed, find_link, sent, unsent}
+use Rattle.hub_run.specs.hub_meaning.Runs.{RunState, Step, after_entry, after_step, entry_of, first_state, occurred, passed, state_after, state_from, turned}
+use Rattle.hub_run.specs.hub_meaning.Verdicts.{Refusal}
+use Rattle.hub_run.proofs.hub_meaning_proofs.LinkLaws.{all_found}
+use Rattle.hub_run.proofs.hub_meaning_proofs.PrefixLaws.{prefixes_are_sent_lem, rising_entry}
 use Rattle.run_laws.specs.Taking.{replies_of, replies_on, taken_of, taken_on}
 use Rattle.run_laws.proofs.FreeLaws.{AreFree, IsAllSent, IsGentle, free_after_close, free_after_send, free_occurred, settled_sent}
 use Rattle.run_laws.proofs.TakenLaws.{taken_from}

@@ -3,20 +3,20 @@ use Rattle.std.proofs.Common.{◌≡◌, ℕ, ◌<◌, Bool, true, false, cond, 
 use Rattle.std.specs.Prelude.{Option, Some, None, nat_lt}
 use Rattle.std.specs.List.{AllByRecursion, list_all}
 use Rattle.std.proofs.lemmas.Bool.{le-ltb, ne_eqb, and_left}
-use Rattle.event_core.specs.Core.{CoreConfig}
+use Rattle.hub_run.specs.event_core.Core.{CoreConfig}
 use Rattle.framing.specs.Frames.{length_at, partial}
 use Rattle.ports.specs.declared.links.SendAnswer.TheVariants.{Took}
 use Rattle.ports.specs.declared.links.What.{What}
 use Rattle.ports.specs.declared.links.What.TheVariants as what
-use Rattle.hub_meaning.specs.Legal.{IsSettledAs, AreSettled, MayClose, MayCloseAs, MaySend}
-use Rattle.hub_meaning.specs.declared.status.Status.{Status}
-use Rattle.hub_meaning.specs.declared.status.Status.TheVariants.{Open, ReadClosed, Closing, Closed}
-use Rattle.hub_meaning.specs.Links.{Link, changed, closed, ended, find_link, is_above, is_connected, is_open, is_open_status, is_read_closed_status, new_link, opened, sent, unblocked, unsent, with_status}
-use Rattle.hub_meaning.specs.Replies.{reply_to_oversized}
-use Rattle.hub_meaning.specs.Runs.{RunState, Talk, all_answered, answered, cut_off, is_oversized, messages_in, occurred, read_by, read_from, talk_of, with_reply, with_talk}
-use Rattle.hub_meaning.specs.Verdicts.{Message, Refusal}
-use Rattle.hub_meaning.proofs.LinkLaws.{all_changed, all_found, all_replaced}
-use Rattle.hub_meaning.specs.Laws.{AreRising}
+use Rattle.hub_run.specs.hub_meaning.Legal.{IsSettledAs, AreSettled, MayClose, MayCloseAs, MaySend}
+use Rattle.hub_run.specs.hub_meaning.declared.status.Status.{Status}
+use Rattle.hub_run.specs.hub_meaning.declared.status.Status.TheVariants.{Open, ReadClosed, Closing, Closed}
+use Rattle.hub_run.specs.hub_meaning.Links.{Link, changed, closed, ended, find_link, is_above, is_connected, is_open, is_open_status, is_read_closed_status, new_link, opened, sent, unblocked, unsent, with_status}
+use Rattle.hub_run.specs.hub_meaning.Replies.{reply_to_oversized}
+use Rattle.hub_run.specs.hub_meaning.Runs.{RunState, Talk, all_answered, answered, cut_off, is_oversized, messages_in, occurred, read_by, read_from, talk_of, with_reply, with_talk}
+use Rattle.hub_run.specs.hub_meaning.Verdicts.{Message, Refusal}
+use Rattle.hub_run.proofs.hub_meaning_proofs.LinkLaws.{all_changed, all_found, all_replaced}
+use Rattle.hub_run.specs.hub_meaning.Laws.{AreRising}
 
 abbrev pub IsWholeAs : List ℕ → Status → Type 0
 IsWholeAs left Open = Unit {0}

@@ -3,7 +3,7 @@ use Rattle.std.proofs.Common.{◌≡◌, ℕ, ◌==◌, Bool, true, false, cond,
 use Rattle.std.specs.Prelude.{Option, Some, None}
 use Rattle.std.specs.Option.{option_map}
 use Rattle.std.proofs.lemmas.Bool.{eqb-true, eq-eqb}
-use Rattle.event_core.specs.Core.{CoreConfig}
+use Rattle.hub_run.specs.event_core.Core.{CoreConfig}
 use Rattle.framing.specs.Frames.{length_at, partial}
 use Rattle.ports.specs.Playing.{bytes_taken, is_turn_answer, taken_by, taken_by_send}
 use Rattle.ports.specs.declared.entry.Entry.{Entry}
@@ -13,14 +13,14 @@ use Rattle.ports.specs.declared.links.SendAnswer.TheVariants.{Took, Later, Faile
 use Rattle.ports.specs.declared.links.Turn.{Turn}
 use Rattle.ports.specs.declared.links.What.{What}
 use Rattle.ports.specs.declared.links.What.TheVariants as what
-use Rattle.hub_meaning.specs.Clock.{next_moment}
-use Rattle.hub_meaning.specs.Legal.{IsLegalFrom, MayCome}
-use Rattle.hub_meaning.specs.declared.status.Status.TheVariants.{ReadClosed, Closing}
-use Rattle.hub_meaning.specs.Links.{Link, changed, closed, broken, ended, find_link, has_number, is_above, is_connected, is_open, new_link, opened, sent, unblocked, with_status}
-use Rattle.hub_meaning.specs.Replies.{reply_to_oversized}
-use Rattle.hub_meaning.specs.Runs.{RunState, Step, Talk, after_entry, after_step, all_answered, answered, cut_off, entry_of, is_oversized, messages_in, occurred, passed, read_by, read_from, state_from, talk_of, turned, with_reply, with_talk}
-use Rattle.hub_meaning.specs.Verdicts.{Message, Refusal}
-use Rattle.hub_meaning.proofs.LinkLaws.{KeepsNumber, broken_number, ended_number, found_number, unblocked_number}
+use Rattle.hub_run.specs.hub_meaning.Clock.{next_moment}
+use Rattle.hub_run.specs.hub_meaning.Legal.{IsLegalFrom, MayCome}
+use Rattle.hub_run.specs.hub_meaning.declared.status.Status.TheVariants.{ReadClosed, Closing}
+use Rattle.hub_run.specs.hub_meaning.Links.{Link, changed, closed, broken, ended, find_link, has_number, is_above, is_connected, is_open, new_link, opened, sent, unblocked, with_status}
+use Rattle.hub_run.specs.hub_meaning.Replies.{reply_to_oversized}
+use Rattle.hub_run.specs.hub_meaning.Runs.{RunState, Step, Talk, after_entry, after_step, all_answered, answered, cut_off, entry_of, is_oversized, messages_in, occurred, passed, read_by, read_from, state_from, talk_of, turned, with_reply, with_talk}
+use Rattle.hub_run.specs.hub_meaning.Verdicts.{Message, Refusal}
+use Rattle.hub_run.proofs.hub_meaning_proofs.LinkLaws.{KeepsNumber, broken_number, ended_number, found_number, unblocked_number}
 use Rattle.run_laws.specs.Taking.{taken_of, taken_on}
 
 -- ---- a link, after one was changed

@@ -1,8 +1,8 @@
 -- Laws of runs.
 use Rattle.std.specs.Prelude.{◌≡◌, ℕ, List, ◌∷◌}
-use Rattle.event_core.specs.Core.{CoreConfig}
-use Rattle.hub_meaning.specs.Legal.{AreSettled, IsLegal}
-use Rattle.hub_meaning.specs.Runs.{state_after}
+use Rattle.hub_run.specs.event_core.Core.{CoreConfig}
+use Rattle.hub_run.specs.hub_meaning.Legal.{AreSettled, IsLegal}
+use Rattle.hub_run.specs.hub_meaning.Runs.{state_after}
 use Rattle.hub_run.specs.Taken.{TakenTurn, entries_of, steps_of}
 use Rattle.list_laws.specs.Prefix.{IsPrefix}
 use Rattle.ports.specs.Pieces.{feed_script}

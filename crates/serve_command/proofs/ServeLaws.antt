@@ -1,23 +1,23 @@
 -- What `serve` promises, from what its parts say.
 use Rattle.std.proofs.Common.{◌≡◌, ◌≢◌, ℕ, ◌≤◌, List, [], ◌∷◌, length, refl, inl, inr, arith}
 use Rattle.std.specs.Prelude.{Option, Result, Ok, Err}
-use Rattle.conn_core.specs.declared.hub.Hub.{Hub}
-use Rattle.hub_run.specs.declared.fault.RunFault.{RunFault}
-use Rattle.hub_run.specs.declared.fault.RunFault.TheVariants.{Links, Sink, Memory}
-use Rattle.hub_run.specs.declared.setup.Setup.{Setup}
+use Rattle.command_setup.specs.conn_core.declared.hub.Hub.{Hub}
+use Rattle.command_setup.specs.hub_run.declared.fault.RunFault.{RunFault}
+use Rattle.command_setup.specs.hub_run.declared.fault.RunFault.TheVariants.{Links, Sink, Memory}
+use Rattle.command_setup.specs.hub_run.declared.setup.Setup.{Setup}
 use Rattle.ports.specs.Counts.{IsStill, Rose}
 use Rattle.ports.specs.Reading.{Content, IsHeld}
 use Rattle.ports.specs.declared.store.StoreRead.{StoreRead}
-use Rattle.sexp_config.specs.declared.config.Config.{Config}
-use Rattle.sexp_config.specs.Config.{IsConfigOf}
-use Rattle.command_io.specs.declared.ending.Ending.{Ending}
-use Rattle.command_io.specs.declared.ending.Ending.TheVariants.{Finished, ConfigRefused, Unread, OverLimit, BytesLeft, WriteFailed, LinksFailed, ScriptRefused, OutOfMemory}
-use Rattle.command_io.specs.declared.limits.TheConstants.{CONFIG_LIMIT}
-use Rattle.command_io.specs.declared.status.Status.TheVariants.{ReadFault, SinkFault, LinkFault}
-use Rattle.command_io.specs.Endings.{HasNoConfig, IsComplete, IsDoneOrMemory, IsReadOnce, IsRefusal, ReadsFiles, status_of}
-use Rattle.command_io.specs.Files.{ReadMore, good_read}
-use Rattle.command_io.specs.Reports.{IsIdle, Reports as Reporting}
-use Rattle.command_io.proofs.ReadLaws.{read_alone}
+use Rattle.command_setup.specs.sexp_config.declared.config.Config.{Config}
+use Rattle.command_setup.specs.sexp_config.Config.{IsConfigOf}
+use Rattle.command_setup.specs.command_io.declared.ending.Ending.{Ending}
+use Rattle.command_setup.specs.command_io.declared.ending.Ending.TheVariants.{Finished, ConfigRefused, Unread, OverLimit, BytesLeft, WriteFailed, LinksFailed, ScriptRefused, OutOfMemory}
+use Rattle.command_setup.specs.command_io.declared.limits.TheConstants.{CONFIG_LIMIT}
+use Rattle.command_setup.specs.command_io.declared.status.Status.TheVariants.{ReadFault, SinkFault, LinkFault}
+use Rattle.command_setup.specs.command_io.Endings.{HasNoConfig, IsComplete, IsDoneOrMemory, IsReadOnce, IsRefusal, ReadsFiles, status_of}
+use Rattle.command_setup.specs.command_io.Files.{ReadMore, good_read}
+use Rattle.command_setup.specs.command_io.Reports.{IsIdle, Reports as Reporting}
+use Rattle.command_setup.proofs.command_io_proofs.ReadLaws.{read_alone}
 use Rattle.command_setup.specs.Setups.{RefusesSetup, SetsUp}
 use Rattle.command_setup.proofs.SetupLaws.{refused_for_memory, refused_rose}
 use Rattle.serve_command.specs.Serves.{RanOn, ServeEnds, ending_of_run}

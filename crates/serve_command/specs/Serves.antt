@@ -1,20 +1,20 @@
 -- What `serve CONFIG --turns N` promises.
 use Rattle.std.specs.Prelude.{◌≡◌, ℕ, ◌≤◌, ◌⊎◌, List, [], ◌∷◌, length, Result, Ok, Err}
-use Rattle.conn_core.specs.declared.hub.Hub.{Hub}
-use Rattle.hub_run.specs.Runs.{AddsRun, RunsTo}
-use Rattle.hub_run.specs.declared.fault.RunFault.{RunFault}
-use Rattle.hub_run.specs.declared.fault.RunFault.TheVariants.{Links, Sink, Memory}
-use Rattle.hub_run.specs.declared.setup.Setup.{Setup}
+use Rattle.command_setup.specs.conn_core.declared.hub.Hub.{Hub}
+use Rattle.command_setup.specs.hub_run.Runs.{AddsRun, RunsTo}
+use Rattle.command_setup.specs.hub_run.declared.fault.RunFault.{RunFault}
+use Rattle.command_setup.specs.hub_run.declared.fault.RunFault.TheVariants.{Links, Sink, Memory}
+use Rattle.command_setup.specs.hub_run.declared.setup.Setup.{Setup}
 use Rattle.ports.specs.Counts.{IsStill, Rose}
 use Rattle.ports.specs.Reading.{Content, IsHeld}
-use Rattle.sexp_config.specs.declared.config.Config.{Config}
-use Rattle.sexp_config.specs.Config.{IsConfigOf}
-use Rattle.command_io.specs.declared.ending.Ending.{Ending}
-use Rattle.command_io.specs.declared.ending.Ending.TheVariants.{Finished, WriteFailed, LinksFailed, OutOfMemory}
-use Rattle.command_io.specs.declared.limits.TheConstants.{CONFIG_LIMIT}
-use Rattle.command_io.specs.declared.status.Status.{Status}
-use Rattle.command_io.specs.Endings.{HasNoConfig, IsComplete, IsDoneOrMemory, IsReadOnce, ReadsFiles, Says, status_of}
-use Rattle.command_io.specs.Reports.{IsIdle, Reports}
+use Rattle.command_setup.specs.sexp_config.declared.config.Config.{Config}
+use Rattle.command_setup.specs.sexp_config.Config.{IsConfigOf}
+use Rattle.command_setup.specs.command_io.declared.ending.Ending.{Ending}
+use Rattle.command_setup.specs.command_io.declared.ending.Ending.TheVariants.{Finished, WriteFailed, LinksFailed, OutOfMemory}
+use Rattle.command_setup.specs.command_io.declared.limits.TheConstants.{CONFIG_LIMIT}
+use Rattle.command_setup.specs.command_io.declared.status.Status.{Status}
+use Rattle.command_setup.specs.command_io.Endings.{HasNoConfig, IsComplete, IsDoneOrMemory, IsReadOnce, ReadsFiles, Says, status_of}
+use Rattle.command_setup.specs.command_io.Reports.{IsIdle, Reports}
 use Rattle.command_setup.specs.Setups.{RefusesSetup, SetsUp, run_report_of}
 
 -- how it ends after such a run

@@ -1,15 +1,15 @@
 ghost use Rattle.std.specs.Prelude.{◌≡◌, [], ◌∷◌};
-ghost use Rattle.hub_meaning.specs.Verdicts.{patterns_state};
+ghost use Rattle.command_setup.specs.hub_meaning.Verdicts.{patterns_state};
 ghost use Rattle.ports.specs.Counts.{Rose};
-ghost use Rattle.command_io.specs.Endings.{HasNoConfig, HasNoLine, IsComplete, IsReadOnce, IsRefusal, ReadsFiles, status_of};
-ghost use Rattle.command_io.specs.Reports.{SinkReport, links_report, reports, sink_report, store_report};
+ghost use Rattle.command_setup.specs.command_io.Endings.{HasNoConfig, HasNoLine, IsComplete, IsReadOnce, IsRefusal, ReadsFiles, status_of};
+ghost use Rattle.command_setup.specs.command_io.Reports.{SinkReport, links_report, reports, sink_report, store_report};
 ghost use Rattle.serve_command.specs.Serves.{ServeEnds, Serves, ending_of_run};
 
-use command_io::{Ending, Status, report};
+use command_setup::command_io::{Ending, Status, report};
+use command_setup::conn_core::Hub;
 use command_setup::fetch_setup;
-use conn_core::Hub;
+use command_setup::hub_run::{RunFault, run};
 use ev_types::Text;
-use hub_run::{RunFault, run};
 use ports::{Links, Sink, Store};
 use pred_eval::Patterns;
 use std::alloc::Global;

@@ -6,5 +6,8 @@ mod kept;
 mod law;
 mod range;
 
+pub use flow_streams;
 pub use kept::KeptState;
 pub use law::vectors_are_ignored;
+pub use rate_streams;
+pub use window_streams;

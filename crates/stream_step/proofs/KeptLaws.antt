@@ -5,24 +5,24 @@ use Rattle.ev_types.specs.declared.event.Event.{Event}
 use Rattle.ev_types.specs.declared.item.Emission.{Emission as CodeEmission}
 use Rattle.ev_types.specs.declared.item.Item.{Item}
 use Rattle.ev_types.specs.declared.item.Item.TheVariants.{One, Many}
-use Rattle.flow_streams.specs.Changed.{ChangedRepresents}
-use Rattle.flow_streams.specs.Runs.{RunsRepresents}
-use Rattle.flow_streams.specs.declared.changed.ChangedState.{ChangedState}
-use Rattle.flow_streams.specs.declared.runs.RunsState.{RunsState}
-use Rattle.rate_streams.specs.Stable.{stable_passes, StableRepresents}
-use Rattle.rate_streams.specs.declared.stable.StableState.{StableState}
-use Rattle.rate_streams.proofs.ThrottleLaws.{tick_represents}
-use Rattle.rate_streams.proofs.RollupLaws.{still_represents as rollup_still}
-use Rattle.rate_streams.proofs.BatchLaws.{still_represents as batch_still}
-use Rattle.window_streams.specs.FixedEvent.{FixedEventRepresents}
-use Rattle.window_streams.specs.MovingEvent.{MovingEventRepresents}
-use Rattle.window_streams.specs.FixedTime.{FixedTimeRepresents}
-use Rattle.window_streams.specs.MovingTime.{MovingTimeRepresents}
-use Rattle.window_streams.specs.declared.fixed_event.FixedEventState.{FixedEventState}
-use Rattle.window_streams.specs.declared.moving_event.MovingEventState.{MovingEventState}
-use Rattle.window_streams.specs.declared.fixed_time.FixedTimeState.{FixedTimeState}
-use Rattle.window_streams.specs.declared.moving_time.MovingTimeState.{MovingTimeState}
-use Rattle.window_streams.proofs.CoalesceLaws.{coalesce-waits, coalesce-quiet}
+use Rattle.stream_states.specs.flow_streams.Changed.{ChangedRepresents}
+use Rattle.stream_states.specs.flow_streams.Runs.{RunsRepresents}
+use Rattle.stream_states.specs.flow_streams.declared.changed.ChangedState.{ChangedState}
+use Rattle.stream_states.specs.flow_streams.declared.runs.RunsState.{RunsState}
+use Rattle.stream_states.specs.rate_streams.Stable.{stable_passes, StableRepresents}
+use Rattle.stream_states.specs.rate_streams.declared.stable.StableState.{StableState}
+use Rattle.stream_states.proofs.rate_streams_proofs.ThrottleLaws.{tick_represents}
+use Rattle.stream_states.proofs.rate_streams_proofs.RollupLaws.{still_represents as rollup_still}
+use Rattle.stream_states.proofs.rate_streams_proofs.BatchLaws.{still_represents as batch_still}
+use Rattle.stream_states.specs.window_streams.FixedEvent.{FixedEventRepresents}
+use Rattle.stream_states.specs.window_streams.MovingEvent.{MovingEventRepresents}
+use Rattle.stream_states.specs.window_streams.FixedTime.{FixedTimeRepresents}
+use Rattle.stream_states.specs.window_streams.MovingTime.{MovingTimeRepresents}
+use Rattle.stream_states.specs.window_streams.declared.fixed_event.FixedEventState.{FixedEventState}
+use Rattle.stream_states.specs.window_streams.declared.moving_event.MovingEventState.{MovingEventState}
+use Rattle.stream_states.specs.window_streams.declared.fixed_time.FixedTimeState.{FixedTimeState}
+use Rattle.stream_states.specs.window_streams.declared.moving_time.MovingTimeState.{MovingTimeState}
+use Rattle.stream_states.proofs.window_streams_proofs.CoalesceLaws.{coalesce-waits, coalesce-quiet}
 use Rattle.stream_meaning.specs.Came.{each}
 use Rattle.stream_meaning.specs.Emission.{Emission, to_children, emissions}
 use Rattle.stream_meaning.specs.Emitted.{emitted}

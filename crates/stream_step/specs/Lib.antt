@@ -1,1 +1,2 @@
 pub mod Step
+pub use Rattle.stream_states.specs as stream_states

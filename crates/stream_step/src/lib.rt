@@ -10,3 +10,4 @@ pub use law::quiet_ticks_keep_states;
 pub use passed::{Branch, Passed};
 pub use state::State;
 pub use step::{Context, act};
+pub use stream_states;

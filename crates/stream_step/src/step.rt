@@ -19,13 +19,13 @@ use crate::{Branch, Passed, State};
 use ev_types::{
     Emission, Emissions, Event, Events, Fold, Item, Memory, Notice, Output, Outputs, key_of,
 };
-use flow_streams::{apply_defaults, apply_fold, apply_sets, apply_tags};
 use pred_eval::{Rule, rule_holds};
 use regex::Regex;
 use std::alloc::Global;
 use stream_meaning::Entry;
 use stream_plan::Kind;
 use stream_states::KeptState;
+use stream_states::flow_streams::{apply_defaults, apply_fold, apply_sets, apply_tags};
 
 /// What streams look up and don't change at an entry.
 #[derive(Drop)]

@@ -22,7 +22,7 @@ use Rattle.stream_tree.specs.declared.forest.Node.{Node, out-Node}
 use Rattle.stream_tree.specs.Forest.{Below, node_below}
 use Rattle.stream_tree.specs.Running.{FirstRun, ForestRuns, StreamRuns}
 use Rattle.stream_tree.proofs.ForestLaws.{forest_begins, forest_more, forest_ends}
-use Rattle.stream_states.specs.Kept.{keeps}
+use Rattle.stream_step.specs.stream_states.Kept.{keeps}
 use Rattle.stream_tree.proofs.PerformLaws.{own_grew}
 use Rattle.stream_tree.proofs.StreamLaws.{kept_keeps}
 

@@ -22,9 +22,9 @@ use Rattle.stream_meaning.proofs.ForkLaws.{unseen_fork}
 use Rattle.stream_meaning.proofs.MomentLaws.{branch_moments}
 use Rattle.stream_step.specs.declared.passed.Passed.{Passed}
 use Rattle.stream_step.specs.declared.state.State.{State}
-use Rattle.stream_states.specs.declared.kept.KeptState.{KeptState}
-use Rattle.stream_states.specs.declared.kept.KeptState.TheVariants as kept
-use Rattle.stream_states.specs.Kept.{keeps, kept_kind}
+use Rattle.stream_step.specs.stream_states.declared.kept.KeptState.{KeptState}
+use Rattle.stream_step.specs.stream_states.declared.kept.KeptState.TheVariants as kept
+use Rattle.stream_step.specs.stream_states.Kept.{keeps, kept_kind}
 use Rattle.stream_step.specs.declared.state.State.TheVariants as variant
 use Rattle.stream_step.specs.Step.{emissions_meant, is_kept, StateRepresents, Acts}
 use Rattle.stream_tree.specs.Forest.{Meaning, Below, first_of, forked_by, keys_by, BelowRepresents, PartsRepresent, ForestRepresents}

@@ -1,7 +1,7 @@
 use Rattle.std.proofs.Common.{◌++◌, [], ◌∷◌, length, refl, ap, ◌∙◌}
 use Rattle.std.specs.Prelude.{Some}
 use Rattle.std.proofs.lemmas.Bool.{lt-ltb}
-use Rattle.hub_meaning.specs.Links.{connected, connected_limit, new_link}
+use Rattle.hub_link.specs.hub_meaning.Links.{connected, connected_limit, new_link}
 use Rattle.ports.specs.declared.links.Want.{Want}
 use Rattle.conn_core.proofs.links.add.Goals as goal
 

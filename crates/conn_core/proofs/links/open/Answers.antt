@@ -2,7 +2,7 @@ use Rattle.std.proofs.Common.{List, [], ◌∷◌, Ok, ap, sym, ◌∙◌, subst
 use Rattle.std.specs.Prelude.{Option}
 use Rattle.hub_link.specs.declared.link.HubLink.{HubLink}
 use Rattle.hub_link.proofs.AddedLaws.{added_nothing}
-use Rattle.hub_meaning.specs.Links.{opened}
+use Rattle.hub_link.specs.hub_meaning.Links.{opened}
 use Rattle.link_table.specs.Kept.{Kept}
 use Rattle.ports.specs.Links.{grown}
 use Rattle.ports.specs.declared.entry.Entry.{Entry}

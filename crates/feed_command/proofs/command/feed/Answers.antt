@@ -1,7 +1,7 @@
 use Rattle.std.proofs.Common.{refl}
 use Rattle.std.specs.Prelude.{None}
-use Rattle.command_io.specs.Reports.{links_report, reports, sink_report, store_report}
-use Rattle.hub_meaning.specs.Verdicts.{patterns_state}
+use Rattle.file_run.specs.command_io.Reports.{links_report, reports, sink_report, store_report}
+use Rattle.file_run.specs.hub_meaning.Verdicts.{patterns_state}
 use Rattle.feed_command.proofs.FeedLaws.{feed_completes, feed_not_linked, feed_read_rose, feed_write_rose}
 use Rattle.feed_command.proofs.command.feed.Goals as goal
 

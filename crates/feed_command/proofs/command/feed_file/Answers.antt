@@ -1,5 +1,5 @@
 use Rattle.std.proofs.Common.{inr}
-use Rattle.command_io.specs.Reports.{store_report}
+use Rattle.file_run.specs.command_io.Reports.{store_report}
 use Rattle.feed_command.proofs.command.feed_file.Goals as goal
 
 pub returns-in-Ok-clause-ends : goal.returns-in-Ok-clause-ends

@@ -1,5 +1,5 @@
-use Rattle.command_io.specs.Reports.{store_report}
-use Rattle.hub_meaning.specs.Verdicts.{patterns_state}
+use Rattle.file_run.specs.command_io.Reports.{store_report}
+use Rattle.file_run.specs.hub_meaning.Verdicts.{patterns_state}
 use Rattle.file_run.proofs.OtherLaws.{both_read}
 use Rattle.feed_command.proofs.FeedLaws.{feed_ended}
 use Rattle.feed_command.proofs.command.feed_files.Goals as goal

@@ -1,5 +1,5 @@
 use Rattle.std.proofs.lemmas.Result.{err_from_is_err_and}
-use Rattle.hub_meaning.specs.Verdicts.{patterns_state}
+use Rattle.msg_replies.specs.hub_meaning.Verdicts.{patterns_state}
 use Rattle.msg_replies.specs.Arriving.{reported}
 use Rattle.hub_link.proofs.HearLaws.{so_far_end, so_far_failed, so_far_next, so_far_nothing}
 use Rattle.hub_link.proofs.frames.answer_frames.Goals as goal

@@ -1,5 +1,5 @@
 use Rattle.std.proofs.Common.{length}
-use Rattle.hub_meaning.specs.Verdicts.{patterns_state}
+use Rattle.msg_replies.specs.hub_meaning.Verdicts.{patterns_state}
 use Rattle.msg_replies.specs.Arriving.{reported}
 use Rattle.hub_link.proofs.HearLaws.{SoFar}
 use Rattle.hub_link.proofs.frames.answer_frames.Given as goal

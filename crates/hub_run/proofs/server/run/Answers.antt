@@ -1,7 +1,7 @@
 use Rattle.std.proofs.Common.{Ok, Err}
 use Rattle.std.proofs.lemmas.Result.{err_from_is_err_and}
 use Rattle.conn_core.specs.Turning.{sink_got}
-use Rattle.hub_meaning.specs.Verdicts.{patterns_state}
+use Rattle.conn_core.specs.hub_meaning.Verdicts.{patterns_state}
 use Rattle.hub_run.specs.Runs.{RunsTo, run_report}
 use Rattle.hub_run.specs.Taking.{ListensOn, TakesAll}
 use Rattle.hub_run.specs.declared.fault.RunFault.TheVariants.{Memory}

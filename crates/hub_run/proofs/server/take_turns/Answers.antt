@@ -1,7 +1,7 @@
 use Rattle.std.proofs.Common.{refl, ◌∙◌, arith}
 use Rattle.std.proofs.lemmas.Result.{err_from_is_err_and}
 use Rattle.conn_core.specs.Turning.{sink_got}
-use Rattle.hub_meaning.specs.Verdicts.{patterns_state}
+use Rattle.conn_core.specs.hub_meaning.Verdicts.{patterns_state}
 use Rattle.hub_run.specs.Runs.{run_report}
 use Rattle.hub_run.proofs.LoopLaws.{is_stopped, not_last, so_far_at_limit, so_far_failed, so_far_more, so_far_nothing, so_far_stopped}
 use Rattle.hub_run.proofs.server.take_turns.Goals as goal

@@ -1,6 +1,6 @@
 use Rattle.std.proofs.Common.{◌≡◌, length}
 use Rattle.conn_core.specs.Turning.{sink_got}
-use Rattle.hub_meaning.specs.Verdicts.{patterns_state}
+use Rattle.conn_core.specs.hub_meaning.Verdicts.{patterns_state}
 use Rattle.hub_run.specs.Runs.{run_report}
 use Rattle.hub_run.proofs.LoopLaws.{SoFar}
 use Rattle.hub_run.proofs.server.take_turns.Given as goal

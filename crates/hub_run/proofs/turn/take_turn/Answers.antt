@@ -2,8 +2,8 @@ use Rattle.std.proofs.Common.{List, take, Ok, Err, subst}
 use Rattle.conn_core.specs.Turning.{TurnsFrom, sink_got}
 use Rattle.conn_core.specs.declared.stop.Stop.{Stop}
 use Rattle.conn_core.specs.declared.stop.Stop.TheVariants.{Memory, SinkFault}
-use Rattle.hub_link.specs.Added.{Added}
-use Rattle.hub_meaning.specs.Verdicts.{patterns_state}
+use Rattle.conn_core.specs.hub_link.Added.{Added}
+use Rattle.conn_core.specs.hub_meaning.Verdicts.{patterns_state}
 use Rattle.hub_run.specs.Runs.{AddsRun, run_report}
 use Rattle.hub_run.specs.Taking.{AsksFor}
 use Rattle.hub_run.proofs.TurnLaws.{turn_done, turn_out_of_memory, turn_stopped}

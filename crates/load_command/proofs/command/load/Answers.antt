@@ -1,7 +1,7 @@
 use Rattle.std.proofs.Common.{refl}
 use Rattle.std.specs.Prelude.{None}
-use Rattle.command_io.specs.Reports.{links_report, reports, sink_report, store_report}
-use Rattle.hub_meaning.specs.Verdicts.{patterns_state}
+use Rattle.command_setup.specs.command_io.Reports.{links_report, reports, sink_report, store_report}
+use Rattle.command_setup.specs.hub_meaning.Verdicts.{patterns_state}
 use Rattle.load_command.proofs.LoadLaws.{load_complete, load_not_linked, load_read_rose, load_sink_rose}
 use Rattle.load_command.proofs.command.load.Goals as goal
 

@@ -1,5 +1,5 @@
 use Rattle.std.proofs.Common.{refl}
-use Rattle.command_io.specs.Reports.{links_report, sink_report}
+use Rattle.file_run.specs.command_io.Reports.{links_report, sink_report}
 use Rattle.std.specs.Prelude.{None}
 use Rattle.replay_command.proofs.ReplayLaws.{replay_complete, replay_not_linked, replay_read_rose, replay_sink_rose}
 use Rattle.replay_command.proofs.command.replay.Goals as goal

@@ -1,7 +1,7 @@
 use Rattle.std.proofs.Common.{ap}
 use Rattle.replay_command.proofs.ReplayLaws.{replay_ended}
 use Rattle.file_run.proofs.OtherLaws.{both_read}
-use Rattle.command_io.specs.Reports.{store_report}
+use Rattle.file_run.specs.command_io.Reports.{store_report}
 use Rattle.replay_command.proofs.command.replay_files.Goals as goal
 
 pub returns-in-Ok-clause-ends : goal.returns-in-Ok-clause-ends

@@ -1,5 +1,5 @@
 use Rattle.std.proofs.Common.{rules}
-use Rattle.command_io.specs.Reports.{sink_report}
+use Rattle.file_run.specs.command_io.Reports.{sink_report}
 use Rattle.replay_command.proofs.PlayLaws.{play_ended}
 use Rattle.replay_command.proofs.play.play.Goals as goal
 

@@ -1,5 +1,5 @@
 use Rattle.std.proofs.Common.{List, sym, ◌∙◌, ap, subst}
-use Rattle.hub_meaning.specs.Runs.{first_state, state_after}
+use Rattle.hub_run.specs.hub_meaning.Runs.{first_state, state_after}
 use Rattle.hub_run.specs.Taken.{steps_of}
 use Rattle.list_laws.specs.Prefix.{IsPrefix}
 use Rattle.ports.specs.Playing.{bytes_taken}

@@ -1,5 +1,5 @@
-use Rattle.command_io.specs.Reports.{links_report, reports, sink_report, store_report}
-use Rattle.hub_meaning.specs.Verdicts.{patterns_state}
+use Rattle.command_setup.specs.command_io.Reports.{links_report, reports, sink_report, store_report}
+use Rattle.command_setup.specs.hub_meaning.Verdicts.{patterns_state}
 use Rattle.serve_command.proofs.ServeLaws.{run_has_config, served}
 use Rattle.serve_command.proofs.command.serve_links.Goals as goal
 

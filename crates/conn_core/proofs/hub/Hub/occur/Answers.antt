@@ -1,6 +1,6 @@
 use Rattle.hub_link.proofs.AddedLaws.{added_weaken}
-use Rattle.hub_meaning.specs.Verdicts.{patterns_state}
-use Rattle.msg_replies.specs.Arriving.{reported}
+use Rattle.hub_link.specs.hub_meaning.Verdicts.{patterns_state}
+use Rattle.hub_link.specs.msg_replies.Arriving.{reported}
 use Rattle.conn_core.specs.Occurring.{OccursFrom}
 use Rattle.conn_core.specs.Reaching.{Changes, links_after}
 use Rattle.conn_core.specs.declared.hub.Hub.{Hub}

@@ -3,9 +3,9 @@ use Rattle.std.proofs.lemmas.List.{get_or_read, length-set}
 use Rattle.std.proofs.lemmas.Result.{err_from_is_err_and}
 use Rattle.hub_link.specs.declared.link.HubLink.{HubLink}
 use Rattle.hub_link.proofs.AddedLaws.{added_nothing, added_weaken}
-use Rattle.hub_meaning.specs.Verdicts.{patterns_state}
+use Rattle.hub_link.specs.hub_meaning.Verdicts.{patterns_state}
 use Rattle.link_table.specs.Kept.{Kept}
-use Rattle.msg_replies.specs.Arriving.{reported}
+use Rattle.hub_link.specs.msg_replies.Arriving.{reported}
 use Rattle.ports.specs.declared.links.What.TheVariants.{Read}
 use Rattle.conn_core.specs.Occurring.{OccursFrom}
 use Rattle.conn_core.specs.Reaching.{Settles}

@@ -1,5 +1,5 @@
 use Rattle.std.proofs.Common.{◌==◌, true, refl}
-use Rattle.hub_meaning.specs.declared.status.Status.TheVariants.{Closing}
+use Rattle.msg_replies.specs.hub_meaning.declared.status.Status.TheVariants.{Closing}
 use Rattle.ports.specs.declared.links.SendAnswer.TheVariants.{Took, Later, Failed}
 use Rattle.hub_link.specs.declared.link.HubLink.{HubLink}
 use Rattle.hub_link.proofs.SendLaws.{closes, less_after_took, less_blocked, less_closing, noted_as, notes_later, notes_took}
