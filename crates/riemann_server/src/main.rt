@@ -5,18 +5,11 @@ ghost use Rattle.std.specs.Prelude.{◌≡◌};
 ghost use Rattle.std.specs.Process.{exit_status};
 ghost use Rattle.command_io.specs.Endings.{code_of};
 
-mod command;
-mod program;
-mod server;
-#[cfg(test)]
-mod tests;
-
-pub use command_io::Status;
-use command_io::{MEMORY_LINE, put_line};
+use command_io::{MEMORY_LINE, Status, put_line};
 use mio_links::MioLinks;
 use ports::{FileStore, StreamSink};
 use pred_eval::RegexPatterns;
-pub use server::riemann;
+use riemann_commands::{arguments, run};
 use std::process::ExitCode;
 use step_count::{NoLedger, Steps};
 
@@ -30,10 +23,10 @@ fn main(rt: HostRuntime) -> ExitCode {
         put_line(&mut err, &[MEMORY_LINE]);
         return exit_code(Status::Memory);
     };
-    let arguments = program::arguments(&rt);
-    let status = program::run(
+    let words = arguments(&rt);
+    let status = run(
         rt.alloc(),
-        arguments,
+        words,
         &mut store,
         &mut links,
         &mut out,

@@ -1,5 +1,5 @@
-use Rattle.riemann_server.proofs.WordLaws.{four_words, two_words}
-use Rattle.riemann_server.proofs.command.command_of.Goals as goal
+use Rattle.riemann_commands.proofs.WordLaws.{four_words, two_words}
+use Rattle.riemann_commands.proofs.command.command_of.Goals as goal
 
 pub returns-in-len2 : goal.returns-in-len2
 returns-in-len2 c = rw (two_words c.args.words.now _ _ c.in-len2.len_at_least c.in-len2.len_below c.command-item.is c.config-item.is) c.command_on_one.ensures

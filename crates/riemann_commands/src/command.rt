@@ -1,6 +1,6 @@
 ghost use Rattle.std.specs.Prelude.{◌≡◌, [], ◌∷◌, MatchOption};
-ghost use Rattle.riemann_server.specs.Commands.{IsCommandOf};
-ghost use Rattle.riemann_server.specs.Words.{IsUsage, load_words};
+ghost use Rattle.riemann_commands.specs.Commands.{IsCommandOf};
+ghost use Rattle.riemann_commands.specs.Words.{IsUsage, load_words};
 
 use ev_types::Text;
 use load_command::EVENT_LIMIT;

@@ -9,8 +9,8 @@ ghost use Rattle.load_command.specs.Loads.{Loads};
 ghost use Rattle.ports.specs.Counts.{Rose};
 ghost use Rattle.replay_command.specs.Replays.{Replays};
 ghost use Rattle.serve_command.specs.Serves.{Serves};
-ghost use Rattle.riemann_server.specs.Commands.{IsCommand};
-ghost use Rattle.riemann_server.specs.Words.{IsUsage, OnCheck, OnFeed, OnLoad, OnReplay, OnServe};
+ghost use Rattle.riemann_commands.specs.Commands.{IsCommand};
+ghost use Rattle.riemann_commands.specs.Words.{IsUsage, OnCheck, OnFeed, OnLoad, OnReplay, OnServe};
 
 use crate::command::{Command, command_of};
 use check_command::check;

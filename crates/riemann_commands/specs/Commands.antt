@@ -1,8 +1,8 @@
 -- The command that matches the arguments.
 use Rattle.std.specs.Prelude.{◌≡◌, ℕ, List}
-use Rattle.riemann_server.specs.declared.command.Command.{Command}
-use Rattle.riemann_server.specs.declared.command.Command.TheVariants.{Feed, Check, Replay, Serve, Load}
-use Rattle.riemann_server.specs.Words.{IsLoad, IsServe, check_words, feed_words, replay_words}
+use Rattle.riemann_commands.specs.declared.command.Command.{Command}
+use Rattle.riemann_commands.specs.declared.command.Command.TheVariants.{Feed, Check, Replay, Serve, Load}
+use Rattle.riemann_commands.specs.Words.{IsLoad, IsServe, check_words, feed_words, replay_words}
 
 -- the arguments are those of the command
 abbrev pub IsCommandOf : List (List ℕ) → Command → Type 0

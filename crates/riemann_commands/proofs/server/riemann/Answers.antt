@@ -1,7 +1,7 @@
 use Rattle.std.proofs.Common.{refl}
 use Rattle.command_io.specs.Reports.{links_report}
-use Rattle.riemann_server.proofs.CommandLaws.{named, not_usage, out_of_memory, refusal_or_memory}
-use Rattle.riemann_server.proofs.server.riemann.Goals as goal
+use Rattle.riemann_commands.proofs.CommandLaws.{named, not_usage, out_of_memory, refusal_or_memory}
+use Rattle.riemann_commands.proofs.server.riemann.Goals as goal
 
 pub returns-in-Some-Feed-clause-usage : goal.returns-in-Some-Feed-clause-usage
 returns-in-Some-Feed-clause-usage g c =

@@ -5,10 +5,10 @@ use Rattle.command_io.specs.declared.ending.Ending.TheVariants.{Finished, Config
 use Rattle.command_io.specs.declared.status.Status.{Status}
 use Rattle.command_io.specs.declared.status.Status.TheVariants.{Done, Usage, Config, ReadFault, SinkFault, LinkFault, Memory, Script, Truncated, TooLong}
 use Rattle.command_io.specs.Endings.{IsRefusal, IsRefusalOrMemory, status_of}
-use Rattle.riemann_server.specs.declared.command.Command.{Command}
-use Rattle.riemann_server.specs.declared.command.Command.TheVariants.{Feed, Check, Replay, Serve, Load}
-use Rattle.riemann_server.specs.Commands.{IsCommandOf}
-use Rattle.riemann_server.specs.Words.{IsUsage}
+use Rattle.riemann_commands.specs.declared.command.Command.{Command}
+use Rattle.riemann_commands.specs.declared.command.Command.TheVariants.{Feed, Check, Replay, Serve, Load}
+use Rattle.riemann_commands.specs.Commands.{IsCommandOf}
+use Rattle.riemann_commands.specs.Words.{IsUsage}
 
 no_ending : (ending : Ending) → status_of ending ≡ Usage → ⊥
 no_ending Finished e = cc

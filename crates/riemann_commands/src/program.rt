@@ -33,14 +33,14 @@ options:
 
 /// Why the arguments of the command line could not be read.
 #[derive(Drop)]
-pub(crate) enum ArgumentsFault {
+pub enum ArgumentsFault {
     /// One of them is not UTF-8.
     NotUtf8,
     Memory,
 }
 
 /// The arguments of the command line after the program's name.
-pub(crate) fn arguments<R: Env + AllocGlobal>(rt: &R) -> Result<Vec<Text>, ArgumentsFault> {
+pub fn arguments<R: Env + AllocGlobal>(rt: &R) -> Result<Vec<Text>, ArgumentsFault> {
     let all = env::args(rt).map_err(fault_of)?;
     let mut arguments = Vec::new(rt.alloc());
     for argument in all.skip(1) {
@@ -60,7 +60,7 @@ fn fault_of(error: io::Error) -> ArgumentsFault {
 }
 
 /// Answers `--help` and `--version`, and carries out any other command.
-pub(crate) fn run<S: Store, L: Links, O: Sink, E: Sink, P: Patterns, G: Ledger>(
+pub fn run<S: Store, L: Links, O: Sink, E: Sink, P: Patterns, G: Ledger>(
     alloc: Global,
     arguments: Result<Vec<Text>, ArgumentsFault>,
     store: &mut S,

@@ -1,0 +1,10 @@
+//! The commands of the program: which one the arguments name, and what it does over the files, links and sinks that it
+//! is handed.
+#![tactic(auto)]
+
+mod command;
+mod program;
+mod server;
+
+pub use program::{ArgumentsFault, arguments, run};
+pub use server::riemann;
