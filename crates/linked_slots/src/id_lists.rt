@@ -83,11 +83,11 @@ impl Lists {
         id
     }
 
-    /// Removes the id.
+    /// Removes the id. There is room for one more id then.
     pub fn unlink(&mut self, id: usize)
         requires { IsListed id self.old.lists }
         ensures removed { self.new.lists ≡ without id self.old.lists }
-        ensures spare { self.old.spare ≤ self.new.spare }
+        ensures spare { self.new.spare ≡ self.old.spare + 1 }
         ensures apart { AreApart self.new.lists }
     {
         cut(&mut self.nodes, id);
