@@ -1,4 +1,4 @@
-ghost use Rattle.std.specs.Prelude.{◌≡◌, ◌+◌, ◌*◌, ◌^◌, ◌≤◌, [], ◌∷◌, ◌++◌, filter, length, option_copied, List, IsErr, IsTrue, OnErr, OnOk};
+ghost use Rattle.std.specs.Prelude.{◌≡◌, ◌+◌, ◌*◌, ◌^◌, ◌≤◌, [], ◌∷◌, ◌++◌, filter, length, option_copied, List, IsErr, IsNone, IsSome, IsTrue, OnErr, OnOk};
 ghost use Rattle.list_laws.specs.Prefix.{IsPrefix};
 ghost use Rattle.ev_types.specs.declared.event.Event.{Event as StoredEvent};
 ghost use Rattle.ev_types.specs.Expiry.{is_expired};
@@ -112,8 +112,8 @@ impl LiveIndex {
     }
 
     /// Appends copies of the live events that meet the predicate, in the order of the index. Where the predicate asks for
-    /// a host it looks at the events of that host alone. After `Memory` the index is as it was, and `out` begins with what
-    /// it had.
+    /// a host it looks at the events of that host alone. It counts an entry for each event that it looks at. After `Memory`
+    /// the index is as it was, and `out` begins with what it had.
     pub fn search<G: Ledger>(
         &mut self,
         alloc: Global,
@@ -127,6 +127,8 @@ impl LiveIndex {
         ensures prefix { OnErr result (IsPrefix out.old out.new) }
         ensures poisoned { IsTrue self.old.poisoned → IsErr result }
         ensures forks { steps.new.forks ≡ steps.old.forks }
+        ensures counted { OnOk result (steps.new.entries ≡ steps.old.entries
+            + length (visited pred.old self.old.events)) }
         ensures entries { steps.new.entries ≤ steps.old.entries
             + length (visited pred.old self.old.events) }
     {
@@ -137,8 +139,8 @@ impl LiveIndex {
         Ok(())
     }
 
-    /// The live event of this host and this service, each of which may be absent. It takes no memory, and the index
-    /// stays as it is. A poisoned one has no events.
+    /// The live event of this host and this service, each of which may be absent. It counts an entry where there is one.
+    /// It takes no memory, and the index stays as it is. A poisoned one has no events.
     pub fn get<G: Ledger>(
         &mut self,
         host: Option<&Text>,
@@ -149,6 +151,8 @@ impl LiveIndex {
         ensures event { option_copied result
             ≡ event_at (option_copied host.entry) (option_copied service.entry) self.old.events }
         ensures forks { steps.new.forks ≡ steps.old.forks }
+        ensures found { IsSome result → steps.new.entries ≡ steps.old.entries + 1 }
+        ensures absent { IsNone result → steps.new.entries ≡ steps.old.entries }
         ensures entries { steps.new.entries ≤ steps.old.entries + 1 }
     {
         if self.poisoned {

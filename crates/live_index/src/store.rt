@@ -1,4 +1,4 @@
-ghost use Rattle.std.specs.Prelude.{◌≡◌, ℕ, ◌+◌, ◌^◌, ◌≤◌, eqb, false, List, [], ◌∷◌, ◌++◌, Option, filter, length, not, option_copied, IfSome, IfOk, OnErr, OnOk, true, Some, None, if◌then◌else◌};
+ghost use Rattle.std.specs.Prelude.{◌≡◌, ℕ, ◌+◌, ◌^◌, ◌≤◌, eqb, false, List, [], ◌∷◌, ◌++◌, Option, filter, length, not, option_copied, IfSome, IfOk, IsNone, IsSome, OnErr, OnOk, true, Some, None, if◌then◌else◌};
 ghost use Rattle.std.specs.Map.{values_of};
 ghost use Rattle.list_laws.specs.Prefix.{IsPrefix};
 ghost use Rattle.ev_types.specs.Expiry.{is_expired, is_late, is_over};
@@ -208,6 +208,8 @@ impl Store {
             (option_copied host.entry, option_copied service.entry)
             self.now.numbers self.now.events }
         ensures forks { steps.new.forks ≡ steps.old.forks }
+        ensures found { IsSome result → steps.new.entries ≡ steps.old.entries + 1 }
+        ensures absent { IsNone result → steps.new.entries ≡ steps.old.entries }
         ensures entries { steps.new.entries ≤ steps.old.entries + 1 }
     {
         let number = self.numbers.get(host, service)?;
@@ -267,6 +269,8 @@ impl Store {
             ++ filter (holds pred.old) (events_in self.now.numbers self.now.events)) }
         ensures prefix { OnErr result (IsPrefix out.old out.new) }
         ensures forks { steps.new.forks ≡ steps.old.forks }
+        ensures counted { OnOk result (steps.new.entries ≡ steps.old.entries
+            + length (visited pred.old (events_in self.now.numbers self.now.events))) }
         ensures entries { steps.new.entries ≤ steps.old.entries
             + length (visited pred.old (events_in self.now.numbers self.now.events)) }
     {
@@ -377,6 +381,7 @@ fn copy_at<G: Ledger>(
         ++ filter (holds pred.old) (events_at events.now numbers.now)) }
     ensures prefix { OnErr result (IsPrefix out.old out.new) }
     ensures forks { steps.new.forks ≡ steps.old.forks }
+    ensures counted { OnOk result (steps.new.entries ≡ steps.old.entries + length numbers.now) }
     ensures entries { steps.new.entries ≤ steps.old.entries + length numbers.now }
 {
     for number in numbers {

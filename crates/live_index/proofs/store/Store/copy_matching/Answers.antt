@@ -17,6 +17,12 @@ returns-clause-ok g c =
     ∙ ap (λ numbers. c.args.out.now ++ filter (holds c.args.pred.now) (events_at store.events numbers)) (c.as_slice.ensures ∙ c.in_ok-numbers.ensures.numbers)
     ∙ ap (λ events. c.args.out.now ++ events) (asked-search store.numbers store.events c.requires.linked (holds c.args.pred.now) (asked_host c.args.pred.now) c.numbers_for.ensures.needs)
 
+pub returns-clause-counted : goal.returns-clause-counted
+returns-clause-counted g c =
+    let store = c.args.self.now in
+    let count = asked-count store.numbers store.events c.requires.linked (asked_host c.args.pred.now) c.as_slice.result.now (c.as_slice.ensures ∙ c.in_ok-numbers.ensures.numbers) in
+    omega (arith, count, c.in_ok-copy_at.ensures.counted)
+
 pub returns-clause-entries : goal.returns-clause-entries
 returns-clause-entries g c =
     let store = c.args.self.now in
