@@ -3,6 +3,7 @@ pub mod CountLaws
 pub mod FindLaws
 pub mod HostLaws
 pub mod LinkLaws
+pub mod LogLaws
 pub mod PairLaws
 pub mod ReapLaws
 pub mod ReplaceLaws

@@ -1,4 +1,4 @@
-ghost use Rattle.std.specs.Prelude.{◌≡◌, ◌+◌, ◌*◌, ◌^◌, ◌≤◌, [], ◌∷◌, ◌++◌, filter, length, option_copied, List, IsErr, IsNone, IsSome, IsTrue, OnErr, OnOk};
+ghost use Rattle.std.specs.Prelude.{◌≡◌, ◌+◌, ◌*◌, ◌^◌, ◌≤◌, false, [], ◌∷◌, ◌++◌, filter, length, option_copied, List, IsErr, IsNone, IsSome, IsTrue, OnErr, OnOk};
 ghost use Rattle.list_laws.specs.Prefix.{IsPrefix};
 ghost use Rattle.ev_types.specs.declared.event.Event.{Event as StoredEvent};
 ghost use Rattle.ev_types.specs.Expiry.{is_expired};
@@ -57,6 +57,7 @@ impl LiveIndex {
     pub fn write(&mut self, alloc: Global, event: Event) -> Result<(), Memory>
         ensures ok { OnOk result ((log : IndexLog) → Represents self.old log →
             Represents self.new (log ++ Write event ∷ [])) }
+        ensures sound { OnOk result (self.new.poisoned ≡ false) }
         ensures err { OnErr result (IsTrue self.new.poisoned) }
         ensures poisoned { IsTrue self.old.poisoned → IsErr result }
     {
@@ -68,6 +69,7 @@ impl LiveIndex {
     pub fn put(&mut self, alloc: Global, event: &mut Event) -> Result<(), Memory>
         ensures ok { OnOk result ((log : IndexLog) → Represents self.old log →
             Represents self.new (log ++ Write event.old ∷ [])) }
+        ensures sound { OnOk result (self.new.poisoned ≡ false) }
         ensures err { OnErr result (IsTrue self.new.poisoned) }
         ensures poisoned { IsTrue self.old.poisoned → IsErr result }
     {
@@ -93,6 +95,7 @@ impl LiveIndex {
         requires { now ≤ 2 ^ 40 }
         ensures ok { OnOk result ((log : IndexLog) → Represents self.old log →
             Represents self.new (log ++ Reap now ∷ [])) }
+        ensures sound { OnOk result (self.new.poisoned ≡ false) }
         ensures expired { OnOk result (out.new ≡ out.old
             ++ filter (is_expired now) self.old.events) }
         ensures err { OnErr result (IsTrue self.new.poisoned) }
@@ -159,6 +162,15 @@ impl LiveIndex {
             return None;
         }
         self.store.get(host, service, steps)
+    }
+
+    /// Whether a change ran out of memory. An index that is not poisoned represents some log.
+    pub fn is_poisoned(&self) -> bool
+        ensures poisoned { result ≡ self.now.poisoned }
+        ensures represents { self.now.poisoned ≡ false →
+            (log : IndexLog) × Represents self.now log }
+    {
+        self.poisoned
     }
 
     /// How many events are live.
