@@ -1,5 +1,5 @@
 -- Events in key order of which none is over are what a log leaves live: the log that writes the last of them first.
-use Rattle.std.proofs.Common.{◌≡◌, ℕ, Bool, true, false, not, cond, List, [], ◌∷◌, ◌++◌, Option, None, Some, refl, ap, ◌∙◌}
+use Rattle.std.proofs.Common.{◌≡◌, ℕ, false, not, cond, List, [], ◌∷◌, ◌++◌, Option, None, Some, refl, ap, ◌∙◌}
 use Rattle.std.specs.declared.cmp.Ordering.TheVariants.{Less}
 use Rattle.std.specs.List.{AllByRecursion}
 use Rattle.std.specs.List.Sorted.{IsStrictlySortedBy}
@@ -7,7 +7,7 @@ use Rattle.std.specs.Map.{values_of}
 use Rattle.std.specs.Ordering.{is_eq, is_lt}
 use Rattle.std.proofs.lemmas.Cmp.{eq_by_cmp_equiv}
 use Rattle.ev_types.specs.declared.event.Event.{Event}
-use Rattle.index_log.specs.IndexKey.{index_key_cmp, same_index_key}
+use Rattle.index_log.specs.IndexKey.{index_key_cmp}
 use Rattle.index_log.specs.Live.{IndexLog, Write, is_over, placed, elsewhere, written, live_events}
 use Rattle.index_log.proofs.IndexKeys.{index_key_total}
 use Rattle.index_log.proofs.LiveLaws.{live-nil, live-write}

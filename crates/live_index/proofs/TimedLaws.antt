@@ -1,10 +1,9 @@
 -- What a change of events and due moments keeps: at each moment exactly the events that are late are due.
-use Rattle.std.proofs.Common.{◌≡◌, ℕ, ◌≤◌, ◌^◌, Bool, true, false, cond, eqb, List, Option, Some, refl, sym, ap, ◌∙◌}
+use Rattle.std.proofs.Common.{◌≡◌, ℕ, ◌≤◌, ◌^◌, Bool, true, false, cond, eqb, List, Option, refl, sym, ap, ◌∙◌}
 use Rattle.std.proofs.lemmas.Bool.{eqb-true, eqb-false}
 use Rattle.ev_types.specs.declared.event.Event.{Event}
 use Rattle.linked_slots.specs.Table.{value_at, Changes}
 use Rattle.tick_schedule.specs.Queue.{moment_at, Sets}
-use Rattle.ev_types.specs.Expiry.{is_late}
 use Rattle.live_index.specs.Store.{is_by, is_late_in, IsTimed}
 
 -- a number has another slot and another moment now

@@ -10,9 +10,11 @@ returns-clause-represents c = λ sound.
     let numbers = c.self.inside.store.numbers in
     let table = c.self.inside.store.events in
     let is_sound : c.self.inside.poisoned ≡ false = ap (λ index. index.poisoned) c.self.view_is ∙ sound in
-    let linked = (c.self.invariant is_sound).linked in
-    (log_of (events_in numbers table), record {
-      sound = sound;
-      live = sym (not_poisoned c.self.inside.poisoned numbers table is_sound ∙ ap (λ index. index.events) c.self.view_is)
-          ∙ sym (log-live (events_in numbers table) (events-rise numbers table linked) (none_over numbers table linked));
-    })
+    let linked = (c.self.invariant is_sound).linked in (
+      log_of (events_in numbers table),
+      record {
+        sound = sound;
+        live = sym (not_poisoned c.self.inside.poisoned numbers table is_sound ∙ ap (λ index. index.events) c.self.view_is)
+            ∙ sym (log-live (events_in numbers table) (events-rise numbers table linked) (none_over numbers table linked));
+      },
+    )
