@@ -11,3 +11,4 @@ pub mod PlanDueLaws
 pub mod ArrivalMoments
 pub mod RunLaws
 pub mod NewestLaws
+pub mod GreatestLaws

@@ -1,8 +1,7 @@
 -- The last events of each host and service are of different keys, and coalesce puts them in order.
-use Rattle.std.proofs.Common.{◌≡◌, ℕ, Bool, true, false, ◌||◌, cond, List, [], ◌∷◌, map, refl, sym}
+use Rattle.std.proofs.Common.{◌≡◌, Bool, true, false, ◌||◌, cond, List, [], ◌∷◌, map, refl}
 use mathlib.Core.Bool.{true≢false}
 use Rattle.std.specs.List.{AllByRecursion, filter, list_any}
-use Rattle.ev_types.specs.declared.event.Event.{Event}
 use Rattle.index_log.specs.IndexKey.{same_index_key}
 use Rattle.index_log.proofs.PlacedLaws.{AreApart, placed_onto-permutes, placed_onto-rising}
 use Rattle.stream_meaning.specs.Came.{Timed}

@@ -22,3 +22,4 @@ pub mod DueLaws
 pub mod ArrivalLaws
 pub mod RunLaws
 pub mod CoalesceLaws
+pub mod GreatestLaws

@@ -2,6 +2,7 @@ ghost use Rattle.stream_meaning.specs.ArrivalLaws.{ArrivalsComeInOrder, Arrivals
 ghost use Rattle.stream_meaning.specs.CoalesceLaws.{CoalescedAreTheNewest, CoalescedRise};
 ghost use Rattle.stream_meaning.specs.DeadlineLaws.{DeadlinesLieAhead, DeadlinesAreMet, DeadlinesStay, DeadlinesAreFirst};
 ghost use Rattle.stream_meaning.specs.DueLaws.{TicksActByEmissions, PlanDeadlinesLieAhead, PlanDeadlinesAreMet, PlanDeadlinesStay};
+ghost use Rattle.stream_meaning.specs.GreatestLaws.{GreatestIsReached, MovingTimeGoesByTheGreatest, FixedTimeGoesByTheGreatest};
 ghost use Rattle.stream_meaning.specs.RunLaws.{RunsAreLongest, RunsBeginWithTheirFirst};
 ghost use Rattle.stream_meaning.specs.Laws.{
   TicksEmitNothing,
@@ -94,4 +95,12 @@ pub fn runs_are_longest()
 pub fn coalesced_are_the_newest()
     ensures kept { CoalescedAreTheNewest }
     ensures order { CoalescedRise }
+{}
+
+/// A moving window by time goes by the greatest time of the events up to the last one, a fixed one by the greatest
+/// number of a stretch among the events before it. The greatest of some numbers is one of them, and none is greater.
+pub fn windows_go_by_the_greatest()
+    ensures greatest { GreatestIsReached }
+    ensures moving { MovingTimeGoesByTheGreatest }
+    ensures fixed { FixedTimeGoesByTheGreatest }
 {}
