@@ -12,3 +12,4 @@ pub mod ArrivalMoments
 pub mod RunLaws
 pub mod NewestLaws
 pub mod GreatestLaws
+pub mod KeyLaws

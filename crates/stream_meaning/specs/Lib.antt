@@ -23,3 +23,4 @@ pub mod ArrivalLaws
 pub mod RunLaws
 pub mod CoalesceLaws
 pub mod GreatestLaws
+pub mod KeyLaws

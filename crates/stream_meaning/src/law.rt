@@ -3,6 +3,7 @@ ghost use Rattle.stream_meaning.specs.CoalesceLaws.{CoalescedAreTheNewest, Coale
 ghost use Rattle.stream_meaning.specs.DeadlineLaws.{DeadlinesLieAhead, DeadlinesAreMet, DeadlinesStay, DeadlinesAreFirst};
 ghost use Rattle.stream_meaning.specs.DueLaws.{TicksActByEmissions, PlanDeadlinesLieAhead, PlanDeadlinesAreMet, PlanDeadlinesStay};
 ghost use Rattle.stream_meaning.specs.GreatestLaws.{GreatestIsReached, MovingTimeGoesByTheGreatest, FixedTimeGoesByTheGreatest};
+ghost use Rattle.stream_meaning.specs.KeyLaws.{KeysAreThoseThatCame, KeysStayInOrder};
 ghost use Rattle.stream_meaning.specs.RunLaws.{RunsAreLongest, RunsBeginWithTheirFirst};
 ghost use Rattle.stream_meaning.specs.Laws.{
   TicksEmitNothing,
@@ -103,4 +104,12 @@ pub fn windows_go_by_the_greatest()
     ensures greatest { GreatestIsReached }
     ensures moving { MovingTimeGoesByTheGreatest }
     ensures fixed { FixedTimeGoesByTheGreatest }
+{}
+
+/// The keys of forks are those of the events that came, each once. They stand in the order in which they first came:
+/// those of a longer history begin with those of the shorter one.
+pub fn keys_come_in_order()
+    ensures came { KeysAreThoseThatCame }
+    ensures apart { ForkKeysAreApart }
+    ensures order { KeysStayInOrder }
 {}
