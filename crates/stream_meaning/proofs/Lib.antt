@@ -13,3 +13,4 @@ pub mod RunLaws
 pub mod NewestLaws
 pub mod GreatestLaws
 pub mod KeyLaws
+pub mod PlanFirstLaws

@@ -226,7 +226,7 @@ deadlines_ahead (Stable secs field) h range =
     below a b e = grind (arith, nat_tests)
 deadlines_ahead kind h range = tt
 
-moment-waited : (n : ℕ) (h : History) → moment_of (waited n h) ≡ moment_of h + n
+pub moment-waited : (n : ℕ) (h : History) → moment_of (waited n h) ≡ moment_of h + n
 moment-waited zero h = omega arith
 moment-waited (suc n) h = let before = moment-waited n h in omega arith
 

@@ -1,11 +1,14 @@
 -- What the deadline of a whole plan says, and which forks are due.
-use Rattle.std.specs.Prelude.{◌≡◌, ◌+◌, ◌<◌, Bool, true, false, List, [], ◌∷◌, IfSome}
-use Rattle.std.specs.List.{list_any}
+use Rattle.std.specs.Prelude.{◌≡◌, ℕ, ◌+◌, ◌<◌, ◌≤◌, Bool, true, false, List, [], ◌∷◌, ◌++◌, Option, Some, None, IfSome, All, Contains}
+use Rattle.std.specs.List.{list_any, flat_map}
+use Rattle.stream_plan.specs.Faults.{first_fault}
 use Rattle.stream_plan.specs.Tree.{StreamTree, StreamTrees, stream, none, also}
 use Rattle.stream_meaning.specs.History.{History, ◌▸◌, Tick, moment_of}
+use Rattle.stream_meaning.specs.Emission.{Branch, Children, Otherwise, Fork}
+use Rattle.stream_meaning.specs.Branches.{child_history, branches}
 use Rattle.stream_meaning.specs.Outputs.{Effect, Emits, Due, Given, Put, plan_effects}
-use Rattle.stream_meaning.specs.Deadlines.{plan_deadline}
-use Rattle.stream_meaning.specs.DeadlineLaws.{HasRange, is_at}
+use Rattle.stream_meaning.specs.Deadlines.{next_deadline, plan_deadline}
+use Rattle.stream_meaning.specs.DeadlineLaws.{HasRange, is_at, waited}
 
 abbrev pub is_emission : Effect → Bool
 is_emission Emits = true
@@ -44,3 +47,49 @@ PlanDeadlinesAreMet = (plan : StreamTrees) (h : History) → HasRanges plan → 
 -- a tick at which none does leaves the deadline
 abbrev pub PlanDeadlinesStay : Type 0
 PlanDeadlinesStay = (plan : StreamTrees) (h : History) → HasRanges plan → some_emits plan (h ▸ Tick) ≡ false → plan_deadline plan (h ▸ Tick) ≡ plan_deadline plan h
+
+-- no stream of the plan passed anything on at the first n ticks that followed
+abbrev pub IsPlanStill : StreamTrees → History → ℕ → Type 0
+IsPlanStill plan h n = (k : ℕ) → k < n → some_emits plan (waited k h ▸ Tick) ≡ false
+
+-- where only ticks follow, the first one at which some stream passes something on is the one at the plan's deadline, and there is none without
+abbrev pub PlanDeadlinesAreFirst : Type 0
+PlanDeadlinesAreFirst = (plan : StreamTrees) (h : History) (n : ℕ) → HasRanges plan → IsPlanStill plan h n →
+    some_emits plan (waited n h ▸ Tick) ≡ is_at (moment_of h + n + 1) (plan_deadline plan h)
+
+abbrev pub deadlines_of : (History → List (Option ℕ)) → (History → List (Option ℕ)) → Branch → History → List (Option ℕ)
+deadlines_of children otherwise Children = children
+deadlines_of children otherwise Otherwise = otherwise
+deadlines_of children otherwise (Fork key) = children
+
+-- the deadline of each stream of a plan, of those in forks for each fork
+abbrev mutual
+  pub stream_deadlines : StreamTree → History → List (Option ℕ)
+  stream_deadlines (stream kind children otherwise) h =
+      next_deadline kind h
+      ∷ flat_map (λ branch. deadlines_of (plan_deadlines children) (plan_deadlines otherwise) branch (child_history kind branch h)) (branches kind h)
+
+  pub plan_deadlines : StreamTrees → History → List (Option ℕ)
+  plan_deadlines none h = []
+  plan_deadlines (also first more) h = stream_deadlines first h ++ plan_deadlines more h
+
+-- one of the deadlines, of which none is earlier, or nothing where no stream has one
+abbrev pub IsEarliest : List (Option ℕ) → Option ℕ → Type 0
+IsEarliest deadlines None = All (λ deadline. deadline ≡ None) deadlines
+IsEarliest deadlines (Some first) = Contains deadlines (Some first) × All (λ deadline. IfSome deadline (λ moment. first ≤ moment)) deadlines
+
+-- the deadline of a plan is the least of those of its streams
+abbrev pub PlanDeadlinesAreEarliest : Type 0
+PlanDeadlinesAreEarliest = (plan : StreamTrees) (h : History) → IsEarliest (plan_deadlines plan h) (plan_deadline plan h)
+
+-- a plan without faults, as each checked plan is, has its numbers in their ranges
+abbrev pub FaultlessPlansHaveRanges : Type 0
+FaultlessPlansHaveRanges = (plan : StreamTrees) → first_fault plan ≡ None → HasRanges plan
+
+-- all of this is so for a plan after any history
+pub record MeetsDeadlines (plan : StreamTrees) : Type 0 where
+  pub ahead : (h : History) → IfSome (plan_deadline plan h) (λ deadline. moment_of h < deadline)
+  pub first : (h : History) (n : ℕ) → IsPlanStill plan h n → some_emits plan (waited n h ▸ Tick) ≡ is_at (moment_of h + n + 1) (plan_deadline plan h)
+
+abbrev pub FaultlessPlansMeetDeadlines : Type 0
+FaultlessPlansMeetDeadlines = (plan : StreamTrees) → first_fault plan ≡ None → MeetsDeadlines plan

@@ -1,7 +1,16 @@
 ghost use Rattle.stream_meaning.specs.ArrivalLaws.{ArrivalsComeInOrder, ArrivalsAreMoments};
 ghost use Rattle.stream_meaning.specs.CoalesceLaws.{CoalescedAreTheNewest, CoalescedRise};
 ghost use Rattle.stream_meaning.specs.DeadlineLaws.{DeadlinesLieAhead, DeadlinesAreMet, DeadlinesStay, DeadlinesAreFirst};
-ghost use Rattle.stream_meaning.specs.DueLaws.{TicksActByEmissions, PlanDeadlinesLieAhead, PlanDeadlinesAreMet, PlanDeadlinesStay};
+ghost use Rattle.stream_meaning.specs.DueLaws.{
+  TicksActByEmissions,
+  PlanDeadlinesAreEarliest,
+  PlanDeadlinesLieAhead,
+  PlanDeadlinesAreMet,
+  PlanDeadlinesStay,
+  PlanDeadlinesAreFirst,
+  FaultlessPlansHaveRanges,
+  FaultlessPlansMeetDeadlines,
+};
 ghost use Rattle.stream_meaning.specs.GreatestLaws.{GreatestIsReached, MovingTimeGoesByTheGreatest, FixedTimeGoesByTheGreatest};
 ghost use Rattle.stream_meaning.specs.KeyLaws.{KeysAreThoseThatCame, KeysStayInOrder};
 ghost use Rattle.stream_meaning.specs.RunLaws.{RunsAreLongest, RunsBeginWithTheirFirst};
@@ -72,9 +81,18 @@ pub fn deadlines_are_first()
 /// some stream in it passes something on.
 pub fn deadlines_of_plans_are_first()
     ensures due { TicksActByEmissions }
+    ensures earliest { PlanDeadlinesAreEarliest }
     ensures ahead { PlanDeadlinesLieAhead }
     ensures met { PlanDeadlinesAreMet }
     ensures stay { PlanDeadlinesStay }
+    ensures first { PlanDeadlinesAreFirst }
+{}
+
+/// A plan without faults, as each `CheckedPlan` is, has the numbers of its streams in their ranges. So where only ticks
+/// follow, some stream of it passes something on next at its deadline, and never where it has none.
+pub fn checked_plans_meet_deadlines()
+    ensures ranges { FaultlessPlansHaveRanges }
+    ensures deadlines { FaultlessPlansMeetDeadlines }
 {}
 
 /// Arrivals come one after another. The moment is the first moment plus the number of seconds that have passed,

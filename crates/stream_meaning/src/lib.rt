@@ -12,8 +12,8 @@ pub use example::{
     window_examples_are_computed,
 };
 pub use law::{
-    arrivals_come_in_order, coalesced_are_the_newest, deadlines_are_first,
-    deadlines_of_plans_are_first, forks_have_their_events, keys_come_in_order,
+    arrivals_come_in_order, checked_plans_meet_deadlines, coalesced_are_the_newest,
+    deadlines_are_first, deadlines_of_plans_are_first, forks_have_their_events, keys_come_in_order,
     outputs_are_in_order, runs_are_longest, ticks_alone_are_quiet, vectors_are_not_empty,
     windows_follow_moments, windows_go_by_the_greatest,
 };
