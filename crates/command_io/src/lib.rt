@@ -15,7 +15,7 @@ pub use build::build_ready;
 pub use ending::{ConfigRefusal, Ending, Source};
 pub use fetch::{FetchFault, fetch_config};
 pub use hub_meaning;
-pub use limits::{CONFIG_LIMIT, FILE_LIMIT};
+pub use limits::{CONFIG_LIMIT, FILE_LIMIT, limits_are_numbers};
 pub use lines::{MEMORY_LINE, USAGE, put_line, report};
 pub use read::{FileFault, read_file};
 pub use sexp_config;

@@ -7,3 +7,4 @@ pub mod Key
 pub mod Expiry
 pub mod Set
 pub mod Rebirth
+pub mod Limits

@@ -2,8 +2,10 @@
 #![tactic(auto)]
 
 mod command;
+mod limits;
 mod play;
 mod summary;
 
 pub use command::load;
+pub use limits::limits_are_numbers;
 pub use play::EVENT_LIMIT;

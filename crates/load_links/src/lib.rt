@@ -2,8 +2,10 @@
 #![tactic(auto)]
 
 mod events;
+mod limits;
 mod links;
 mod replies;
 
 pub use events::{INCREMENT, MULTIPLIER};
+pub use limits::generator_is_given;
 pub use links::LoadLinks;

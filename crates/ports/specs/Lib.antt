@@ -11,3 +11,4 @@ pub mod Marks
 pub mod ScriptLinks
 pub mod Pieces
 pub mod PieceBytes
+pub mod Limits

@@ -7,3 +7,4 @@ pub mod Reading
 pub mod Answer
 pub mod Spelling
 pub mod ReadBack
+pub mod Limits

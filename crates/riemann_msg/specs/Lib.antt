@@ -6,3 +6,4 @@ pub mod Spelling
 pub mod ReadBack
 pub mod Reply
 pub mod Cleared
+pub mod Numbers

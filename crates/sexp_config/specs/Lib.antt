@@ -7,3 +7,4 @@ pub mod Drafts
 pub mod WellBuilt
 pub mod Answer
 pub mod Expiry
+pub mod Limits

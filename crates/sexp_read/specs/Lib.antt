@@ -7,3 +7,4 @@ pub mod Grammar
 pub mod Reading
 pub mod Prefixes
 pub mod Written
+pub mod Limits

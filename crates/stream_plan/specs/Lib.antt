@@ -6,3 +6,4 @@ pub mod Sound
 pub mod Search
 pub mod Ready
 pub mod Paths
+pub mod Limits

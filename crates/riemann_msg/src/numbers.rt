@@ -1,0 +1,26 @@
+ghost use Rattle.std.specs.Prelude.{◌≡◌};
+ghost use Rattle.riemann_msg.specs.Numbers.{attributes_field, description_field, error_field, events_field, host_field, key_field, metric_d_field, metric_f_field, metric_sint64_field, ok_field, query_field, service_field, state_field, string_field, tags_field, time_field, time_micros_field, ttl_field, value_field};
+ghost use Rattle.riemann_msg.specs.declared.fields.TheConstants.{ATTRIBUTES, DESCRIPTION, ERROR, EVENTS, HOST, KEY, METRIC_D, METRIC_F, METRIC_SINT64, OK, QUERY, SERVICE, STATE, STRING, TAGS, TIME, TIME_MICROS, TTL, VALUE};
+
+/// The field numbers of the code are those of Riemann's `proto.proto`.
+pub fn field_numbers_are_given()
+    ensures ok { OK ≡ ok_field }
+    ensures error { ERROR ≡ error_field }
+    ensures query { QUERY ≡ query_field }
+    ensures events { EVENTS ≡ events_field }
+    ensures string { STRING ≡ string_field }
+    ensures key { KEY ≡ key_field }
+    ensures value { VALUE ≡ value_field }
+    ensures time { TIME ≡ time_field }
+    ensures state { STATE ≡ state_field }
+    ensures service { SERVICE ≡ service_field }
+    ensures host { HOST ≡ host_field }
+    ensures description { DESCRIPTION ≡ description_field }
+    ensures tags { TAGS ≡ tags_field }
+    ensures ttl { TTL ≡ ttl_field }
+    ensures attributes { ATTRIBUTES ≡ attributes_field }
+    ensures time_micros { TIME_MICROS ≡ time_micros_field }
+    ensures metric_sint64 { METRIC_SINT64 ≡ metric_sint64_field }
+    ensures metric_d { METRIC_D ≡ metric_d_field }
+    ensures metric_f { METRIC_F ≡ metric_f_field }
+{}
