@@ -1,2 +1,4 @@
 pub mod SetupLaws
-pub use Rattle.command_io.proofs as command_io_proofs
+pub use Rattle.command_io.proofs.EndingLaws as CommandIoEndingLaws
+pub use Rattle.command_io.proofs.ReadLaws as CommandIoReadLaws
+pub use Rattle.command_io.proofs.Sinks as CommandIoSinks

@@ -6,5 +6,6 @@ pub mod LineLaws
 pub mod NoticeLaws
 pub mod OccurLaws
 pub mod TurnLaws
-pub use Rattle.hub_link.proofs.hub_meaning_proofs
-pub use Rattle.hub_link.proofs.msg_replies_proofs
+pub use Rattle.hub_link.proofs.HubMeaningLinkLaws
+pub use Rattle.hub_link.proofs.HubMeaningPrefixLaws
+pub use Rattle.hub_link.proofs.MsgRepliesVerdictLaws

@@ -7,14 +7,14 @@ use Rattle.ev_types.specs.declared.item.Notice.{Notice}
 use Rattle.ev_types.specs.declared.settings.Expiry.{Expiry}
 use Rattle.hub_link.specs.event_core.Core.{CoreConfig, notices_by}
 use Rattle.hub_link.specs.event_core.Counts.{notices_in}
-use Rattle.hub_link.proofs.event_core_proofs.Moves.{notices-append}
+use Rattle.hub_link.proofs.EventCoreMoves.{notices-append}
 use Rattle.hub_link.specs.hub_meaning.Clock.{next_moment}
 use Rattle.hub_link.specs.hub_meaning.Links.{Link, find_link, is_open}
 use Rattle.hub_link.specs.hub_meaning.Messages.{posts_of}
 use Rattle.hub_link.specs.hub_meaning.Runs.{RunState, Step, Talk, after_entry, after_step, all_answered, answered, first_state, messages_in, notices_after, occurred, passed, read_by, state_after, state_from, talk_of, turned, with_talk}
 use Rattle.ports.specs.Playing.{is_turn_answer}
 use Rattle.hub_link.specs.hub_meaning.Verdicts.{Message, Refusal}
-use Rattle.hub_link.proofs.hub_meaning_proofs.RunLaws.{state_append}
+use Rattle.hub_link.proofs.HubMeaningRunLaws.{state_append}
 use Rattle.ports.specs.declared.entry.Entry.{Entry}
 use Rattle.ports.specs.declared.entry.Entry.TheVariants.{Listen, Next, Send, Close}
 use Rattle.ports.specs.declared.links.Turn.{Turn}

@@ -12,7 +12,7 @@ use Rattle.hub_link.specs.hub_meaning.Links.{Link, changed, find_link, is_connec
 use Rattle.hub_link.specs.hub_meaning.Replies.{reply_to_oversized}
 use Rattle.hub_link.specs.hub_meaning.Runs.{RunState, Talk, all_answered, answered, cut_off, is_oversized, messages_in, occurred, plain, read_by, read_from, state_from, talk_of, with_links, with_reply, with_talk}
 use Rattle.hub_link.specs.hub_meaning.Verdicts.{Message, PatternsState, Refusal}
-use Rattle.hub_link.proofs.hub_meaning_proofs.LinkLaws.{all_found, found_number}
+use Rattle.hub_link.proofs.HubMeaningLinkLaws.{all_found, found_number}
 use Rattle.hub_link.specs.declared.link.HubLink.{HubLink}
 use Rattle.hub_link.specs.Hearing.{Hears, HearsPiece, talk_after}
 use Rattle.hub_link.specs.Hearing as hearing
@@ -20,8 +20,8 @@ use Rattle.hub_link.specs.HubLink.{RepresentsLink}
 use Rattle.link_table.specs.Kept.{IsAbsent, IsAt as IsAtPlace, Kept}
 use Rattle.list_laws.specs.declared.memory.Memory.{Memory}
 use Rattle.hub_link.specs.msg_replies.Arriving.{Reported}
-use Rattle.hub_link.proofs.msg_replies_proofs.AnswerLaws.{heard_nothing}
-use Rattle.hub_link.proofs.msg_replies_proofs.VerdictLaws.{no_verdicts}
+use Rattle.hub_link.proofs.MsgRepliesAnswerLaws.{heard_nothing}
+use Rattle.hub_link.proofs.MsgRepliesVerdictLaws.{no_verdicts}
 use Rattle.ports.specs.declared.entry.Entry.{Entry}
 use Rattle.ports.specs.declared.links.What.{What}
 use Rattle.ports.specs.declared.links.What.TheVariants.{Idle, Opened, Read, Ended, Broken, Room, Stopped, Failed, Memory as NoMemory}

@@ -9,8 +9,8 @@ use Rattle.hub_link.specs.hub_meaning.declared.status.Status.{Status}
 use Rattle.hub_link.specs.hub_meaning.declared.status.Status.TheVariants.{Open, ReadClosed, Closing, Closed}
 use Rattle.hub_link.specs.hub_meaning.Links.{Link, broken, changed, closed, connected, connected_limit, ended, find_link, has_number, is_above, is_connected, is_open, is_open_status, is_read_closed_status, new_link, opened, sent, unblocked, want_of, wants_of, with_status}
 use Rattle.hub_link.specs.hub_meaning.Runs.{RunState, Step, plain, state_from, with_links}
-use Rattle.hub_link.proofs.hub_meaning_proofs.LinkLaws.{rising_changed, rising_opened}
-use Rattle.hub_link.proofs.hub_meaning_proofs.RunLaws.{legal_append, state_append}
+use Rattle.hub_link.proofs.HubMeaningLinkLaws.{rising_changed, rising_opened}
+use Rattle.hub_link.proofs.HubMeaningRunLaws.{legal_append, state_append}
 use Rattle.hub_link.specs.declared.link.HubLink.{HubLink}
 use Rattle.hub_link.specs.HubLink.{Follows, RepresentsLink, number_of}
 use Rattle.hub_link.specs.Sending.{IsOf, IsSent, Sends, after_sends}

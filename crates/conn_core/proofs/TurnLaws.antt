@@ -10,12 +10,12 @@ use Rattle.hub_link.specs.hub_meaning.Links.{Link, find_link, is_open}
 use Rattle.hub_link.specs.hub_meaning.Runs.{RunState, Step, after_step, first_state, new_frames, notices_after, occurred, passed, plain, state_after, state_from, talk_of}
 use Rattle.ports.specs.Playing.{is_turn_answer}
 use Rattle.hub_link.specs.hub_meaning.Verdicts.{PatternsState, Refusal}
-use Rattle.hub_link.proofs.hub_meaning_proofs.RunLaws.{legal_append, state_append}
+use Rattle.hub_link.proofs.HubMeaningRunLaws.{legal_append, state_append}
 use Rattle.hub_link.proofs.HearLaws.{none_refused}
 use Rattle.list_laws.specs.declared.memory.Memory.{Memory}
 use Rattle.hub_link.specs.msg_replies.Arriving.{Arrives, Reported, reported}
-use Rattle.hub_link.proofs.msg_replies_proofs.AnswerLaws.{heard_then}
-use Rattle.hub_link.proofs.msg_replies_proofs.VerdictLaws.{no_verdicts}
+use Rattle.hub_link.proofs.MsgRepliesAnswerLaws.{heard_then}
+use Rattle.hub_link.proofs.MsgRepliesVerdictLaws.{no_verdicts}
 use Rattle.notice_sink.specs.Lines.{lines_of}
 use Rattle.ports.specs.declared.entry.Entry.{Entry}
 use Rattle.ports.specs.declared.links.Turn.{Turn}

@@ -1,13 +1,13 @@
 -- What `feed` promises, from what its parts say.
 use Rattle.std.proofs.Common.{◌≡◌, ℕ, ◌≤◌, ◌⊎◌, List, length, refl, sym, inl, inr, subst, arith}
-use Rattle.file_run.proofs.command_io_proofs.EndingLaws.{reported_of}
+use Rattle.file_run.proofs.CommandIoEndingLaws.{reported_of}
 use Rattle.file_run.specs.command_io.Endings.{Says, status_of}
 use Rattle.file_run.specs.command_io.Reports.{LinksReport, Reports, SinkReport, StoreReport, reports}
 use Rattle.file_run.specs.command_io.declared.ending.Ending.{Ending}
 use Rattle.file_run.specs.command_io.declared.ending.Ending.TheVariants.{Finished, ConfigRefused, Unread, OverLimit, BytesLeft, WriteFailed, LinksFailed, ScriptRefused, OutOfMemory}
 use Rattle.file_run.specs.command_io.declared.limits.TheConstants.{CONFIG_LIMIT, FILE_LIMIT}
 use Rattle.file_run.specs.command_io.declared.status.Status.TheVariants.{ReadFault, SinkFault, LinkFault}
-use Rattle.file_run.proofs.command_setup_proofs.SetupLaws.{refused_for_memory, refused_not_linked, refused_not_written, refused_rose}
+use Rattle.file_run.proofs.CommandSetupSetupLaws.{refused_for_memory, refused_not_linked, refused_not_written, refused_rose}
 use Rattle.file_run.specs.command_setup.Setups.{SetsUp}
 use Rattle.file_run.proofs.OtherLaws.{file_refused_for_memory, file_refused_since, file_rose}
 use Rattle.file_run.specs.Files.{RefusesFile}

@@ -1,7 +1,7 @@
 -- What a command read of its two files, from what one read after another answered.
 use Rattle.std.proofs.Common.{◌≡◌, ℕ, suc, ◌≤◌, List, [], ◌∷◌, length, map, take, refl, ap, ◌∙◌, arith}
 use Rattle.std.specs.Prelude.{Option}
-use Rattle.command_setup.proofs.command_io_proofs.Sinks.{appended_twice}
+use Rattle.command_setup.proofs.CommandIoSinks.{appended_twice}
 use Rattle.command_setup.specs.command_io.Endings.{HasNoConfig, HaveFailed, IsComplete, IsReadOnce, IsRefusal, ReadsFiles, status_of}
 use Rattle.command_setup.specs.command_io.Files.{IsFileFault, LastFailed, ReadMore, bad_read, good_read, read_name, reads_of_fault}
 use Rattle.command_setup.specs.command_io.Fetches.{ending_of_file}
@@ -13,7 +13,7 @@ use Rattle.command_setup.specs.command_io.declared.limits.TheConstants.{FILE_LIM
 use Rattle.command_setup.specs.command_io.declared.read.FileFault.{FileFault}
 use Rattle.command_setup.specs.command_io.declared.read.FileFault.TheVariants as file
 use Rattle.command_setup.specs.command_io.declared.status.Status.TheVariants.{ReadFault}
-use Rattle.command_setup.proofs.command_io_proofs.EndingLaws.{not_over}
+use Rattle.command_setup.proofs.CommandIoEndingLaws.{not_over}
 use Rattle.command_setup.specs.Setups.{RefusesSetup, SetsUp}
 use Rattle.command_setup.specs.hub_meaning.Verdicts.{PatternsState}
 use Rattle.command_setup.specs.hub_run.declared.setup.Setup.{Setup}

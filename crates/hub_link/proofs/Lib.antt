@@ -4,6 +4,9 @@ pub mod SendLaws
 pub mod HearLaws
 pub mod LoopLaws
 pub mod UnsentLaws
-pub use Rattle.msg_replies.proofs.event_core_proofs
-pub use Rattle.msg_replies.proofs.hub_meaning_proofs
-pub use Rattle.msg_replies.proofs as msg_replies_proofs
+pub use Rattle.msg_replies.proofs.EventCoreMoves
+pub use Rattle.msg_replies.proofs.HubMeaningLinkLaws
+pub use Rattle.msg_replies.proofs.HubMeaningPrefixLaws
+pub use Rattle.msg_replies.proofs.HubMeaningRunLaws
+pub use Rattle.msg_replies.proofs.AnswerLaws as MsgRepliesAnswerLaws
+pub use Rattle.msg_replies.proofs.VerdictLaws as MsgRepliesVerdictLaws

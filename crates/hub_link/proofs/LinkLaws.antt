@@ -18,7 +18,7 @@ use Rattle.msg_replies.specs.hub_meaning.declared.status.Status.TheVariants.{Ope
 use Rattle.msg_replies.specs.hub_meaning.Replies.{reply_to_oversized}
 use Rattle.msg_replies.specs.hub_meaning.Runs.{RunState, Talk, all_answered, answered, cut_off, is_oversized, messages_in, new_frames, talk_of, with_reply}
 use Rattle.msg_replies.specs.hub_meaning.Verdicts.{Message, PatternsState, Refusal, judged}
-use Rattle.msg_replies.proofs.hub_meaning_proofs.RunLaws.{new_frames_rest}
+use Rattle.msg_replies.proofs.HubMeaningRunLaws.{new_frames_rest}
 use Rattle.msg_replies.specs.Arriving.{Reported}
 use Rattle.msg_replies.proofs.AnswerLaws.{arrives_nothing}
 use Rattle.msg_replies.proofs.VerdictLaws.{no_verdicts}

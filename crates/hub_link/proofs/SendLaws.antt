@@ -14,8 +14,8 @@ use Rattle.msg_replies.specs.hub_meaning.Links.{Link, changed, find_link, has_nu
 use Rattle.msg_replies.specs.hub_meaning.declared.status.Status.{Status}
 use Rattle.msg_replies.specs.hub_meaning.declared.status.Status.TheVariants.{Open, ReadClosed, Closing, Closed}
 use Rattle.msg_replies.specs.hub_meaning.Runs.{RunState, Step, plain, state_from, with_links}
-use Rattle.msg_replies.proofs.hub_meaning_proofs.LinkLaws.{KeepsNumber}
-use Rattle.msg_replies.proofs.hub_meaning_proofs.RunLaws.{legal_append, state_append}
+use Rattle.msg_replies.proofs.HubMeaningLinkLaws.{KeepsNumber}
+use Rattle.msg_replies.proofs.HubMeaningRunLaws.{legal_append, state_append}
 use Rattle.hub_link.specs.declared.link.HubLink.{HubLink}
 use Rattle.hub_link.specs.HubLink.{RepresentsLink, number_of}
 use Rattle.hub_link.specs.Sending.{AreSendsTo, IsOf, IsSent, Sends, after_sends, can_send, sendable}

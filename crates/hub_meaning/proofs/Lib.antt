@@ -2,4 +2,4 @@ pub mod RunLaws
 pub mod LinkLaws
 pub mod PrefixLaws
 pub mod ExampleLaws
-pub use Rattle.event_core.proofs as event_core_proofs
+pub use Rattle.event_core.proofs.Moves as EventCoreMoves

@@ -3,4 +3,5 @@ pub mod TakenLaws
 pub mod TurnLaws
 pub mod LoopLaws
 pub mod EndLaws
-pub use Rattle.conn_core.proofs.hub_meaning_proofs
+pub use Rattle.conn_core.proofs.HubMeaningLinkLaws
+pub use Rattle.conn_core.proofs.HubMeaningPrefixLaws

@@ -12,7 +12,7 @@ use Rattle.ports.specs.Playing.{is_turn_answer}
 use Rattle.conn_core.specs.hub_meaning.Runs.{Step, notices_after, state_after}
 use Rattle.conn_core.specs.hub_meaning.Verdicts.{AfterVerdicts, PatternsState, Refusal, is_refused, refused_text, texts_refused}
 use Rattle.list_laws.specs.Counts.{Rose}
-use Rattle.conn_core.proofs.msg_replies_proofs.VerdictLaws.{appended_twice, no_verdicts}
+use Rattle.conn_core.proofs.MsgRepliesVerdictLaws.{appended_twice, no_verdicts}
 use Rattle.notice_sink.specs.Lines.{lines_of, notice_line}
 use Rattle.ports.specs.declared.entry.Entry.{Entry}
 use Rattle.ports.specs.declared.links.Turn.{Turn}

@@ -15,7 +15,7 @@ use Rattle.command_setup.specs.command_io.declared.status.Status.TheVariants.{Re
 use Rattle.command_setup.specs.command_io.Endings.{IsComplete, IsDoneOrMemory, IsReadOnce, ReadsFiles, status_of}
 use Rattle.command_setup.specs.command_io.Files.{ReadMore, good_read}
 use Rattle.command_setup.specs.command_io.Reports.{Reports as Reporting, SinkReport}
-use Rattle.command_setup.proofs.command_io_proofs.ReadLaws.{read_alone}
+use Rattle.command_setup.proofs.CommandIoReadLaws.{read_alone}
 use Rattle.command_setup.proofs.SetupLaws.{refused_for_memory, refused_not_linked, refused_not_written, refused_rose}
 use Rattle.load_command.specs.Loads.{LoadEnds, RunEnds, WritesSummary}
 use Rattle.load_command.specs.declared.summary.Summary.{Summary}

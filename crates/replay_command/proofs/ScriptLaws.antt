@@ -1,7 +1,7 @@
 -- What is known of a script, from what its file and its text say.
 use Rattle.std.proofs.Common.{◌≡◌, ℕ, ◌≤◌, List, [], ◌∷◌, length, refl, subst, sym}
 use Rattle.std.specs.Prelude.{Option, Result, Ok, Err, IfErr}
-use Rattle.file_run.proofs.command_io_proofs.EndingLaws.{reported_of}
+use Rattle.file_run.proofs.CommandIoEndingLaws.{reported_of}
 use Rattle.file_run.specs.command_io.Endings.{IsComplete, status_of}
 use Rattle.file_run.specs.command_io.Files.{ForHeld, ReadMore, good_read}
 use Rattle.file_run.specs.command_io.Reports.{StoreReport}

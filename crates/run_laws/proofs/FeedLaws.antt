@@ -24,8 +24,8 @@ use Rattle.hub_run.specs.hub_meaning.Legal.{AreSettled, IsLegal, IsLegalFrom, Ma
 use Rattle.hub_run.specs.hub_meaning.Links.{Link, changed, find_link, sent, unsent}
 use Rattle.hub_run.specs.hub_meaning.Runs.{RunState, Step, after_entry, after_step, entry_of, first_state, occurred, passed, state_after, state_from, turned}
 use Rattle.hub_run.specs.hub_meaning.Verdicts.{Refusal}
-use Rattle.hub_run.proofs.hub_meaning_proofs.LinkLaws.{all_found}
-use Rattle.hub_run.proofs.hub_meaning_proofs.PrefixLaws.{prefixes_are_sent_lem, rising_entry}
+use Rattle.hub_run.proofs.HubMeaningLinkLaws.{all_found}
+use Rattle.hub_run.proofs.HubMeaningPrefixLaws.{prefixes_are_sent_lem, rising_entry}
 use Rattle.run_laws.specs.Taking.{replies_of, replies_on, taken_of, taken_on}
 use Rattle.run_laws.proofs.FreeLaws.{AreFree, IsAllSent, IsGentle, free_after_close, free_after_send, free_occurred, settled_sent}
 use Rattle.run_laws.proofs.TakenLaws.{taken_from}

@@ -15,7 +15,7 @@ use Rattle.hub_run.specs.hub_meaning.Links.{Link, changed, closed, ended, find_l
 use Rattle.hub_run.specs.hub_meaning.Replies.{reply_to_oversized}
 use Rattle.hub_run.specs.hub_meaning.Runs.{RunState, Talk, all_answered, answered, cut_off, is_oversized, messages_in, occurred, read_by, read_from, talk_of, with_reply, with_talk}
 use Rattle.hub_run.specs.hub_meaning.Verdicts.{Message, Refusal}
-use Rattle.hub_run.proofs.hub_meaning_proofs.LinkLaws.{all_changed, all_found, all_replaced}
+use Rattle.hub_run.proofs.HubMeaningLinkLaws.{all_changed, all_found, all_replaced}
 use Rattle.hub_run.specs.hub_meaning.Laws.{AreRising}
 
 abbrev pub IsWholeAs : List ℕ → Status → Type 0

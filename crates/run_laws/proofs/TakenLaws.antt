@@ -20,7 +20,7 @@ use Rattle.hub_run.specs.hub_meaning.Links.{Link, changed, closed, broken, ended
 use Rattle.hub_run.specs.hub_meaning.Replies.{reply_to_oversized}
 use Rattle.hub_run.specs.hub_meaning.Runs.{RunState, Step, Talk, after_entry, after_step, all_answered, answered, cut_off, entry_of, is_oversized, messages_in, occurred, passed, read_by, read_from, state_from, talk_of, turned, with_reply, with_talk}
 use Rattle.hub_run.specs.hub_meaning.Verdicts.{Message, Refusal}
-use Rattle.hub_run.proofs.hub_meaning_proofs.LinkLaws.{KeepsNumber, broken_number, ended_number, found_number, unblocked_number}
+use Rattle.hub_run.proofs.HubMeaningLinkLaws.{KeepsNumber, broken_number, ended_number, found_number, unblocked_number}
 use Rattle.run_laws.specs.Taking.{taken_of, taken_on}
 
 -- ---- a link, after one was changed

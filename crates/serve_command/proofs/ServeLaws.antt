@@ -17,7 +17,7 @@ use Rattle.command_setup.specs.command_io.declared.status.Status.TheVariants.{Re
 use Rattle.command_setup.specs.command_io.Endings.{HasNoConfig, IsComplete, IsDoneOrMemory, IsReadOnce, IsRefusal, ReadsFiles, status_of}
 use Rattle.command_setup.specs.command_io.Files.{ReadMore, good_read}
 use Rattle.command_setup.specs.command_io.Reports.{IsIdle, Reports as Reporting}
-use Rattle.command_setup.proofs.command_io_proofs.ReadLaws.{read_alone}
+use Rattle.command_setup.proofs.CommandIoReadLaws.{read_alone}
 use Rattle.command_setup.specs.Setups.{RefusesSetup, SetsUp}
 use Rattle.command_setup.proofs.SetupLaws.{refused_for_memory, refused_rose}
 use Rattle.serve_command.specs.Serves.{RanOn, ServeEnds, ending_of_run}

@@ -1,4 +1,6 @@
 pub mod PassLaws
 pub mod VectorLaws
-pub use Rattle.rate_streams.proofs as rate_streams_proofs
-pub use Rattle.window_streams.proofs as window_streams_proofs
+pub use Rattle.rate_streams.proofs.BatchLaws as RateStreamsBatchLaws
+pub use Rattle.rate_streams.proofs.RollupLaws as RateStreamsRollupLaws
+pub use Rattle.rate_streams.proofs.ThrottleLaws as RateStreamsThrottleLaws
+pub use Rattle.window_streams.proofs.CoalesceLaws as WindowStreamsCoalesceLaws

@@ -11,9 +11,9 @@ use Rattle.stream_states.specs.flow_streams.declared.changed.ChangedState.{Chang
 use Rattle.stream_states.specs.flow_streams.declared.runs.RunsState.{RunsState}
 use Rattle.stream_states.specs.rate_streams.Stable.{stable_passes, StableRepresents}
 use Rattle.stream_states.specs.rate_streams.declared.stable.StableState.{StableState}
-use Rattle.stream_states.proofs.rate_streams_proofs.ThrottleLaws.{tick_represents}
-use Rattle.stream_states.proofs.rate_streams_proofs.RollupLaws.{still_represents as rollup_still}
-use Rattle.stream_states.proofs.rate_streams_proofs.BatchLaws.{still_represents as batch_still}
+use Rattle.stream_states.proofs.RateStreamsThrottleLaws.{tick_represents}
+use Rattle.stream_states.proofs.RateStreamsRollupLaws.{still_represents as rollup_still}
+use Rattle.stream_states.proofs.RateStreamsBatchLaws.{still_represents as batch_still}
 use Rattle.stream_states.specs.window_streams.FixedEvent.{FixedEventRepresents}
 use Rattle.stream_states.specs.window_streams.MovingEvent.{MovingEventRepresents}
 use Rattle.stream_states.specs.window_streams.FixedTime.{FixedTimeRepresents}
@@ -22,7 +22,7 @@ use Rattle.stream_states.specs.window_streams.declared.fixed_event.FixedEventSta
 use Rattle.stream_states.specs.window_streams.declared.moving_event.MovingEventState.{MovingEventState}
 use Rattle.stream_states.specs.window_streams.declared.fixed_time.FixedTimeState.{FixedTimeState}
 use Rattle.stream_states.specs.window_streams.declared.moving_time.MovingTimeState.{MovingTimeState}
-use Rattle.stream_states.proofs.window_streams_proofs.CoalesceLaws.{coalesce-waits, coalesce-quiet}
+use Rattle.stream_states.proofs.WindowStreamsCoalesceLaws.{coalesce-waits, coalesce-quiet}
 use Rattle.stream_meaning.specs.Came.{each}
 use Rattle.stream_meaning.specs.Emission.{Emission, to_children, emissions}
 use Rattle.stream_meaning.specs.Emitted.{emitted}

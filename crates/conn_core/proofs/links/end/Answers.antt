@@ -4,7 +4,7 @@ use Rattle.std.proofs.lemmas.Result.{err_from_is_err_and}
 use Rattle.hub_link.specs.declared.link.HubLink.{HubLink}
 use Rattle.hub_link.proofs.AddedLaws.{added_nothing, added_weaken}
 use Rattle.hub_link.specs.hub_meaning.Links.{changed, ended}
-use Rattle.hub_link.proofs.hub_meaning_proofs.LinkLaws.{ended_number}
+use Rattle.hub_link.proofs.HubMeaningLinkLaws.{ended_number}
 use Rattle.conn_core.specs.Reaching.{Changes, Settles}
 use Rattle.conn_core.proofs.ReachLaws.{changes_absent, changes_found, ended_fixed, ended_unclosed}
 use Rattle.conn_core.proofs.links.end.Goals as goal

@@ -4,7 +4,7 @@ use Rattle.std.proofs.lemmas.Result.{err_from_is_err_and}
 use Rattle.hub_link.specs.declared.link.HubLink.{HubLink}
 use Rattle.hub_link.proofs.AddedLaws.{added_nothing, added_weaken}
 use Rattle.hub_link.specs.hub_meaning.Links.{changed, broken}
-use Rattle.hub_link.proofs.hub_meaning_proofs.LinkLaws.{broken_number}
+use Rattle.hub_link.proofs.HubMeaningLinkLaws.{broken_number}
 use Rattle.conn_core.specs.Reaching.{Changes, Settles}
 use Rattle.conn_core.proofs.ReachLaws.{changes_absent, changes_found, broken_fixed, broken_unclosed}
 use Rattle.conn_core.proofs.links.fail.Goals as goal

@@ -4,7 +4,7 @@ use Rattle.std.proofs.lemmas.Result.{err_from_is_err_and}
 use Rattle.hub_link.specs.declared.link.HubLink.{HubLink}
 use Rattle.hub_link.proofs.AddedLaws.{added_nothing, added_weaken}
 use Rattle.hub_link.specs.hub_meaning.Links.{changed, unblocked}
-use Rattle.hub_link.proofs.hub_meaning_proofs.LinkLaws.{unblocked_number}
+use Rattle.hub_link.proofs.HubMeaningLinkLaws.{unblocked_number}
 use Rattle.conn_core.specs.Reaching.{Changes, Settles}
 use Rattle.conn_core.proofs.ReachLaws.{changes_absent, changes_found, unblocked_fixed, unblocked_unclosed}
 use Rattle.conn_core.proofs.links.unblock.Goals as goal
