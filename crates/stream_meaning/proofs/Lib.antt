@@ -14,3 +14,4 @@ pub mod NewestLaws
 pub mod GreatestLaws
 pub mod KeyLaws
 pub mod PlanFirstLaws
+pub mod FoldLaws

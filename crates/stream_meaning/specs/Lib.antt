@@ -24,3 +24,4 @@ pub mod RunLaws
 pub mod CoalesceLaws
 pub mod GreatestLaws
 pub mod KeyLaws
+pub mod FoldLaws

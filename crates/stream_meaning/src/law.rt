@@ -11,6 +11,7 @@ ghost use Rattle.stream_meaning.specs.DueLaws.{
   FaultlessPlansHaveRanges,
   FaultlessPlansMeetDeadlines,
 };
+ghost use Rattle.stream_meaning.specs.FoldLaws.{MinimumIsTheFirstLeast, MaximumIsTheFirstGreatest, SumIsHeldToTheRange, SumsAdd};
 ghost use Rattle.stream_meaning.specs.GreatestLaws.{GreatestIsReached, MovingTimeGoesByTheGreatest, FixedTimeGoesByTheGreatest};
 ghost use Rattle.stream_meaning.specs.KeyLaws.{KeysAreThoseThatCame, KeysStayInOrder};
 ghost use Rattle.stream_meaning.specs.RunLaws.{RunsAreLongest, RunsBeginWithTheirFirst};
@@ -130,4 +131,14 @@ pub fn keys_come_in_order()
     ensures came { KeysAreThoseThatCame }
     ensures apart { ForkKeysAreApart }
     ensures order { KeysStayInOrder }
+{}
+
+/// The event with the least metric of a vector is one of those that have a metric: none has a lesser one, and none
+/// before it has the same. So with the greatest. The sum is that of all metrics, or the end of the range of 64 signed
+/// bits that is nearer.
+pub fn folds_are_of_all_metrics()
+    ensures minimum { MinimumIsTheFirstLeast }
+    ensures maximum { MaximumIsTheFirstGreatest }
+    ensures sum { SumIsHeldToTheRange }
+    ensures sums { SumsAdd }
 {}
