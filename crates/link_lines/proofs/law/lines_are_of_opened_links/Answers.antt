@@ -1,0 +1,8 @@
+use Rattle.link_lines.proofs.NumberLaws.{numbers_are_those_opened, numbers_rise}
+use Rattle.link_lines.proofs.law.lines_are_of_opened_links.Goals as goal
+
+pub returns-clause-opened : goal.returns-clause-opened
+returns-clause-opened c = numbers_are_those_opened
+
+pub returns-clause-order : goal.returns-clause-order
+returns-clause-order c = numbers_rise
