@@ -11,8 +11,17 @@ ghost use Rattle.stream_meaning.specs.DueLaws.{
   FaultlessPlansHaveRanges,
   FaultlessPlansMeetDeadlines,
 };
-ghost use Rattle.stream_meaning.specs.FoldLaws.{MinimumIsTheFirstLeast, MaximumIsTheFirstGreatest, SumIsHeldToTheRange, SumsAdd};
-ghost use Rattle.stream_meaning.specs.GreatestLaws.{GreatestIsReached, MovingTimeGoesByTheGreatest, FixedTimeGoesByTheGreatest};
+ghost use Rattle.stream_meaning.specs.FoldLaws.{
+  MinimumIsTheFirstLeast,
+  MaximumIsTheFirstGreatest,
+  SumIsHeldToTheRange,
+  SumsAdd,
+};
+ghost use Rattle.stream_meaning.specs.GreatestLaws.{
+  GreatestIsReached,
+  MovingTimeGoesByTheGreatest,
+  FixedTimeGoesByTheGreatest,
+};
 ghost use Rattle.stream_meaning.specs.KeyLaws.{KeysAreThoseThatCame, KeysStayInOrder};
 ghost use Rattle.stream_meaning.specs.RunLaws.{RunsAreLongest, RunsBeginWithTheirFirst};
 ghost use Rattle.stream_meaning.specs.Laws.{
