@@ -1,15 +1,17 @@
 -- The greatest of some numbers is one of them and a bound, and no other number is both.
-use Rattle.std.proofs.Common.{◌≡◌, ℤ, inl, inr, Bool, true, false, cond, List, [], ◌∷◌, ◌++◌, map, refl, sym, ap, subst, ◌∙◌, arith}
-use Rattle.std.specs.Prelude.{◌≤ℤ◌, int_lt, filter, fold, Contains}
+use Rattle.std.proofs.Common.{◌≡◌, ℕ, suc, ℤ, pos, negsuc, neg_ℤ, ◌+◌, ◌*◌, ◌/◌, ◌%◌, ◌<◌, ◌≤◌, ◌+ℤ◌, ◌-ℤ◌, ◌*ℤ◌, inl, inr, Bool, true, false, cond, List, [], ◌∷◌, ◌++◌, map, refl, sym, ap, subst, ◌∙◌, arith}
+use Rattle.std.specs.Prelude.{◌<ℤ◌, ◌≤ℤ◌, int_lt, filter, fold, Contains}
 use Rattle.std.specs.Int.{int_max}
 use Rattle.std.specs.Ordering.{int_eq}
+use Rattle.std.proofs.Math.Nat.{mod-lt}
+use Rattle.std.proofs.lemmas.Nat.{div-add-mod'}
 use Rattle.std.proofs.lemmas.Int.{ints, fold-int_max_bounds, fold-int_max_reached}
 use Rattle.std.proofs.lemmas.List.{map-append}
 use Rattle.std.proofs.lemmas.List.Elements.{All-cons, All-head, All-tail, All-push, All-contains, Contains-append_left, Contains-append_right, Contains-append_cases, Contains-push}
 use Rattle.ev_types.specs.declared.event.Event.{Event}
 use Rattle.stream_meaning.specs.Came.{events, vector}
-use Rattle.stream_meaning.specs.Windows.{greatest, time_of, latest_time, is_recent, stretch_of, stretch_before}
-use Rattle.stream_meaning.specs.GreatestLaws.{IsGreatest, GreatestIsReached, MovingTimeGoesByTheGreatest, FixedTimeGoesByTheGreatest}
+use Rattle.stream_meaning.specs.Windows.{greatest, time_of, latest_time, is_recent, floor_div, stretch_of, stretch_before}
+use Rattle.stream_meaning.specs.GreatestLaws.{IsGreatest, GreatestIsReached, MovingTimeGoesByTheGreatest, FixedTimeGoesByTheGreatest, EventsLieInTheirStretch}
 
 as_fold : (a : ℤ) (bs : List ℤ) → greatest a bs ≡ fold int_max a bs
 as_fold a [] = refl
@@ -65,3 +67,37 @@ fixed_time_goes_by_the_greatest secs h event first more latest came is =
     ∙ vector_if (int_lt top (stretch_of secs first event)) (filter (λ (other : Event). int_eq (stretch_of secs first other) top) (first ∷ more))
     ∙ ap (λ (t : ℤ). cond (int_lt t (stretch_of secs first event)) (vector (filter (λ (other : Event). int_eq (stretch_of secs first other) t) (first ∷ more))) []) same
     ∙ ap (λ (es : List Event). cond (int_lt latest (stretch_of secs first event)) (vector (filter (λ (other : Event). int_eq (stretch_of secs first other) latest) es)) []) (sym came)
+
+-- ---- stretches
+
+neg_at_most : (m a : ℕ) → a < m → neg_ℤ (pos m) ≤ℤ negsuc a
+neg_at_most m a below = omega (arith, ints)
+
+neg_more : (m n a : ℕ) → m ≤ a + n → negsuc a <ℤ (neg_ℤ (pos m) +ℤ pos n)
+neg_more m n a below = omega (arith, ints)
+
+floors : (a : ℤ) (n : ℕ) → 0 < n → ((floor_div a n *ℤ pos n) ≤ℤ a) × (a <ℤ (floor_div a n *ℤ pos n +ℤ pos n))
+floors (pos a) n positive =
+    let parts : a / n * n + a % n ≡ a = div-add-mod' a n in
+    let bound : a % n < n = mod-lt a positive in
+    (omega (arith, ints), omega (arith, ints))
+floors (negsuc a) n positive =
+    let parts : a / n * n + a % n ≡ a = div-add-mod' a n in
+    let bound : a % n < n = mod-lt a positive in
+    let more : suc (a / n) * n ≡ a / n * n + n = omega arith in
+    (neg_at_most (suc (a / n) * n) a (omega arith), neg_more (suc (a / n) * n) n a (omega arith))
+
+moved_from : (first time part : ℤ) → part ≤ℤ (time -ℤ first) → (first +ℤ part) ≤ℤ time
+moved_from first time part p = omega (arith, ints)
+
+moved_until : (first time part length : ℤ) → (time -ℤ first) <ℤ (part +ℤ length) → time <ℤ (first +ℤ part +ℤ length)
+moved_until first time part length p = omega (arith, ints)
+
+pub events_lie_in_their_stretch : EventsLieInTheirStretch
+events_lie_in_their_stretch secs first event positive =
+    let part : ℤ = stretch_of secs first event *ℤ pos secs in
+    let bounds = floors (event.time -ℤ first.time) secs positive in
+    record {
+      from = moved_from first.time event.time part bounds.0;
+      until = moved_until first.time event.time part (pos secs) bounds.1;
+    }

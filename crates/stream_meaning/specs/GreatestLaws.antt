@@ -1,5 +1,5 @@
 -- What windows by the events' own times pass on, by what the greatest of some numbers is and not how it is computed.
-use Rattle.std.specs.Prelude.{◌≡◌, ℕ, ℤ, ◌≤ℤ◌, int_lt, if◌then◌else◌, List, [], ◌∷◌, map, filter, All, Contains}
+use Rattle.std.specs.Prelude.{◌≡◌, ℕ, ℤ, pos, ◌+ℤ◌, ◌*ℤ◌, ◌<◌, ◌<ℤ◌, ◌≤ℤ◌, int_lt, if◌then◌else◌, List, [], ◌∷◌, map, filter, All, Contains}
 use Rattle.std.specs.Ordering.{int_eq}
 use Rattle.ev_types.specs.declared.event.Event.{Event}
 use Rattle.ev_types.specs.declared.item.Item.TheVariants.{One}
@@ -28,3 +28,12 @@ FixedTimeGoesByTheGreatest = (secs : ℕ) (h : History) (event first : Event) (m
     events h ≡ first ∷ more → IsGreatest (map (stretch_of secs first) (events h)) latest →
     fixed_time_items secs (h ▸ In (One event))
     ≡ (if int_lt latest (stretch_of secs first event) then vector (filter (λ other. int_eq (stretch_of secs first other) latest) (events h)) else [])
+
+-- An event's stretch begins as many whole stretches after the first event as its number says, and lasts `secs` seconds.
+-- The event's time lies in it.
+pub record LiesInStretch (secs : ℕ) (first event : Event) (number : ℤ) : Type 0 where
+  pub from : (first.time +ℤ number *ℤ pos secs) ≤ℤ event.time
+  pub until : event.time <ℤ (first.time +ℤ number *ℤ pos secs +ℤ pos secs)
+
+abbrev pub EventsLieInTheirStretch : Type 0
+EventsLieInTheirStretch = (secs : ℕ) (first event : Event) → 0 < secs → LiesInStretch secs first event (stretch_of secs first event)

@@ -21,6 +21,7 @@ ghost use Rattle.stream_meaning.specs.GreatestLaws.{
   GreatestIsReached,
   MovingTimeGoesByTheGreatest,
   FixedTimeGoesByTheGreatest,
+  EventsLieInTheirStretch,
 };
 ghost use Rattle.stream_meaning.specs.KeyLaws.{KeysAreThoseThatCame, KeysStayInOrder};
 ghost use Rattle.stream_meaning.specs.RunLaws.{RunsAreLongest, RunsBeginWithTheirFirst};
@@ -128,10 +129,12 @@ pub fn coalesced_are_the_newest()
 
 /// A moving window by time goes by the greatest time of the events up to the last one, a fixed one by the greatest
 /// number of a stretch among the events before it. The greatest of some numbers is one of them, and none is greater.
+/// The time of each event lies in the stretch that its number says.
 pub fn windows_go_by_the_greatest()
     ensures greatest { GreatestIsReached }
     ensures moving { MovingTimeGoesByTheGreatest }
     ensures fixed { FixedTimeGoesByTheGreatest }
+    ensures stretch { EventsLieInTheirStretch }
 {}
 
 /// The keys of forks are those of the events that came, each once. They stand in the order in which they first came:
