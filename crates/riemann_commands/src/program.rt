@@ -1,6 +1,11 @@
-ghost use Rattle.std.specs.Prelude.{◌≡◌, ◌≢◌};
+ghost use Rattle.std.specs.Prelude.{◌≡◌, ◌≢◌, IfOk};
+ghost use Rattle.command_io.specs.Endings.{GotLineOf};
+ghost use Rattle.command_io.specs.Lines.{memory_line, usage_line};
+ghost use Rattle.command_io.specs.Reports.{links_report, reports, sink_report, store_report};
+ghost use Rattle.hub_meaning.specs.Verdicts.{patterns_state};
 ghost use Rattle.ports.specs.Counts.{Rose};
 ghost use Rattle.ports.specs.Writing.{Got};
+ghost use Rattle.riemann_commands.specs.Promises.{IsNoOption, Promises, WritesText, help_words, sameness, version_words};
 
 use crate::server::riemann;
 use command_io::{MEMORY_LINE, Status, USAGE, put_all, put_line};
@@ -59,7 +64,8 @@ fn fault_of(error: io::Error) -> ArgumentsFault {
     }
 }
 
-/// Answers `--help` and `--version`, and carries out any other command.
+/// Answers `--help` and `--version`, and carries out any other command. Arguments that could not be read have the status
+/// and the line of their fault.
 pub fn run<S: Store, L: Links, O: Sink, E: Sink, P: Patterns, G: Ledger>(
     alloc: Global,
     arguments: Result<Vec<Text>, ArgumentsFault>,
@@ -69,7 +75,35 @@ pub fn run<S: Store, L: Links, O: Sink, E: Sink, P: Patterns, G: Ledger>(
     err: &mut E,
     patterns: &mut P,
     steps: &mut Steps<G>,
-) -> Status {
+) -> Status
+    ensures command { IfOk arguments (λ given. IsNoOption given.items → Promises given.items
+        (reports (store_report (S.held store.old) (S.reads store.old) (S.taken store.old)
+        (S.faults store.old)) (links_report (L.log links.old) (L.faults links.old))
+        (sink_report (O.text out.old) (O.puts out.old) (O.faults out.old))
+        (sink_report (E.text err.old) (E.puts err.old) (E.faults err.old))
+        (patterns_state (P.refusals patterns.old) (P.refused patterns.old)) steps.old.forks)
+        (reports (store_report (S.held store.new) (S.reads store.new) (S.taken store.new)
+        (S.faults store.new)) (links_report (L.log links.new) (L.faults links.new))
+        (sink_report (O.text out.new) (O.puts out.new) (O.faults out.new))
+        (sink_report (E.text err.new) (E.puts err.new) (E.faults err.new))
+        (patterns_state (P.refusals patterns.new) (P.refused patterns.new)) steps.new.forks)
+        (sameness (store.new ≡ store.old) (links.new ≡ links.old) (out.new ≡ out.old)
+        (err.new ≡ err.old) (patterns.new ≡ patterns.old) (steps.new ≡ steps.old)) result) }
+    ensures help { IfOk arguments (λ given. given.items ≡ help_words → WritesText HELP.now
+        (sink_report (O.text out.old) (O.puts out.old) (O.faults out.old))
+        (sink_report (O.text out.new) (O.puts out.new) (O.faults out.new)) result) }
+    ensures version { IfOk arguments (λ given. given.items ≡ version_words → WritesText VERSION.now
+        (sink_report (O.text out.old) (O.puts out.old) (O.faults out.old))
+        (sink_report (O.text out.new) (O.puts out.new) (O.faults out.new)) result) }
+    ensures not_utf8 { arguments ≡ Err ArgumentsFault.NotUtf8 →
+        (result ≡ Status.Usage) × GotLineOf usage_line
+        (sink_report (E.text err.old) (E.puts err.old) (E.faults err.old))
+        (sink_report (E.text err.new) (E.puts err.new) (E.faults err.new)) }
+    ensures memory { arguments ≡ Err ArgumentsFault.Memory →
+        (result ≡ Status.Memory) × GotLineOf memory_line
+        (sink_report (E.text err.old) (E.puts err.old) (E.faults err.old))
+        (sink_report (E.text err.new) (E.puts err.new) (E.faults err.new)) }
+{
     match arguments {
         Ok(arguments) => match arguments.as_slice() {
             [option] if option.is(b"--help") => put_text(out, HELP),

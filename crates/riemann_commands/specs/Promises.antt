@@ -1,0 +1,62 @@
+-- What the call of a command promises, as one fact of the words and of all that it was handed.
+use Rattle.std.specs.Prelude.{◌≡◌, ◌≢◌, ◌↔◌, ◌⊎◌, ℕ, List, [], ◌∷◌, codes}
+use Rattle.check_command.specs.Checks.{Checks}
+use Rattle.command_io.specs.Endings.{GotLineOf, HasNoLine, IsRefusal}
+use Rattle.command_io.specs.Lines.{usage_line}
+use Rattle.command_io.specs.Reports.{Reports, SinkReport}
+use Rattle.command_io.specs.declared.status.Status.{Status}
+use Rattle.command_io.specs.declared.status.Status.TheVariants.{Done, Usage, ReadFault, SinkFault, LinkFault, Memory}
+use Rattle.feed_command.specs.Feeds.{Feeds}
+use Rattle.load_command.specs.Loads.{Loads}
+use Rattle.ports.specs.Counts.{Rose}
+use Rattle.ports.specs.Writing.{Got}
+use Rattle.replay_command.specs.Replays.{Replays}
+use Rattle.serve_command.specs.Serves.{Serves}
+use Rattle.riemann_commands.specs.Commands.{IsCommand}
+use Rattle.riemann_commands.specs.Words.{IsUsage, OnCheck, OnFeed, OnLoad, OnReplay, OnServe}
+
+-- the facts that each of the objects that were handed in is as it was
+pub record Sameness : Type 1 where
+  pub Store : Type 0
+  pub Links : Type 0
+  pub Out : Type 0
+  pub Err : Type 0
+  pub Patterns : Type 0
+  pub Steps : Type 0
+
+abbrev pub sameness : Type 0 → Type 0 → Type 0 → Type 0 → Type 0 → Type 0 → Sameness
+sameness Store Links Out Err Patterns Steps =
+    record { Store = Store; Links = Links; Out = Out; Err = Err; Patterns = Patterns; Steps = Steps }
+
+-- The clauses of `riemann`, with the same names.
+pub record Promises (words : List (List ℕ)) (old new : Reports) (same : Sameness) (status : Status) : Type 0 where
+  pub usage : (status ≡ Usage) ↔ IsUsage words
+  pub command : status ≢ Usage → IsCommand words
+  pub idle : status ≡ Usage → same.Store × same.Links × same.Patterns × same.Steps × GotLineOf usage_line old.err new.err
+  pub untouched : IsRefusal status → same.Out × same.Links
+  pub memory : status ≡ Memory → OnReplay words (λ config script. ⊥) → OnServe words (λ config turns. ⊥) → same.Out
+  pub no_line : HasNoLine status → OnFeed words (λ config file. ⊥) → same.Err
+  pub read_fault : status ≡ ReadFault → Rose old.store.faults new.store.faults
+  pub sink_fault : status ≡ SinkFault → Rose old.out.faults new.out.faults ⊎ Rose old.err.faults new.err.faults
+  pub link_fault : status ≡ LinkFault → Rose old.links.faults new.links.faults
+  pub feed : OnFeed words (λ config file. Feeds config file old new same.Patterns status)
+  pub check : OnCheck words (λ config. Checks config old new same.Patterns status)
+  pub replay : OnReplay words (λ config script. Replays config script old new same.Patterns status)
+  pub serve : OnServe words (λ config turns. Serves config turns old new same.Patterns status)
+  pub load : OnLoad words (λ config count start. Loads config count start old new same.Patterns status)
+
+-- ---- the options, which the program answers itself
+
+abbrev pub help_words : List (List ℕ)
+help_words = codes "--help" ∷ []
+
+abbrev pub version_words : List (List ℕ)
+version_words = codes "--version" ∷ []
+
+-- no option is asked for
+abbrev pub IsNoOption : List (List ℕ) → Type 0
+IsNoOption words = (words ≡ help_words → ⊥) × (words ≡ version_words → ⊥)
+
+-- the text was written, or a put failed
+abbrev pub WritesText : List ℕ → SinkReport → SinkReport → Status → Type 0
+WritesText text old new status = ((status ≡ Done) × Got old.text text new.text) ⊎ ((status ≡ SinkFault) × Rose old.faults new.faults)
