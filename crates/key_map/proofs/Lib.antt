@@ -1,3 +1,4 @@
+pub mod HostLaws
 pub mod ServiceLaws
 pub mod SectionLaws
 pub mod RisingLaws

@@ -50,11 +50,11 @@ rise-hosts (x ∷ hosts) k a =
     rise-section (Some x.0) x.1 (by_key hosts) (All-head ServicesRise x.1 (values_of hosts) a)
     (rise-hosts hosts k.1 (All-tail ServicesRise x.1 (values_of hosts) a)) (λ s. after-hosts x.0 s hosts k.0)
 
-pub rise-all : (w : Services) (hosts : List (List ℕ × Services)) → AreSections w hosts → IsRising (numbers_of w hosts)
-rise-all w hosts k = rise-section None w (by_key hosts) k.first (rise-hosts hosts k.sections.rising k.sections.each) (λ s. after-absent s hosts)
+pub rise-all : (w : Services) (hosts : List (List ℕ × Services)) → ServicesRise w → SectionsRise hosts → IsRising (numbers_of w hosts)
+rise-all w hosts first sections = rise-section None w (by_key hosts) first (rise-hosts hosts sections.rising sections.each) (λ s. after-absent s hosts)
 
 pub empty-sections : (w : Services) (hosts : List (List ℕ × Services)) → w ≡ [] → hosts ≡ [] → AreSections w hosts
 unfolding IsStrictlySortedBy
-empty-sections [] [] e f = record { first = tt; sections = record { rising = tt; each = All-nil ServicesRise } }
+empty-sections [] [] e f = record { first = tt; sections = record { rising = tt; each = All-nil ServicesRise }; full = λ host h. cc }
 empty-sections [] (x ∷ hosts) e f = absurd (cc)
 empty-sections (x ∷ w) hosts e f = absurd (cc)

@@ -1,9 +1,9 @@
 -- What a look-up finds among the numbers of all hosts.
-use Rattle.std.proofs.Common.{◌≡◌, ℕ, Bool, true, false, ◌&&◌, cond, List, [], ◌∷◌, ◌++◌, map, filter, Option, None, Some, refl, sym, ap, ◌∙◌}
+use Rattle.std.proofs.Common.{◌≡◌, ℕ, Bool, true, false, ◌&&◌, cond, List, [], ◌∷◌, ◌++◌, Option, None, Some, refl, sym, ap, ◌∙◌}
 use mathlib.Core.Bool.{true≢false}
 use Rattle.std.specs.declared.cmp.Ordering.{Ordering}
 use Rattle.std.specs.declared.cmp.Ordering.TheVariants.{Less, Equal, Greater}
-use Rattle.std.specs.Ordering.{nat_cmp, is_eq, ordering_then}
+use Rattle.std.specs.Ordering.{is_eq, ordering_then}
 use Rattle.std.specs.BTreeMap.{is_at}
 use Rattle.std.specs.Map.{lookup, keys_of, values_of}
 use Rattle.std.specs.List.{AllByRecursion, flat_map}
@@ -226,7 +226,7 @@ values-of_absent w hosts =
 abbrev pub SetsHost : List (List ℕ × Services) → List (List ℕ × Services) → List ℕ → Option Services → Type 0
 SetsHost hosts hosts' host slot = (q : List ℕ) → services_at q hosts' ≡ cond (is_at (bytes_cmp host) q) slot (services_at q hosts)
 
-host-is : (host q : List ℕ) → is_at (bytes_cmp host) q ≡ true → host ≡ q
+pub host-is : (host q : List ℕ) → is_at (bytes_cmp host) q ≡ true → host ≡ q
 host-is host q h = exact_bytes host q (equal-is (bytes_cmp host q) h)
 
 pub sets-in : (hosts hosts' : List (List ℕ × Services)) (host : List ℕ) (slot : Option Services) (s : Option (List ℕ)) (v : Option ℕ)

@@ -1,9 +1,10 @@
 -- A map from keys to numbers, as contracts see it: pairs of a key and its number, in key order. A key is a host and a
 -- service, each of which may be absent.
-use Rattle.std.specs.Prelude.{◌≡◌, ℕ, Bool, List, filter, Option, if◌then◌else◌}
+use Rattle.std.specs.Prelude.{◌≡◌, ℕ, List, length, filter, Option, Some, IsSome, Contains, if◌then◌else◌}
 use Rattle.std.specs.List.Sorted.{IsStrictlySortedBy}
 use Rattle.std.specs.Map.{lookup, keys_of}
-use Rattle.std.specs.Ordering.{ordering_then}
+use Rattle.std.specs.Ordering.{nat_cmp, ordering_then}
+use Rattle.std.specs.Cmp.Lexicographic.{slice_cmp}
 use Rattle.std.specs.declared.cmp.Ordering.{Ordering}
 use Rattle.std.specs.BTreeMap.{is_at}
 use Rattle.index_log.specs.IndexKey.{text_cmp}
@@ -33,3 +34,11 @@ Sets old new key number = (other : IndexKey) → number_at other new ≡ (if is_
 -- the keys of the host, with their numbers
 abbrev pub of_host : Option (List ℕ) → Numbers → Numbers
 of_host host numbers = filter (λ entry. is_at (text_cmp host) (entry.0).0) numbers
+
+-- the count is that of the hosts that have a key
+pub record CountsHosts (count : ℕ) (numbers : Numbers) : Type 0 where
+  pub hosts : List (List ℕ)
+  pub rising : IsStrictlySortedBy (slice_cmp nat_cmp) hosts
+  pub have_keys : (host : List ℕ) → Contains hosts host → (service : Option (List ℕ)) × IsSome (number_at (Some host, service) numbers)
+  pub all : (host : List ℕ) (service : Option (List ℕ)) → IsSome (number_at (Some host, service) numbers) → Contains hosts host
+  pub counted : count ≡ length hosts

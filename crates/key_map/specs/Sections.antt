@@ -1,5 +1,5 @@
 -- How a map from keys to numbers is kept: the numbers of each host, by service.
-use Rattle.std.specs.Prelude.{◌≡◌, ℕ, ◌&&◌, List, [], ◌∷◌, ◌++◌, map, Option, None, Some, if◌then◌else◌}
+use Rattle.std.specs.Prelude.{◌≡◌, ◌≢◌, ℕ, false, ◌&&◌, List, [], ◌∷◌, ◌++◌, map, Option, None, Some, if◌then◌else◌}
 use Rattle.std.specs.List.{All}
 use Rattle.std.specs.List.Sorted.{IsStrictlySortedBy}
 use Rattle.std.specs.Map.{lookup, keys_of, values_of}
@@ -68,6 +68,15 @@ pub record SectionsRise (hosts : List (List ℕ × Services)) : Type 0 where
   pub rising : IsStrictlySortedBy (slice_cmp nat_cmp) (keys_of hosts)
   pub each : All ServicesRise (values_of hosts)
 
+-- every host has a service
+abbrev pub HaveServices : List (List ℕ × Services) → Type 0
+HaveServices hosts = (host : List ℕ) → services_at host hosts ≢ Some []
+
+-- every host but the given one has a service
+abbrev pub OthersHaveServices : List ℕ → List (List ℕ × Services) → Type 0
+OthersHaveServices host hosts = (other : List ℕ) → is_at (slice_cmp nat_cmp host) other ≡ false → services_at other hosts ≢ Some []
+
 pub record AreSections (without : Services) (hosts : List (List ℕ × Services)) : Type 0 where
   pub first : ServicesRise without
   pub sections : SectionsRise hosts
+  pub full : HaveServices hosts

@@ -1,7 +1,7 @@
-ghost use Rattle.std.specs.Prelude.{◌≡◌, [], ◌++◌, true, option_copied, None, Some, IfOk, OnOk, OnErr};
+ghost use Rattle.std.specs.Prelude.{◌≡◌, ◌≢◌, [], ◌++◌, true, false, option_copied, None, Some, IfOk, OnOk, OnErr};
 ghost use Rattle.std.specs.Map.{values_of};
-ghost use Rattle.key_map.specs.Keys.{number_at, IsRising, Sets, of_host};
-ghost use Rattle.key_map.specs.Sections.{by_key, host_at, SectionsRise, SetsIn, SameIn, services_at};
+ghost use Rattle.key_map.specs.Keys.{number_at, CountsHosts, IsRising, Sets, of_host};
+ghost use Rattle.key_map.specs.Sections.{by_key, host_at, HaveServices, OthersHaveServices, SectionsRise, SetsIn, SameIn, services_at};
 
 use crate::services::Services;
 use ev_types::{Memory, Text};
@@ -87,6 +87,13 @@ impl KeyMap {
         }
     }
 
+    /// How many hosts the map keeps. A host is kept while it has a key.
+    pub fn host_count(&self) -> usize
+        ensures { CountsHosts result self.now }
+    {
+        self.hosts.len()
+    }
+
     /// All numbers, in key order.
     pub fn numbers(&self, alloc: Global) -> Result<Ids, Memory>
         ensures { IfOk result (λ numbers. numbers ≡ values_of self.now) }
@@ -138,6 +145,7 @@ fn insert_at(
         (SetsIn hosts.old.entries hosts.new.entries host service (Some number)) }
     ensures err { OnErr result (hosts.new.entries ≡ hosts.old.entries) }
     ensures rising { SectionsRise hosts.old.entries → SectionsRise hosts.new.entries }
+    ensures full { HaveServices hosts.old.entries → HaveServices hosts.new.entries }
 {
     if let Some(services) = hosts.get_mut(&host) {
         return services.insert(service, number);
@@ -159,6 +167,7 @@ fn remove_at(
         (option_copied service.entry)
         None }
     ensures rising { SectionsRise hosts.old.entries → SectionsRise hosts.new.entries }
+    ensures full { HaveServices hosts.old.entries → HaveServices hosts.new.entries }
 {
     let number = remove_service(hosts, host, service);
     remove_empty(hosts, host);
@@ -176,6 +185,8 @@ fn remove_service(
         (option_copied service.entry)
         None }
     ensures rising { SectionsRise hosts.old.entries → SectionsRise hosts.new.entries }
+    ensures others { HaveServices hosts.old.entries
+        → OthersHaveServices host.now hosts.new.entries }
 {
     let Some(services) = hosts.get_mut(host) else {
         return None;
@@ -187,6 +198,8 @@ fn remove_service(
 fn remove_empty(hosts: &mut BTreeMap<Text, Services>, host: &Text)
     ensures same { SameIn hosts.old.entries hosts.new.entries }
     ensures rising { SectionsRise hosts.old.entries → SectionsRise hosts.new.entries }
+    ensures full { OthersHaveServices host.now hosts.old.entries
+        → HaveServices hosts.new.entries }
 {
     if is_empty_at(hosts, host) {
         hosts.remove(host);
@@ -195,7 +208,8 @@ fn remove_empty(hosts: &mut BTreeMap<Text, Services>, host: &Text)
 
 /// Whether the host is there and has no services.
 fn is_empty_at(hosts: &BTreeMap<Text, Services>, host: &Text) -> bool
-    ensures { result ≡ true → services_at host.now hosts.now.entries ≡ Some [] }
+    ensures empty { result ≡ true → services_at host.now hosts.now.entries ≡ Some [] }
+    ensures full { result ≡ false → services_at host.now hosts.now.entries ≢ Some [] }
 {
     match hosts.get(host) {
         Some(services) => services.is_empty(),

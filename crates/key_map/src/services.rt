@@ -1,4 +1,4 @@
-ghost use Rattle.std.specs.Prelude.{◌≡◌, [], ◌++◌, option_copied, true, None, Some, OnOk, OnErr};
+ghost use Rattle.std.specs.Prelude.{◌≡◌, ◌≢◌, [], ◌++◌, option_copied, true, false, None, Some, OnOk, OnErr};
 ghost use Rattle.std.specs.Map.{values_of};
 ghost use Rattle.key_map.specs.Sections.{service_at, services_of, ServicesRise, SetsService};
 
@@ -79,7 +79,8 @@ impl Services {
     }
 
     pub(crate) fn is_empty(&self) -> bool
-        ensures { result ≡ true → self.now ≡ [] }
+        ensures empty { result ≡ true → self.now ≡ [] }
+        ensures full { result ≡ false → self.now ≢ [] }
     {
         match self.absent {
             Some(_) => false,

@@ -9,6 +9,7 @@ use Rattle.std.proofs.lemmas.Result.{on_ok_weaker, on_err_weaker}
 use Rattle.std.proofs.lemmas.Map.Views.{All-values-set_value, All-values-insert_entry}
 use Rattle.key_map.specs.Sections.{Services, service_at, services_at, ServicesRise}
 use Rattle.key_map.proofs.ServiceLaws.{bytes_cmp}
+use Rattle.key_map.proofs.HostLaws.{set-some, still-some, full-set}
 use Rattle.key_map.proofs.SectionLaws.{lent-sets, new-sets}
 use Rattle.key_map.proofs.map.insert_at.Goals as goal
 
@@ -48,3 +49,17 @@ returns-clause-rising c = λ k. record {
       (All-values-insert_entry bytes_cmp c.args.host c.insert-2.new.self ServicesRise _
       (subst (λ (m : BTreeMap (List ℕ) Services). All ServicesRise (values_of m.entries)) (sym c.get_mut.follows.holds-at-none) k.each) c.insert-2.ensures.rising);
 }
+
+pub returns-in-Some-clause-full : goal.returns-in-Some-clause-full
+returns-in-Some-clause-full c = λ full.
+    full-set c.args.hosts.now.entries (c.get_mut.follows.lender c.insert.new.self).entries c.args.host c.insert.new.self
+    ((c.get_mut.follows.holds c.insert.new.self).3 (subst IsSome c.in-Some.ensures.value refl)).0
+    (still-some c.insert.result c.in-Some.services.now c.insert.new.self c.args.service c.args.number c.insert.ensures.ok c.insert.ensures.err
+    (λ none. full c.args.host (sym c.in-Some.ensures.value ∙ ap Some none))) full
+
+pub returns-clause-full : goal.returns-clause-full
+returns-clause-full c = λ full.
+    full-set c.args.hosts.now.entries c.insert-3.new.self.entries c.args.host c.insert-2.new.self
+    (λ q. c.in_ok-insert-2.ensures.updates.0 q
+    ∙ ap (λ (m : BTreeMap (List ℕ) Services). cond (is_at (bytes_cmp c.args.host) q) (Some c.insert-2.new.self) (services_at q m.entries)) c.get_mut.follows.holds-at-none)
+    (set-some c.fresh-services.result c.insert-2.new.self c.args.service c.args.number c.in_ok-insert.ensures.ok) full

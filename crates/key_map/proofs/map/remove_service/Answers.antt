@@ -1,4 +1,4 @@
-use Rattle.std.proofs.Common.{◌≡◌, ℕ, List, None, Some, refl, sym, ap, ◌∙◌, subst}
+use Rattle.std.proofs.Common.{◌≡◌, ℕ, List, None, refl, sym, ap, ◌∙◌, subst}
 use Rattle.std.specs.Option.{option_copied, IsSome, option_copied_mut}
 use Rattle.std.specs.List.{All}
 use Rattle.std.specs.Map.{values_of}

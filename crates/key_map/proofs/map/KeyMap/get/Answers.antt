@@ -1,4 +1,4 @@
-use Rattle.std.proofs.Common.{None, Some, sym, ap, ◌∙◌, subst}
+use Rattle.std.proofs.Common.{sym, ap, ◌∙◌, subst}
 use Rattle.std.specs.Option.{option_copied}
 use Rattle.key_map.specs.Keys.{number_at, IsRising}
 use Rattle.key_map.specs.Sections.{numbers_of}
@@ -14,7 +14,7 @@ returns-in-Some-clause-number c =
     ∙ ap (number_at (option_copied c.args.host, option_copied c.args.service)) c.self.view_is
 
 pub returns-in-Some-clause-rising : goal.returns-in-Some-clause-rising
-returns-in-Some-clause-rising c = subst IsRising c.self.view_is (rise-all c.self.inside.without_host c.self.inside.hosts.entries c.self.invariant)
+returns-in-Some-clause-rising c = subst IsRising c.self.view_is (rise-all c.self.inside.without_host c.self.inside.hosts.entries c.self.invariant.first c.self.invariant.sections)
 
 pub returns-in-None-clause-number : goal.returns-in-None-clause-number
 returns-in-None-clause-number c =
@@ -24,4 +24,4 @@ returns-in-None-clause-number c =
     ∙ ap (number_at (option_copied c.args.host, option_copied c.args.service)) c.self.view_is
 
 pub returns-in-None-clause-rising : goal.returns-in-None-clause-rising
-returns-in-None-clause-rising c = subst IsRising c.self.view_is (rise-all c.self.inside.without_host c.self.inside.hosts.entries c.self.invariant)
+returns-in-None-clause-rising c = subst IsRising c.self.view_is (rise-all c.self.inside.without_host c.self.inside.hosts.entries c.self.invariant.first c.self.invariant.sections)

@@ -1,4 +1,4 @@
-use Rattle.std.proofs.Common.{None, Some, cond, sym, ap, ◌∙◌}
+use Rattle.std.proofs.Common.{Some, cond, sym, ap, ◌∙◌}
 use Rattle.std.specs.BTreeMap.{is_at}
 use Rattle.key_map.specs.Keys.{key_cmp, number_at}
 use Rattle.key_map.specs.Sections.{numbers_of}
@@ -8,11 +8,11 @@ use Rattle.key_map.proofs.map.KeyMap.insert.Goals as goal
 
 pub returns-in_err-insert_at-in-Some-clause-rising : goal.returns-in_err-insert_at-in-Some-clause-rising
 returns-in_err-insert_at-in-Some-clause-rising c =
-    rise-all c.self.inside.without_host c.insert_at.new.hosts.entries (record { first = c.self.invariant.first; sections = c.insert_at.ensures.rising c.self.invariant.sections })
+    rise-all c.self.inside.without_host c.insert_at.new.hosts.entries c.self.invariant.first (c.insert_at.ensures.rising c.self.invariant.sections)
 
 pub returns-in_err-insert-in-None-clause-rising : goal.returns-in_err-insert-in-None-clause-rising
 returns-in_err-insert-in-None-clause-rising c =
-    rise-all c.insert.new.self c.self.inside.hosts.entries (record { first = c.insert.ensures.rising; sections = c.self.invariant.sections })
+    rise-all c.insert.new.self c.self.inside.hosts.entries c.insert.ensures.rising c.self.invariant.sections
 
 pub returns-in_ok-insert_at-in-Some-clause-ok : goal.returns-in_ok-insert_at-in-Some-clause-ok
 returns-in_ok-insert_at-in-Some-clause-ok c = λ q.
@@ -23,7 +23,7 @@ returns-in_ok-insert_at-in-Some-clause-ok c = λ q.
 
 pub returns-in_ok-insert_at-in-Some-clause-rising : goal.returns-in_ok-insert_at-in-Some-clause-rising
 returns-in_ok-insert_at-in-Some-clause-rising c =
-    rise-all c.self.inside.without_host c.insert_at.new.hosts.entries (record { first = c.self.invariant.first; sections = c.insert_at.ensures.rising c.self.invariant.sections })
+    rise-all c.self.inside.without_host c.insert_at.new.hosts.entries c.self.invariant.first (c.insert_at.ensures.rising c.self.invariant.sections)
 
 pub returns-in_ok-insert-in-None-clause-ok : goal.returns-in_ok-insert-in-None-clause-ok
 returns-in_ok-insert-in-None-clause-ok c = λ q.
@@ -33,4 +33,4 @@ returns-in_ok-insert-in-None-clause-ok c = λ q.
 
 pub returns-in_ok-insert-in-None-clause-rising : goal.returns-in_ok-insert-in-None-clause-rising
 returns-in_ok-insert-in-None-clause-rising c =
-    rise-all c.insert.new.self c.self.inside.hosts.entries (record { first = c.insert.ensures.rising; sections = c.self.invariant.sections })
+    rise-all c.insert.new.self c.self.inside.hosts.entries c.insert.ensures.rising c.self.invariant.sections

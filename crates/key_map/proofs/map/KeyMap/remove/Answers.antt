@@ -1,4 +1,4 @@
-use Rattle.std.proofs.Common.{None, Some, cond, sym, ap, ◌∙◌}
+use Rattle.std.proofs.Common.{None, cond, sym, ap, ◌∙◌}
 use Rattle.std.specs.Option.{option_copied}
 use Rattle.std.specs.BTreeMap.{is_at}
 use Rattle.key_map.specs.Keys.{key_cmp, number_at}
@@ -23,7 +23,7 @@ returns-in-Some-clause-removed c = λ q.
 
 pub returns-in-Some-clause-rising : goal.returns-in-Some-clause-rising
 returns-in-Some-clause-rising c =
-    rise-all c.self.inside.without_host c.remove_at.new.hosts.entries (record { first = c.self.invariant.first; sections = c.remove_at.ensures.rising c.self.invariant.sections })
+    rise-all c.self.inside.without_host c.remove_at.new.hosts.entries c.self.invariant.first (c.remove_at.ensures.rising c.self.invariant.sections)
 
 pub returns-in-None-clause-number : goal.returns-in-None-clause-number
 returns-in-None-clause-number c =
@@ -40,4 +40,4 @@ returns-in-None-clause-removed c = λ q.
 
 pub returns-in-None-clause-rising : goal.returns-in-None-clause-rising
 returns-in-None-clause-rising c =
-    rise-all c.remove.new.self c.self.inside.hosts.entries (record { first = c.remove.ensures.rising; sections = c.self.invariant.sections })
+    rise-all c.remove.new.self c.self.inside.hosts.entries c.remove.ensures.rising c.self.invariant.sections
