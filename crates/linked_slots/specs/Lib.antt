@@ -1,3 +1,4 @@
 pub mod IdLists
+pub mod Lending
 pub mod Nodes
 pub mod Table

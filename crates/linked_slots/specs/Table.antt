@@ -1,9 +1,16 @@
--- A table of values, as contracts see it: the value at each number from 0 on, where there is one.
-use Rattle.std.specs.Prelude.{◌≡◌, ◌≢◌, ℕ, List, Option, None, IsSome, slice_index_or, slice_set, Some}
-use Rattle.std.specs.Borrow.{Lends, MutBor, Fml, RattleType}
-use Rattle.linked_slots.specs.contracts.table.StepTable.{the_row}
+-- A table of values, as contracts see it.
+use Rattle.std.specs.Prelude.{◌≡◌, ◌≢◌, ℕ, List, Option, None, IsSome, is_some, count_by, slice_index_or}
+
+-- the value at each number from 0 on, where there is one, and how many values fit into the memory of the table
+pub record Table (T : Type 0) : Type 0 where
+  pub values : List (Option T)
+  pub room : ℕ
 
 module _ {T : Type 0} where
+  -- how many values there are
+  abbrev pub count_of : Table T → ℕ
+  count_of table = count_by is_some table.values
+
   -- the value at the number
   abbrev pub value_at : List (Option T) → ℕ → Option T
   value_at table number = slice_index_or table number None
@@ -16,8 +23,3 @@ module _ {T : Type 0} where
   pub record Changes (old new : List (Option T)) (number : ℕ) (slot : Option T) : Type 0 where
     pub changed : value_at new number ≡ slot
     pub others : (other : ℕ) → other ≢ number → value_at new other ≡ value_at old other
-
--- the table ends with the last value written through the reference at the number
-abbrev pub LendsValue : (T : RattleType) → MutBor (List (Option T.Denot)) → ℕ → MutBor T.Denot → Fml
-LendsValue T table number lent =
-    Lends (the_row T) T table lent (λ value. slice_set table.now number (Some value))

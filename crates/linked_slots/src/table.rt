@@ -1,7 +1,7 @@
-ghost use Rattle.std.specs.Prelude.{◌≡◌, ◌+◌, [], ◌↔◌, IsTrue, Some, None, IfOk, OnErr};
+ghost use Rattle.std.specs.Prelude.{◌≡◌, ◌+◌, ◌<◌, ◌≤◌, [], ◌↔◌, IsTrue, IsOk, Some, None, IfOk, OnErr, OnOk};
 ghost use Rattle.std.specs.Borrow.{sem};
 ghost use Rattle.step_count.specs.Count.{one_more};
-ghost use Rattle.linked_slots.specs.Table.{value_at, IsLive, Changes, LendsValue};
+ghost use Rattle.linked_slots.specs.Table.{value_at, count_of, IsLive, Changes};
 
 use list_laws::Memory;
 use slab::Slab;
@@ -10,50 +10,66 @@ use std::marker::Model;
 use std::mem;
 use step_count::{Ledger, Steps};
 
-/// Values under numbers that the table picks. The number of a removed value is used again.
+/// Values under numbers that the table picks. The number of a removed value is used again: numbers are below the count of
+/// the values that fit, and more fit only once that many are there.
 #[derive(Drop)]
 pub struct StepTable<T> {
     values: Slab<T>,
 }
 
 impl<T> Model for StepTable<T> {
-    ghost use Rattle.std.specs.Prelude.{List, Option};
+    ghost use Rattle.linked_slots.specs.Table.{Table};
 
-    ghost Value = { List (Option T) };
+    ghost Value = { Table T };
 
-    ghost view = { λ table. table.values.slots };
+    ghost view = { λ table. record {
+      values = table.values.slots;
+      room = table.values.capacity;
+    } };
 }
 
 impl<T: Drop> StepTable<T> {
+    ghost use Rattle.linked_slots.specs.Lending.{LendsValue};
+
     /// The table of no values. It takes no memory.
     pub fn fresh(alloc: Global) -> StepTable<T>
-        ensures { result ≡ [] }
+        ensures values { result.values ≡ [] }
+        ensures room { result.room ≡ 0 }
     {
         StepTable {
             values: Slab::new(alloc),
         }
     }
 
-    /// Adds the value under a number that has none.
+    /// Adds the value under a number that has none. It takes memory only where as many values are there as fit, so after
+    /// a removal it takes none.
     pub fn add(&mut self, _alloc: Global, value: T) -> Result<usize, Memory>
-        ensures vacant { IfOk result (λ number. value_at self.old number ≡ None) }
-        ensures added { IfOk result (λ number. Changes self.old self.new number (Some value)) }
-        ensures err { OnErr result (self.new ≡ self.old) }
+        ensures vacant { IfOk result (λ number. value_at self.old.values number ≡ None) }
+        ensures added { IfOk result (λ number.
+            Changes self.old.values self.new.values number (Some value)) }
+        ensures count { OnOk result (count_of self.new ≡ count_of self.old + 1) }
+        ensures err { OnErr result (self.new.values ≡ self.old.values) }
+
+        // A number is below the room, and the room grows only where it is full.
+        ensures number { IfOk result (λ number. number < self.new.room) }
+        ensures fits { count_of self.old < self.old.room → IsOk result }
+        ensures same_room { count_of self.old < self.old.room → self.new.room ≡ self.old.room }
+        ensures room { self.old.room ≤ self.new.room }
     {
         Ok(self.values.insert(value)?)
     }
 
     /// Whether the number has a value.
     pub fn contains(&self, number: usize) -> bool
-        ensures { IsTrue result ↔ IsLive self.now number }
+        ensures { IsTrue result ↔ IsLive self.now.values number }
     {
         self.values.contains(number)
     }
 
     /// The value at the number, for reading. It counts one entry.
     pub fn read<G: Ledger>(&self, number: usize, steps: &mut Steps<G>) -> &T
-        requires { IsLive self.now number }
-        ensures value { value_at self.now number ≡ Some result.now }
+        requires { IsLive self.now.values number }
+        ensures value { value_at self.now.values number ≡ Some result.now }
         ensures forks { steps.new.forks ≡ steps.old.forks }
         ensures entries { steps.new.entries ≡ steps.old.entries + 1 }
         ensures forks_reported { G.forks steps.new.ledger ≡ G.forks steps.old.ledger }
@@ -66,9 +82,9 @@ impl<T: Drop> StepTable<T> {
 
     /// The value at the number, for writing. It counts one entry.
     pub fn visit<G: Ledger>(&mut self, number: usize, steps: &mut Steps<G>) -> &mut T
-        requires { IsLive self.old number }
+        requires { IsLive self.old.values number }
         ensures* writes_back { sem 𝓛 (LendsValue T.row self.entry number result) }
-        ensures value { value_at self.old number ≡ Some result.now }
+        ensures value { value_at self.old.values number ≡ Some result.now }
         ensures forks { steps.new.forks ≡ steps.old.forks }
         ensures entries { steps.new.entries ≡ steps.old.entries + 1 }
         ensures forks_reported { G.forks steps.new.ledger ≡ G.forks steps.old.ledger }
@@ -81,18 +97,22 @@ impl<T: Drop> StepTable<T> {
 
     /// Swaps the value with the one at the number. It takes no memory and counts nothing.
     pub fn swap(&mut self, number: usize, value: &mut T)
-        requires { IsLive self.old number }
-        ensures given { value_at self.old number ≡ Some value.new }
-        ensures swapped { Changes self.old self.new number (Some value.old) }
+        requires { IsLive self.old.values number }
+        ensures given { value_at self.old.values number ≡ Some value.new }
+        ensures swapped { Changes self.old.values self.new.values number (Some value.old) }
+        ensures count { count_of self.new ≡ count_of self.old }
+        ensures room { self.new.room ≡ self.old.room }
     {
         mem::swap(&mut self.values[number], value);
     }
 
     /// Takes the value at the number out.
     pub fn remove(&mut self, number: usize) -> T
-        requires { IsLive self.old number }
-        ensures value { value_at self.old number ≡ Some result }
-        ensures removed { Changes self.old self.new number None }
+        requires { IsLive self.old.values number }
+        ensures value { value_at self.old.values number ≡ Some result }
+        ensures removed { Changes self.old.values self.new.values number None }
+        ensures count { count_of self.new + 1 ≡ count_of self.old }
+        ensures room { self.new.room ≡ self.old.room }
     {
         self.values.remove(number)
     }

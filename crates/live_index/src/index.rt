@@ -31,12 +31,12 @@ impl Model for LiveIndex {
     ghost Value = { Index };
 
     ghost view = { λ index. record {
-      events = events_unless index.poisoned index.store.numbers index.store.events;
+      events = events_unless index.poisoned index.store.numbers index.store.events.values;
       poisoned = index.poisoned;
     } };
 
     ghost invariant = { λ index. index.poisoned ≡ false →
-        IsStored index.store.numbers index.store.events index.store.due index.store.count };
+        IsStored index.store.numbers index.store.events.values index.store.due index.store.count };
 }
 
 impl LiveIndex {

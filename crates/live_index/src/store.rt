@@ -44,8 +44,8 @@ pub(crate) struct Store {
 
 impl Store {
     pub(crate) fn fresh(alloc: Global) -> Store
-        ensures stored { IsStored result.numbers result.events result.due result.count }
-        ensures events { events_in result.numbers result.events ≡ [] }
+        ensures stored { IsStored result.numbers result.events.values result.due result.count }
+        ensures events { events_in result.numbers result.events.values ≡ [] }
     {
         Store {
             numbers: KeyMap::fresh(alloc),
@@ -59,11 +59,11 @@ impl Store {
     /// Moves the event into the store, in place of the one of its host and service. An event whose state is "expired" is
     /// not moved, and only ends that one.
     pub(crate) fn write(&mut self, alloc: Global, event: &mut Event) -> Result<(), Memory>
-        requires { IsStored self.old.numbers self.old.events self.old.due self.old.count }
+        requires { IsStored self.old.numbers self.old.events.values self.old.due self.old.count }
         ensures stored { OnOk result
-            (IsStored self.new.numbers self.new.events self.new.due self.new.count) }
+            (IsStored self.new.numbers self.new.events.values self.new.due self.new.count) }
         ensures puts { OnOk result (Puts (key_of event.old) (slot_of event.old)
-            self.old.numbers self.old.events self.new.numbers self.new.events) }
+            self.old.numbers self.old.events.values self.new.numbers self.new.events.values) }
     {
         if event.is_over() {
             self.end(event.host.as_ref(), event.service.as_ref());
@@ -75,12 +75,12 @@ impl Store {
 
     /// Moves the event, which is not over, into the store, in place of the one of its host and service.
     fn enter(&mut self, alloc: Global, event: &mut Event) -> Result<(), Memory>
-        requires stored { IsStored self.old.numbers self.old.events self.old.due self.old.count }
+        requires stored { IsStored self.old.numbers self.old.events.values self.old.due self.old.count }
         requires current { is_over event.old ≡ false }
         ensures stored { OnOk result
-            (IsStored self.new.numbers self.new.events self.new.due self.new.count) }
+            (IsStored self.new.numbers self.new.events.values self.new.due self.new.count) }
         ensures puts { OnOk result (Puts (key_of event.old) (Some event.old)
-            self.old.numbers self.old.events self.new.numbers self.new.events) }
+            self.old.numbers self.old.events.values self.new.numbers self.new.events.values) }
     {
         let hash = hash_of(event);
         match self.number_of(hash, event) {
@@ -94,7 +94,7 @@ impl Store {
 
     /// The number of the event's host and service, which have this hash.
     fn number_of(&self, hash: u64, event: &Event) -> Option<usize>
-        requires { IsLinked self.now.numbers self.now.events }
+        requires { IsLinked self.now.numbers self.now.events.values }
         ensures { result ≡ number_at (key_of event.now) self.now.numbers }
     {
         match self.hinted(hash, event) {
@@ -107,7 +107,7 @@ impl Store {
 
     /// That of the two numbers noted for the hash which is the number of the event's host and service, if one is.
     fn hinted(&self, hash: u64, event: &Event) -> Option<usize>
-        requires { IsLinked self.now.numbers self.now.events }
+        requires { IsLinked self.now.numbers self.now.events.values }
         ensures { IfSome result (λ number.
             number_at (key_of event.now) self.now.numbers ≡ Some number) }
     {
@@ -120,7 +120,7 @@ impl Store {
 
     /// The number, if an event of the same host and service has it.
     fn checked_hint(&self, number: usize, event: &Event) -> Option<usize>
-        requires { IsLinked self.now.numbers self.now.events }
+        requires { IsLinked self.now.numbers self.now.events.values }
         ensures { IfSome result (λ number.
             number_at (key_of event.now) self.now.numbers ≡ Some number) }
     {
@@ -139,13 +139,13 @@ impl Store {
     /// Swaps an event with the one of this number, which is of the same host and service. Where both expire at the same
     /// moment it takes no memory.
     fn replace(&mut self, alloc: Global, number: usize, event: &mut Event) -> Result<(), Memory>
-        requires stored { IsStored self.old.numbers self.old.events self.old.due self.old.count }
+        requires stored { IsStored self.old.numbers self.old.events.values self.old.due self.old.count }
         requires known { number_at (key_of event.old) self.old.numbers ≡ Some number }
         requires current { is_over event.old ≡ false }
         ensures stored { OnOk result
-            (IsStored self.new.numbers self.new.events self.new.due self.new.count) }
+            (IsStored self.new.numbers self.new.events.values self.new.due self.new.count) }
         ensures puts { OnOk result (Puts (key_of event.old) (Some event.old)
-            self.old.numbers self.old.events self.new.numbers self.new.events) }
+            self.old.numbers self.old.events.values self.new.numbers self.new.events.values) }
     {
         let due = due_moment(event);
         self.events.swap(number, event);
@@ -155,12 +155,12 @@ impl Store {
 
     /// Removes the event of this host and this service, if there is one.
     fn end(&mut self, host: Option<&Text>, service: Option<&Text>)
-        requires { IsStored self.old.numbers self.old.events self.old.due self.old.count }
-        ensures stored { IsStored self.new.numbers self.new.events self.new.due self.new.count }
+        requires { IsStored self.old.numbers self.old.events.values self.old.due self.old.count }
+        ensures stored { IsStored self.new.numbers self.new.events.values self.new.due self.new.count }
         ensures absent { number_at (option_copied host.entry, option_copied service.entry)
             self.new.numbers ≡ None }
         ensures puts { Puts (option_copied host.entry, option_copied service.entry) None
-            self.old.numbers self.old.events self.new.numbers self.new.events }
+            self.old.numbers self.old.events.values self.new.numbers self.new.events.values }
     {
         let Some(number) = self.numbers.remove(host, service) else {
             return;
@@ -172,13 +172,13 @@ impl Store {
 
     /// Adds the event, whose host and service have this hash and no event yet. It is moved out of `event`.
     fn put(&mut self, alloc: Global, hash: u64, event: &mut Event) -> Result<(), Memory>
-        requires stored { IsStored self.old.numbers self.old.events self.old.due self.old.count }
+        requires stored { IsStored self.old.numbers self.old.events.values self.old.due self.old.count }
         requires absent { number_at (key_of event.old) self.old.numbers ≡ None }
         requires current { is_over event.old ≡ false }
         ensures stored { OnOk result
-            (IsStored self.new.numbers self.new.events self.new.due self.new.count) }
+            (IsStored self.new.numbers self.new.events.values self.new.due self.new.count) }
         ensures puts { OnOk result (Puts (key_of event.old) (Some event.old)
-            self.old.numbers self.old.events self.new.numbers self.new.events) }
+            self.old.numbers self.old.events.values self.new.numbers self.new.events.values) }
     {
         let Some(count) = self.count.checked_add(1) else {
             return Err(Memory);
@@ -203,10 +203,10 @@ impl Store {
         service: Option<&Text>,
         steps: &mut Steps<G>,
     ) -> Option<&Event>
-        requires { IsStored self.now.numbers self.now.events self.now.due self.now.count }
+        requires { IsStored self.now.numbers self.now.events.values self.now.due self.now.count }
         ensures event { option_copied result ≡ event_of
             (option_copied host.entry, option_copied service.entry)
-            self.now.numbers self.now.events }
+            self.now.numbers self.now.events.values }
         ensures forks { steps.new.forks ≡ steps.old.forks }
         ensures found { IsSome result → steps.new.entries ≡ steps.old.entries + 1 }
         ensures absent { IsNone result → steps.new.entries ≡ steps.old.entries }
@@ -218,8 +218,8 @@ impl Store {
 
     /// How many events there are.
     pub(crate) fn len(&self) -> usize
-        requires { IsStored self.now.numbers self.now.events self.now.due self.now.count }
-        ensures { result ≡ length (events_in self.now.numbers self.now.events) }
+        requires { IsStored self.now.numbers self.now.events.values self.now.due self.now.count }
+        ensures { result ≡ length (events_in self.now.numbers self.now.events.values) }
     {
         self.count
     }
@@ -233,19 +233,19 @@ impl Store {
         out: &mut Events,
         steps: &mut Steps<G>,
     ) -> Result<(), Memory>
-        requires stored { IsStored self.old.numbers self.old.events self.old.due self.old.count }
+        requires stored { IsStored self.old.numbers self.old.events.values self.old.due self.old.count }
         requires now { now ≤ 2 ^ 40 }
         ensures stored { OnOk result
-            (IsStored self.new.numbers self.new.events self.new.due self.new.count) }
-        ensures kept { OnOk result (events_in self.new.numbers self.new.events
+            (IsStored self.new.numbers self.new.events.values self.new.due self.new.count) }
+        ensures kept { OnOk result (events_in self.new.numbers self.new.events.values
             ≡ filter (λ event. not (is_expired now event))
-            (events_in self.old.numbers self.old.events)) }
+            (events_in self.old.numbers self.old.events.values)) }
         ensures gone { OnOk result (out.new ≡ out.old
-            ++ filter (is_expired now) (events_in self.old.numbers self.old.events)) }
+            ++ filter (is_expired now) (events_in self.old.numbers self.old.events.values)) }
         ensures prefix { OnErr result (IsPrefix out.old out.new) }
         ensures forks { steps.new.forks ≡ steps.old.forks }
         ensures entries { steps.new.entries ≤ steps.old.entries
-            + length (filter (is_expired now) (events_in self.old.numbers self.old.events)) }
+            + length (filter (is_expired now) (events_in self.old.numbers self.old.events.values)) }
     {
         let mut numbers = Ids::fresh(alloc);
         self.due.take_due(alloc, now, &mut numbers, steps)?;
@@ -263,16 +263,16 @@ impl Store {
         out: &mut Events,
         steps: &mut Steps<G>,
     ) -> Result<(), Memory>
-        requires { IsStored self.now.numbers self.now.events self.now.due self.now.count }
+        requires { IsStored self.now.numbers self.now.events.values self.now.due self.now.count }
         ensures same { pred.new ≡ pred.old }
         ensures ok { OnOk result (out.new ≡ out.old
-            ++ filter (holds pred.old) (events_in self.now.numbers self.now.events)) }
+            ++ filter (holds pred.old) (events_in self.now.numbers self.now.events.values)) }
         ensures prefix { OnErr result (IsPrefix out.old out.new) }
         ensures forks { steps.new.forks ≡ steps.old.forks }
         ensures counted { OnOk result (steps.new.entries ≡ steps.old.entries
-            + length (visited pred.old (events_in self.now.numbers self.now.events))) }
+            + length (visited pred.old (events_in self.now.numbers self.now.events.values))) }
         ensures entries { steps.new.entries ≤ steps.old.entries
-            + length (visited pred.old (events_in self.now.numbers self.now.events)) }
+            + length (visited pred.old (events_in self.now.numbers self.now.events.values)) }
     {
         let numbers = self.numbers_for(alloc, pred)?;
         copy_at(alloc, &self.events, numbers.as_slice(), pred, out, steps)?;
@@ -305,13 +305,13 @@ impl Store {
 
     /// Takes the events with these numbers out, in the order of the index.
     fn take_all(&mut self, alloc: Global, numbers: &[usize]) -> Result<BTreeSet<KeyedEvent>, Memory>
-        requires linked { IsLinked self.old.numbers self.old.events }
+        requires linked { IsLinked self.old.numbers self.old.events.values }
         requires counted { self.old.count ≡ length self.old.numbers }
-        ensures linked { OnOk result (IsLinked self.new.numbers self.new.events) }
+        ensures linked { OnOk result (IsLinked self.new.numbers self.new.events.values) }
         ensures counted { OnOk result (self.new.count ≡ length self.new.numbers) }
         ensures due { self.new.due ≡ self.old.due }
         ensures taken { IfOk result (λ events. IsTaking numbers.now
-            self.old.numbers self.old.events self.new.numbers self.new.events events.keys) }
+            self.old.numbers self.old.events.values self.new.numbers self.new.events.values events.keys) }
     {
         let mut events = BTreeSet::new(alloc);
         for number in numbers {
@@ -322,15 +322,15 @@ impl Store {
 
     /// Takes the event with this number out, and puts it among the events.
     fn take_into(&mut self, number: usize, events: &mut BTreeSet<KeyedEvent>) -> Result<(), Memory>
-        requires linked { IsLinked self.old.numbers self.old.events }
+        requires linked { IsLinked self.old.numbers self.old.events.values }
         requires counted { self.old.count ≡ length self.old.numbers }
-        ensures linked { OnOk result (IsLinked self.new.numbers self.new.events) }
+        ensures linked { OnOk result (IsLinked self.new.numbers self.new.events.values) }
         ensures counted { OnOk result (self.new.count ≡ length self.new.numbers) }
         ensures due { self.new.due ≡ self.old.due }
         ensures step { OnOk result ((gone : List ℕ) (numbers : Numbers)
             (table : List (Option StoredEvent)) →
-            IsTaking gone numbers table self.old.numbers self.old.events events.old.keys →
-            IsTaking (gone ++ number ∷ []) numbers table self.new.numbers self.new.events
+            IsTaking gone numbers table self.old.numbers self.old.events.values events.old.keys →
+            IsTaking (gone ++ number ∷ []) numbers table self.new.numbers self.new.events.values
             events.new.keys) }
     {
         let Some(event) = self.take(number) else {
@@ -342,18 +342,18 @@ impl Store {
 
     /// Takes the event with this number out.
     fn take(&mut self, number: usize) -> Option<Event>
-        requires linked { IsLinked self.old.numbers self.old.events }
+        requires linked { IsLinked self.old.numbers self.old.events.values }
         requires counted { self.old.count ≡ length self.old.numbers }
-        ensures linked { IsLinked self.new.numbers self.new.events }
+        ensures linked { IsLinked self.new.numbers self.new.events.values }
         ensures counted { self.new.count ≡ length self.new.numbers }
         ensures due { self.new.due ≡ self.old.due }
-        ensures taken { result ≡ value_at self.old.events number }
-        ensures slots { (other : ℕ) → value_at self.new.events other
-            ≡ (if eqb other number then None else value_at self.old.events other) }
+        ensures taken { result ≡ value_at self.old.events.values number }
+        ensures slots { (other : ℕ) → value_at self.new.events.values other
+            ≡ (if eqb other number then None else value_at self.old.events.values other) }
         ensures puts { IfSome result (λ event. Puts (key_of event) None
-            self.old.numbers self.old.events self.new.numbers self.new.events) }
+            self.old.numbers self.old.events.values self.new.numbers self.new.events.values) }
         ensures same { result ≡ None → (self.new.numbers ≡ self.old.numbers)
-            × (self.new.events ≡ self.old.events) }
+            × (self.new.events.values ≡ self.old.events.values) }
     {
         if !self.events.contains(number) {
             return None;
@@ -375,10 +375,10 @@ fn copy_at<G: Ledger>(
     out: &mut Events,
     steps: &mut Steps<G>,
 ) -> Result<(), Memory>
-    requires { AreLive events.now numbers.now }
+    requires { AreLive events.now.values numbers.now }
     ensures same { pred.new ≡ pred.old }
     ensures ok { OnOk result (out.new ≡ out.old
-        ++ filter (holds pred.old) (events_at events.now numbers.now)) }
+        ++ filter (holds pred.old) (events_at events.now.values numbers.now)) }
     ensures prefix { OnErr result (IsPrefix out.old out.new) }
     ensures forks { steps.new.forks ≡ steps.old.forks }
     ensures counted { OnOk result (steps.new.entries ≡ steps.old.entries + length numbers.now) }

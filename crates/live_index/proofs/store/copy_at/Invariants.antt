@@ -6,7 +6,7 @@ use Rattle.live_index.proofs.store.copy_at.Given as goal
 abbrev pub invariant-loop-number : goal.invariant-loop-number
 invariant-loop-number g l = record {
   same : l.pred ≡ l.fn.pred;
-  copied : l.out ≡ l.fn.out ++ filter (holds l.fn.pred) (events_at l.events (take l.number-index l.numbers));
+  copied : l.out ≡ l.fn.out ++ filter (holds l.fn.pred) (events_at l.events.values (take l.number-index l.numbers));
   forks : l.steps.forks ≡ l.fn.steps.forks;
   entries : l.steps.entries ≡ l.fn.steps.entries + l.number-index;
 }

@@ -10,7 +10,7 @@ use Rattle.live_index.proofs.index.LiveIndex.get.Goals as goal
 pub returns : goal.returns
 returns g c =
     let numbers = c.self.inside.store.numbers in
-    let table = c.self.inside.store.events in
+    let table = c.self.inside.store.events.values in
     let host = option_copied c.args.host in
     let service = option_copied c.args.service in (
       (refl, λ _. tt, c.self.view_is),

@@ -8,7 +8,7 @@ use Rattle.live_index.proofs.index.LiveIndex.is_poisoned.Goals as goal
 pub returns-clause-represents : goal.returns-clause-represents
 returns-clause-represents c = λ sound.
     let numbers = c.self.inside.store.numbers in
-    let table = c.self.inside.store.events in
+    let table = c.self.inside.store.events.values in
     let is_sound : c.self.inside.poisoned ≡ false = ap (λ index. index.poisoned) c.self.view_is ∙ sound in
     let linked = (c.self.invariant is_sound).linked in (
       log_of (events_in numbers table),
