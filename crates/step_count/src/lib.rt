@@ -2,7 +2,9 @@
 #![tactic(auto)]
 
 mod ledger;
+mod runs;
 mod steps;
 
 pub use ledger::{CountLedger, Ledger, NoLedger};
+pub use runs::{Step, count_all, count_from_zero};
 pub use steps::Steps;

@@ -1,0 +1,28 @@
+-- A count from zero on, which stays at its greatest number.
+use Rattle.std.proofs.Common.{◌≡◌, ℕ, suc, zero, ◌+◌, min, Option, Some, arith, refl, sym, ap, ◌∙◌}
+use Rattle.list_laws.specs.Counts.{greatest}
+use Rattle.step_count.specs.Count.{one_more, more_by}
+
+next_least : (n most : ℕ) → min (min n most + 1) most ≡ min (suc n) most
+next_least n most = omega arith
+
+pub more_from_zero : (n : ℕ) → more_by n (Some 0) ≡ Some (min n greatest)
+more_from_zero zero = refl
+more_from_zero (suc n) = ap one_more (more_from_zero n) ∙ ap Some (next_least n greatest)
+
+-- the count of a ledger that was at zero, where the steps were too
+pub from_zero : (reported n start counted : ℕ) → Some reported ≡ more_by n (Some 0) → start ≡ 0 → counted ≡ start + n → reported ≡ min counted greatest
+from_zero reported n start counted reports fresh counts =
+    let same : Some reported ≡ Some (min n greatest) = reports ∙ more_from_zero n in
+    let is : reported ≡ min n greatest = cc in
+    let all : counted ≡ n = omega (arith, fresh, counts) in
+    is ∙ ap (λ n. min n greatest) (sym all)
+
+-- one more was counted
+pub count_on : (n m : ℕ) (known before after : Option ℕ) → m ≡ n + 1 → before ≡ more_by n known → after ≡ one_more before → after ≡ more_by m known
+count_on n m known before after next was is =
+    let on : m ≡ suc n = omega (arith, next) in is ∙ ap one_more was ∙ sym (ap (λ m. more_by m known) on)
+
+-- none was counted
+pub count_same : (n m : ℕ) (known before after : Option ℕ) → m ≡ n → before ≡ more_by n known → after ≡ before → after ≡ more_by m known
+count_same n m known before after same was is = is ∙ was ∙ sym (ap (λ m. more_by m known) same)
