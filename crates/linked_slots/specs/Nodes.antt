@@ -1,5 +1,5 @@
 -- How lists of ids are kept: nodes that are linked in rings, one ring for each list.
-use Rattle.std.specs.Prelude.{◌≡◌, ℕ, ◌+◌, ◌<◌, Bool, true, false, eqb, List, [], ◌∷◌, length, slice_index_or, Option, None, Some, if◌then◌else◌, replicate}
+use Rattle.std.specs.Prelude.{◌≡◌, ℕ, ◌+◌, ◌<◌, ◌≤◌, Bool, true, false, eqb, List, [], ◌∷◌, length, slice_index_or, Option, None, Some, if◌then◌else◌, replicate}
 use Rattle.slab.specs.Slab.{Slab, slab_len}
 use Rattle.linked_slots.specs.Table.{value_at}
 use Rattle.linked_slots.specs.IdLists.{list_at, IsListed, AreApart, without, append_to}
@@ -63,6 +63,12 @@ pub record AreRings (lists : List (List ℕ)) (next previous : ℕ → ℕ) (kin
 
 abbrev pub IsLinked : List (List ℕ) → List (Option Node) → List ℕ → Type 0
 IsLinked lists slots heads = AreRings lists (next_at slots) (previous_at slots) (kind_at slots) heads
+
+-- the same, and the nodes fit into the room
+pub record AreKept (lists : List (List ℕ)) (nodes : Slab Node) (heads : List ℕ) (room : ℕ) : Type 0 where
+  pub linked : IsLinked lists nodes.slots heads
+  pub count : slab_len nodes ≤ room
+  pub fits : room ≤ nodes.capacity
 
 -- ---- the lists after the changes
 abbrev pub changed : List (List ℕ) → List (Change × Unit {0}) → List (List ℕ)

@@ -17,6 +17,9 @@ pub struct Lists {
     nodes: Slab<Node>,
     heads: Vec<usize>,
 
+    // How many nodes fit since the last call of `reserve` that had memory.
+    room: usize,
+
     // A log is a list that only proofs see, and has no bytes.
     changes: Log<Change, ()>,
 }
@@ -25,17 +28,17 @@ impl Model for Lists {
     ghost use Rattle.std.specs.Prelude.{◌-◌};
     ghost use Rattle.slab.specs.Slab.{slab_len};
     ghost use Rattle.linked_slots.specs.IdLists.{IdLists};
-    ghost use Rattle.linked_slots.specs.Nodes.{IsLinked, lists_after};
+    ghost use Rattle.linked_slots.specs.Nodes.{AreKept, lists_after};
 
     ghost Value = { IdLists };
 
     ghost view = { λ all. record {
       lists = lists_after all.heads.items all.changes.items;
-      spare = all.nodes.capacity - slab_len all.nodes;
+      spare = all.room - slab_len all.nodes;
     } };
 
-    ghost invariant = { λ all. IsLinked (lists_after all.heads.items all.changes.items)
-        all.nodes.slots all.heads.items };
+    ghost invariant = { λ all. AreKept (lists_after all.heads.items all.changes.items)
+        all.nodes all.heads.items all.room };
 }
 
 impl Lists {
@@ -48,23 +51,27 @@ impl Lists {
         for _ in 0..lists {
             add_head(&mut nodes, &mut heads)?;
         }
+        let room = nodes.capacity();
         Ok(Lists {
             nodes,
             heads,
+            room,
             changes: Log::new(),
         })
     }
 
     /// Makes room for `n` more ids.
     ///
-    /// After [`Memory`] the lists are unchanged, and there is room for as many ids as before.
+    /// After [`Memory`] the lists are unchanged, and there is room for exactly as many ids as before.
     pub fn reserve(&mut self, _alloc: Global, n: usize) -> Result<(), Memory>
         ensures room { OnOk result (n ≤ self.new.spare) }
         ensures lists { self.new.lists ≡ self.old.lists }
         ensures spare { self.old.spare ≤ self.new.spare }
+        ensures err { OnErr result (self.new ≡ self.old) }
         ensures apart { AreApart self.new.lists }
     {
         self.nodes.reserve(n)?;
+        self.room = self.nodes.capacity();
         Ok(())
     }
 
@@ -74,7 +81,7 @@ impl Lists {
         requires spare { 0 < self.old.spare }
         ensures fresh { times result self.old.lists ≡ 0 }
         ensures appended { self.new.lists ≡ append_to list result self.old.lists }
-        ensures spare { self.old.spare ≤ self.new.spare + 1 }
+        ensures spare { self.new.spare + 1 ≡ self.old.spare }
         ensures apart { AreApart self.new.lists }
     {
         let id = add_node(&mut self.nodes, false);
@@ -100,7 +107,7 @@ impl Lists {
         requires list { list < length self.old.lists }
         requires id { IsListed id self.old.lists }
         ensures moved { self.new.lists ≡ append_to list id (without id self.old.lists) }
-        ensures spare { self.old.spare ≤ self.new.spare }
+        ensures spare { self.new.spare ≡ self.old.spare }
         ensures apart { AreApart self.new.lists }
     {
         let head = self.heads[list];

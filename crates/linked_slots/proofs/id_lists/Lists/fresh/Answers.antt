@@ -9,7 +9,11 @@ loop-init c = record {
 }
 
 pub invariant_of-result : goal.invariant_of-result
-invariant_of-result c = rw c.new.ensures c.loop.invariant.linked
+invariant_of-result c = record {
+  linked = rw c.new.ensures c.loop.invariant.linked;
+  count = c.capacity-room.ensures.holds_all;
+  fits = omega (arith, c.capacity-room.ensures.value);
+}
 
 pub returns : goal.returns
 returns c =

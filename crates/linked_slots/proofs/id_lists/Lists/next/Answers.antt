@@ -11,5 +11,5 @@ returns-clause-next c list h =
     let lists = lists_after heads c.self.inside.changes.items in
     let is : lists ≡ c.args.self.now.lists = ap (λ (v : IdLists). v.lists) c.self.view_is in
     let has : 0 < times_in id (list_at lists list) = rw is h in
-    c.id_after.ensures ∙ following-is lists c.self.inside.nodes.slots heads c.self.invariant id list has
+    c.id_after.ensures ∙ following-is lists c.self.inside.nodes.slots heads c.self.invariant.linked id list has
     ∙ ap (λ x. following id (list_at x list)) is
