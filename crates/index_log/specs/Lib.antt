@@ -1,2 +1,3 @@
 pub mod IndexKey
 pub mod Live
+pub mod OfKey

@@ -2,6 +2,7 @@
 #![tactic(auto)]
 
 ghost use Rattle.index_log.specs.Live.{LiveEventsAreKept, LiveEventsRise, ReapsAreLive, ReapsEndExpired, WritesAreLive};
+ghost use Rattle.index_log.specs.OfKey.{KeysHaveTheirLogs};
 
 /// One more write changes what is live of its key alone. One more reap removes the live events that are late at its
 /// moment, which are those that have expired by then.
@@ -20,4 +21,10 @@ pub fn live_events_rise()
 /// The live events of a log are exactly the events that were written and that nothing later ended, each as often.
 pub fn live_events_are_kept()
     ensures { LiveEventsAreKept }
+{}
+
+/// The live events that hold some values in host and service, or in one of them, are the live events of a log without the
+/// writes of other events.
+pub fn keys_have_their_logs()
+    ensures { KeysHaveTheirLogs }
 {}
