@@ -12,6 +12,6 @@ pub mod ArrivalMoments
 pub mod RunLaws
 pub mod NewestLaws
 pub mod GreatestLaws
-pub mod KeyLaws
+pub mod KeyOrderLaws
 pub mod PlanFirstLaws
 pub mod FoldLaws

@@ -23,5 +23,5 @@ pub mod ArrivalLaws
 pub mod RunLaws
 pub mod CoalesceLaws
 pub mod GreatestLaws
-pub mod KeyLaws
+pub mod KeyOrderLaws
 pub mod FoldLaws

@@ -23,7 +23,7 @@ ghost use Rattle.stream_meaning.specs.GreatestLaws.{
   FixedTimeGoesByTheGreatest,
   EventsLieInTheirStretch,
 };
-ghost use Rattle.stream_meaning.specs.KeyLaws.{KeysAreThoseThatCame, KeysStayInOrder};
+ghost use Rattle.stream_meaning.specs.KeyOrderLaws.{KeysAreThoseThatCame, KeysStayInOrder};
 ghost use Rattle.stream_meaning.specs.RunLaws.{RunsAreLongest, RunsBeginWithTheirFirst};
 ghost use Rattle.stream_meaning.specs.Laws.{
   TicksEmitNothing,

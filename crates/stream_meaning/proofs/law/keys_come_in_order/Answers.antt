@@ -1,5 +1,5 @@
 use Rattle.stream_meaning.proofs.ForkLaws.{keys_apart}
-use Rattle.stream_meaning.proofs.KeyLaws.{keys_are_those_that_came, keys_stay_in_order}
+use Rattle.stream_meaning.proofs.KeyOrderLaws.{keys_are_those_that_came, keys_stay_in_order}
 use Rattle.stream_meaning.proofs.law.keys_come_in_order.Goals as goal
 
 pub returns-clause-came : goal.returns-clause-came

@@ -14,7 +14,7 @@ use Rattle.stream_meaning.specs.History.{History, since, ◌▸◌, Entry, Tick,
 use Rattle.stream_meaning.specs.Came.{events}
 use Rattle.stream_meaning.specs.Branches.{fork_keys}
 use Rattle.stream_meaning.specs.Laws.{is_among}
-use Rattle.stream_meaning.specs.KeyLaws.{keys_that_came, KeysAreThoseThatCame, lengthened, AddsKeys, KeysStayInOrder}
+use Rattle.stream_meaning.specs.KeyOrderLaws.{keys_that_came, KeysAreThoseThatCame, lengthened, AddsKeys, KeysStayInOrder}
 
 among_is : (key : List Value) (keys : List (List Value)) → is_among key keys ≡ true → Contains keys key
 among_is key keys e = Contains-from_any {eq = λ a b. same_key b a} (λ a b same. sym ((same_key_decides b a).0 same)) key keys e
