@@ -15,3 +15,5 @@ pub mod GreatestLaws
 pub mod KeyOrderLaws
 pub mod PlanFirstLaws
 pub mod FoldLaws
+pub mod KeptEvents
+pub mod KeyLaws

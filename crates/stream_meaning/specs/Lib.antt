@@ -16,7 +16,9 @@ pub mod Examples
 pub mod IndexExamples
 pub mod WindowExamples
 pub mod ForkExamples
+pub mod Keys
 pub mod Laws
+pub mod KeyLaws
 pub mod DeadlineLaws
 pub mod DueLaws
 pub mod ArrivalLaws

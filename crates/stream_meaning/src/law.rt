@@ -24,6 +24,7 @@ ghost use Rattle.stream_meaning.specs.GreatestLaws.{
   EventsLieInTheirStretch,
 };
 ghost use Rattle.stream_meaning.specs.KeyOrderLaws.{KeysAreThoseThatCame, KeysStayInOrder};
+ghost use Rattle.stream_meaning.specs.KeyLaws.{KeysActByForks, KeysHaveTheirOutputs, OutputsHaveOneKey};
 ghost use Rattle.stream_meaning.specs.RunLaws.{RunsAreLongest, RunsBeginWithTheirFirst};
 ghost use Rattle.stream_meaning.specs.Laws.{
   TicksEmitNothing,
@@ -153,4 +154,13 @@ pub fn folds_are_of_all_metrics()
     ensures maximum { MaximumIsTheFirstGreatest }
     ensures sum { SumIsHeldToTheRange }
     ensures sums { SumsAdd }
+{}
+
+/// Under one `by` on host and service, or on one of them, whose streams set none of its fields, each output is of one key.
+/// What a key has at an entry is what its fork has there, and an event of another key does nothing to either. So the
+/// outputs of a key are those of the ticks and the events of the key alone.
+pub fn keys_are_apart()
+    ensures entry { KeysActByForks }
+    ensures history { KeysHaveTheirOutputs }
+    ensures one { OutputsHaveOneKey }
 {}
