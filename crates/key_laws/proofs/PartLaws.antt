@@ -1,0 +1,282 @@
+-- The run on the arrivals of one key is the part of the whole run that is of the key.
+use Rattle.std.proofs.Common.{◌≡◌, ℕ, ◌+◌, ◌-◌, ◌%◌, ◌==◌, Bool, true, false, ◌&&◌, cond, List, [], ◌∷◌, ◌++◌, map, Option, Some, None, refl, sym, ap, ◌∙◌}
+use mathlib.Core.Bool.{true≢false}
+use Rattle.std.specs.List.{AllByRecursion, filter, list_all, list_any}
+use Rattle.std.proofs.lemmas.List.{append-nil}
+use Rattle.std.proofs.lemmas.List.Elements.{filter-append}
+use Rattle.ev_types.specs.declared.event.Event.{Event}
+use Rattle.ev_types.specs.declared.field.Field.{Field}
+use Rattle.ev_types.specs.declared.field.Field.TheVariants.{Host, Service, State, Description, Time, Ttl, Metric, Attribute}
+use Rattle.ev_types.specs.declared.item.Item.TheVariants.{One, Many}
+use Rattle.ev_types.specs.declared.item.Notice.{Notice}
+use Rattle.ev_types.specs.declared.item.Output.{Output}
+use Rattle.ev_types.specs.declared.item.Output.TheVariants.{Notice as notice, Write as write}
+use Rattle.ev_types.specs.declared.settings.Expiry.{Expiry}
+use Rattle.ev_types.specs.declared.settings.KeepKey.{KeepKey}
+use Rattle.ev_types.specs.declared.value.Value.{Value}
+use Rattle.ev_types.specs.Expiry.{is_expired}
+use Rattle.ev_types.specs.Field.{text_value}
+use Rattle.ev_types.specs.Key.{same_key, event_key}
+use Rattle.ev_types.specs.Rebirth.{expired_copy}
+use Rattle.index_log.specs.Live.{IndexLog, Write, Reap, live_events}
+use Rattle.index_log.specs.OfKey.{are_index_fields, event_has, log_of_key}
+use Rattle.index_log.proofs.OfKeyLaws.{both_true, keys_have_logs}
+use Rattle.stream_plan.specs.Tree.{By, StreamTree, StreamTrees, stream, none, also}
+use Rattle.stream_meaning.specs.declared.entry.Entry.TheVariants.{Tick, Item as In}
+use Rattle.stream_meaning.specs.History.{History, since, ◌▸◌, begun, moment_of}
+use Rattle.stream_meaning.specs.Outputs.{outputs_at, outputs_of}
+use Rattle.stream_meaning.specs.Arrivals.{Arrival, Elapsed, Post, CoreState, writes_among, notices_among, entered, streamed, expired_copies, with_reap, fed_back, swept, arrived, state_from, state_after, notices_of}
+use Rattle.stream_meaning.specs.Keys.{notice_has, output_has, plan_keeps}
+use Rattle.stream_meaning.specs.KeyLaws.{one_by, is_own, HasOneKey}
+use Rattle.stream_meaning.specs.Laws.{of_key, SameMoments}
+use Rattle.stream_meaning.proofs.KeyLaws.{own_tick, own_event, acts_at_other, own_outputs, have_one, IsOwn, own_parts}
+use Rattle.key_laws.specs.Apart.{keeps_field, expiry_keeps, is_apart, keys_apart, key_fields}
+use Rattle.key_laws.specs.Laws.{arrivals_of, KeysHaveTheirNotices, IsOfOneKey, NoticesAreOfOneKey, KeysHaveTheirLiveEvents}
+
+-- ---- notices and writes of a key
+
+notices_of_key : (fields : List Field) (key : List Value) (os : List Output) → filter (notice_has fields key) (notices_among os) ≡ notices_among (filter (output_has fields key) os)
+notices_of_key fields key [] = refl
+notices_of_key fields key (write event ∷ os) = notices_of_key fields key os ∙ step (event_has fields key event)
+  where
+    step : (t : Bool) → notices_among (filter (output_has fields key) os) ≡ notices_among (cond t (write event ∷ filter (output_has fields key) os) (filter (output_has fields key) os))
+    step true = refl
+    step false = refl
+notices_of_key fields key (notice given ∷ os) =
+    ap (λ l. cond (notice_has fields key given) (given ∷ l) l) (notices_of_key fields key os) ∙ step (notice_has fields key given)
+  where
+    step : (t : Bool) → cond t (given ∷ notices_among (filter (output_has fields key) os)) (notices_among (filter (output_has fields key) os))
+        ≡ notices_among (cond t (notice given ∷ filter (output_has fields key) os) (filter (output_has fields key) os))
+    step true = refl
+    step false = refl
+
+writes_of_key : (fields : List Field) (key : List Value) (os : List Output) → log_of_key fields key (writes_among os) ≡ writes_among (filter (output_has fields key) os)
+writes_of_key fields key [] = refl
+writes_of_key fields key (notice given ∷ os) = writes_of_key fields key os ∙ step (notice_has fields key given)
+  where
+    step : (t : Bool) → writes_among (filter (output_has fields key) os) ≡ writes_among (cond t (notice given ∷ filter (output_has fields key) os) (filter (output_has fields key) os))
+    step true = refl
+    step false = refl
+writes_of_key fields key (write event ∷ os) =
+    ap (λ l. cond (event_has fields key event) (Write event ∷ l) l) (writes_of_key fields key os) ∙ step (event_has fields key event)
+  where
+    step : (t : Bool) → cond t (Write event ∷ writes_among (filter (output_has fields key) os)) (writes_among (filter (output_has fields key) os))
+        ≡ writes_among (cond t (write event ∷ filter (output_has fields key) os) (filter (output_has fields key) os))
+    step true = refl
+    step false = refl
+
+log-append : (fields : List Field) (key : List Value) (log more : IndexLog) → log_of_key fields key (log ++ more) ≡ log_of_key fields key log ++ log_of_key fields key more
+log-append fields key [] more = refl
+log-append fields key (Reap t ∷ log) more = ap (λ l. Reap t ∷ l) (log-append fields key log more)
+log-append fields key (Write event ∷ log) more =
+    ap (λ l. cond (event_has fields key event) (Write event ∷ l) l) (log-append fields key log more) ∙ step (event_has fields key event) (log_of_key fields key log) (log_of_key fields key more)
+  where
+    step : (t : Bool) (xs ys : IndexLog) → cond t (Write event ∷ (xs ++ ys)) (xs ++ ys) ≡ cond t (Write event ∷ xs) xs ++ ys
+    step true xs ys = refl
+    step false xs ys = refl
+
+-- ---- moments
+
+either_moments : (t : Bool) (event : Event) (g h : History) → SameMoments g h → SameMoments (cond t (g ▸ In (One event)) g) h
+either_moments true event g h same = record { begins = same.begins; ends = same.ends }
+either_moments false event g h same = same
+
+key_moments : (fields : List Field) (key : List Value) (h : History) → SameMoments (of_key fields key h) h
+key_moments fields key (since start) = record { begins = refl; ends = refl }
+key_moments fields key (h ▸ Tick) = let same = key_moments fields key h in record { begins = same.begins; ends = ap (λ n. n + 1) same.ends }
+key_moments fields key (h ▸ In (One event)) =
+    let same = key_moments fields key h in
+    let longer = either_moments (event_has fields key event) event (of_key fields key h) h same in
+    record { begins = longer.begins; ends = longer.ends }
+key_moments fields key (h ▸ In (Many es)) = let same = key_moments fields key h in record { begins = same.begins; ends = same.ends }
+
+-- ---- the key of an event that comes again
+
+copy_key : (fields : List Field) (keep : List KeepKey) (event : Event) (now : ℕ) → are_index_fields fields ≡ true → list_all (keeps_field keep) fields ≡ true →
+    event_key (expired_copy keep event now) fields ≡ event_key event fields
+copy_key [] keep event now within kept = refl
+copy_key (Host ∷ fields) keep event now within kept =
+    let parts = both_true (keeps_field keep Host) (list_all (keeps_field keep) fields) kept in
+    ap (λ t. text_value (cond t event.host None) ∷ event_key (expired_copy keep event now) fields) parts.0
+    ∙ ap (λ (k : List Value). text_value event.host ∷ k) (copy_key fields keep event now within parts.1)
+copy_key (Service ∷ fields) keep event now within kept =
+    let parts = both_true (keeps_field keep Service) (list_all (keeps_field keep) fields) kept in
+    ap (λ t. text_value (cond t event.service None) ∷ event_key (expired_copy keep event now) fields) parts.0
+    ∙ ap (λ (k : List Value). text_value event.service ∷ k) (copy_key fields keep event now within parts.1)
+copy_key (State ∷ fields) keep event now within kept = absurd (true≢false (sym within))
+copy_key (Description ∷ fields) keep event now within kept = absurd (true≢false (sym within))
+copy_key (Time ∷ fields) keep event now within kept = absurd (true≢false (sym within))
+copy_key (Ttl ∷ fields) keep event now within kept = absurd (true≢false (sym within))
+copy_key (Metric ∷ fields) keep event now within kept = absurd (true≢false (sym within))
+copy_key (Attribute name ∷ fields) keep event now within kept = absurd (true≢false (sym within))
+
+-- a change that leaves what a filter looks at
+filter-changed : (p q : Event → Bool) (f : Event → Event) → ((event : Event) → p (f event) ≡ p event) → (es : List Event) → filter p (map f (filter q es)) ≡ map f (filter q (filter p es))
+filter-changed p q f same [] = refl
+filter-changed p q f same (event ∷ es) = step (q event) (p event) refl refl (filter-changed p q f same es)
+  where
+    step : (t u : Bool) → q event ≡ t → p event ≡ u → filter p (map f (filter q es)) ≡ map f (filter q (filter p es)) →
+        filter p (map f (cond t (event ∷ filter q es) (filter q es))) ≡ map f (filter q (cond u (event ∷ filter p es) (filter p es)))
+    step true true e d ih =
+        ap (λ s. cond s (f event ∷ filter p (map f (filter q es))) (filter p (map f (filter q es)))) (same event ∙ d) ∙ ap (λ l. f event ∷ l) ih
+        ∙ sym (ap (λ s. map f (cond s (event ∷ filter q (filter p es)) (filter q (filter p es)))) e)
+    step true false e d ih = ap (λ s. cond s (f event ∷ filter p (map f (filter q es))) (filter p (map f (filter q es)))) (same event ∙ d) ∙ ih
+    step false true e d ih = ih ∙ sym (ap (λ s. map f (cond s (event ∷ filter q (filter p es)) (filter q (filter p es)))) e)
+    step false false e d ih = ih
+
+-- ---- the part of a state that is of a key
+
+abbrev with_parts : History → IndexLog → CoreState
+with_parts h log = record { history = h; log = log }
+
+module _ (fields : List Field) (key : List Value) (children otherwise : StreamTrees) (own : IsOwn fields children otherwise) where
+  abbrev plan : StreamTrees
+  plan = one_by fields children otherwise
+
+  abbrev pub part : CoreState → CoreState
+  part state = record { history = of_key fields key state.history; log = log_of_key fields key state.log }
+
+  both_parts : (h g : History) (log more : IndexLog) → h ≡ g → log ≡ more → with_parts h log ≡ with_parts g more
+  both_parts h g log more p q = λ i. with_parts (p i) (q i)
+
+  more_log : (log : IndexLog) (os rest : List Output) → filter (output_has fields key) os ≡ rest → log_of_key fields key (log ++ writes_among os) ≡ log_of_key fields key log ++ writes_among rest
+  more_log log os rest e = log-append fields key log (writes_among os) ∙ ap (λ l. log_of_key fields key log ++ l) (writes_of_key fields key os ∙ ap writes_among e)
+
+  part-tick : (state : CoreState) → part (entered plan Tick state) ≡ entered plan Tick (part state)
+  part-tick state =
+      both_parts (of_key fields key state.history ▸ Tick) (of_key fields key state.history ▸ Tick) _ _ refl
+      (more_log state.log (outputs_at plan (state.history ▸ Tick)) (outputs_at plan (of_key fields key state.history ▸ Tick))
+      (own_tick fields own.within children otherwise own.children_keep own.otherwise_keep state.history key))
+
+  part-own : (state : CoreState) (event : Event) → event_has fields key event ≡ true → part (entered plan (In (One event)) state) ≡ entered plan (In (One event)) (part state)
+  part-own state event e =
+      both_parts (of_key fields key (state.history ▸ In (One event))) (of_key fields key state.history ▸ In (One event)) _ _
+      (ap (λ t. cond t (of_key fields key state.history ▸ In (One event)) (of_key fields key state.history)) e)
+      (more_log state.log (outputs_at plan (state.history ▸ In (One event))) (outputs_at plan (of_key fields key state.history ▸ In (One event)))
+      (own_event fields own.within children otherwise own.children_keep own.otherwise_keep state.history key event e))
+
+  part-other : (state : CoreState) (event : Event) → event_has fields key event ≡ false → part (entered plan (In (One event)) state) ≡ part state
+  part-other state event e =
+      both_parts (of_key fields key (state.history ▸ In (One event))) (of_key fields key state.history) _ _
+      (ap (λ t. cond t (of_key fields key state.history ▸ In (One event)) (of_key fields key state.history)) e)
+      (more_log state.log (outputs_at plan (state.history ▸ In (One event))) [] (acts_at_other fields own.within children otherwise own.children_keep own.otherwise_keep state.history key event e)
+      ∙ append-nil (log_of_key fields key state.log))
+
+  part-streamed : (es : List Event) (state : CoreState) → part (streamed plan es state) ≡ streamed plan (filter (event_has fields key) es) (part state)
+  part-streamed [] state = refl
+  part-streamed (event ∷ es) state = part-streamed es (entered plan (In (One event)) state) ∙ step (event_has fields key event) refl
+    where
+      step : (t : Bool) → event_has fields key event ≡ t →
+          streamed plan (filter (event_has fields key) es) (part (entered plan (In (One event)) state))
+          ≡ streamed plan (cond t (event ∷ filter (event_has fields key) es) (filter (event_has fields key) es)) (part state)
+      step true e = ap (streamed plan (filter (event_has fields key) es)) (part-own state event e)
+      step false e = ap (streamed plan (filter (event_has fields key) es)) (part-other state event e)
+
+  part-copies : (keep : List KeepKey) (state : CoreState) → list_all (keeps_field keep) fields ≡ true →
+      filter (event_has fields key) (expired_copies keep state) ≡ expired_copies keep (part state)
+  part-copies keep state kept =
+      let now = moment_of state.history in
+      let copy = λ (n : ℕ) (event : Event). expired_copy keep event n in
+      filter-changed (event_has fields key) (is_expired now) (copy now) (λ event. ap (λ (k : List Value). same_key k key) (copy_key fields keep event now own.within kept)) (live_events state.log)
+      ∙ ap (λ es. map (copy now) (filter (is_expired now) es)) (keys_have_logs fields key state.log own.within)
+      ∙ ap (λ n. map (copy n) (filter (is_expired n) (live_events (log_of_key fields key state.log)))) (sym (key_moments fields key state.history).ends)
+
+  part-reap : (state : CoreState) → part (with_reap state) ≡ with_reap (part state)
+  part-reap state =
+      both_parts (of_key fields key state.history) (of_key fields key state.history) _ _ refl
+      (log-append fields key state.log (Reap (moment_of state.history) ∷ [])
+      ∙ ap (λ n. log_of_key fields key state.log ++ Reap n ∷ []) (sym (key_moments fields key state.history).ends))
+
+  part-fed_back : (keep : List KeepKey) (state : CoreState) → list_all (keeps_field keep) fields ≡ true → part (fed_back plan keep state) ≡ fed_back plan keep (part state)
+  part-fed_back keep state kept =
+      part-streamed (expired_copies keep state) (with_reap state)
+      ∙ ap (λ es. streamed plan es (part (with_reap state))) (part-copies keep state kept)
+      ∙ ap (streamed plan (expired_copies keep (part state))) (part-reap state)
+
+  part-swept : (expiry : Option Expiry) (state : CoreState) → expiry_keeps fields expiry ≡ true → part (swept plan expiry state) ≡ swept plan expiry (part state)
+  part-swept None state kept = refl
+  part-swept (Some expiry) state kept =
+      step ((moment_of state.history - begun state.history) % expiry.interval == 0)
+      ∙ ap (λ n. cond ((n - begun state.history) % expiry.interval == 0) (fed_back plan expiry.keep (part state)) (part state)) (sym (key_moments fields key state.history).ends)
+      ∙ ap (λ n. cond ((moment_of (of_key fields key state.history) - n) % expiry.interval == 0) (fed_back plan expiry.keep (part state)) (part state)) (sym (key_moments fields key state.history).begins)
+    where
+      step : (t : Bool) → part (cond t (fed_back plan expiry.keep state) state) ≡ cond t (fed_back plan expiry.keep (part state)) (part state)
+      step true = part-fed_back expiry.keep state kept
+      step false = refl
+
+  part-from : (expiry : Option Expiry) → expiry_keeps fields expiry ≡ true → (arrivals : List Arrival) (state : CoreState) →
+      part (state_from plan expiry arrivals state) ≡ state_from plan expiry (arrivals_of fields key arrivals) (part state)
+  part-from expiry kept [] state = refl
+  part-from expiry kept (Elapsed ∷ more) state =
+      part-from expiry kept more (swept plan expiry (entered plan Tick state))
+      ∙ ap (state_from plan expiry (arrivals_of fields key more)) (part-swept expiry (entered plan Tick state) kept ∙ ap (swept plan expiry) (part-tick state))
+  part-from expiry kept (Post event ∷ more) state = part-from expiry kept more (entered plan (In (One event)) state) ∙ step (event_has fields key event) refl
+    where
+      step : (t : Bool) → event_has fields key event ≡ t →
+          state_from plan expiry (arrivals_of fields key more) (part (entered plan (In (One event)) state))
+          ≡ state_from plan expiry (cond t (Post event ∷ arrivals_of fields key more) (arrivals_of fields key more)) (part state)
+      step true e = ap (state_from plan expiry (arrivals_of fields key more)) (part-own state event e)
+      step false e = ap (state_from plan expiry (arrivals_of fields key more)) (part-other state event e)
+
+  -- ---- the laws for this plan
+
+  pub key_state : (expiry : Option Expiry) → expiry_keeps fields expiry ≡ true → (start : ℕ) (arrivals : List Arrival) →
+      part (state_after plan expiry start arrivals) ≡ state_after plan expiry start (arrivals_of fields key arrivals)
+  key_state expiry kept start arrivals = part-from expiry kept arrivals (record { history = since start; log = [] })
+
+  pub key_notices : (expiry : Option Expiry) → expiry_keeps fields expiry ≡ true → (start : ℕ) (arrivals : List Arrival) →
+      filter (notice_has fields key) (notices_of plan expiry start arrivals) ≡ notices_of plan expiry start (arrivals_of fields key arrivals)
+  key_notices expiry kept start arrivals =
+      let h = (state_after plan expiry start arrivals).history in
+      notices_of_key fields key (outputs_of plan h)
+      ∙ ap notices_among (own_outputs fields own.within children otherwise own.children_keep own.otherwise_keep key h)
+      ∙ ap (λ (state : CoreState). notices_among (outputs_of plan state.history)) (key_state expiry kept start arrivals)
+
+  pub key_live : (expiry : Option Expiry) → expiry_keeps fields expiry ≡ true → (start : ℕ) (arrivals : List Arrival) →
+      filter (event_has fields key) (live_events (state_after plan expiry start arrivals).log) ≡ live_events (state_after plan expiry start (arrivals_of fields key arrivals)).log
+  key_live expiry kept start arrivals =
+      keys_have_logs fields key (state_after plan expiry start arrivals).log own.within
+      ∙ ap (λ (state : CoreState). live_events state.log) (key_state expiry kept start arrivals)
+
+-- ---- the laws
+
+notices_one : (fields : List Field) (os : List Output) → AllByRecursion (HasOneKey fields) os → AllByRecursion (IsOfOneKey fields) (notices_among os)
+notices_one fields [] k = tt
+notices_one fields (write event ∷ os) k = notices_one fields os k.1
+notices_one fields (notice given ∷ os) k = (record { key = k.0.key; has = k.0.has; only = k.0.only }, notices_one fields os k.1)
+
+-- the premise of a plan of one `by`, in its parts
+record Premise (fields : List Field) (children otherwise : StreamTrees) (expiry : Option Expiry) : Type 0 where
+  own : IsOwn fields children otherwise
+  kept : expiry_keeps fields expiry ≡ true
+
+premise : (fields : List Field) (children otherwise : StreamTrees) (expiry : Option Expiry) → is_own fields children otherwise && expiry_keeps fields expiry ≡ true → Premise fields children otherwise expiry
+premise fields children otherwise expiry e =
+    let parts = both_true (is_own fields children otherwise) (expiry_keeps fields expiry) e in
+    record { own = own_parts fields children otherwise parts.0; kept = parts.1 }
+
+pub keys_have_notices : KeysHaveTheirNotices
+keys_have_notices none expiry start arrivals key e = absurd (true≢false (sym e))
+keys_have_notices (also first (also second more)) expiry start arrivals key e = absurd (true≢false (sym e))
+keys_have_notices (also (stream (By fields) children otherwise) none) expiry start arrivals key e =
+    let parts = premise fields children otherwise expiry e in
+    key_notices fields key children otherwise parts.own expiry parts.kept start arrivals
+keys_have_notices (also (stream kind children otherwise) none) expiry start arrivals key e = absurd (true≢false (sym e))
+
+pub keys_have_live : KeysHaveTheirLiveEvents
+keys_have_live none expiry start arrivals key e = absurd (true≢false (sym e))
+keys_have_live (also first (also second more)) expiry start arrivals key e = absurd (true≢false (sym e))
+keys_have_live (also (stream (By fields) children otherwise) none) expiry start arrivals key e =
+    let parts = premise fields children otherwise expiry e in
+    key_live fields key children otherwise parts.own expiry parts.kept start arrivals
+keys_have_live (also (stream kind children otherwise) none) expiry start arrivals key e = absurd (true≢false (sym e))
+
+pub notices_of_one : NoticesAreOfOneKey
+notices_of_one none expiry start arrivals e = absurd (true≢false (sym e))
+notices_of_one (also first (also second more)) expiry start arrivals e = absurd (true≢false (sym e))
+notices_of_one (also (stream (By fields) children otherwise) none) expiry start arrivals e =
+    let own = (premise fields children otherwise expiry e).own in
+    let plan = one_by fields children otherwise in
+    let h = (state_after plan expiry start arrivals).history in
+    notices_one fields (outputs_of plan h) (have_one fields own.within children otherwise own.children_keep own.otherwise_keep h)
+notices_of_one (also (stream kind children otherwise) none) expiry start arrivals e = absurd (true≢false (sym e))

@@ -1,0 +1,6 @@
+//! Configurations whose notices of one host, or of one host and service, depend on what comes of it alone.
+#![tactic(auto)]
+
+mod law;
+
+pub use law::notices_are_apart;
