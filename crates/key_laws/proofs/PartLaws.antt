@@ -1,14 +1,12 @@
 -- The run on the arrivals of one key is the part of the whole run that is of the key.
 use Rattle.std.proofs.Common.{◌≡◌, ℕ, ◌+◌, ◌-◌, ◌%◌, ◌==◌, Bool, true, false, ◌&&◌, cond, List, [], ◌∷◌, ◌++◌, map, Option, Some, None, refl, sym, ap, ◌∙◌}
 use mathlib.Core.Bool.{true≢false}
-use Rattle.std.specs.List.{AllByRecursion, filter, list_all, list_any}
+use Rattle.std.specs.List.{AllByRecursion, filter, list_all}
 use Rattle.std.proofs.lemmas.List.{append-nil}
-use Rattle.std.proofs.lemmas.List.Elements.{filter-append}
 use Rattle.ev_types.specs.declared.event.Event.{Event}
 use Rattle.ev_types.specs.declared.field.Field.{Field}
 use Rattle.ev_types.specs.declared.field.Field.TheVariants.{Host, Service, State, Description, Time, Ttl, Metric, Attribute}
 use Rattle.ev_types.specs.declared.item.Item.TheVariants.{One, Many}
-use Rattle.ev_types.specs.declared.item.Notice.{Notice}
 use Rattle.ev_types.specs.declared.item.Output.{Output}
 use Rattle.ev_types.specs.declared.item.Output.TheVariants.{Notice as notice, Write as write}
 use Rattle.ev_types.specs.declared.settings.Expiry.{Expiry}
@@ -21,16 +19,16 @@ use Rattle.ev_types.specs.Rebirth.{expired_copy}
 use Rattle.index_log.specs.Live.{IndexLog, Write, Reap, live_events}
 use Rattle.index_log.specs.OfKey.{are_index_fields, event_has, log_of_key}
 use Rattle.index_log.proofs.OfKeyLaws.{both_true, keys_have_logs}
-use Rattle.stream_plan.specs.Tree.{By, StreamTree, StreamTrees, stream, none, also}
+use Rattle.stream_plan.specs.Tree.{By, StreamTrees, stream, none, also}
 use Rattle.stream_meaning.specs.declared.entry.Entry.TheVariants.{Tick, Item as In}
 use Rattle.stream_meaning.specs.History.{History, since, ◌▸◌, begun, moment_of}
 use Rattle.stream_meaning.specs.Outputs.{outputs_at, outputs_of}
-use Rattle.stream_meaning.specs.Arrivals.{Arrival, Elapsed, Post, CoreState, writes_among, notices_among, entered, streamed, expired_copies, with_reap, fed_back, swept, arrived, state_from, state_after, notices_of}
-use Rattle.stream_meaning.specs.Keys.{notice_has, output_has, plan_keeps}
+use Rattle.stream_meaning.specs.Arrivals.{Arrival, Elapsed, Post, CoreState, writes_among, notices_among, entered, streamed, expired_copies, with_reap, fed_back, swept, state_from, state_after, notices_of}
+use Rattle.stream_meaning.specs.Keys.{notice_has, output_has}
 use Rattle.stream_meaning.specs.KeyLaws.{one_by, is_own, HasOneKey}
 use Rattle.stream_meaning.specs.Laws.{of_key, SameMoments}
 use Rattle.stream_meaning.proofs.KeyLaws.{own_tick, own_event, acts_at_other, own_outputs, have_one, IsOwn, own_parts}
-use Rattle.key_laws.specs.Apart.{keeps_field, expiry_keeps, is_apart, keys_apart, key_fields}
+use Rattle.key_laws.specs.Apart.{keeps_field, expiry_keeps, has_fields}
 use Rattle.key_laws.specs.Laws.{arrivals_of, KeysHaveTheirNotices, IsOfOneKey, NoticesAreOfOneKey, KeysHaveTheirLiveEvents}
 
 -- ---- notices and writes of a key
@@ -250,9 +248,11 @@ record Premise (fields : List Field) (children otherwise : StreamTrees) (expiry 
   own : IsOwn fields children otherwise
   kept : expiry_keeps fields expiry ≡ true
 
-premise : (fields : List Field) (children otherwise : StreamTrees) (expiry : Option Expiry) → is_own fields children otherwise && expiry_keeps fields expiry ≡ true → Premise fields children otherwise expiry
+premise : (fields : List Field) (children otherwise : StreamTrees) (expiry : Option Expiry) → has_fields fields && (is_own fields children otherwise && expiry_keeps fields expiry) ≡ true →
+    Premise fields children otherwise expiry
 premise fields children otherwise expiry e =
-    let parts = both_true (is_own fields children otherwise) (expiry_keeps fields expiry) e in
+    let later = both_true (has_fields fields) (is_own fields children otherwise && expiry_keeps fields expiry) e in
+    let parts = both_true (is_own fields children otherwise) (expiry_keeps fields expiry) later.1 in
     record { own = own_parts fields children otherwise parts.0; kept = parts.1 }
 
 pub keys_have_notices : KeysHaveTheirNotices

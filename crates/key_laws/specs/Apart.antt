@@ -17,10 +17,13 @@ abbrev pub expiry_keeps : List Field → Option Expiry → Bool
 expiry_keeps fields None = true
 expiry_keeps fields (Some expiry) = list_all (keeps_field expiry.keep) fields
 
--- the stream is a `by` on host and service, or on one of them; no stream below it sets one of its fields; and expiry keeps
--- them
+abbrev pub has_fields : List Field → Bool
+has_fields [] = false
+has_fields (first ∷ more) = true
+
+-- the stream is a `by` on host or service or both; no stream below it sets one of its fields; and expiry keeps them
 abbrev pub is_apart : StreamTree → Option Expiry → Bool
-is_apart (stream (By fields) children otherwise) expiry = is_own fields children otherwise && expiry_keeps fields expiry
+is_apart (stream (By fields) children otherwise) expiry = has_fields fields && (is_own fields children otherwise && expiry_keeps fields expiry)
 is_apart _ expiry = false
 
 -- the plan is one such stream
