@@ -25,9 +25,9 @@ use Rattle.stream_meaning.specs.History.{History, since, ◌▸◌, begun, momen
 use Rattle.stream_meaning.specs.Outputs.{outputs_at, outputs_of}
 use Rattle.stream_meaning.specs.Arrivals.{Arrival, Elapsed, Post, CoreState, writes_among, notices_among, entered, streamed, expired_copies, with_reap, fed_back, swept, state_from, state_after, notices_of}
 use Rattle.stream_meaning.specs.Keys.{notice_has, output_has}
-use Rattle.stream_meaning.specs.KeyLaws.{one_by, is_own, HasOneKey}
+use Rattle.stream_meaning.specs.KeyLaws.{one_by, keeps_keys, HasOneKey}
 use Rattle.stream_meaning.specs.Laws.{of_key, SameMoments}
-use Rattle.stream_meaning.proofs.KeyLaws.{own_tick, own_event, acts_at_other, own_outputs, have_one, IsOwn, own_parts}
+use Rattle.stream_meaning.proofs.KeyLaws.{own_tick, own_event, acts_at_other, own_outputs, have_one, KeepsKeys, kept_parts}
 use Rattle.key_laws.specs.Apart.{keeps_field, expiry_keeps, has_fields}
 use Rattle.key_laws.specs.Laws.{arrivals_of, KeysHaveTheirNotices, IsOfOneKey, NoticesAreOfOneKey, KeysHaveTheirLiveEvents}
 
@@ -127,7 +127,7 @@ filter-changed p q f same (event ∷ es) = step (q event) (p event) refl refl (f
 abbrev with_parts : History → IndexLog → CoreState
 with_parts h log = record { history = h; log = log }
 
-module _ (fields : List Field) (key : List Value) (children otherwise : StreamTrees) (own : IsOwn fields children otherwise) where
+module _ (fields : List Field) (key : List Value) (children otherwise : StreamTrees) (own : KeepsKeys fields children otherwise) where
   abbrev plan : StreamTrees
   plan = one_by fields children otherwise
 
@@ -245,15 +245,15 @@ notices_one fields (notice given ∷ os) k = (record { key = k.0.key; has = k.0.
 
 -- the premise of a plan of one `by`, in its parts
 record Premise (fields : List Field) (children otherwise : StreamTrees) (expiry : Option Expiry) : Type 0 where
-  own : IsOwn fields children otherwise
+  own : KeepsKeys fields children otherwise
   kept : expiry_keeps fields expiry ≡ true
 
-premise : (fields : List Field) (children otherwise : StreamTrees) (expiry : Option Expiry) → has_fields fields && (is_own fields children otherwise && expiry_keeps fields expiry) ≡ true →
+premise : (fields : List Field) (children otherwise : StreamTrees) (expiry : Option Expiry) → has_fields fields && (keeps_keys fields children otherwise && expiry_keeps fields expiry) ≡ true →
     Premise fields children otherwise expiry
 premise fields children otherwise expiry e =
-    let later = both_true (has_fields fields) (is_own fields children otherwise && expiry_keeps fields expiry) e in
-    let parts = both_true (is_own fields children otherwise) (expiry_keeps fields expiry) later.1 in
-    record { own = own_parts fields children otherwise parts.0; kept = parts.1 }
+    let later = both_true (has_fields fields) (keeps_keys fields children otherwise && expiry_keeps fields expiry) e in
+    let parts = both_true (keeps_keys fields children otherwise) (expiry_keeps fields expiry) later.1 in
+    record { own = kept_parts fields children otherwise parts.0; kept = parts.1 }
 
 pub keys_have_notices : KeysHaveTheirNotices
 keys_have_notices none expiry start arrivals key e = absurd (true≢false (sym e))

@@ -6,7 +6,7 @@ use Rattle.ev_types.specs.declared.settings.Expiry.{Expiry}
 use Rattle.ev_types.specs.declared.settings.KeepKey.{KeepKey}
 use Rattle.ev_types.specs.Rebirth.{names}
 use Rattle.stream_plan.specs.Tree.{By, StreamTree, StreamTrees, stream, none, also}
-use Rattle.stream_meaning.specs.KeyLaws.{is_own}
+use Rattle.stream_meaning.specs.KeyLaws.{keeps_keys}
 
 -- the field is among what expired events keep
 abbrev pub keeps_field : List KeepKey → Field → Bool
@@ -23,7 +23,7 @@ has_fields (first ∷ more) = true
 
 -- the stream is a `by` on host or service or both; no stream below it sets one of its fields; and expiry keeps them
 abbrev pub is_apart : StreamTree → Option Expiry → Bool
-is_apart (stream (By fields) children otherwise) expiry = has_fields fields && (is_own fields children otherwise && expiry_keeps fields expiry)
+is_apart (stream (By fields) children otherwise) expiry = has_fields fields && (keeps_keys fields children otherwise && expiry_keeps fields expiry)
 is_apart _ expiry = false
 
 -- the plan is one such stream

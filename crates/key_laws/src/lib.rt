@@ -2,7 +2,9 @@
 #![tactic(auto)]
 
 mod apart;
+mod example;
 mod law;
 
 pub use apart::keys_are_apart;
+pub use example::key_examples_are_computed;
 pub use law::notices_are_apart;

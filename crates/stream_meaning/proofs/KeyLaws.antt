@@ -28,7 +28,7 @@ use Rattle.stream_meaning.specs.Emission.{Fork}
 use Rattle.stream_meaning.specs.Branches.{child_history, fork_keys, fork_history}
 use Rattle.stream_meaning.specs.Outputs.{outputs_among, outputs_at, outputs_of}
 use Rattle.stream_meaning.specs.Keys.{item_has, output_has, same_index_field, sets_one, kind_keeps, stream_keeps, plan_keeps}
-use Rattle.stream_meaning.specs.KeyLaws.{one_by, is_own, outputs_for, ActsByForks, KeysActByForks, KeysHaveTheirOutputs, HasOneKey, OutputsHaveOneKey}
+use Rattle.stream_meaning.specs.KeyLaws.{one_by, keeps_keys, outputs_for, ActsByForks, KeysActByForks, KeysHaveTheirOutputs, HasOneKey, OutputsHaveOneKey}
 use Rattle.stream_meaning.specs.Laws.{below, of_key, is_among}
 use Rattle.stream_meaning.proofs.ForkLaws.{keys_apart, fork_events, unseen_fork}
 use Rattle.stream_meaning.proofs.KeptEvents.{all-append, ItemAll, HistoryAll, OutputAll, Leaves, StreamLeaves, PlanLeaves, IsKept, outputs_kept}
@@ -390,28 +390,28 @@ module _ (fields : List Field) (within : are_index_fields fields ≡ true) where
 -- ---- the laws
 
 -- the parts of the premise
-pub record IsOwn (fields : List Field) (children otherwise : StreamTrees) : Type 0 where
+pub record KeepsKeys (fields : List Field) (children otherwise : StreamTrees) : Type 0 where
   pub within : are_index_fields fields ≡ true
   pub children_keep : plan_keeps fields children ≡ true
   pub otherwise_keep : plan_keeps fields otherwise ≡ true
 
-pub own_parts : (fields : List Field) (children otherwise : StreamTrees) → is_own fields children otherwise ≡ true → IsOwn fields children otherwise
-own_parts fields children otherwise e =
+pub kept_parts : (fields : List Field) (children otherwise : StreamTrees) → keeps_keys fields children otherwise ≡ true → KeepsKeys fields children otherwise
+kept_parts fields children otherwise e =
     let parts = both_true (are_index_fields fields) (plan_keeps fields children && plan_keeps fields otherwise) e in
     let below = both_true (plan_keeps fields children) (plan_keeps fields otherwise) parts.1 in
     record { within = parts.0; children_keep = below.0; otherwise_keep = below.1 }
 
 pub keys_act_by_forks : KeysActByForks
 keys_act_by_forks fields key children otherwise h own =
-    let parts = own_parts fields children otherwise own in
+    let parts = kept_parts fields children otherwise own in
     acts_by_forks fields parts.within children otherwise parts.children_keep parts.otherwise_keep key h
 
 pub keys_have_outputs : KeysHaveTheirOutputs
 keys_have_outputs fields key children otherwise h own =
-    let parts = own_parts fields children otherwise own in
+    let parts = kept_parts fields children otherwise own in
     own_outputs fields parts.within children otherwise parts.children_keep parts.otherwise_keep key h
 
 pub outputs_have_one : OutputsHaveOneKey
 outputs_have_one fields children otherwise h own =
-    let parts = own_parts fields children otherwise own in
+    let parts = kept_parts fields children otherwise own in
     have_one fields parts.within children otherwise parts.children_keep parts.otherwise_keep h

@@ -19,8 +19,8 @@ abbrev pub one_by : List Field → StreamTrees → StreamTrees → StreamTrees
 one_by fields children otherwise = also (stream (By fields) children otherwise) none
 
 -- its fields are the host or the service or both, and no stream below it changes them
-abbrev pub is_own : List Field → StreamTrees → StreamTrees → Bool
-is_own fields children otherwise = are_index_fields fields && (plan_keeps fields children && plan_keeps fields otherwise)
+abbrev pub keeps_keys : List Field → StreamTrees → StreamTrees → Bool
+keeps_keys fields children otherwise = are_index_fields fields && (plan_keeps fields children && plan_keeps fields otherwise)
 
 -- the outputs of a key at the last entry
 abbrev pub outputs_for : List Field → List Value → StreamTrees → History → List Output
@@ -36,12 +36,12 @@ pub record ActsByForks (fields : List Field) (key : List Value) (children otherw
   pub other_fork : (event : Event) → IsFalse (event_has fields key event) → fork_history fields key (h ▸ In (One event)) ≡ fork_history fields key h
 
 abbrev pub KeysActByForks : Type 0
-KeysActByForks = (fields : List Field) (key : List Value) (children otherwise : StreamTrees) (h : History) → IsTrue (is_own fields children otherwise) →
+KeysActByForks = (fields : List Field) (key : List Value) (children otherwise : StreamTrees) (h : History) → IsTrue (keeps_keys fields children otherwise) →
     ActsByForks fields key children otherwise h
 
 -- the outputs of a key over a history are the outputs over the ticks and the events of the key
 abbrev pub KeysHaveTheirOutputs : Type 0
-KeysHaveTheirOutputs = (fields : List Field) (key : List Value) (children otherwise : StreamTrees) (h : History) → IsTrue (is_own fields children otherwise) →
+KeysHaveTheirOutputs = (fields : List Field) (key : List Value) (children otherwise : StreamTrees) (h : History) → IsTrue (keeps_keys fields children otherwise) →
     filter (output_has fields key) (outputs_of (one_by fields children otherwise) h) ≡ outputs_of (one_by fields children otherwise) (of_key fields key h)
 
 -- the output has a key, and no other
@@ -51,5 +51,5 @@ pub record HasOneKey (fields : List Field) (output : Output) : Type 0 where
   pub only : (other : List Value) → IsTrue (output_has fields other output) → other ≡ key
 
 abbrev pub OutputsHaveOneKey : Type 0
-OutputsHaveOneKey = (fields : List Field) (children otherwise : StreamTrees) (h : History) → IsTrue (is_own fields children otherwise) →
+OutputsHaveOneKey = (fields : List Field) (children otherwise : StreamTrees) (h : History) → IsTrue (keeps_keys fields children otherwise) →
     AllByRecursion (HasOneKey fields) (outputs_of (one_by fields children otherwise) h)

@@ -159,7 +159,7 @@ pub fn folds_are_of_all_metrics()
 /// Under one `by` on host and service, or on one of them, whose streams set none of its fields, each output is of one key.
 /// What a key has at an entry is what its fork has there, and an event of another key does nothing to either. So the
 /// outputs of a key are those of the ticks and the events of the key alone.
-pub fn keys_are_apart()
+pub fn keys_have_their_outputs()
     ensures entry { KeysActByForks }
     ensures history { KeysHaveTheirOutputs }
     ensures one { OutputsHaveOneKey }

@@ -14,7 +14,7 @@ pub use example::{
 pub use law::{
     arrivals_come_in_order, checked_plans_meet_deadlines, coalesced_are_the_newest,
     deadlines_are_first, deadlines_of_plans_are_first, folds_are_of_all_metrics,
-    forks_have_their_events, keys_are_apart, keys_come_in_order, outputs_are_in_order,
+    forks_have_their_events, keys_come_in_order, keys_have_their_outputs, outputs_are_in_order,
     runs_are_longest, ticks_alone_are_quiet, vectors_are_not_empty, windows_follow_moments,
     windows_go_by_the_greatest,
 };

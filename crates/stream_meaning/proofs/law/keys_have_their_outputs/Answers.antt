@@ -1,5 +1,5 @@
 use Rattle.stream_meaning.proofs.KeyLaws.{keys_act_by_forks, keys_have_outputs, outputs_have_one}
-use Rattle.stream_meaning.proofs.law.keys_are_apart.Goals as goal
+use Rattle.stream_meaning.proofs.law.keys_have_their_outputs.Goals as goal
 
 pub returns-clause-entry : goal.returns-clause-entry
 returns-clause-entry c = keys_act_by_forks

@@ -1,0 +1,55 @@
+-- Small plans whose keys are apart, and such as mix them.
+use Rattle.std.specs.Prelude.{◌≡◌, ℕ, codes, true, false, List, [], ◌∷◌, filter, length, Option, Some}
+use Rattle.ev_types.specs.declared.field.Field.{Field}
+use Rattle.ev_types.specs.declared.field.Field.TheVariants.{Host, Service, State}
+use Rattle.ev_types.specs.declared.settings.Expiry.{Expiry}
+use Rattle.ev_types.specs.declared.settings.KeepKey.TheVariants.{Field as field}
+use Rattle.ev_types.specs.declared.value.Value.{Value}
+use Rattle.ev_types.specs.declared.value.Value.TheVariants.{Nil, Text}
+use Rattle.stream_plan.specs.Tree.{Index, With, By, Changed, StreamTrees, none, also}
+use Rattle.stream_meaning.specs.Arrivals.{Arrival, Post, notices_of}
+use Rattle.stream_meaning.specs.Keys.{notice_has}
+use Rattle.stream_meaning.specs.Small.{above, alone, noticed, a}
+use Rattle.stream_meaning.specs.IndexExamples.{every, elapsed, fading}
+use Rattle.key_laws.specs.Apart.{keys_apart, key_fields}
+use Rattle.key_laws.specs.Laws.{arrivals_of}
+
+abbrev pub by_on : List Field → StreamTrees → StreamTrees
+by_on fields below = alone (above (By fields) below)
+
+-- every event into the index, and a notice of it
+abbrev pub indexed : StreamTrees
+indexed = also (above Index none) (noticed "n")
+
+abbrev pub setting_host : StreamTrees
+setting_host = alone (above (With (record { field = Host; value = Text (codes "b") } ∷ [])) (noticed "n"))
+
+abbrev pub setting_state : StreamTrees
+setting_state = alone (above (With (record { field = State; value = Text (codes "b") } ∷ [])) (noticed "n"))
+
+-- expired events keep their service alone
+abbrev pub forgetting_host : Option Expiry
+forgetting_host = Some (record { interval = 10; keep = field Service ∷ [] })
+
+pub record TestExamples : Type 0 where
+  pub by_host : keys_apart (by_on (Host ∷ []) indexed) (every 10) ≡ true
+  pub by_both : keys_apart (by_on (Host ∷ Service ∷ []) (alone (above (Changed State (Some Nil)) indexed))) (every 10) ≡ true
+  pub sets_another : keys_apart (by_on (Host ∷ []) setting_state) (every 10) ≡ true
+  pub by_state : keys_apart (by_on (State ∷ []) indexed) (every 10) ≡ false
+  pub sets_host : keys_apart (by_on (Host ∷ []) setting_host) (every 10) ≡ false
+  pub forgets_host : keys_apart (by_on (Host ∷ []) indexed) forgetting_host ≡ false
+  pub forgets_host_by_service : keys_apart (by_on (Service ∷ []) indexed) forgetting_host ≡ true
+  pub above_by : keys_apart (alone (above (Changed State (Some Nil)) (by_on (Host ∷ []) indexed))) (every 10) ≡ false
+
+-- how many notices have the key, and how many there are over the arrivals of the key alone
+pub record Counts (plan : StreamTrees) (expiry : Option Expiry) (start : ℕ) (arrivals : List Arrival) (key : List Value) (among own : ℕ) : Type 0 where
+  pub all : length (filter (notice_has (key_fields plan) key) (notices_of plan expiry start arrivals)) ≡ among
+  pub alone : length (notices_of plan expiry start (arrivals_of (key_fields plan) key arrivals)) ≡ own
+
+-- an event of host "a" gives a notice of host "b" where a stream below sets the host
+abbrev pub SetHostMixes : Type 0
+SetHostMixes = Counts (by_on (Host ∷ []) setting_host) (every 10) 100 (Post (a 100) ∷ []) (Text (codes "b") ∷ []) 1 0
+
+-- an expired event of host "a" comes again as one of no host where its host is not kept
+abbrev pub ForgottenHostMixes : Type 0
+ForgottenHostMixes = Counts (by_on (Host ∷ []) indexed) forgetting_host 100 (Post fading ∷ elapsed 10) (Nil ∷ []) 1 0
