@@ -1,0 +1,157 @@
+use crate::fault::Fault;
+use crate::numbers::{number_of, numbers_of};
+use riemann_commands::{ArgumentsFault, run};
+use command_io::Status;
+use ev_types::{Blob, Text, Texts};
+use ports::{FaultLinks, MemSink, MemStore};
+use pred_eval::ListPatterns;
+use script_text::{ScriptFault, read_script};
+use std::alloc::Global;
+use step_count::{CountLedger, Steps};
+use test_rows::{Field, Row};
+
+/// How a call ended, and what it left.
+#[derive(Drop)]
+pub(crate) struct Ended {
+    pub status: Status,
+    pub store: MemStore,
+    pub links: FaultLinks,
+    pub out: MemSink,
+    pub err: MemSink,
+    pub patterns: ListPatterns,
+    pub steps: Steps<CountLedger>,
+}
+
+/// How many bytes a sink takes where the row does not say it.
+const ROOM: u64 = 1 << 20;
+
+/// Carries out the command of a row.
+pub(crate) fn call(alloc: Global, row: &Row) -> Result<Ended, Fault> {
+    let mut store = store_of(alloc, row)?;
+    let mut links = links_of(alloc, row)?;
+    let room = number_of(row, "room")?.unwrap_or(ROOM);
+    let mut out = sink_of(alloc, row, "fail out", room)?;
+    let mut err = sink_of(alloc, row, "fail err", ROOM)?;
+    let mut patterns = ListPatterns {
+        refusals: 0,
+        refused: Texts::fresh(alloc),
+    };
+    let mut steps = Steps::fresh(CountLedger {
+        forks: 0,
+        entries: 0,
+    });
+    let arguments = arguments_of(alloc, row)?;
+    let status = run(
+        alloc,
+        arguments,
+        &mut store,
+        &mut links,
+        &mut out,
+        &mut err,
+        &mut patterns,
+        &mut steps,
+    );
+    Ok(Ended {
+        status,
+        store,
+        links,
+        out,
+        err,
+        patterns,
+        steps,
+    })
+}
+
+/// A store with the files of the row.
+fn store_of(alloc: Global, row: &Row) -> Result<MemStore, Fault> {
+    let mut files = Vec::new(alloc);
+    for field in &row.fields {
+        if let Some(name) = field.key.as_str().strip_prefix("file ") {
+            files.push(file_of(alloc, name, field)?)?;
+        }
+    }
+    let failing = numbers_of(alloc, row, "fail reads")?;
+    Ok(MemStore::fresh(alloc, files, failing))
+}
+
+fn file_of(alloc: Global, name: &str, field: &Field) -> Result<(Text, Blob), Fault> {
+    let name = Text::from_str(alloc, name)?;
+    let bytes = Blob::from_slice(alloc, field.value.as_slice())?;
+    Ok((name, bytes))
+}
+
+/// Links that play the script of the row.
+fn links_of(alloc: Global, row: &Row) -> Result<FaultLinks, Fault> {
+    let script = row.value("script").unwrap_or(b"start 0");
+    let inner = match read_script(alloc, script) {
+        Ok(links) => links,
+        Err(ScriptFault::Memory) => return Err(Fault::Memory),
+        Err(ScriptFault::Refused { line: _ }) => {
+            return Err(Fault::Unread {
+                line: row.line,
+                why: "the script is not valid",
+            });
+        }
+    };
+    let failing = numbers_of(alloc, row, "fail links")?;
+    Ok(FaultLinks::fresh(inner, failing))
+}
+
+/// An empty sink whose writes fail as the key says.
+fn sink_of(alloc: Global, row: &Row, key: &str, room: u64) -> Result<MemSink, Fault> {
+    let failing = numbers_of(alloc, row, key)?;
+    Ok(MemSink::fresh(alloc, room, failing)?)
+}
+
+/// The arguments of the row, or why they could not be read.
+fn arguments_of(alloc: Global, row: &Row) -> Result<Result<Vec<Text>, ArgumentsFault>, Fault> {
+    match row.first("fault") {
+        Some(field) => match field.value.as_slice() {
+            b"NotUtf8" => Ok(Err(ArgumentsFault::NotUtf8)),
+            b"Memory" => Ok(Err(ArgumentsFault::Memory)),
+            _ => Err(Fault::at(field, "the fault is not known")),
+        },
+        None => Ok(Ok(words_of(alloc, row)?)),
+    }
+}
+
+fn words_of(alloc: Global, row: &Row) -> Result<Vec<Text>, Fault> {
+    let mut words = Vec::new(alloc);
+    for field in &row.fields {
+        let value = field.value.as_slice();
+        match field.key.as_str().as_bytes() {
+            b"arg" => push_word(alloc, field, value, &mut words)?,
+            b"args" => push_words(alloc, field, value, &mut words)?,
+            _ => {}
+        }
+    }
+    Ok(words)
+}
+
+/// Pushes the words that blanks separate.
+fn push_words(
+    alloc: Global,
+    field: &Field,
+    value: &[u8],
+    words: &mut Vec<Text>,
+) -> Result<(), Fault> {
+    for word in value.split(|byte| *byte == b' ') {
+        push_word(alloc, field, word, words)?;
+    }
+    Ok(())
+}
+
+fn push_word(
+    alloc: Global,
+    field: &Field,
+    word: &[u8],
+    words: &mut Vec<Text>,
+) -> Result<(), Fault> {
+    match Text::read(alloc, word) {
+        Ok(text) => {
+            words.push(text)?;
+            Ok(())
+        }
+        Err(fault) => Err(Fault::of_text(field, fault)),
+    }
+}
