@@ -109,15 +109,23 @@ pub(crate) fn is_name(word: &str) -> bool {
 }
 
 fn append_named(names: &[Field], word: &str, value: &mut Vec<u8>) -> Result<(), PieceFault> {
+    let Some(named) = value_of(names, word) else {
+        return Err(PieceFault::Unread {
+            why: "a name has no value",
+        });
+    };
+    value.extend_from_slice(named)?;
+    Ok(())
+}
+
+/// The value of a name.
+pub(crate) fn value_of<'a>(names: &'a [Field], name: &str) -> Option<&'a [u8]> {
     for named in names {
-        if named.key.as_str() == word {
-            value.extend_from_slice(named.value.as_slice())?;
-            return Ok(());
+        if named.key.as_str() == name {
+            return Some(named.value.as_slice());
         }
     }
-    Err(PieceFault::Unread {
-        why: "a name has no value",
-    })
+    None
 }
 
 fn append_digits(alloc: Global, digits: &str, value: &mut Vec<u8>) -> Result<(), PieceFault> {

@@ -1,4 +1,4 @@
-use crate::piece::{Mark, PieceFault, append_piece, is_name};
+use crate::piece::{Mark, PieceFault, append_piece, is_name, value_of};
 use crate::row::{Field, Row, Unread};
 use std::alloc::{AllocError, Global};
 
@@ -105,6 +105,10 @@ impl Reader {
     fn add_name(&mut self, name: &str, field: &Field) -> Result<(), AllocError> {
         if !is_name(name) {
             self.note("a name begins with no capital letter");
+            return Ok(());
+        }
+        if value_of(self.names.as_slice(), name).is_some() {
+            self.note("a name is given twice");
             return Ok(());
         }
         self.names.push(Field {
