@@ -1,0 +1,111 @@
+//! Texts in which bytes are spelled: `@<0a ff>` is the bytes of these hexadecimal digits, and `@(3 ab@)` is `ababab`.
+
+use crate::row::{RowFault, split_word};
+use ev_types::{Blob, Memory};
+use hex::FromHexError;
+use std::alloc::Global;
+
+/// The bytes of the parts of a text that were read so far.
+#[derive(Drop)]
+struct Spelled {
+    bytes: Vec<u8>,
+    /// The part that comes more than once, while it is read, and how many times it comes.
+    part: Vec<u8>,
+    times: Option<u32>,
+}
+
+/// The bytes that the text spells.
+pub fn read_spelled(alloc: Global, text: &str) -> Result<Blob, RowFault> {
+    let mut spelled = Spelled {
+        bytes: Vec::new(alloc),
+        part: Vec::new(alloc),
+        times: None,
+    };
+    for (i, part) in text.split('@').enumerate() {
+        if i == 0 {
+            spelled.put(part.as_bytes())?;
+        } else {
+            spelled.read_part(alloc, part)?;
+        }
+    }
+    match spelled.times {
+        Some(_) => Err(RowFault::Unreadable),
+        None => Ok(Blob::from_vec(spelled.bytes)),
+    }
+}
+
+impl Spelled {
+    fn put(&mut self, bytes: &[u8]) -> Result<(), Memory> {
+        match self.times {
+            Some(_) => self.part.extend_from_slice(bytes)?,
+            None => self.bytes.extend_from_slice(bytes)?,
+        }
+        Ok(())
+    }
+
+    /// Reads what is after a mark.
+    fn read_part(&mut self, alloc: Global, part: &str) -> Result<(), RowFault> {
+        if let Some(rest) = part.strip_prefix('<') {
+            let (digits, rest) = rest.split_once('>').ok_or(RowFault::Unreadable)?;
+            self.put_digits(alloc, digits)?;
+            self.put(rest.as_bytes())?;
+        } else if let Some(rest) = part.strip_prefix('(') {
+            let (times, rest) = split_word(rest)?;
+            self.times = Some(read_number(times)?);
+            self.put(rest.as_bytes())?;
+        } else {
+            let rest = part.strip_prefix(')').ok_or(RowFault::Unreadable)?;
+            self.repeat()?;
+            self.put(rest.as_bytes())?;
+        }
+        Ok(())
+    }
+
+    fn put_digits(&mut self, alloc: Global, digits: &str) -> Result<(), RowFault> {
+        for word in digits.split(' ') {
+            let bytes = decode(alloc, word)?;
+            self.put(bytes.as_slice())?;
+        }
+        Ok(())
+    }
+
+    /// Adds the part as many times as it comes.
+    fn repeat(&mut self) -> Result<(), RowFault> {
+        let times = self.times.take().ok_or(RowFault::Unreadable)?;
+        for _ in 0..times {
+            self.bytes.extend_from_slice(self.part.as_slice())?;
+        }
+        self.part.clear();
+        Ok(())
+    }
+}
+
+/// The bytes of the hexadecimal digits.
+fn decode(alloc: Global, digits: &str) -> Result<Vec<u8>, RowFault> {
+    match hex::decode(alloc, digits) {
+        Ok(bytes) => Ok(bytes),
+        Err(FromHexError::OutOfMemory) => Err(RowFault::Memory),
+        Err(_) => Err(RowFault::Unreadable),
+    }
+}
+
+pub fn read_number(word: &str) -> Result<u32, RowFault> {
+    word.parse::<u32>().map_err(|_| RowFault::Unreadable)
+}
+
+/// Adds the bytes as a text of one line that spells them.
+pub fn put_spelled(out: &mut String, bytes: &[u8]) -> Result<(), Memory> {
+    for byte in bytes {
+        put_byte(out, *byte)?;
+    }
+    Ok(())
+}
+
+fn put_byte(out: &mut String, byte: u8) -> Result<(), Memory> {
+    if b' ' <= byte && byte <= b'~' && byte != b'@' {
+        out.push(char::from(byte))?;
+    } else {
+        write!(out, "@<{byte:02x}>")?;
+    }
+    Ok(())
+}

@@ -1,0 +1,53 @@
+use ev_types::{Blob, Event, Events, Memory, Text};
+use riemann_msg::{Msg, QueryPart, msg_len, write_msg};
+use std::alloc::Global;
+use std::test::Fail;
+
+/// Whether the message is written so, and counted so.
+fn is_written(alloc: Global, msg: &Msg, wanted: &[u8]) -> Result<bool, Memory> {
+    let mut out = Blob::fresh(alloc);
+    write_msg(alloc, msg, &mut out)?;
+    Ok(out.as_slice() == wanted && msg_len(msg)? == wanted.len())
+}
+
+/// A reply of one event that holds nothing but its time.
+fn found_one(alloc: Global) -> Result<Msg, Memory> {
+    let mut events = Events::fresh(alloc);
+    events.push(alloc, Event::at(alloc, 1))?;
+    Ok(Msg::found(events))
+}
+
+/// A reply that refuses with an error "x", and has a query without a text where it asks.
+fn refused(alloc: Global, asks: bool) -> Result<Msg, Memory> {
+    let mut msg = Msg::refused(alloc, Text::from_str(alloc, "x")?);
+    if asks {
+        msg.query = Some(QueryPart { string: None });
+    }
+    Ok(msg)
+}
+
+/// The reply of this number.
+fn reply(alloc: Global, number: usize) -> Result<Msg, Memory> {
+    match number {
+        0 => Ok(Msg::accepted(alloc)),
+        1 => refused(alloc, false),
+        2 => refused(alloc, true),
+        _ => found_one(alloc),
+    }
+}
+
+const WRITTEN: [&[u8]; 4] = [
+    b"\x10\x01",
+    b"\x10\x00\x1a\x01x",
+    b"\x10\x00\x1a\x01x\x2a\x00",
+    b"\x10\x01\x32\x02\x08\x01",
+];
+
+#[test]
+fn replies_are_written(rt: HostRuntime) -> Result<(), Fail> {
+    for (number, wanted) in WRITTEN.iter().enumerate() {
+        let msg = reply(rt.alloc(), number)?;
+        assert!(rt; is_written(rt.alloc(), &msg, wanted)?);
+    }
+    Ok(())
+}
