@@ -1,137 +1,111 @@
-use crate::steps::{NEVER, Random, are_due, clear_due, least, moment_after};
+//! Forks by key.
+
+use crate::steps::{counter, is_counted};
 use ev_types::{Key, Value};
 use fork_by::ForkTable;
 use list_laws::{Ids, Memory};
 use std::alloc::{AllocGlobal, Global};
 use std::process::Abort;
-use std::test::Fail;
-use step_count::{NoLedger, Steps};
+use step_count::{CountLedger, Steps};
 
-/// The forks of a table, by number: their keys, their values and their due moments.
-#[derive(Drop)]
-struct PlainForks {
-    keys: Vec<u32>,
-    values: Vec<u64>,
-    moments: Vec<u64>,
-}
-
-impl PlainForks {
-    fn fresh(alloc: Global) -> PlainForks {
-        PlainForks {
-            keys: Vec::new(alloc),
-            values: Vec::new(alloc),
-            moments: Vec::new(alloc),
-        }
-    }
-
-    fn find(&self, key: u32) -> Option<usize> {
-        self.keys.iter().position(|known| *known == key)
-    }
-
-    fn add(&mut self, key: u32) -> Result<usize, Memory> {
-        let number = self.keys.len();
-        self.keys.push(key)?;
-        self.values.push(u64::from(key))?;
-        self.moments.push(NEVER)?;
-        Ok(number)
-    }
-}
-
-fn key_of(alloc: Global, number: u32) -> Result<Key, Memory> {
+fn key(alloc: Global, number: i64) -> Result<Key, Memory> {
     let mut key = Key::fresh(alloc);
-    key.push(alloc, Value::Number(i64::from(number)))?;
+    key.push(alloc, Value::Number(number))?;
     Ok(key)
 }
 
-fn add_fork(
+/// Whether a fork with the value is added under the key of the number, and gets this place.
+fn is_added(
     alloc: Global,
     table: &mut ForkTable<u64>,
-    plain: &mut PlainForks,
-    key: u32,
+    number: i64,
+    value: u64,
+    place: usize,
 ) -> Result<bool, Memory> {
-    let number = table.add(alloc, key_of(alloc, key)?, u64::from(key))?;
-    Ok(number == plain.add(key)?)
+    let key = key(alloc, number)?;
+    Ok(table.add(alloc, key, value)? == place)
 }
 
-/// Adds one to the value of the fork, and says whether it was the one that was kept.
-fn enter_fork(table: &mut ForkTable<u64>, plain: &mut PlainForks, number: usize) -> bool {
-    if number >= table.len() || number >= plain.values.len() {
-        return false;
-    }
-    let known = plain.values[number];
-    plain.values[number] = known.wrapping_add(1);
-    let value = table.enter(number, &mut Steps::fresh(NoLedger));
-    let same = *value == known;
-    *value = known.wrapping_add(1);
-    same
+/// Whether the fork of the key of the number has this place.
+fn is_found(
+    alloc: Global,
+    table: &ForkTable<u64>,
+    number: i64,
+    place: Option<usize>,
+) -> Result<bool, Memory> {
+    let key = key(alloc, number)?;
+    Ok(table.find(&key) == place)
 }
 
+/// Whether two forks have the numbers of their order.
+fn are_added(alloc: Global, table: &mut ForkTable<u64>) -> Result<bool, Memory> {
+    Ok(
+        is_added(alloc, table, 8, 10, 0)?
+            && is_added(alloc, table, -9, 20, 1)?
+            && is_found(alloc, table, -9, Some(1))?
+            && is_found(alloc, table, 9, None)?
+            && table.len() == 2,
+    )
+}
+
+/// Sets when the fork of the number is due, if there is such a fork.
 fn set_due(
     alloc: Global,
     table: &mut ForkTable<u64>,
-    plain: &mut PlainForks,
     number: usize,
     due: u64,
 ) -> Result<(), Memory> {
-    if number >= table.len() || number >= plain.moments.len() {
-        return Ok(());
+    if number < table.len() {
+        table.set_due(alloc, number, Some(due))?;
     }
-    plain.moments[number] = due;
-    let due = if due < NEVER { Some(due) } else { None };
-    table.set_due(alloc, number, due)
+    Ok(())
 }
 
-/// An event of the key comes, and its fork is due at this moment from then on.
-fn come(
-    alloc: Global,
-    table: &mut ForkTable<u64>,
-    plain: &mut PlainForks,
-    key: u32,
-    due: u64,
-) -> Result<bool, Memory> {
-    let found = table.find(&key_of(alloc, key)?);
-    if found != plain.find(key) {
-        return Ok(false);
-    }
-    let Some(number) = found else {
-        return add_fork(alloc, table, plain, key);
-    };
-    set_due(alloc, table, plain, number, due)?;
-    Ok(enter_fork(table, plain, number))
+/// Sets that the forks are due at the moments 7 and 5, and says whether the next one is due at 5.
+fn are_due(alloc: Global, table: &mut ForkTable<u64>) -> Result<bool, Memory> {
+    set_due(alloc, table, 1, 5)?;
+    set_due(alloc, table, 0, 7)?;
+    Ok(table.next_due() == Some(5))
 }
 
-fn take_forks(
+/// Whether the forks 0 and 1 are given at moment 7, once though it is asked twice.
+fn are_given_once(
     alloc: Global,
     table: &mut ForkTable<u64>,
-    plain: &mut PlainForks,
-    now: u64,
-) -> Result<bool, Memory> {
+    steps: &mut Steps<CountLedger>,
+) -> bool {
     let mut ids = Ids::fresh(alloc);
-    table.due_forks(alloc, now, &mut ids, &mut Steps::fresh(NoLedger))?;
-    let same = are_due(plain.moments.as_slice(), now, ids.as_slice());
-    clear_due(plain.moments.as_mut_slice(), now);
-    Ok(same && table.next_due() == least(plain.moments.as_slice()))
+    let first = table.due_forks(alloc, 7, &mut ids, steps).is_ok();
+    let second = table.due_forks(alloc, 7, &mut ids, steps).is_ok();
+    first && second && ids.as_slice() == [0, 1].as_slice() && table.next_due().is_none()
 }
 
-fn forks_agree(alloc: Global, rounds: u64) -> Result<bool, Memory> {
-    let mut random = Random { state: 13 };
-    let mut table = ForkTable::fresh(alloc);
-    let mut plain = PlainForks::fresh(alloc);
-    for now in 0..rounds {
-        let key = random.below(200) as u32;
-        let due = moment_after(&mut random, now);
-        if !come(alloc, &mut table, &mut plain, key, due)? {
-            return Ok(false);
-        }
-        if random.below(3) == 0 && !take_forks(alloc, &mut table, &mut plain, now)? {
-            return Ok(false);
-        }
+/// Adds one to the value of the fork of the number, and returns what it was, if there is such a fork.
+fn enter(table: &mut ForkTable<u64>, number: usize, steps: &mut Steps<CountLedger>) -> Option<u64> {
+    if number >= table.len() {
+        return None;
     }
-    Ok(table.len() == plain.keys.len())
+    let value = table.enter(number, steps);
+    let old = *value;
+    *value = old.wrapping_add(1);
+    Some(old)
+}
+
+/// Whether forks are added, due once, and entered by count.
+fn is_kept(alloc: Global, table: &mut ForkTable<u64>) -> Result<bool, Memory> {
+    let mut steps = counter();
+    Ok(
+        are_added(alloc, table)?
+            && are_due(alloc, table)?
+            && are_given_once(alloc, table, &mut steps)
+            && enter(table, 1, &mut steps) == Some(20)
+            && enter(table, 1, &mut steps) == Some(21)
+            && is_counted(&steps, 2, 2),
+    )
 }
 
 #[test]
-fn a_fork_table_agrees_with_plain_lists(rt: HostRuntime) -> Result<(), Fail> {
-    assert!(rt; forks_agree(rt.alloc(), 5_000)?);
-    Ok(())
+fn a_due_fork_is_given_once_and_entered_by_count(rt: HostRuntime) {
+    let mut table: ForkTable<u64> = ForkTable::fresh(rt.alloc());
+    assert!(rt; matches!(is_kept(rt.alloc(), &mut table), Ok(true)));
 }

@@ -1,4 +1,5 @@
-//! Tests of the tables, by their public calls: values under numbers, due moments, and forks by key.
+//! Tests of the tables, by their public calls: values under numbers, lists of ids, due moments, and forks by key.
+//! Random events of many forks and random writes to an index are rows of `test_commands`.
 #![tactic(auto)]
 
 #[cfg(test)]
@@ -6,6 +7,6 @@ mod forks;
 #[cfg(test)]
 mod lists;
 #[cfg(test)]
-mod rows;
+mod queue;
 #[cfg(test)]
 mod steps;

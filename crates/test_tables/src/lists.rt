@@ -1,3 +1,4 @@
+//! Lists of ids.
 ghost use Rattle.std.specs.Prelude.{◌≡◌, length};
 
 use crate::steps::Random;
@@ -5,7 +6,6 @@ use linked_slots::Lists;
 use list_laws::Memory;
 use std::alloc::{AllocGlobal, Global};
 use std::process::Abort;
-use std::test::Fail;
 
 /// Three lists of ids, and the same ids in plain lists.
 #[derive(Drop)]
@@ -93,15 +93,15 @@ fn take_first(plain: &mut Vec<Vec<usize>>, list: usize) -> Option<usize> {
     Some(ids.remove(0))
 }
 
-fn lists_agree(alloc: Global, rounds: u64) -> Result<bool, Memory> {
+/// Whether 3,000 random changes of the lists agree, and then all that is removed.
+fn agree(alloc: Global, three: &mut ThreeLists) -> Result<bool, Memory> {
     let mut random = Random { state: 17 };
-    let mut three = ThreeLists::fresh(alloc)?;
-    for _ in 0..rounds {
+    for _ in 0..3_000 {
         if !three.change(alloc, &mut random)? {
             return Ok(false);
         }
     }
-    for _ in 0..rounds {
+    for _ in 0..3_000 {
         if !three.remove_first(0) || !three.remove_first(1) || !three.remove_first(2) {
             return Ok(false);
         }
@@ -109,8 +109,32 @@ fn lists_agree(alloc: Global, rounds: u64) -> Result<bool, Memory> {
     Ok(true)
 }
 
+/// Whether three lists agree with plain lists.
+fn lists_agree(alloc: Global) -> bool {
+    match ThreeLists::fresh(alloc) {
+        Ok(mut three) => matches!(agree(alloc, &mut three), Ok(true)),
+        Err(Memory) => false,
+    }
+}
+
 #[test]
-fn lists_agree_with_plain_lists(rt: HostRuntime) -> Result<(), Fail> {
-    assert!(rt; lists_agree(rt.alloc(), 3_000)?);
-    Ok(())
+fn lists_agree_with_plain_lists(rt: HostRuntime) {
+    assert!(rt; lists_agree(rt.alloc()));
+}
+
+/// Whether the first of two ids is alone in the other list once it is moved, and the second in its own.
+fn is_moved(alloc: Global) -> Result<bool, Memory> {
+    let mut lists = Lists::fresh(alloc, 2)?;
+    lists.reserve(alloc, 2)?;
+    let first = lists.insert(0);
+    let second = lists.insert(0);
+    lists.move_back(1, first);
+    let stayed = lists.front(0) == Some(second) && lists.next(second).is_none();
+    let moved = lists.front(1) == Some(first) && lists.next(first).is_none();
+    Ok(stayed && moved)
+}
+
+#[test]
+fn an_id_moves_to_the_end_of_another_list(rt: HostRuntime) {
+    assert!(rt; matches!(is_moved(rt.alloc()), Ok(true)));
 }

@@ -1,14 +1,11 @@
+//! Values under numbers, and counts of what is visited.
 ghost use Rattle.std.specs.Prelude.{◌<◌};
 
 use linked_slots::StepTable;
-use list_laws::{Ids, Memory};
+use list_laws::Memory;
 use std::alloc::{AllocGlobal, Global};
 use std::process::Abort;
-use std::test::Fail;
-use step_count::{NoLedger, Steps};
-use tick_schedule::DueQueue;
-
-pub(crate) const NEVER: u64 = u64::MAX;
+use step_count::{CountLedger, NoLedger, Steps};
 
 /// A sequence of numbers that is the same in each run.
 #[derive(Drop)]
@@ -29,97 +26,39 @@ impl Random {
     }
 }
 
-/// Whether the ids are those with a moment at or before `now`, by rising id.
-pub(crate) fn are_due(moments: &[u64], now: u64, ids: &[usize]) -> bool {
-    let mut ids = ids.iter();
-    for (id, due) in moments.iter().enumerate() {
-        if *due <= now && ids.next() != Some(&id) {
-            return false;
-        }
-    }
-    ids.next().is_none()
+/// Steps of which none was counted.
+pub(crate) fn counter() -> Steps<CountLedger> {
+    Steps::fresh(CountLedger {
+        forks: 0,
+        entries: 0,
+    })
 }
 
-pub(crate) fn least(moments: &[u64]) -> Option<u64> {
-    let mut least = NEVER;
-    for due in moments {
-        least = least.min(*due);
-    }
-    if least < NEVER { Some(least) } else { None }
+/// Whether this many forks and entries were counted.
+pub(crate) fn is_counted(steps: &Steps<CountLedger>, forks: u64, entries: u64) -> bool {
+    let ledger = steps.ledger();
+    ledger.forks == forks && ledger.entries == entries
 }
 
-fn change(
+/// Whether a value is found by its number, in one visit of an entry.
+fn is_visited(
     alloc: Global,
-    queue: &mut DueQueue,
-    moments: &mut [u64],
-    id: usize,
-    due: u64,
-) -> Result<(), Memory> {
-    if due < NEVER {
-        queue.set(alloc, id, due)?;
-    } else {
-        queue.clear(id);
-    }
-    if id < moments.len() {
-        moments[id] = due;
-    }
-    Ok(())
-}
-
-fn take(
-    alloc: Global,
-    queue: &mut DueQueue,
-    moments: &mut [u64],
-    now: u64,
+    table: &mut StepTable<u64>,
+    steps: &mut Steps<CountLedger>,
 ) -> Result<bool, Memory> {
-    let mut ids = Ids::fresh(alloc);
-    queue.take_due(alloc, now, &mut ids, &mut Steps::fresh(NoLedger))?;
-    let same = are_due(moments, now, ids.as_slice());
-    clear_due(moments, now);
-    Ok(same && queue.next_due() == least(moments))
-}
-
-pub(crate) fn clear_due(moments: &mut [u64], now: u64) {
-    for due in moments.iter_mut() {
-        if *due <= now {
-            *due = NEVER;
-        }
-    }
-}
-
-/// A moment after `now`, or never.
-pub(crate) fn moment_after(random: &mut Random, now: u64) -> u64 {
-    let later = random.below(40);
-    if later < 30 {
-        now.saturating_add(later)
-    } else {
-        NEVER
-    }
-}
-
-fn queue_agrees(alloc: Global, rounds: u64) -> Result<bool, Memory> {
-    let mut random = Random { state: 7 };
-    let mut queue = DueQueue::fresh(alloc);
-    let mut moments = [NEVER; 32];
-    for now in 0..rounds {
-        for _ in 0..3 {
-            let id = random.below(32) as usize;
-            let due = moment_after(&mut random, now);
-            change(alloc, &mut queue, &mut moments, id, due)?;
-        }
-        if random.below(3) == 0 && !take(alloc, &mut queue, &mut moments, now)? {
-            return Ok(false);
-        }
-    }
-    Ok(true)
+    let number = table.add(alloc, 7)?;
+    let value = *table.visit(number, steps);
+    Ok(value == 7 && is_counted(steps, 0, 1))
 }
 
 #[test]
-fn a_queue_agrees_with_a_plain_list(rt: HostRuntime) -> Result<(), Fail> {
-    assert!(rt; queue_agrees(rt.alloc(), 3_000)?);
-    Ok(())
+fn a_value_is_visited_by_its_number(rt: HostRuntime) {
+    let mut table: StepTable<u64> = StepTable::fresh(rt.alloc());
+    let visited = is_visited(rt.alloc(), &mut table, &mut counter());
+    assert!(rt; matches!(visited, Ok(true)));
 }
 
+/// Removes a value at random, or adds one where there is none under the number, and keeps the sum of all.
 fn swap_values(
     alloc: Global,
     table: &mut StepTable<u64>,
@@ -142,12 +81,12 @@ fn swap_values(
     Ok(removed == value && !table.contains(number))
 }
 
-fn table_agrees(alloc: Global, rounds: u64) -> Result<bool, Memory> {
+/// Whether 3,000 random changes of the table agree with the sum of its values.
+fn agrees(alloc: Global, table: &mut StepTable<u64>) -> Result<bool, Memory> {
     let mut random = Random { state: 11 };
-    let mut table = StepTable::fresh(alloc);
     let mut sum = 0;
-    for _ in 0..rounds {
-        if !swap_values(alloc, &mut table, &mut random, &mut sum)? {
+    for _ in 0..3_000 {
+        if !swap_values(alloc, table, &mut random, &mut sum)? {
             return Ok(false);
         }
     }
@@ -160,7 +99,7 @@ fn table_agrees(alloc: Global, rounds: u64) -> Result<bool, Memory> {
 }
 
 #[test]
-fn a_table_gives_back_each_value_once(rt: HostRuntime) -> Result<(), Fail> {
-    assert!(rt; table_agrees(rt.alloc(), 3_000)?);
-    Ok(())
+fn a_table_gives_back_each_value_once(rt: HostRuntime) {
+    let mut table: StepTable<u64> = StepTable::fresh(rt.alloc());
+    assert!(rt; matches!(agrees(rt.alloc(), &mut table), Ok(true)));
 }
