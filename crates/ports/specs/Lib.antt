@@ -9,6 +9,7 @@ pub mod Playing
 pub mod Tables
 pub mod Marks
 pub mod ScriptLinks
+pub mod FaultLinks
 pub mod Pieces
 pub mod PieceBytes
 pub mod Limits

@@ -1,5 +1,5 @@
 -- What the calls of links add to their log, and why they fail.
-use Rattle.std.specs.Prelude.{◌≡◌, ℕ, ◌+◌, ◌<◌, ◌≤◌, ◌==◌, Bool, not, IsTrue, List, [], ◌∷◌, ◌++◌, filter, fold, take, Option, Some, None}
+use Rattle.std.specs.Prelude.{◌≡◌, ℕ, ◌<◌, ◌≤◌, ◌==◌, Bool, true, false, not, IsTrue, List, [], ◌∷◌, ◌++◌, filter, fold, take, Option, Some, None}
 use Rattle.std.specs.List.{list_any}
 use Rattle.std.specs.Option.{ForSome}
 use Rattle.ports.specs.Counts.{Rose}
@@ -12,7 +12,7 @@ use Rattle.ports.specs.declared.links.SendAnswer.TheVariants as send
 use Rattle.ports.specs.declared.links.Turn.{Turn}
 use Rattle.ports.specs.declared.links.Want.{Want}
 use Rattle.ports.specs.declared.links.What.{What}
-use Rattle.ports.specs.declared.links.What.TheVariants.{Idle, Opened, Read, Ended, Broken, Room, Stopped, Failed, Memory}
+use Rattle.ports.specs.declared.links.What.TheVariants.{Opened, Read, Failed, Memory}
 
 -- a log with the entries that one call added, where the log is reported
 abbrev pub grown : Option (List Entry) → List Entry → Option (List Entry)
@@ -55,6 +55,21 @@ HasListenCause old new listen.Memory = new ≡ old
 abbrev pub HasNextCause : ℕ → ℕ → What → Type 0
 HasNextCause old new Failed = Rose old new
 HasNextCause old new _ = new ≡ old
+
+-- whether a call of `next` failed
+abbrev pub is_failed_turn : What → Bool
+is_failed_turn Failed = true
+is_failed_turn _ = false
+
+-- whether a call of `next` was out of memory
+abbrev pub is_memory_turn : What → Bool
+is_memory_turn Memory = true
+is_memory_turn _ = false
+
+-- whether a call of `send` was out of memory
+abbrev pub is_memory_send : SendAnswer → Bool
+is_memory_send send.Memory = true
+is_memory_send _ = false
 
 -- a read has at least one byte, and at most the limit
 abbrev pub IsPieceWithin : ℕ → What → Type 0

@@ -1,5 +1,5 @@
 -- A list of bytes as the reads of one link.
-use Rattle.std.specs.Prelude.{ℕ, ◌==◌, Bool, if◌then◌else◌, List, [], ◌∷◌, ◌++◌, length, map, take, drop, zero, suc}
+use Rattle.std.specs.Prelude.{ℕ, ◌==◌, if◌then◌else◌, List, [], ◌∷◌, ◌++◌, length, map, take, drop, zero, suc}
 use Rattle.ports.specs.declared.script.LinkEvent.TheVariants.{Opened, Read, Ended}
 use Rattle.ports.specs.declared.script.Script.{Script}
 use Rattle.ports.specs.declared.script.Step.{Step}

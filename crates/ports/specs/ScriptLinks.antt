@@ -1,13 +1,20 @@
 -- What links in memory hold while they play a script.
-use Rattle.std.specs.Prelude.{◌≡◌, ℕ, ◌≤◌, Bool, false, List, [], length, drop}
-use Rattle.ports.specs.Playing.{Playing, IsScriptedRun, SendRules, bytes_taken, playing}
+use Rattle.std.specs.Prelude.{◌≡◌, ℕ, ◌≤◌, Bool, false, if◌then◌else◌, List, [], length, drop}
+use Rattle.ports.specs.Playing.{IsScriptedRun, SendRules, bytes_taken, playing}
 use Rattle.ports.specs.declared.entry.Entry.{Entry}
+use Rattle.ports.specs.declared.links.ListenAnswer.{ListenAnswer}
+use Rattle.ports.specs.declared.links.ListenAnswer.TheVariants.{Ready, Memory}
 use Rattle.ports.specs.declared.script.Script.{Script}
 
--- what contracts see of them: the script, and the calls so far
+-- what contracts see of them: the script, the calls so far, and whether a call of `next` or `send` was out of memory
 pub record ScriptedCalls : Type 0 where
   pub script : Script
   pub log : List Entry
+  pub poisoned : Bool
+
+-- what a call of `listen` answers: the last reading, or, after a call that was out of memory, the same
+abbrev pub listen_answer : ScriptedCalls → ListenAnswer
+listen_answer links = if links.poisoned then Memory else Ready (playing links.script links.log).secs
 
 -- What is kept beside the script and the calls is what they say: the bytes taken from each link, and, unless memory
 -- ran out, the number of lines played, the last reading, and the rules.

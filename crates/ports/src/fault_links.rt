@@ -1,13 +1,17 @@
-ghost use Rattle.std.specs.Prelude.{◌≡◌, ◌==◌, ◌≤◌, [], MatchBool, Some};
-ghost use Rattle.std.specs.List.{list_any};
+ghost use Rattle.std.specs.Prelude.{◌≡◌, ◌<◌, ◌≤◌, [], ◌∷◌, false, true, if◌then◌else◌, length, MatchBool, Some};
 ghost use Rattle.ports.specs.Counts.{Rose, count_after};
+ghost use Rattle.ports.specs.Links.{HasListenCause, HasNextCause, IsPieceWithin, IsWithin, MayClose, grown, is_failed_turn, is_memory_send, is_memory_turn, listen_entries, next_entries, send_entries};
+ghost use Rattle.ports.specs.Playing.{Plays};
+ghost use Rattle.ports.specs.ScriptLinks.{listen_answer};
+ghost use Rattle.ports.specs.declared.entry.Entry.TheVariants.{Close};
 
-use crate::links::{Links, ListenAnswer, SendAnswer, Turn, Wants};
+use crate::links::{Links, ListenAnswer, PIECE_LIMIT, SendAnswer, Turn, Wants, What};
 use crate::script_links::ScriptLinks;
 use ev_types::Text;
 use std::alloc::Global;
 
-/// Links in memory that play a script, and of which some calls fail. A call that failed is in the log too.
+/// Links in memory that play a script, and of which some calls fail. A call that failed is in the log too. The inner
+/// links answer each other call.
 #[derive(Drop)]
 pub struct FaultLinks {
     pub inner: ScriptLinks,
@@ -20,6 +24,8 @@ pub struct FaultLinks {
 }
 
 impl FaultLinks {
+    ghost use Rattle.ports.specs.FaultLinks.{faults_after, is_chosen};
+
     /// Links that do what `inner` does, but for the calls with these numbers.
     pub fn fresh(inner: ScriptLinks, failing: Vec<u64>) -> FaultLinks
         ensures inner { result.inner ≡ inner }
@@ -37,12 +43,12 @@ impl FaultLinks {
 
     /// Counts a call, and answers whether it fails.
     fn count_call(&mut self) -> bool
-        ensures fails { result ≡ list_any (λ number.
-            number == self.old.calls) self.old.failing.items }
+        ensures fails { result ≡ is_chosen self.old }
         ensures inner { self.new.inner ≡ self.old.inner }
         ensures calls { self.new.calls ≡ count_after self.old.calls 1 }
         ensures failing { self.new.failing ≡ self.old.failing }
-        ensures counted { MatchBool result (Rose self.old.faults self.new.faults)
+        ensures counted { self.new.faults ≡ faults_after self.old }
+        ensures cause { MatchBool result (Rose self.old.faults self.new.faults)
             (self.new.faults ≡ self.old.faults) }
         ensures faults { self.old.faults ≤ self.new.faults }
     {
@@ -56,6 +62,8 @@ impl FaultLinks {
 }
 
 impl Links for FaultLinks {
+    ghost use Rattle.ports.specs.FaultLinks.{faults_after, is_chosen};
+
     ghost log = { λ links. Some links.inner.log };
 
     ghost script = { λ links. Some links.inner.script };
@@ -63,7 +71,23 @@ impl Links for FaultLinks {
     ghost faults = { λ links. links.faults };
 
     #[tactic(auto, using(crate::proofs::ScriptLemmas::listen_counts))]
-    fn listen(&mut self, alloc: Global, address: &Text) -> ListenAnswer {
+    fn listen(&mut self, alloc: Global, address: &Text) -> ListenAnswer
+        ensures log { Some self.new.inner.log
+            ≡ grown (Some self.old.inner.log) (listen_entries address.now result) }
+        ensures cause { HasListenCause self.old.faults self.new.faults result }
+        ensures faults { self.old.faults ≤ self.new.faults }
+        ensures script { self.new.inner.script ≡ self.old.inner.script }
+        ensures plays { Plays (Some self.old.inner.script) (Some self.old.inner.log) →
+            Plays (Some self.new.inner.script) (Some self.new.inner.log) }
+
+        // More than links must report: which calls fail, what the inner links answer to the others, and the counts.
+        ensures answer { result ≡ (if is_chosen self.old then ListenAnswer.Failed
+            else listen_answer self.old.inner) }
+        ensures poisoned { self.new.inner.poisoned ≡ self.old.inner.poisoned }
+        ensures counted { self.new.faults ≡ faults_after self.old }
+        ensures calls { self.new.calls ≡ count_after self.old.calls 1 }
+        ensures failing { self.new.failing ≡ self.old.failing }
+    {
         if self.count_call() {
             self.inner.note_failed_listen(address);
             return ListenAnswer::Failed;
@@ -72,18 +96,66 @@ impl Links for FaultLinks {
     }
 
     #[tactic(auto, using(crate::proofs::ScriptLemmas::next_counts))]
-    fn next(&mut self, alloc: Global, wants: &Wants, buf: &mut [u8]) -> Turn {
+    fn next(&mut self, alloc: Global, wants: &Wants, buf: &mut [u8]) -> Turn
+        requires { length buf.old ≡ PIECE_LIMIT }
+        ensures within { IsPieceWithin PIECE_LIMIT result.what }
+        ensures log { Some self.new.inner.log
+            ≡ grown (Some self.old.inner.log) (next_entries wants.now buf.new result) }
+        ensures cause { HasNextCause self.old.faults self.new.faults result.what }
+        ensures faults { self.old.faults ≤ self.new.faults }
+        ensures script { self.new.inner.script ≡ self.old.inner.script }
+        ensures plays { Plays (Some self.old.inner.script) (Some self.old.inner.log) →
+            Plays (Some self.new.inner.script) (Some self.new.inner.log) }
+
+        // More than links must report: which calls fail, what the inner links answer to the others, and the counts.
+        ensures fails { is_failed_turn result.what ≡ is_chosen self.old }
+        ensures poison { is_chosen self.old ≡ false → self.old.inner.poisoned ≡ true
+            → result.what ≡ What.Memory }
+        ensures poisoned { self.new.inner.poisoned ≡ (if is_chosen self.old
+            then self.old.inner.poisoned else is_memory_turn result.what) }
+        ensures counted { self.new.faults ≡ faults_after self.old }
+        ensures calls { self.new.calls ≡ count_after self.old.calls 1 }
+        ensures failing { self.new.failing ≡ self.old.failing }
+    {
         if self.count_call() {
             return self.inner.note_failed_turn(wants);
         }
         self.inner.next(alloc, wants, buf)
     }
 
-    fn send(&mut self, alloc: Global, link: u64, bytes: &[u8]) -> SendAnswer {
+    fn send(&mut self, alloc: Global, link: u64, bytes: &[u8]) -> SendAnswer
+        requires { 0 < length bytes.now }
+        ensures within { IsWithin (length bytes.now) result }
+        ensures log { Some self.new.inner.log
+            ≡ grown (Some self.old.inner.log) (send_entries link bytes.now result) }
+        ensures script { self.new.inner.script ≡ self.old.inner.script }
+        ensures plays { Plays (Some self.old.inner.script) (Some self.old.inner.log) →
+            Plays (Some self.new.inner.script) (Some self.new.inner.log) }
+
+        // More than links must report: the inner links answer, and the call is not counted.
+        ensures poison { self.old.inner.poisoned ≡ true → result ≡ SendAnswer.Memory }
+        ensures poisoned { self.new.inner.poisoned ≡ is_memory_send result }
+        ensures counted { self.new.faults ≡ self.old.faults }
+        ensures calls { self.new.calls ≡ self.old.calls }
+        ensures failing { self.new.failing ≡ self.old.failing }
+    {
         self.inner.send(alloc, link, bytes)
     }
 
-    fn close(&mut self, link: u64) {
+    fn close(&mut self, link: u64)
+        requires { MayClose (Some self.old.inner.log) link }
+        ensures log { Some self.new.inner.log
+            ≡ grown (Some self.old.inner.log) (Close link ∷ []) }
+        ensures script { self.new.inner.script ≡ self.old.inner.script }
+        ensures plays { Plays (Some self.old.inner.script) (Some self.old.inner.log) →
+            Plays (Some self.new.inner.script) (Some self.new.inner.log) }
+
+        // More than links must report: the call is not counted.
+        ensures poisoned { self.new.inner.poisoned ≡ self.old.inner.poisoned }
+        ensures counted { self.new.faults ≡ self.old.faults }
+        ensures calls { self.new.calls ≡ self.old.calls }
+        ensures failing { self.new.failing ≡ self.old.failing }
+    {
         self.inner.close(link);
     }
 }

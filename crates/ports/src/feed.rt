@@ -1,4 +1,4 @@
-ghost use Rattle.std.specs.Prelude.{◌≡◌, ◌∷◌, ◌++◌, [], map, OnOk, IfOk};
+ghost use Rattle.std.specs.Prelude.{◌≡◌, ◌∷◌, ◌++◌, [], map, OnOk, IfOk, false};
 ghost use Rattle.ports.specs.Pieces.{feed_script, pieces_of, read_step};
 
 use crate::links::PIECE_LIMIT;
@@ -13,6 +13,7 @@ use std::alloc::Global;
 pub fn feed_links(alloc: Global, bytes: Blob) -> Result<ScriptLinks, Memory>
     ensures script { IfOk result (λ links. links.script ≡ feed_script PIECE_LIMIT bytes) }
     ensures log { IfOk result (λ links. links.log ≡ []) }
+    ensures poisoned { IfOk result (λ links. links.poisoned ≡ false) }
 {
     let mut steps = ScriptSteps::fresh(alloc);
     push_turn(alloc, LinkEvent::Opened { link: 0 }, &mut steps)?;

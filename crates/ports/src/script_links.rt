@@ -1,5 +1,5 @@
 ghost use Rattle.std.specs.Prelude.{◌≡◌, ℕ, ◌+◌, ◌-◌, ◌<◌, ◌≤◌, [], ◌∷◌, ◌++◌, List, Some, false, true, length, drop, take, min, IfOk, OnOk, OnErr};
-ghost use Rattle.ports.specs.Links.{HasListenCause, HasNextCause, IsPieceWithin, IsWithin, MayClose, is_unclosed, listen_entries, next_entries, piece_of, send_entries};
+ghost use Rattle.ports.specs.Links.{HasListenCause, HasNextCause, IsPieceWithin, IsWithin, MayClose, grown, is_failed_turn, is_memory_send, is_memory_turn, listen_entries, next_entries, piece_of, send_entries};
 ghost use Rattle.ports.specs.Playing.{Plays, bytes_taken, first_turn, from_turn, is_turn_answer, rule_after, rules_at_turn, send_answer, taken_by_send, with_rule};
 ghost use Rattle.ports.specs.Tables.{rules_in, taken_in};
 ghost use Rattle.ports.specs.declared.entry.Entry.TheVariants.{Listen, Next, Send, Close};
@@ -13,9 +13,9 @@ use std::alloc::Global;
 use std::collections::HashMap;
 use std::marker::Model;
 
-/// Links in memory that play a script. Only a send can fail, where the script says so. Contracts see the script and the
-/// calls so far. Once a call of [`Links::next`] or [`Links::send`] was out of memory, the links are poisoned: each later
-/// call that can answer so does.
+/// Links in memory that play a script. Only a send can fail, where the script says so. Contracts see the script, the
+/// calls so far, and whether the links are poisoned. They are once a call of [`Links::next`] or [`Links::send`] was out
+/// of memory: each later call that can answer so does.
 #[derive(Drop)]
 pub struct ScriptLinks {
     state: ScriptState,
@@ -42,7 +42,11 @@ impl Model for ScriptLinks {
 
     ghost Value = { ScriptedCalls };
 
-    ghost view = { λ links. record { script = links.state.script; log = links.log } };
+    ghost view = { λ links. record {
+      script = links.state.script;
+      log = links.log;
+      poisoned = links.poisoned;
+    } };
 
     ghost invariant = { λ links. IsPlaying links.state.script links.log
         links.state.next links.state.secs (rules_in links.state.rules) (taken_in links.taken)
@@ -54,6 +58,7 @@ impl ScriptLinks {
     pub fn fresh(alloc: Global, script: Script) -> ScriptLinks
         ensures script { result.script ≡ script }
         ensures log { result.log ≡ [] }
+        ensures poisoned { result.poisoned ≡ false }
     {
         let secs = script.start;
         ScriptLinks {
@@ -99,6 +104,9 @@ impl ScriptLinks {
         ensures err { OnErr result (self.new.log ≡ self.old.log) }
         ensures script { self.new.script ≡ self.old.script }
         ensures plays { Plays (Some self.new.script) (Some self.new.log) }
+        ensures alive { OnOk result (self.old.poisoned ≡ false) }
+        ensures stays_alive { OnOk result (self.new.poisoned ≡ false) }
+        ensures poisoned { OnErr result (self.new.poisoned ≡ true) }
     {
         if self.poisoned {
             return Err(Memory);
@@ -121,6 +129,10 @@ impl ScriptLinks {
         ensures err { OnErr result (self.new.log ≡ self.old.log) }
         ensures script { self.new.script ≡ self.old.script }
         ensures plays { Plays (Some self.new.script) (Some self.new.log) }
+        ensures alive { OnOk result (self.old.poisoned ≡ false) }
+        ensures stays_alive { OnOk result (self.new.poisoned ≡ false) }
+        ensures reported { IfOk result (λ answer. is_memory_send answer ≡ false) }
+        ensures poisoned { OnErr result (self.new.poisoned ≡ true) }
     {
         if self.poisoned {
             return Err(Memory);
@@ -140,6 +152,7 @@ impl ScriptLinks {
         ensures log { self.new.log ≡ self.old.log
             ++ Listen address.now ListenAnswer.Failed ∷ [] }
         ensures script { self.new.script ≡ self.old.script }
+        ensures poisoned { self.new.poisoned ≡ self.old.poisoned }
         ensures plays { Plays (Some self.new.script) (Some self.new.log) }
     {
         self.log.listened(address, ListenAnswer::Failed);
@@ -151,6 +164,7 @@ impl ScriptLinks {
         ensures failed { result.what ≡ What.Failed }
         ensures log { self.new.log ≡ self.old.log ++ Next wants.now result [] ∷ [] }
         ensures script { self.new.script ≡ self.old.script }
+        ensures poisoned { self.new.poisoned ≡ self.old.poisoned }
         ensures plays { Plays (Some self.new.script) (Some self.new.log) }
     {
         let turn = Turn {
@@ -253,13 +267,26 @@ fn count_taken(answer: SendAnswer) -> usize
 }
 
 impl Links for ScriptLinks {
+    ghost use Rattle.ports.specs.ScriptLinks.{listen_answer};
+
     ghost log = { λ links. Some links.log };
 
     ghost script = { λ links. Some links.script };
 
     ghost faults = { λ _. 0 };
 
-    fn listen(&mut self, _alloc: Global, address: &Text) -> ListenAnswer {
+    fn listen(&mut self, _alloc: Global, address: &Text) -> ListenAnswer
+        ensures log { Some self.new.log
+            ≡ grown (Some self.old.log) (listen_entries address.now result) }
+        ensures cause { HasListenCause 0 0 result }
+        ensures script { self.new.script ≡ self.old.script }
+        ensures plays { Plays (Some self.old.script) (Some self.old.log) →
+            Plays (Some self.new.script) (Some self.new.log) }
+
+        // More than links must report: the answer, and that it poisons nothing.
+        ensures answer { result ≡ listen_answer self.old }
+        ensures poisoned { self.new.poisoned ≡ self.old.poisoned }
+    {
         if self.poisoned {
             return ListenAnswer::Memory;
         }
@@ -270,7 +297,21 @@ impl Links for ScriptLinks {
         answer
     }
 
-    fn next(&mut self, _alloc: Global, wants: &Wants, buf: &mut [u8]) -> Turn {
+    fn next(&mut self, _alloc: Global, wants: &Wants, buf: &mut [u8]) -> Turn
+        requires { length buf.old ≡ PIECE_LIMIT }
+        ensures within { IsPieceWithin PIECE_LIMIT result.what }
+        ensures log { Some self.new.log
+            ≡ grown (Some self.old.log) (next_entries wants.now buf.new result) }
+        ensures cause { HasNextCause 0 0 result.what }
+        ensures script { self.new.script ≡ self.old.script }
+        ensures plays { Plays (Some self.old.script) (Some self.old.log) →
+            Plays (Some self.new.script) (Some self.new.log) }
+
+        // More than links must report: the call never fails, and one that was out of memory poisons the links.
+        ensures no_fault { is_failed_turn result.what ≡ false }
+        ensures poison { self.old.poisoned ≡ true → result.what ≡ What.Memory }
+        ensures poisoned { self.new.poisoned ≡ is_memory_turn result.what }
+    {
         match self.play_turn(wants, buf) {
             Ok(turn) => turn,
             Err(_) => Turn {
@@ -280,14 +321,35 @@ impl Links for ScriptLinks {
         }
     }
 
-    fn send(&mut self, alloc: Global, link: u64, bytes: &[u8]) -> SendAnswer {
+    fn send(&mut self, alloc: Global, link: u64, bytes: &[u8]) -> SendAnswer
+        requires { 0 < length bytes.now }
+        ensures within { IsWithin (length bytes.now) result }
+        ensures log { Some self.new.log
+            ≡ grown (Some self.old.log) (send_entries link bytes.now result) }
+        ensures script { self.new.script ≡ self.old.script }
+        ensures plays { Plays (Some self.old.script) (Some self.old.log) →
+            Plays (Some self.new.script) (Some self.new.log) }
+
+        // More than links must report: a call that was out of memory poisons the links.
+        ensures poison { self.old.poisoned ≡ true → result ≡ SendAnswer.Memory }
+        ensures poisoned { self.new.poisoned ≡ is_memory_send result }
+    {
         match self.play_send(alloc, link, bytes) {
             Ok(answer) => answer,
             Err(_) => SendAnswer::Memory,
         }
     }
 
-    fn close(&mut self, link: u64) {
+    fn close(&mut self, link: u64)
+        requires { MayClose (Some self.old.log) link }
+        ensures log { Some self.new.log ≡ grown (Some self.old.log) (Close link ∷ []) }
+        ensures script { self.new.script ≡ self.old.script }
+        ensures plays { Plays (Some self.old.script) (Some self.old.log) →
+            Plays (Some self.new.script) (Some self.new.log) }
+
+        // More than links must report: it poisons nothing.
+        ensures poisoned { self.new.poisoned ≡ self.old.poisoned }
+    {
         self.log.closed(link);
     }
 }
