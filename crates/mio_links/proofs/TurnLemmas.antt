@@ -1,5 +1,5 @@
 -- What is known of a turn of a link, and of a turn that is given.
-use Rattle.std.proofs.Common.{◌≡◌, ℕ, true, Option, Some, None}
+use Rattle.std.proofs.Common.{◌≡◌, ◌≢◌, ℕ, true, Option, Some, None, subst}
 use Rattle.std.specs.Prelude.{IfSome}
 use Rattle.ports.specs.Links.{HasNextCause}
 use Rattle.ports.specs.declared.links.What.{What}
@@ -53,3 +53,7 @@ given_counts old new (Room link) same given = same
 given_counts old new Stopped same given = same
 given_counts old new Failed same given = absurd given
 given_counts old new Memory same given = same
+
+-- a turn that is given is not the last
+pub given_goes_on : (what : What) → IsGiven what → what ≢ Stopped
+given_goes_on what given = λ same. subst IsGiven same given

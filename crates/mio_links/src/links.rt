@@ -1,5 +1,5 @@
-ghost use Rattle.std.specs.Prelude.{◌≡◌, ◌+◌, ◌≤◌, None, length, IfOk, OnErr};
-ghost use Rattle.ports.specs.Links.{HasNextCause, IsPieceWithin};
+ghost use Rattle.std.specs.Prelude.{◌≡◌, ◌≢◌, ◌+◌, ◌<◌, ◌≤◌, None, length, IfOk, OnErr};
+ghost use Rattle.ports.specs.Links.{HasListenCause, HasNextCause, IsPieceWithin, IsWithin};
 ghost use Rattle.mio_links.specs.Turns.{CountsOpened, IsGiven, OfLink, OpensAt};
 ghost use Rattle.mio_links.specs.Sockets.{IsOpenOn};
 
@@ -66,7 +66,7 @@ impl<'a, R: Net + Clock> MioLinks<'a, R> {
     }
 
     /// The next turn but for its time. A fault is counted.
-    #[tactic(auto, using(crate::proofs::TurnLemmas::given_counts))]
+    #[tactic(auto, using(crate::proofs::TurnLemmas::given_counts, crate::proofs::TurnLemmas::given_goes_on))]
     fn what(&mut self, wants: &Wants, buf: &mut [u8]) -> What
         requires { length buf.old ≡ PIECE_LIMIT }
         ensures within { IsPieceWithin PIECE_LIMIT result }
@@ -74,6 +74,7 @@ impl<'a, R: Net + Clock> MioLinks<'a, R> {
         ensures faults { self.old.faults ≤ self.new.faults }
         ensures link { OfLink result (IsOpenOn self.new.sockets) }
         ensures opened { CountsOpened self.old.opened self.new.opened result }
+        ensures goes_on { result ≢ What.Stopped }
     {
         match self.found(wants, buf) {
             Ok(what) => what,
@@ -93,7 +94,13 @@ impl<'a, R: Net + Clock> Links for MioLinks<'a, R> {
 
     ghost faults = { λ links. links.faults };
 
-    fn listen(&mut self, alloc: Global, address: &Text) -> ListenAnswer {
+    fn listen(&mut self, alloc: Global, address: &Text) -> ListenAnswer
+        ensures cause { HasListenCause self.old.faults self.new.faults result }
+        ensures faults { self.old.faults ≤ self.new.faults }
+
+        // More than links must report: the numbers of links do not begin again.
+        ensures opened { self.new.opened ≡ self.old.opened }
+    {
         match Sockets::open(self.rt, alloc, address) {
             Ok(sockets) => {
                 self.sockets = Some(sockets);
@@ -109,7 +116,18 @@ impl<'a, R: Net + Clock> Links for MioLinks<'a, R> {
         }
     }
 
-    fn next(&mut self, _alloc: Global, wants: &Wants, buf: &mut [u8]) -> Turn {
+    fn next(&mut self, _alloc: Global, wants: &Wants, buf: &mut [u8]) -> Turn
+        requires { length buf.old ≡ PIECE_LIMIT }
+        ensures within { IsPieceWithin PIECE_LIMIT result.what }
+        ensures cause { HasNextCause self.old.faults self.new.faults result.what }
+        ensures faults { self.old.faults ≤ self.new.faults }
+
+        // More than links must report: the number of a link that opens, that a turn is of an open link, and that no
+        // turn is the last.
+        ensures opened { CountsOpened self.old.opened self.new.opened result.what }
+        ensures link { OfLink result.what (IsOpenOn self.new.sockets) }
+        ensures goes_on { result.what ≢ What.Stopped }
+    {
         let what = self.what(wants, buf);
         Turn {
             secs: seconds(self.rt),
@@ -117,14 +135,26 @@ impl<'a, R: Net + Clock> Links for MioLinks<'a, R> {
         }
     }
 
-    fn send(&mut self, _alloc: Global, link: u64, bytes: &[u8]) -> SendAnswer {
+    fn send(&mut self, _alloc: Global, link: u64, bytes: &[u8]) -> SendAnswer
+        requires { 0 < length bytes.now }
+        ensures within { IsWithin (length bytes.now) result }
+        ensures faults { self.new.faults ≡ self.old.faults }
+
+        // More than links must report: it opens no link.
+        ensures opened { self.new.opened ≡ self.old.opened }
+    {
         match &mut self.sockets {
             Some(sockets) => sockets.send(link, bytes),
             None => SendAnswer::Failed,
         }
     }
 
-    fn close(&mut self, link: u64) {
+    fn close(&mut self, link: u64)
+        ensures faults { self.new.faults ≡ self.old.faults }
+
+        // More than links must report: its number is not given again.
+        ensures opened { self.new.opened ≡ self.old.opened }
+    {
         if let Some(sockets) = &mut self.sockets {
             sockets.close(link);
         }
