@@ -1,5 +1,5 @@
 -- Lines that were written to a sink, one after another.
-use Rattle.std.proofs.Common.{◌≡◌, ℕ, suc, ◌+◌, ◌<◌, ◌≤◌, ◌⊎◌, inl, inr, List, [], ◌∷◌, ◌++◌, length, get_or, take, drop, refl, ap, sym, ◌∙◌, arith, append-nil, append_assoc}
+use Rattle.std.proofs.Common.{◌≡◌, ℕ, suc, ◌+◌, ◌<◌, ◌≤◌, ◌⊎◌, inl, inr, List, [], ◌∷◌, ◌++◌, length, get_or, take, drop, refl, ap, sym, ◌∙◌, arith, append-nil, append_assoc, subst}
 use Rattle.std.specs.Prelude.{Option, Some, None}
 use Rattle.std.specs.Option.{option_map}
 use Rattle.std.proofs.lemmas.Grind.{flat_map-append}
@@ -8,7 +8,8 @@ use Rattle.std.proofs.Math.Seq.{take-append-add}
 use Rattle.ev_types.specs.declared.item.Notice.{Notice}
 use Rattle.notice_sink.specs.Lines.{lines_of, notice_line}
 use Rattle.ports.specs.Writing.{Got, GotPrefix}
-use Rattle.conn_core.specs.Turning.{CountedPuts, puts_after}
+use Rattle.list_laws.specs.Prefix.{IsPrefix}
+use Rattle.conn_core.specs.Turning.{CountedPuts, GotFirstLines, SinkGot, puts_after}
 
 pub got_nothing : (text : Option (List ℕ)) → Got text [] text
 got_nothing None = refl
@@ -73,3 +74,42 @@ counted_one (Some count) i = refl
 
 pub counted_then : (a b c : Option ℕ) (i : ℕ) → CountedPuts a i b → CountedPuts b 1 c → CountedPuts a (suc i) c
 counted_then a b c i one two = two ∙ ap (option_map (puts_after 1)) one ∙ counted_one a i
+
+-- ---- the first lines
+
+-- the line of a notice is that of the first one from its number on
+next_line : (notices : List Notice) (i : ℕ) (notice : Notice) → i < length notices → notice ≡ get_or notices i notice
+    → lines_of (take 1 (drop i notices)) ≡ notice_line notice
+next_line notices i notice within is =
+    ap (λ (ns : List Notice). lines_of (take 1 ns)) (drop_more notices i notice within)
+    ∙ append-nil (notice_line (get_or notices i notice))
+    ∙ ap notice_line (sym is)
+
+part_of : (n : ℕ) (bytes : List ℕ) → IsPrefix (take n bytes) bytes
+part_of n bytes = (drop n bytes, sym (take-append-drop n bytes))
+
+-- nothing was written
+pub first_nothing : (got : SinkGot) (notices : List Notice) → GotFirstLines got notices got
+first_nothing got notices = record {
+  whole = 0;
+  within = omega arith;
+  part = [];
+  next = (lines_of (take 1 (drop 0 notices)), refl);
+  text = got_nothing got.text;
+  puts = counted_nothing got.puts;
+}
+
+-- a notice's line was not written whole
+pub first_then : (old mid new : SinkGot) (notices : List Notice) (i : ℕ) (notice : Notice) → i < length notices
+    → notice ≡ get_or notices i notice → Got old.text (lines_of (take i notices)) mid.text
+    → CountedPuts old.puts i mid.puts → GotPrefix mid.text (notice_line notice) new.text → new.puts ≡ mid.puts
+    → GotFirstLines old notices new
+first_then old mid new notices i notice within is got puts prefix same = record {
+  whole = i;
+  within = omega arith;
+  part = take prefix.0 (notice_line notice);
+  next = subst (λ (bytes : List ℕ). IsPrefix (take prefix.0 (notice_line notice)) bytes)
+      (sym (next_line notices i notice within is)) (part_of prefix.0 (notice_line notice));
+  text = got_then old.text mid.text new.text (lines_of (take i notices)) (take prefix.0 (notice_line notice)) got prefix.1;
+  puts = same ∙ puts;
+}

@@ -25,11 +25,11 @@ use Rattle.ports.specs.Writing.{GotPrefix}
 use Rattle.stream_meaning.specs.Arrivals.{Arrival, Elapsed}
 use Rattle.conn_core.specs.Hub.{Follows, IsAt, wants_in}
 use Rattle.conn_core.specs.Occurring.{OccursFrom}
-use Rattle.conn_core.specs.Turning.{GotLines, SinkGot, Turns, longer, turn_step}
+use Rattle.conn_core.specs.Turning.{GotFirstLines, GotLines, SinkGot, Turns, longer, turn_step}
 use Rattle.conn_core.specs.declared.hub.Hub.{Hub}
 use Rattle.conn_core.specs.declared.stop.Stop.{Stop}
 use Rattle.conn_core.specs.declared.stop.Stop.TheVariants.{SinkFault, Memory as StopMemory}
-use Rattle.conn_core.proofs.LineLaws.{front_nothing}
+use Rattle.conn_core.proofs.LineLaws.{first_nothing, front_nothing}
 use Rattle.conn_core.proofs.NoticeLaws.{more_notices}
 
 pub turn_is : (what : What) → what ≢ Failed → what ≢ NoMemory → is_turn_answer what ≡ true
@@ -113,6 +113,7 @@ module _ (turn : Turn) (piece : List ℕ) (hub : Hub) (config : CoreConfig) (ste
         notices = tells.is;
         lines = none_ok _ result failed;
         prefix = err_front result (front_nothing text.text (lines_of tells.made));
+        first_lines = err_front result (first_nothing text tells.made);
         some = λ sink. absurd (no_sink sink);
         follows = none_ok _ result failed;
         counted = none_ok _ result failed;
@@ -148,6 +149,7 @@ module _ (turn : Turn) (piece : List ℕ) (hub : Hub) (config : CoreConfig) (ste
         notices = tells.is;
         lines = none_ok _ result failed;
         prefix = err_front result (front_nothing text.text (lines_of tells.made));
+        first_lines = err_front result (first_nothing text tells.made);
         some = λ sink. absurd (no_sink sink);
         follows = none_ok _ result failed;
         counted = none_ok _ result failed;
@@ -158,9 +160,9 @@ module _ (turn : Turn) (piece : List ℕ) (hub : Hub) (config : CoreConfig) (ste
       → ((arrivals : List Arrival) → Represents hub.core arrivals → Arrives hub.core one.core arrivals (replicate (next_moment (now_of hub.core) turn.secs - now_of hub.core) Elapsed) (reported [] forks) middle)
       → IsAt one config (passed (next_moment (state_after config steps).now turn.secs) (state_after config steps))
       → OccursFrom turn.what piece one hub' patterns patterns' middle (reported notices forks') (Ok tt) run
-      → OnOk result (GotLines text notices text') → OnErr result (GotPrefix text.text (lines_of notices) text'.text) → (result ≡ Err SinkFault → notices ≢ [])
+      → OnOk result (GotLines text notices text') → OnErr result (GotPrefix text.text (lines_of notices) text'.text) → OnErr result (GotFirstLines text notices text') → (result ≡ Err SinkFault → notices ≢ [])
       → Turns turn piece hub hub' patterns patterns' forks forks' text text' result config steps run
-  turns_reported one hub' patterns patterns' middle notices forks forks' text text' result run arrives at occurs lines front some =
+  turns_reported one hub' patterns patterns' middle notices forks forks' text text' result run arrives at occurs lines front first_lines some =
       let occurred_so = occurs config (passed (next_moment (state_after config steps).now turn.secs) (state_after config steps)) at follows.settled in
       let verdicts : List (Option Refusal) = occurred_so.verdicts in
       let done = occurred_so.done in
@@ -182,6 +184,7 @@ module _ (turn : Turn) (piece : List ℕ) (hub : Hub) (config : CoreConfig) (ste
         notices = ap (notices_by config) arrivals ∙ both.notices ∙ ap (λ (ns : List Notice). notices_after config steps ++ ns) (sym both.reported);
         lines = lines;
         prefix = front;
+        first_lines = first_lines;
         some = some;
         follows = on_ok_from result (record {
           legal = longer_legal verdicts run occurred_so.possible occurred_so.legal;

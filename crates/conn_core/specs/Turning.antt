@@ -1,11 +1,12 @@
 -- What a turn does.
-use Rattle.std.specs.Prelude.{◌≡◌, ◌≢◌, ℕ, zero, suc, ◌+◌, List, [], ◌∷◌, ◌++◌, length, Option, Result, Err, OnOk, OnErr}
+use Rattle.std.specs.Prelude.{◌≡◌, ◌≢◌, ℕ, zero, suc, ◌+◌, ◌≤◌, List, [], ◌∷◌, ◌++◌, length, take, drop, Option, Result, Err, OnOk, OnErr}
 use Rattle.std.specs.Option.{option_map}
 use Rattle.ev_types.specs.declared.item.Notice.{Notice}
 use Rattle.hub_link.specs.event_core.Core.{CoreConfig, forks_by}
 use Rattle.hub_link.specs.hub_meaning.Legal.{IsLegal}
 use Rattle.hub_link.specs.hub_meaning.Runs.{Step, notices_after, plain, state_after}
 use Rattle.hub_link.specs.hub_meaning.Verdicts.{AfterVerdicts, PatternsState, Refusal}
+use Rattle.list_laws.specs.Prefix.{IsPrefix}
 use Rattle.notice_sink.specs.Lines.{lines_of}
 use Rattle.ports.specs.declared.entry.Entry.{Entry}
 use Rattle.ports.specs.declared.entry.Entry.TheVariants.{Next}
@@ -40,6 +41,16 @@ pub record GotLines (old : SinkGot) (notices : List Notice) (new : SinkGot) : Ty
   pub text : Got old.text (lines_of notices) new.text
   pub puts : CountedPuts old.puts (length notices) new.puts
 
+-- The sink got the lines of the first of these notices, each in one put. Of the next line it may have got a prefix, in
+-- a put that failed and does not count.
+pub record GotFirstLines (old : SinkGot) (notices : List Notice) (new : SinkGot) : Type 0 where
+  pub whole : ℕ
+  pub within : whole ≤ length notices
+  pub part : List ℕ
+  pub next : IsPrefix part (lines_of (take 1 (drop whole notices)))
+  pub text : Got old.text (lines_of (take whole notices) ++ part) new.text
+  pub puts : CountedPuts old.puts whole new.puts
+
 -- the step of a turn
 abbrev pub turn_step : List Want → Turn → List ℕ → List (Option Refusal) → Step
 turn_step wants turn piece verdicts = record { entry = Next wants turn piece; verdicts = verdicts }
@@ -60,6 +71,8 @@ pub record Turns (turn : Turn) (piece : List ℕ) (hub hub' : Hub) (patterns pat
   -- the lines of these notices were written, or a prefix of them
   pub lines : OnOk result (GotLines sink made sink')
   pub prefix : OnErr result (GotPrefix sink.text (lines_of made) sink'.text)
+  -- the puts that were counted are the lines that were written whole
+  pub first_lines : OnErr result (GotFirstLines sink made sink')
   -- the sink failed only where there was a line to be written
   pub some : result ≡ Err SinkFault → made ≢ []
   pub follows : OnOk result (Follows hub' config (longer steps (turn_step (wants_in hub) turn piece verdicts) run))

@@ -3,8 +3,8 @@ use Rattle.std.proofs.lemmas.List.{take_all}
 use Rattle.std.proofs.lemmas.Result.{err_from_is_err_and}
 use Rattle.notice_sink.specs.Lines.{lines_of, notice_line}
 use Rattle.ports.specs.Writing.{Got}
-use Rattle.conn_core.specs.Turning.{CountedPuts}
-use Rattle.conn_core.proofs.LineLaws.{counted_nothing, counted_then, front_then, got_nothing, got_then, lines_more, lines_split}
+use Rattle.conn_core.specs.Turning.{CountedPuts, sink_got}
+use Rattle.conn_core.proofs.LineLaws.{counted_nothing, counted_then, first_then, front_then, got_nothing, got_then, lines_more, lines_split}
 use Rattle.conn_core.proofs.lines.write_lines.Goals as goal
 
 pub loop-notice-init : goal.loop-notice-init
@@ -38,6 +38,15 @@ returns-in_err-write_line-clause-prefix g c =
     let notice = c.notice-item.result in
     rw p.1 (front_then (g.O.Sink.text c.args.sink.now) (g.O.Sink.text c.loop-notice.sink) (g.O.Sink.text c.write_line.new.sink) (lines_of (take i notices)) (notice_line notice)
     (lines_of (drop (i + 1) notices)) (lines_of notices) (lines_split notices i notice (omega arith) c.notice-item.is) c.loop-notice.invariant.got c.in_err-write_line.ensures.prefix)
+
+pub returns-in_err-write_line-clause-first_lines : goal.returns-in_err-write_line-clause-first_lines
+returns-in_err-write_line-clause-first_lines g c =
+    let p = err_from_is_err_and c.from_residual.result c.from_residual.ensures.1 in
+    rw p.1 (first_then (sink_got (g.O.Sink.text c.args.sink.now) (g.O.Sink.puts c.args.sink.now))
+    (sink_got (g.O.Sink.text c.loop-notice.sink) (g.O.Sink.puts c.loop-notice.sink))
+    (sink_got (g.O.Sink.text c.write_line.new.sink) (g.O.Sink.puts c.write_line.new.sink))
+    c.args.notices.now c.loop-notice.notice-index c.notice-item.result (omega arith) c.notice-item.is
+    c.loop-notice.invariant.got c.loop-notice.invariant.puts c.in_err-write_line.ensures.prefix c.in_err-write_line.ensures.uncounted)
 
 pub returns-clause-all : goal.returns-clause-all
 returns-clause-all g c =

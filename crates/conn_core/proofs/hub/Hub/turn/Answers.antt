@@ -10,7 +10,7 @@ use Rattle.notice_sink.specs.Lines.{lines_of}
 use Rattle.ports.specs.Writing.{GotPrefix}
 use Rattle.stream_meaning.specs.Arrivals.{Arrival, Elapsed}
 use Rattle.conn_core.specs.Occurring.{OccursFrom}
-use Rattle.conn_core.specs.Turning.{GotLines, TurnsFrom, sink_got}
+use Rattle.conn_core.specs.Turning.{GotFirstLines, GotLines, TurnsFrom, sink_got}
 use Rattle.conn_core.specs.declared.hub.Hub.{Hub}
 use Rattle.conn_core.proofs.KnownLaws.{opened_by}
 use Rattle.conn_core.proofs.TurnLaws.{no_sink, passed_at, turn_is, turns_reported, turns_unfinished, turns_unpassed}
@@ -69,6 +69,7 @@ returns-in_err-write_lines-clause-turns g c =
     let middle = reported c.pass.new.notices c.pass.new.steps.forks in
     let notices = c.occur.new.notices in
     let front = subst (λ (ns : List Notice). GotPrefix text.text (lines_of ns) text'.text) c.as_slice.ensures c.in_err-write_lines.ensures.prefix in
+    let first_lines = subst (λ (ns : List Notice). GotFirstLines text ns text') c.as_slice.ensures c.in_err-write_lines.ensures.first_lines in
     let arrives = subst (λ (ns : List Notice). (arrivals : List Arrival) → Represents hub.core arrivals
     → Arrives hub.core c.pass.new.core arrivals (replicate (next_moment (now_of hub.core) c.args.turn.secs - now_of hub.core) Elapsed) (reported ns forks) middle) c.fresh-notices.ensures c.in_ok-pass.ensures.arrives in
     rw p.1 (added_weaken (g.L.Links.log c.args.links.now) (g.L.Links.log c.occur.new.links)
@@ -77,7 +78,7 @@ returns-in_err-write_lines-clause-turns g c =
     (λ run occurs config steps follows.
     let is = turn_is c.args.turn.what c.requires.failed c.requires.memory in
     turns_reported c.args.turn c.args.piece.now hub config steps is follows one hub' patterns patterns' middle notices forks forks' text text' (Err p.0) run arrives
-    (passed_at c.args.turn c.args.piece.now hub config steps is follows c.pass.new.core (reported [] forks) middle c.in_ok-pass.ensures.now arrives) occurs tt front (λ is none. let same = p.2 in c.in_err-write_lines.ensures.some (cc) (c.as_slice.ensures ∙ none)))
+    (passed_at c.args.turn c.args.piece.now hub config steps is follows c.pass.new.core (reported [] forks) middle c.in_ok-pass.ensures.now arrives) occurs tt front first_lines (λ is none. let same = p.2 in c.in_err-write_lines.ensures.some (cc) (c.as_slice.ensures ∙ none)))
     c.in_ok-occur.ensures.occurs)
 
 pub returns-clause-turns : goal.returns-clause-turns
@@ -102,5 +103,5 @@ returns-clause-turns g c =
     (λ run occurs config steps follows.
     let is = turn_is c.args.turn.what c.requires.failed c.requires.memory in
     turns_reported c.args.turn c.args.piece.now hub config steps is follows one hub' patterns patterns' middle notices forks forks' text text' (Ok tt) run arrives
-    (passed_at c.args.turn c.args.piece.now hub config steps is follows c.pass.new.core (reported [] forks) middle c.in_ok-pass.ensures.now arrives) occurs lines tt (λ bad. absurd (cc bad)))
+    (passed_at c.args.turn c.args.piece.now hub config steps is follows c.pass.new.core (reported [] forks) middle c.in_ok-pass.ensures.now arrives) occurs lines tt tt (λ bad. absurd (cc bad)))
     c.in_ok-occur.ensures.occurs
