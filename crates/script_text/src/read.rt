@@ -1,6 +1,6 @@
 //! Reading a script.
 
-ghost use Rattle.std.specs.Prelude.{◌≡◌, ℕ, ◌+◌, [], Err, Ok, IfOk};
+ghost use Rattle.std.specs.Prelude.{◌≡◌, ℕ, ◌+◌, [], Err, Ok, IfOk, false};
 ghost use Rattle.script_text.specs.Scripts.{GivesStart, GivesSteps, script_of, steps_from};
 ghost use Rattle.script_text.specs.declared.read.ScriptFault.TheVariants.{Memory as fault_memory};
 
@@ -34,6 +34,7 @@ impl From<Memory> for ScriptFault {
 pub fn read_script(alloc: Global, text: &[u8]) -> Result<ScriptLinks, ScriptFault>
     ensures script { IfOk result (λ links. script_of text.now ≡ Ok links.script) }
     ensures log { IfOk result (λ links. links.log ≡ []) }
+    ensures poisoned { IfOk result (λ links. links.poisoned ≡ false) }
     ensures refused { (line : ℕ) → result ≡ Err (ScriptFault.Refused line)
         → script_of text.now ≡ Err line }
 {
