@@ -1,10 +1,10 @@
 use crate::fault::Fault;
 use crate::numbers::{number_of, numbers_of};
-use riemann_commands::{ArgumentsFault, run};
 use command_io::Status;
 use ev_types::{Blob, Text, Texts};
 use ports::{FaultLinks, MemSink, MemStore};
 use pred_eval::ListPatterns;
+use riemann_commands::{ArgumentsFault, run};
 use script_text::{ScriptFault, read_script};
 use std::alloc::Global;
 use step_count::{CountLedger, Steps};
