@@ -1,4 +1,4 @@
-ghost use Rattle.std.specs.Prelude.{◌≡◌, ◌+◌, ◌-◌, ◌<◌, ◌≤◌, ◌∷◌, ◌++◌, [], Some, length, IfOk, OnOk};
+ghost use Rattle.std.specs.Prelude.{◌≡◌, ◌+◌, ◌-◌, ◌<◌, ◌≤◌, ◌∷◌, ◌++◌, [], Some, false, length, IfOk, OnOk};
 ghost use Rattle.framing.specs.Frames.{frames_of};
 ghost use Rattle.load_links.specs.Load.{event_steps, load_script};
 ghost use Rattle.ports.specs.Playing.{bytes_taken};
@@ -34,6 +34,7 @@ impl LoadLinks {
         requires { count ≤ 1000000 }
         ensures script { IfOk result (λ links. links.script ≡ load_script count start) }
         ensures log { IfOk result (λ links. links.log ≡ []) }
+        ensures poisoned { IfOk result (λ links. links.poisoned ≡ false) }
     {
         let mut steps = ScriptSteps::fresh(alloc);
         push_turn(alloc, 0, LinkEvent::Opened { link: 0 }, &mut steps)?;
