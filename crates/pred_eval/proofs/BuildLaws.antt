@@ -1,12 +1,25 @@
 -- What is reported and built, one text after another.
-use Rattle.std.proofs.Common.{◌≡◌, ℕ, suc, ◌+◌, ◌<◌, List, [], ◌∷◌, ◌++◌, take, length, get_or, Option, Some, None, refl, sym, ap, ◌∙◌, append_assoc, subst, arith, zero, Result, Ok, Err, OnErr}
+use Rattle.std.proofs.Common.{◌≡◌, ◌≢◌, ℕ, suc, ◌+◌, ◌<◌, List, [], ◌∷◌, ◌++◌, take, length, get_or, Option, Some, None, refl, sym, ap, ◌∙◌, append_assoc, subst, arith, zero, Result, Ok, Err, OnErr}
 use denote.Ref.{Bor}
 use Rattle.std.specs.Option.{option_map}
 use Rattle.std.proofs.lemmas.List.{append-nil, take_more, length-map}
 use Rattle.list_laws.specs.Prefix.{IsPrefix}
 use Rattle.regex.specs.declared.string.regex.Regex.{Regex}
-use Rattle.pred_eval.specs.Building.{texts_of}
+use Rattle.regex.specs.Failures.{IsRightKind}
+use Rattle.regex.specs.Sources.{IsRefusal}
+use Rattle.regex.specs.declared.error.Error.{Error}
+use Rattle.regex.specs.declared.error.Error.TheVariants.{Syntax, CompiledTooBig, Internal, OutOfMemory}
+use Rattle.regex_syntax.specs.Verdict.{default_config}
+use Rattle.pred_eval.specs.Building.{IsCause, texts_of}
 use Rattle.pred_eval.specs.Search.{IsReadFrom, AreReadFrom}
+
+-- an error that is not memory is a cause
+pub cause_is : (pattern : List ℕ) (error : Error) → IsRefusal default_config pattern error
+    → IsRightKind default_config pattern error → error ≢ Internal → error ≢ OutOfMemory → IsCause pattern error
+cause_is pattern (Syntax error) refusal right checked given = (right, refusal error refl)
+cause_is pattern CompiledTooBig refusal right checked given = right
+cause_is pattern Internal refusal right checked given = checked refl
+cause_is pattern OutOfMemory refusal right checked given = given refl
 
 -- a prefix of a prefix
 pub prefix_more : (front middle whole : List (List ℕ)) → IsPrefix front middle → IsPrefix middle whole → IsPrefix front whole

@@ -1,17 +1,35 @@
 -- What the building of regular expressions answers, counts and records.
-use Rattle.std.specs.Prelude.{◌≡◌, ℕ, ◌<◌, List, [], ◌∷◌, length, map, slice_index_or, Result, Ok, Err}
+use Rattle.std.specs.Prelude.{◌≡◌, ◌≢◌, ℕ, ◌<◌, List, [], ◌∷◌, length, map, slice_index_or, Result, Ok, Err}
 use denote.Ref.{Bor}
 use Rattle.list_laws.specs.Counts.{Rose}
+use Rattle.regex.specs.Failures.{IsPattern}
+use Rattle.regex.specs.declared.error.Error.{Error}
+use Rattle.regex.specs.declared.error.Error.TheVariants.{Syntax, CompiledTooBig, Internal, OutOfMemory}
+use Rattle.regex_syntax.specs.Verdict.{Refuses, default_config}
+use Rattle.regex_syntax.specs.declared.error.ErrorKind.TheVariants as kind
 use Rattle.pred_eval.specs.declared.patterns.PatternAnswer.{PatternAnswer}
 use Rattle.pred_eval.specs.declared.patterns.PatternAnswer.TheVariants.{Built, Refused, Memory}
 use Rattle.pred_eval.specs.declared.patterns.BuildFault.{BuildFault}
 use Rattle.pred_eval.specs.declared.patterns.BuildFault.TheVariants.{Pattern, Memory as out_of_memory}
 use Rattle.pred_eval.specs.Search.{IsReadFrom}
 
--- what was built is the regular expression of the text
+-- This error of the crate `regex` is a cause to refuse the text: the grammar does not read it, or it is nested too deep,
+-- or it is a pattern, and its program is too big. Which patterns have too big a program is not said. That memory ran
+-- out is no cause.
+abbrev pub IsCause : List ℕ → Error → Type 0
+IsCause pattern (Syntax error) = (error.kind ≢ kind.OutOfMemory) × Refuses default_config pattern error.kind
+IsCause pattern CompiledTooBig = IsPattern default_config pattern
+IsCause pattern Internal = ⊥
+IsCause pattern OutOfMemory = ⊥
+
+-- there is such a cause
+abbrev pub IsRefused : List ℕ → Type 0
+IsRefused pattern = (error : Error) × IsCause pattern error
+
+-- what was built is the regular expression of the text, or there is a cause to refuse it
 abbrev pub IsAnswerTo : List ℕ → PatternAnswer → Type 0
 IsAnswerTo pattern (Built regex) = IsReadFrom pattern regex
-IsAnswerTo pattern Refused = Unit {0}
+IsAnswerTo pattern Refused = IsRefused pattern
 IsAnswerTo pattern Memory = Unit {0}
 
 -- only a refusal is counted

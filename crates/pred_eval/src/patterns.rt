@@ -1,4 +1,4 @@
-ghost use Rattle.std.specs.Prelude.{◌≡◌, ℕ, ◌<◌, ◌≤◌, ◌^◌, List, ◌++◌, length, None, Some, IfOk};
+ghost use Rattle.std.specs.Prelude.{◌≡◌, ◌≢◌, ℕ, ◌<◌, ◌≤◌, ◌^◌, List, ◌++◌, length, None, Some, IfOk};
 ghost use Rattle.std.specs.Option.{option_map};
 ghost use Rattle.pred_eval.specs.Building.{IsAnswerTo, IsCounted, refused_by, texts_of, HasCause, refused_of};
 ghost use Rattle.pred_eval.specs.Search.{AreReadFrom};
@@ -29,7 +29,8 @@ pub trait Patterns {
     /// The texts that were refused, where they are known.
     ghost refused: { Self → Option (List (List ℕ)) };
 
-    /// Builds the regular expression of the text. Only a refusal is counted and recorded.
+    /// Builds the regular expression of the text. Only a refusal is counted and recorded, and one has a cause that is
+    /// not memory.
     fn build(&mut self, alloc: Global, pattern: &Text) -> PatternAnswer
         ensures built { IsAnswerTo pattern.now result }
         ensures counted { IsCounted (refusals self.old) (refusals self.new) result }
@@ -85,13 +86,25 @@ impl Patterns for ListPatterns {
     }
 }
 
+/// What the crate `regex` answers. Only an error that is not out of memory refuses the text.
+#[tactic(auto, using(crate::proofs::BuildLaws::cause_is))]
 fn read_regex(alloc: Global, pattern: &Text) -> PatternAnswer
     ensures { IsAnswerTo pattern.now result }
 {
     match Regex::new(alloc, pattern.as_str()) {
         Ok(regex) => PatternAnswer::Built(regex),
-        Err(Error::OutOfMemory) => PatternAnswer::Memory,
-        Err(_) => PatternAnswer::Refused,
+        Err(error) => answer_error(error),
+    }
+}
+
+/// What an error of the crate `regex` is answered with.
+fn answer_error(error: Error) -> PatternAnswer
+    ensures memory { error ≡ Error.OutOfMemory → result ≡ PatternAnswer.Memory }
+    ensures refused { error ≢ Error.OutOfMemory → result ≡ PatternAnswer.Refused }
+{
+    match error {
+        Error::OutOfMemory => PatternAnswer::Memory,
+        Error::Syntax(_) | Error::CompiledTooBig | Error::Internal => PatternAnswer::Refused,
     }
 }
 
