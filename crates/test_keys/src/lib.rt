@@ -1,0 +1,5 @@
+//! Tests of which configurations have hosts that are apart.
+#![tactic(auto)]
+
+#[cfg(test)]
+mod keys;
