@@ -23,7 +23,8 @@ has_fields (first ∷ more) = true
 
 -- the stream is a `by` on host or service or both; no stream below it sets one of its fields; and expiry keeps them
 abbrev pub is_apart : StreamTree → Option Expiry → Bool
-is_apart (stream (By fields) children otherwise) expiry = has_fields fields && (keeps_keys fields children otherwise && expiry_keeps fields expiry)
+is_apart (stream (By fields) children otherwise) expiry =
+    has_fields fields && (keeps_keys fields children otherwise && expiry_keeps fields expiry)
 is_apart _ expiry = false
 
 -- the plan is one such stream

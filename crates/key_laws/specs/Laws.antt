@@ -21,8 +21,10 @@ arrivals_of fields key (Post event ∷ more) =
 
 -- the notices of a key are the notices over the arrivals of the key alone
 abbrev pub KeysHaveTheirNotices : Type 0
-KeysHaveTheirNotices = (plan : StreamTrees) (expiry : Option Expiry) (start : ℕ) (arrivals : List Arrival) (key : List Value) → IsTrue (keys_apart plan expiry) →
-    filter (notice_has (key_fields plan) key) (notices_of plan expiry start arrivals) ≡ notices_of plan expiry start (arrivals_of (key_fields plan) key arrivals)
+KeysHaveTheirNotices = (plan : StreamTrees) (expiry : Option Expiry) (start : ℕ) (arrivals : List Arrival) (key : List Value) →
+    IsTrue (keys_apart plan expiry) →
+    filter (notice_has (key_fields plan) key) (notices_of plan expiry start arrivals)
+    ≡ notices_of plan expiry start (arrivals_of (key_fields plan) key arrivals)
 
 -- the notice has a key, and no other
 pub record IsOfOneKey (fields : List Field) (given : Notice) : Type 0 where
@@ -31,11 +33,13 @@ pub record IsOfOneKey (fields : List Field) (given : Notice) : Type 0 where
   pub only : (other : List Value) → IsTrue (notice_has fields other given) → other ≡ key
 
 abbrev pub NoticesAreOfOneKey : Type 0
-NoticesAreOfOneKey = (plan : StreamTrees) (expiry : Option Expiry) (start : ℕ) (arrivals : List Arrival) → IsTrue (keys_apart plan expiry) →
+NoticesAreOfOneKey = (plan : StreamTrees) (expiry : Option Expiry) (start : ℕ) (arrivals : List Arrival) →
+    IsTrue (keys_apart plan expiry) →
     AllByRecursion (IsOfOneKey (key_fields plan)) (notices_of plan expiry start arrivals)
 
 -- what the index holds of a key is what it holds after the arrivals of the key alone
 abbrev pub KeysHaveTheirLiveEvents : Type 0
-KeysHaveTheirLiveEvents = (plan : StreamTrees) (expiry : Option Expiry) (start : ℕ) (arrivals : List Arrival) (key : List Value) → IsTrue (keys_apart plan expiry) →
+KeysHaveTheirLiveEvents = (plan : StreamTrees) (expiry : Option Expiry) (start : ℕ) (arrivals : List Arrival) (key : List Value) →
+    IsTrue (keys_apart plan expiry) →
     filter (event_has (key_fields plan) key) (live_events (state_after plan expiry start arrivals).log)
     ≡ live_events (state_after plan expiry start (arrivals_of (key_fields plan) key arrivals)).log
