@@ -1,10 +1,11 @@
-ghost use Rattle.std.specs.Prelude.{◌≡◌, ℕ, ◌+◌, ◌^◌, ◌≤◌, eqb, false, List, [], ◌∷◌, ◌++◌, Option, filter, length, not, option_copied, IfSome, IfOk, IsNone, IsSome, OnErr, OnOk, true, Some, None, if◌then◌else◌};
+ghost use Rattle.std.specs.Prelude.{◌≡◌, ℕ, ◌+◌, ◌-◌, ◌^◌, ◌≤◌, eqb, false, List, [], ◌∷◌, ◌++◌, Option, filter, length, not, option_copied, IfSome, IfOk, IsNone, IsSome, OnErr, OnOk, true, Some, None, if◌then◌else◌};
 ghost use Rattle.std.specs.Map.{values_of};
 ghost use Rattle.list_laws.specs.Prefix.{IsPrefix};
 ghost use Rattle.ev_types.specs.Expiry.{is_expired, is_late, is_over};
 ghost use Rattle.ev_types.specs.declared.event.Event.{Event as StoredEvent};
 ghost use Rattle.key_map.specs.Keys.{number_at, Numbers};
 ghost use Rattle.linked_slots.specs.Table.{value_at};
+ghost use Rattle.step_count.specs.Count.{more_by, one_more};
 ghost use Rattle.tick_schedule.specs.Queue.{due_ids, IsRising, Sets};
 ghost use Rattle.pred_eval.specs.Host.{asked_host, NeedsHost};
 ghost use Rattle.pred_eval.specs.Truth.{holds};
@@ -211,6 +212,11 @@ impl Store {
         ensures found { IsSome result → steps.new.entries ≡ steps.old.entries + 1 }
         ensures absent { IsNone result → steps.new.entries ≡ steps.old.entries }
         ensures entries { steps.new.entries ≤ steps.old.entries + 1 }
+        ensures forks_reported { G.forks steps.new.ledger ≡ G.forks steps.old.ledger }
+        ensures found_reported { IsSome result →
+            G.entries steps.new.ledger ≡ one_more (G.entries steps.old.ledger) }
+        ensures absent_reported { IsNone result →
+            G.entries steps.new.ledger ≡ G.entries steps.old.ledger }
     {
         let number = self.numbers.get(host, service)?;
         Some(self.events.read(number, steps))
@@ -246,6 +252,9 @@ impl Store {
         ensures forks { steps.new.forks ≡ steps.old.forks }
         ensures entries { steps.new.entries ≤ steps.old.entries
             + length (filter (is_expired now) (events_in self.old.numbers self.old.events.values)) }
+        ensures forks_reported { G.forks steps.new.ledger ≡ G.forks steps.old.ledger }
+        ensures entries_reported { OnOk result (G.entries steps.new.ledger
+            ≡ more_by (steps.new.entries - steps.old.entries) (G.entries steps.old.ledger)) }
     {
         let mut numbers = Ids::fresh(alloc);
         self.due.take_due(alloc, now, &mut numbers, steps)?;
@@ -273,6 +282,10 @@ impl Store {
             + length (visited pred.old (events_in self.now.numbers self.now.events.values))) }
         ensures entries { steps.new.entries ≤ steps.old.entries
             + length (visited pred.old (events_in self.now.numbers self.now.events.values)) }
+        ensures forks_reported { G.forks steps.new.ledger ≡ G.forks steps.old.ledger }
+        ensures entries_reported { OnOk result (G.entries steps.new.ledger
+            ≡ more_by (length (visited pred.old (events_in self.now.numbers self.now.events.values)))
+            (G.entries steps.old.ledger)) }
     {
         let numbers = self.numbers_for(alloc, pred)?;
         copy_at(alloc, &self.events, numbers.as_slice(), pred, out, steps)?;
@@ -383,6 +396,9 @@ fn copy_at<G: Ledger>(
     ensures forks { steps.new.forks ≡ steps.old.forks }
     ensures counted { OnOk result (steps.new.entries ≡ steps.old.entries + length numbers.now) }
     ensures entries { steps.new.entries ≤ steps.old.entries + length numbers.now }
+    ensures forks_reported { G.forks steps.new.ledger ≡ G.forks steps.old.ledger }
+    ensures entries_reported { OnOk result (G.entries steps.new.ledger
+        ≡ more_by (length numbers.now) (G.entries steps.old.ledger)) }
 {
     for number in numbers {
         let event = events.read(*number, steps);
