@@ -1,6 +1,6 @@
 //! Events, rules and plans, built from texts.
 
-use ev_types::{Attrs, Event, Expiry, Memory, Tags, Text};
+use ev_types::{Event, Memory, Text};
 use pred_eval::{Pred, RegexPatterns, pattern_count};
 use query_lang::read_query;
 use sexp_config::read_config;
@@ -15,34 +15,13 @@ pub(crate) fn text(alloc: Global, chars: &str) -> Option<Text> {
     Text::from_str(alloc, chars).ok()
 }
 
-/// The ttl, where it is not 0.
-fn ttl_of(secs: u32) -> Option<u32> {
-    if secs == 0 { None } else { Some(secs) }
-}
-
-/// An event of this host, service and state, each absent where it is `-`, of this time and ttl, 0 for none.
-pub(crate) fn event(
-    alloc: Global,
-    host: &str,
-    service: &str,
-    state: &str,
-    time: i64,
-    ttl: u32,
-) -> Event {
-    Event {
-        host: text(alloc, host),
-        service: text(alloc, service),
-        state: text(alloc, state),
-        description: None,
-        tags: Tags::fresh(alloc),
-        time,
-        time_micros: None,
-        ttl: ttl_of(ttl),
-        metric: None,
-        raw_d: None,
-        raw_f: None,
-        attributes: Attrs::fresh(alloc),
-    }
+/// An event of this host and service, each absent where it is `-`, with the time 100 and this ttl.
+pub(crate) fn event(alloc: Global, host: &str, service: &str, ttl: u32) -> Event {
+    let mut event = Event::at(alloc, 100);
+    event.host = text(alloc, host);
+    event.service = text(alloc, service);
+    event.ttl = Some(ttl);
+    event
 }
 
 /// The rule of a query with at most one regular expression.
@@ -59,13 +38,13 @@ pub(crate) fn rule(alloc: Global, query: &str) -> Result<Pred, Memory> {
     }
 }
 
-/// The plan of the configuration, and when events of its index expire.
-pub(crate) fn plan(alloc: Global, config: &str) -> Result<(ReadyPlan, Option<Expiry>), Memory> {
+/// The plan of the configuration.
+pub(crate) fn plan(alloc: Global, config: &str) -> Result<ReadyPlan, Memory> {
     let Ok(config) = read_config(alloc, config.as_bytes()) else {
         return Err(Memory);
     };
     match build_plan(alloc, config.plan, &mut RegexPatterns { refusals: 0 }) {
-        Ok(plan) => Ok((plan, config.expiry)),
+        Ok(plan) => Ok(plan),
         Err(_) => Err(Memory),
     }
 }

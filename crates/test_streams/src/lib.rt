@@ -1,18 +1,16 @@
-//! Tests of the streams, the index and the core, by their public calls. Plans are configurations as an operator writes
-//! them, and what comes of them is compared as text.
+//! Tests of the streams, the index and the core, of what no row of `test_commands` shows: calls that no command makes,
+//! values that no configuration can spell, counts of what was visited, and as many events as a count allows.
 #![tactic(auto)]
 
 #[cfg(test)]
-mod arrivals;
-#[cfg(test)]
 mod build;
 #[cfg(test)]
-mod flow;
+mod calls;
 #[cfg(test)]
-mod index;
+mod fields;
 #[cfg(test)]
-mod show;
+mod kept;
 #[cfg(test)]
-mod tree;
+mod outputs;
 #[cfg(test)]
 mod visits;

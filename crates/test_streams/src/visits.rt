@@ -4,7 +4,6 @@ use crate::build::{event, rule, text};
 use ev_types::{Events, Memory};
 use live_index::LiveIndex;
 use std::alloc::Global;
-use std::test::Fail;
 use step_count::{CountLedger, Steps};
 
 /// Steps of which none was counted.
@@ -34,14 +33,8 @@ fn ttl_of(host: u32, service: u32) -> u32 {
 fn write_one(alloc: Global, index: &mut LiveIndex, host: u32, service: u32) -> Result<(), Memory> {
     let host_name = format!(in alloc; "h{host}")?;
     let service_name = format!(in alloc; "s{service}")?;
-    let event = event(
-        alloc,
-        host_name.as_str(),
-        service_name.as_str(),
-        "ok",
-        100,
-        ttl_of(host, service),
-    );
+    let ttl = ttl_of(host, service);
+    let event = event(alloc, host_name.as_str(), service_name.as_str(), ttl);
     index.write(alloc, event)
 }
 
@@ -53,13 +46,12 @@ fn write_host(alloc: Global, index: &mut LiveIndex, host: u32) -> Result<(), Mem
     Ok(())
 }
 
-/// An index with ten events of each of 100 hosts.
-fn thousand(alloc: Global) -> Result<LiveIndex, Memory> {
-    let mut index = LiveIndex::fresh(alloc);
+/// Writes ten events of each of 100 hosts.
+fn write_thousand(alloc: Global, index: &mut LiveIndex) -> Result<(), Memory> {
     for host in 0..100 {
-        write_host(alloc, &mut index, host)?;
+        write_host(alloc, index, host)?;
     }
-    Ok(index)
+    Ok(())
 }
 
 /// Whether the query finds `found` events and visits `visited` entries.
@@ -73,14 +65,12 @@ fn visits(
     let mut pred = rule(alloc, query)?;
     let mut out = Events::fresh(alloc);
     let mut steps = no_steps();
-    index.search(alloc, &mut pred, &mut out, &mut steps)?;
-    Ok(out.len() == found && entries(&steps) == visited)
+    let searched = index.search(alloc, &mut pred, &mut out, &mut steps).is_ok();
+    Ok(searched && out.len() == found && entries(&steps) == visited)
 }
 
-#[test]
-fn a_search_visits_one_host_where_it_asks_for_one(rt: HostRuntime) -> Result<(), Fail> {
-    let alloc = rt.alloc();
-    let mut index = thousand(alloc)?;
+/// Whether a search visits one host where it asks for one.
+fn are_searched(alloc: Global, index: &mut LiveIndex) -> Result<bool, Memory> {
     for (query, found, visited) in [
         ("host = \"h7\"", 10, 10),
         (
@@ -93,34 +83,40 @@ fn a_search_visits_one_host_where_it_asks_for_one(rt: HostRuntime) -> Result<(),
         ("not host = \"h7\"", 990, 1_000),
         ("service = \"s1\"", 100, 1_000),
     ] {
-        assert!(rt;
-            visits(alloc, &mut index, query, found, visited)?,
-            "{query}"
-        );
+        if !visits(alloc, index, query, found, visited)? {
+            return Ok(false);
+        }
     }
-    Ok(())
+    Ok(true)
 }
 
-#[test]
-fn a_reap_visits_what_expires_alone(rt: HostRuntime) -> Result<(), Fail> {
-    let alloc = rt.alloc();
-    let mut index = thousand(alloc)?;
-    let mut out = Events::fresh(alloc);
-    let mut steps = no_steps();
-    index.reap(alloc, 106, &mut out, &mut steps)?;
-    assert!(rt; out.len() == 3 && index.len() == 997 && entries(&steps) <= 6);
-    Ok(())
-}
-
-#[test]
-fn a_look_up_visits_one_event(rt: HostRuntime) -> Result<(), Fail> {
-    let alloc = rt.alloc();
-    let mut index = thousand(alloc)?;
+/// Whether a look-up visits one event.
+fn is_looked_up(alloc: Global, index: &mut LiveIndex) -> bool {
     let (host, service) = (text(alloc, "h7"), text(alloc, "s4"));
     let mut steps = no_steps();
     let found = index
         .get(host.as_ref(), service.as_ref(), &mut steps)
         .is_some();
-    assert!(rt; found && entries(&steps) == 1);
-    Ok(())
+    found && entries(&steps) == 1
+}
+
+/// Whether a reap visits what expires alone.
+fn is_reaped(alloc: Global, index: &mut LiveIndex) -> bool {
+    let mut out = Events::fresh(alloc);
+    let mut steps = no_steps();
+    let reaped = index.reap(alloc, 106, &mut out, &mut steps).is_ok();
+    reaped && out.len() == 3 && entries(&steps) <= 6
+}
+
+/// Whether the calls of an index with a thousand events visit no more than they have to.
+fn are_visited(alloc: Global, index: &mut LiveIndex) -> Result<bool, Memory> {
+    write_thousand(alloc, index)?;
+    Ok(are_searched(alloc, index)? && is_looked_up(alloc, index) && is_reaped(alloc, index))
+}
+
+#[test]
+fn an_index_visits_what_is_asked_for(rt: HostRuntime) {
+    let mut index = LiveIndex::fresh(rt.alloc());
+    let visited = matches!(are_visited(rt.alloc(), &mut index), Ok(true));
+    assert!(rt; visited && index.len() == 997);
 }

@@ -1,18 +1,11 @@
-//! Trees of streams: the outputs of a plan, in their order.
+//! Trees of streams: the order of notices and writes, and how many forks and entries are counted.
 
 use crate::build::{event, plan};
-use crate::show::put_output;
-use ev_types::{Memory, Outputs};
+use ev_types::{Memory, Output, Outputs};
 use std::alloc::Global;
 use std::test::Fail;
 use step_count::{CountLedger, Steps};
 use stream_tree::Tree;
-
-/// The tree of the configuration, from 100 on.
-fn tree(alloc: Global, config: &str) -> Result<Tree, Memory> {
-    let (plan, _) = plan(alloc, config)?;
-    Tree::fresh(alloc, plan, 100)
-}
 
 /// An event of the host comes at the moment, which is at most 2^40.
 fn post(
@@ -23,7 +16,7 @@ fn post(
     outputs: &mut Outputs,
     steps: &mut Steps<CountLedger>,
 ) -> Result<(), Memory> {
-    let event = event(alloc, host, "-", "-", 5, 0);
+    let event = event(alloc, host, "-", 60);
     tree.item(alloc, event, now.min(1 << 40), outputs, steps)
 }
 
@@ -40,81 +33,115 @@ fn play(
     post(alloc, tree, "cb", 101, outputs, steps)
 }
 
-/// Appends the outputs, and at last the counts of forks and entries.
-fn put_outputs(
-    alloc: Global,
-    text: &mut String,
-    outputs: &Outputs,
-    counts: CountLedger,
-) -> Result<(), Memory> {
+/// Appends the names of the notices, and `write` for a write, each with a blank.
+fn put_names(out: &mut String, outputs: &Outputs) -> Result<(), Memory> {
     for output in outputs.as_slice() {
-        put_output(alloc, text, output)?;
+        match output {
+            Output::Notice(notice) => out.push_str(notice.name.as_str())?,
+            Output::Write(_) => out.push_str("write")?,
+        }
+        out.push_str(" ")?;
     }
-    let CountLedger { forks, entries } = counts;
-    let counts = format!(in alloc; "{forks} {entries}")?;
-    text.push_str(counts.as_str())?;
     Ok(())
 }
 
-/// Whether the configuration gives these outputs, and at last these counts.
-fn gives(alloc: Global, config: &str, wanted: &str) -> Result<bool, Memory> {
-    let mut tree = tree(alloc, config)?;
+/// Plays, and appends the names of what the tree gives.
+fn play_names(
+    alloc: Global,
+    tree: &mut Tree,
+    steps: &mut Steps<CountLedger>,
+    out: &mut String,
+) -> Result<(), Memory> {
     let mut outputs = Outputs::fresh(alloc);
+    play(alloc, tree, &mut outputs, steps)?;
+    put_names(out, &outputs)
+}
+
+/// Whether the configuration gives outputs of these names, and counts so many forks and entries.
+fn gives(
+    alloc: Global,
+    config: &str,
+    names: &str,
+    forks: u64,
+    entries: u64,
+) -> Result<bool, Memory> {
+    let mut tree = Tree::fresh(alloc, plan(alloc, config)?, 100)?;
     let mut steps = Steps::fresh(CountLedger {
         forks: 0,
         entries: 0,
     });
-    play(alloc, &mut tree, &mut outputs, &mut steps)?;
-    let mut text = String::new(alloc);
-    put_outputs(alloc, &mut text, &outputs, *steps.ledger())?;
-    Ok(text.as_str() == wanted)
+    let mut out = String::new(alloc);
+    let played = play_names(alloc, &mut tree, &mut steps, &mut out).is_ok();
+    let counts = *steps.ledger();
+    let counted = counts.forks == forks && counts.entries == entries;
+    Ok(played && counted && out.as_str() == names)
 }
 
 #[test]
 fn outputs_come_in_order(rt: HostRuntime) -> Result<(), Fail> {
-    let alloc = rt.alloc();
-    for (config, wanted) in [
+    for (config, names, forks, entries) in [
         (
             "(streams (where (= host \"a\") (notice \"in\") (else (notice \"out\"))))",
-            "in@100 a - - 5 0; out@100 b - - 5 0; out@101 cb - - 5 0; 0 0",
+            "in out out ",
+            0,
+            0,
         ),
         (
             "(streams (with :state \"x\" (notice \"n\") index))",
-            "n@100 a - x 5 0; write a - x 5 0; n@100 b - x 5 0; write b - x 5 0; n@101 cb - x 5 0; write cb - x 5 0; 0 0",
+            "n write n write n write ",
+            0,
+            0,
         ),
         (
             "(streams (with :state \"x\" (default :state \"y\" (notice \"n\"))) index)",
-            "n@100 a - x 5 0; write a - - 5 0; n@100 b - x 5 0; write b - - 5 0; n@101 cb - x 5 0; write cb - - 5 0; 0 0",
+            "n write n write n write ",
+            0,
+            0,
         ),
         (
             "(streams (sdo (sdo (notice \"n\") (notice \"m\")) index))",
-            "n@100 a - - 5 0; m@100 a - - 5 0; write a - - 5 0; n@100 b - - 5 0; m@100 b - - 5 0; write b - - 5 0; n@101 cb - - 5 0; m@101 cb - - 5 0; write cb - - 5 0; 0 0",
+            "n m write n m write n m write ",
+            0,
+            0,
         ),
         (
             "(streams (tag \"t\" (tagged \"t\" (notice \"n\")) (tagged \"u\" (notice \"u\"))))",
-            "n@100 a - - 5 0; n@100 b - - 5 0; n@101 cb - - 5 0; 0 0",
+            "n n n ",
+            0,
+            0,
         ),
         (
             "(streams (notice \"n\") (notice \"n\"))",
-            "n@100 a - - 5 0; n@100 a - - 5 0; n@100 b - - 5 0; n@100 b - - 5 0; n@101 cb - - 5 0; n@101 cb - - 5 0; 0 0",
+            "n n n n n n ",
+            0,
+            0,
         ),
         // Each host has a throttle of its own, and each event enters a fork.
         (
             "(streams (by :host (throttle 1 10 (notice \"t\"))))",
-            "t@100 a - - 5 0; t@100 b - - 5 0; t@101 cb - - 5 0; 3 0",
+            "t t t ",
+            3,
+            0,
         ),
         // At the second both forks are due.
         (
             "(streams (by :host (stable 1 :state (notice \"s\"))))",
-            "s@101 a - - 5 0; s@101 b - - 5 0; 5 2",
+            "s s ",
+            5,
+            2,
         ),
         // Three rules with a pattern each, one below the other and one beside them.
         (
             "(streams (where (host #\"^a\") (notice \"begin\") (else (where (host #\"b$\") (notice \"end\") (else (notice \"rest\"))))) (where (host #\"^b$\") (notice \"b\") (else (notice \"no\"))))",
-            "begin@100 a - - 5 0; no@100 a - - 5 0; end@100 b - - 5 0; b@100 b - - 5 0; end@101 cb - - 5 0; no@101 cb - - 5 0; 0 0",
+            "begin no end b end no ",
+            0,
+            0,
         ),
     ] {
-        assert!(rt; gives(alloc, config, wanted)?, "{config}");
+        assert!(rt;
+            gives(rt.alloc(), config, names, forks, entries)?,
+            "{config}"
+        );
     }
     Ok(())
 }

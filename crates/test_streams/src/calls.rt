@@ -1,0 +1,110 @@
+//! Calls that no command makes: an event of the index by its key, and an event that is posted to a core.
+
+use crate::build::{event, plan, text};
+use ev_types::{Event, Memory, Notices, Text};
+use event_core::Core;
+use live_index::LiveIndex;
+use std::alloc::Global;
+use std::test::Fail;
+use step_count::{NoLedger, Steps};
+use stream_plan::ReadyPlan;
+
+/// An event of this host, service and state, each absent where it is `-`, with this ttl.
+fn state_event(alloc: Global, row: &(&str, &str, &str, u32)) -> Event {
+    let mut event = event(alloc, row.0, row.1, row.3);
+    event.state = text(alloc, row.2);
+    event
+}
+
+/// Writes events of these hosts, services, states and ttls.
+fn write_all(
+    alloc: Global,
+    index: &mut LiveIndex,
+    rows: &[(&str, &str, &str, u32)],
+) -> Result<(), Memory> {
+    for row in rows {
+        index.write(alloc, state_event(alloc, row))?;
+    }
+    Ok(())
+}
+
+/// The ttl of the live event of this host and service, or 0 where there is none.
+fn ttl_of(index: &mut LiveIndex, host: Option<&Text>, service: Option<&Text>) -> u32 {
+    match index.get(host, service, &mut Steps::fresh(NoLedger)) {
+        Some(event) => event.ttl.unwrap_or(0),
+        None => 0,
+    }
+}
+
+/// Whether the live event of the host and the service has the ttl.
+fn has_ttl(alloc: Global, index: &mut LiveIndex, host: &str, service: &str, wanted: u32) -> bool {
+    let (host, service) = (text(alloc, host), text(alloc, service));
+    ttl_of(index, host.as_ref(), service.as_ref()) == wanted
+}
+
+/// Whether the live events of these hosts and services have these ttls.
+fn have_ttls(alloc: Global, index: &mut LiveIndex, rows: &[(&str, &str, u32)]) -> bool {
+    for row in rows {
+        if !has_ttl(alloc, index, row.0, row.1, row.2) {
+            return false;
+        }
+    }
+    true
+}
+
+/// Whether each event is got by its host and service once all are written.
+fn are_got(alloc: Global, index: &mut LiveIndex) -> bool {
+    let written = [
+        ("b", "cpu", "ok", 1),
+        ("-", "-", "ok", 2),
+        ("", "-", "ok", 3),
+        ("-", "cpu", "ok", 4),
+        ("a", "cpu", "ok", 5),
+        ("c", "cpu", "ok", 6),
+        ("a", "cpu", "warning", 7),
+        ("c", "cpu", "expired", 8),
+    ];
+    let got = [
+        ("b", "cpu", 1),
+        ("-", "-", 2),
+        ("", "-", 3),
+        ("-", "cpu", 4),
+        ("a", "cpu", 7),
+        ("c", "cpu", 0),
+        ("cpu", "a", 0),
+        ("b", "-", 0),
+        ("-", "", 0),
+        ("z", "cpu", 0),
+    ];
+    write_all(alloc, index, &written).is_ok() && have_ttls(alloc, index, &got)
+}
+
+#[test]
+fn an_event_is_got_by_its_host_and_service(rt: HostRuntime) {
+    let mut index = LiveIndex::fresh(rt.alloc());
+    let got = are_got(rt.alloc(), &mut index);
+    assert!(rt; got && index.len() == 5);
+}
+
+/// Posts an event, and says how many notices it gives.
+fn post(alloc: Global, core: &mut Core) -> Result<usize, Memory> {
+    let mut notices = Notices::fresh(alloc);
+    let event = event(alloc, "a", "-", 60);
+    core.post(alloc, event, &mut notices, &mut Steps::fresh(NoLedger))?;
+    Ok(notices.as_slice().len())
+}
+
+/// Whether an event that is posted gives one notice and is live.
+fn is_posted(alloc: Global, plan: ReadyPlan) -> bool {
+    match Core::fresh(alloc, plan, None, 100) {
+        Ok(mut core) => matches!(post(alloc, &mut core), Ok(1)) && core.live() == 1,
+        Err(Memory) => false,
+    }
+}
+
+#[test]
+fn an_event_is_posted(rt: HostRuntime) -> Result<(), Fail> {
+    let plan = plan(rt.alloc(), "(streams index (notice \"n\"))")?;
+    assert!(rt; is_posted(rt.alloc(), plan));
+    Ok(())
+}

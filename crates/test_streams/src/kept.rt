@@ -1,0 +1,128 @@
+//! The states of the kinds that keep something, at the ends of the ranges of their numbers.
+
+use ev_types::{Emissions, Event, Field, Memory};
+use std::alloc::Global;
+use std::test::Fail;
+use stream_plan::Kind;
+use stream_states::KeptState;
+
+/// A kind of stream that keeps something.
+#[derive(Clone, Copy)]
+enum Keeps {
+    Changed,
+    Runs,
+    Throttle,
+    Rollup,
+    Batch,
+    Stable,
+    FixedEvent,
+    MovingEvent,
+    FixedTime,
+    MovingTime,
+    Coalesce,
+}
+
+const ALL: &[Keeps] = &[
+    Keeps::Changed,
+    Keeps::Runs,
+    Keeps::Throttle,
+    Keeps::Rollup,
+    Keeps::Batch,
+    Keeps::Stable,
+    Keeps::FixedEvent,
+    Keeps::MovingEvent,
+    Keeps::FixedTime,
+    Keeps::MovingTime,
+    Keeps::Coalesce,
+];
+
+/// The kind with this count and these seconds, as far as it has them. It compares states.
+fn kind_of(keeps: Keeps, count: u32, secs: u32) -> Kind {
+    let field = Field::State;
+    match keeps {
+        Keeps::Changed => Kind::Changed { field, init: None },
+        Keeps::Runs => Kind::Runs { count, field },
+        Keeps::Throttle => Kind::Throttle { count, secs },
+        Keeps::Rollup => Kind::Rollup { count, secs },
+        Keeps::Batch => Kind::Batch { count, secs },
+        Keeps::Stable => Kind::Stable { secs, field },
+        Keeps::FixedEvent => Kind::FixedEvent { count },
+        Keeps::MovingEvent => Kind::MovingEvent { count },
+        Keeps::FixedTime => Kind::FixedTime { secs },
+        Keeps::MovingTime => Kind::MovingTime { secs },
+        Keeps::Coalesce => Kind::Coalesce { secs },
+    }
+}
+
+/// How many items pass as this many events of the moment 0 come.
+fn pass(alloc: Global, state: &mut KeptState, events: u32) -> Result<usize, Memory> {
+    let mut passed: usize = 0;
+    for _ in 0..events {
+        let mut out = Emissions::fresh(alloc);
+        state.item(alloc, Event::at(alloc, 0), 0, &mut out)?;
+        passed = passed.wrapping_add(out.len());
+    }
+    Ok(passed)
+}
+
+/// How many items a stream of the kind passes on of this many events, all of the moment 0, where its numbers are in
+/// their ranges.
+fn passed(
+    alloc: Global,
+    keeps: Keeps,
+    count: u32,
+    secs: u32,
+    events: u32,
+) -> Result<Option<usize>, Memory> {
+    let kind = kind_of(keeps, count, secs);
+    match KeptState::fresh(alloc, &kind, 0)? {
+        Some(mut state) => Ok(pass(alloc, &mut state, events).ok()),
+        None => Ok(None),
+    }
+}
+
+/// How many of the eleven kinds have a state where they have these numbers.
+fn made(alloc: Global, count: u32, secs: u32) -> Result<u32, Memory> {
+    let mut made: u32 = 0;
+    for keeps in ALL {
+        if passed(alloc, *keeps, count, secs, 0)?.is_some() {
+            made = made.saturating_add(1);
+        }
+    }
+    Ok(made)
+}
+
+#[test]
+fn a_state_is_made_of_numbers_in_their_ranges(rt: HostRuntime) -> Result<(), Fail> {
+    // Six kinds have a count, seven have seconds, and three of these have both.
+    for (count, secs, wanted) in [
+        (1, 1, 11),
+        (1_000_000, 604_800, 11),
+        (0, 1, 5),
+        (1_000_001, 1, 5),
+        (1, 0, 4),
+        (1, 604_801, 4),
+        (u32::MAX, u32::MAX, 1),
+    ] {
+        assert!(rt; made(rt.alloc(), count, secs)? == wanted, "{count} {secs}");
+    }
+    Ok(())
+}
+
+#[test]
+fn a_million_events_are_counted_and_kept(rt: HostRuntime) -> Result<(), Fail> {
+    for (keeps, events, wanted) in [
+        (Keeps::Throttle, 1_000_001, 1_000_000),
+        (Keeps::Rollup, 1_000_001, 1_000_000),
+        (Keeps::Runs, 999_999, 0),
+        (Keeps::Runs, 1_000_001, 2),
+        (Keeps::Batch, 999_999, 0),
+        (Keeps::Batch, 1_000_000, 1),
+        (Keeps::FixedEvent, 999_999, 0),
+        (Keeps::FixedEvent, 1_000_000, 1),
+    ] {
+        let passed = passed(rt.alloc(), keeps, 1_000_000, 1, events)?;
+        assert!(rt; passed == Some(wanted), "{events}");
+    }
+    Ok(())
+}
