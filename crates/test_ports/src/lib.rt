@@ -1,9 +1,13 @@
-//! Tests of the ends to the outside, by their public calls: stores, sinks, links, scripts and notice lines.
+//! Tests of the ends to the outside, by their public calls: stores, sinks, links, notice lines, sockets and loads.
 #![tactic(auto)]
 
 #[cfg(test)]
 mod links;
 #[cfg(test)]
+mod load;
+#[cfg(test)]
 mod notices;
+#[cfg(test)]
+mod sockets;
 #[cfg(test)]
 mod stores;

@@ -3,19 +3,24 @@ use ports::{
     FaultLinks, Links, ListenAnswer, PIECE_LIMIT, ScriptLinks, Turn, Wants, What, feed_links,
 };
 use std::alloc::Global;
-use std::test::Fail;
 
 /// Whether the next turn is this one, at second 0.
-fn is_next<L: Links>(alloc: Global, links: &mut L, buf: &mut [u8], what: What) -> bool {
-    buf.len() == PIECE_LIMIT
-        && links.next(alloc, &Wants::fresh(alloc), buf) == Turn { secs: 0, what }
+fn is_next<L: Links>(
+    alloc: Global,
+    links: &mut L,
+    wants: &Wants,
+    buf: &mut [u8],
+    what: What,
+) -> bool {
+    buf.len() == PIECE_LIMIT && links.next(alloc, wants, buf) == Turn { secs: 0, what }
 }
 
 /// Whether the next turns are these, each at second 0.
 fn are_next<L: Links>(alloc: Global, links: &mut L, wanted: &[What]) -> Result<bool, Memory> {
     let mut buf = vec![in alloc; 0; 65_536]?;
+    let wants = Wants::fresh(alloc);
     for what in wanted {
-        if !is_next(alloc, links, buf.as_mut_slice(), *what) {
+        if !is_next(alloc, links, &wants, buf.as_mut_slice(), *what) {
             return Ok(false);
         }
     }
@@ -29,13 +34,15 @@ fn feeding(alloc: Global, count: usize) -> Result<ScriptLinks, Memory> {
 }
 
 /// Whether this many bytes are fed in these turns.
-fn is_fed(alloc: Global, count: usize, wanted: &[What]) -> Result<bool, Memory> {
-    let mut links = feeding(alloc, count)?;
-    are_next(alloc, &mut links, wanted)
+fn is_fed(alloc: Global, count: usize, wanted: &[What]) -> bool {
+    match feeding(alloc, count) {
+        Ok(mut links) => matches!(are_next(alloc, &mut links, wanted), Ok(true)),
+        Err(Memory) => false,
+    }
 }
 
 #[test]
-fn a_file_is_fed_in_pieces(rt: HostRuntime) -> Result<(), Fail> {
+fn a_file_is_fed_in_pieces(rt: HostRuntime) {
     let whole = [
         What::Opened { link: 0 },
         What::Read {
@@ -47,38 +54,46 @@ fn a_file_is_fed_in_pieces(rt: HostRuntime) -> Result<(), Fail> {
         What::Stopped,
         What::Stopped,
     ];
-    assert!(rt; is_fed(rt.alloc(), 65_537, &whole)?);
+    assert!(rt; is_fed(rt.alloc(), 65_537, &whole));
     let empty = [
         What::Opened { link: 0 },
         What::Ended { link: 0 },
         What::Stopped,
     ];
-    assert!(rt; is_fed(rt.alloc(), 0, &empty)?);
-    Ok(())
+    assert!(rt; is_fed(rt.alloc(), 0, &empty));
 }
 
-/// Links that feed nothing, of whose calls these fail.
-fn failing(alloc: Global, numbers: &[u64]) -> Result<FaultLinks, Memory> {
-    let numbers = numbers.to_vec(alloc)?;
+/// Links that feed nothing, of whose calls the first and the third fail.
+fn failing(alloc: Global) -> Result<FaultLinks, Memory> {
+    let numbers = vec![in alloc; 0, 2]?;
     Ok(FaultLinks::fresh(feeding(alloc, 0)?, numbers))
 }
 
-/// What the links answer when they are to listen.
-fn listen(alloc: Global, links: &mut FaultLinks) -> Result<ListenAnswer, Memory> {
+/// Whether the links fail to listen.
+fn is_refused(alloc: Global, links: &mut FaultLinks) -> Result<bool, Memory> {
     let address = Text::from_str(alloc, "h:1")?;
-    Ok(links.listen(alloc, &address))
+    Ok(links.listen(alloc, &address) == ListenAnswer::Failed)
 }
 
-#[test]
-fn chosen_calls_of_links_fail(rt: HostRuntime) -> Result<(), Fail> {
-    let alloc = rt.alloc();
-    let mut links = failing(alloc, &[0, 2])?;
-    assert!(rt; listen(alloc, &mut links)? == ListenAnswer::Failed);
+/// Whether the chosen calls fail.
+fn fail(alloc: Global, links: &mut FaultLinks) -> Result<bool, Memory> {
     let turns = [
         What::Opened { link: 0 },
         What::Failed,
         What::Ended { link: 0 },
     ];
-    assert!(rt; are_next(alloc, &mut links, &turns)? && links.faults == 2);
-    Ok(())
+    Ok(is_refused(alloc, links)? && are_next(alloc, links, &turns)? && links.faults == 2)
+}
+
+/// Whether two calls of links fail that were chosen by their numbers.
+fn are_failing(alloc: Global) -> bool {
+    match failing(alloc) {
+        Ok(mut links) => matches!(fail(alloc, &mut links), Ok(true)),
+        Err(Memory) => false,
+    }
+}
+
+#[test]
+fn chosen_calls_of_links_fail(rt: HostRuntime) {
+    assert!(rt; are_failing(rt.alloc()));
 }

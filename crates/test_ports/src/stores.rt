@@ -2,6 +2,7 @@ use ev_types::{Blob, Memory, Text};
 use ports::{FileStore, MemSink, MemStore, ReadAnswer, Sink, Store, StoreRead, StreamSink};
 use std::alloc::{AllocError, Global};
 use std::io::ErrorKind;
+use std::rt::Files;
 use std::test::Fail;
 use std::{fs, io, process};
 
@@ -13,6 +14,9 @@ enum Wanted<'a> {
     TooLong,
 }
 
+/// A name, a limit, the answer, and how many bytes were taken and how many reads failed until then.
+type Row<'a> = (&'a str, u32, Wanted<'a>, u64, u64);
+
 fn is_wanted(answer: &ReadAnswer, wanted: Wanted) -> bool {
     match (answer, wanted) {
         (ReadAnswer::Bytes(bytes), Wanted::Bytes(wanted)) => bytes.as_slice() == wanted,
@@ -22,16 +26,10 @@ fn is_wanted(answer: &ReadAnswer, wanted: Wanted) -> bool {
 }
 
 /// Whether a read answers so.
-fn is_read<S: Store>(
-    alloc: Global,
-    store: &mut S,
-    name: &str,
-    limit: u32,
-    wanted: Wanted,
-) -> Result<bool, Memory> {
-    let name = Text::from_str(alloc, name)?;
-    let answer = store.read(alloc, &name, u64::from(limit));
-    Ok(is_wanted(&answer, wanted))
+fn is_read<S: Store>(alloc: Global, store: &mut S, row: &Row) -> Result<bool, Memory> {
+    let name = Text::from_str(alloc, row.0)?;
+    let answer = store.read(alloc, &name, u64::from(row.1));
+    Ok(is_wanted(&answer, row.2))
 }
 
 fn file(alloc: Global, name: &str, bytes: &str) -> Result<(Text, Blob), Memory> {
@@ -39,30 +37,40 @@ fn file(alloc: Global, name: &str, bytes: &str) -> Result<(Text, Blob), Memory> 
     Ok((name, Blob::from_slice(alloc, bytes.as_bytes())?))
 }
 
-fn files(alloc: Global, rows: &[(&str, &str)]) -> Result<Vec<(Text, Blob)>, Memory> {
+/// A store in memory of these files, of whose reads the one with the number 2 fails.
+fn store(alloc: Global, rows: &[(&str, &str)]) -> Result<MemStore, Memory> {
     let mut files = Vec::new(alloc);
     for row in rows {
         files.push(file(alloc, row.0, row.1)?)?;
     }
-    Ok(files)
+    let failing = vec![in alloc; 2]?;
+    Ok(MemStore::fresh(alloc, files, failing))
 }
 
-/// The names that were read, each with `!` where the read failed.
-fn reads_line(alloc: Global, reads: &[StoreRead]) -> Result<String, AllocError> {
-    let mut line = String::new(alloc);
-    for read in reads {
-        line.push_str(read.name.as_str())?;
-        line.push_str(if read.failed { "! " } else { " " })?;
+/// Whether the reads of the rows are answered so.
+fn are_held(alloc: Global, store: &mut MemStore, rows: &[Row]) -> Result<bool, Memory> {
+    for row in rows {
+        if !is_read(alloc, store, row)? || store.taken != row.3 || store.faults != row.4 {
+            return Ok(false);
+        }
     }
-    Ok(line)
+    Ok(true)
 }
 
-#[test]
-fn a_store_in_memory_answers_by_name_limit_and_number(rt: HostRuntime) -> Result<(), Fail> {
-    let alloc = rt.alloc();
-    let files = files(alloc, &[("a", "first"), ("b", ""), ("a", "second")])?;
-    let mut store = MemStore::fresh(alloc, files, vec![in alloc; 2]?);
-    // name, limit, answer, bytes taken until then, faults until then
+/// Whether these names were read, and these reads failed.
+fn were_read(reads: &[StoreRead], wanted: &[(&str, bool)]) -> bool {
+    let mut reads = reads.iter();
+    for row in wanted {
+        match reads.next() {
+            Some(read) if read.name.as_str() == row.0 && read.failed == row.1 => {}
+            _ => return false,
+        }
+    }
+    reads.next().is_none()
+}
+
+/// Whether the store answers by name, limit and number.
+fn is_answered(alloc: Global, store: &mut MemStore) -> bool {
     let rows = [
         ("a", 5, Wanted::Bytes(b"first"), 5, 0),
         ("a", 4, Wanted::TooLong, 10, 0),
@@ -70,15 +78,22 @@ fn a_store_in_memory_answers_by_name_limit_and_number(rt: HostRuntime) -> Result
         ("c", 5, Wanted::Failed, 10, 2),
         ("b", 0, Wanted::Bytes(b""), 10, 2),
     ];
-    for (name, limit, wanted, taken, faults) in rows {
-        let found = is_read(alloc, &mut store, name, limit, wanted)?;
-        assert!(rt;
-            found && store.taken == taken && store.faults == faults,
-            "{name}"
-        );
-    }
-    let line = reads_line(alloc, store.reads.as_slice())?;
-    assert!(rt; store.calls == 5 && line.as_str() == "a a a! c! b ");
+    let reads = [
+        ("a", false),
+        ("a", false),
+        ("a", true),
+        ("c", true),
+        ("b", false),
+    ];
+    matches!(are_held(alloc, store, &rows), Ok(true))
+        && store.calls == 5
+        && were_read(store.reads.as_slice(), &reads)
+}
+
+#[test]
+fn a_store_in_memory_answers_by_name_limit_and_number(rt: HostRuntime) -> Result<(), Fail> {
+    let mut store = store(rt.alloc(), &[("a", "first"), ("b", ""), ("a", "second")])?;
+    assert!(rt; is_answered(rt.alloc(), &mut store));
     Ok(())
 }
 
@@ -89,21 +104,23 @@ fn is_put(sink: &mut MemSink, bytes: &str, taken: bool, text: &str) -> bool {
         && sink.text.as_slice() == text.as_bytes()
 }
 
+/// Whether the sink takes what it has room for, and no put that fails.
+fn is_filled(sink: &mut MemSink) -> bool {
+    is_put(sink, "abc", true, "abc")
+        && is_put(sink, "de", false, "abc")
+        && is_put(sink, "defg", true, "abcdefg")
+        && is_put(sink, "hij", false, "abcdefgh")
+        && is_put(sink, "k", false, "abcdefgh")
+        && sink.calls == 5
+        && sink.puts == 2
+        && sink.faults == 3
+}
+
 #[test]
 fn a_sink_in_memory_takes_what_it_has_room_for(rt: HostRuntime) -> Result<(), Fail> {
-    let alloc = rt.alloc();
-    let mut sink = MemSink::fresh(alloc, 8, vec![in alloc; 1]?)?;
-    // bytes, whether all were taken, all the text until then
-    for (bytes, taken, text) in [
-        ("abc", true, "abc"),
-        ("de", false, "abc"),
-        ("defg", true, "abcdefg"),
-        ("hij", false, "abcdefgh"),
-        ("k", false, "abcdefgh"),
-    ] {
-        assert!(rt; is_put(&mut sink, bytes, taken, text), "{bytes}");
-    }
-    assert!(rt; sink.calls == 5 && sink.puts == 2 && sink.faults == 3);
+    let failing = vec![in rt.alloc(); 1]?;
+    let mut sink = MemSink::fresh(rt.alloc(), 8, failing)?;
+    assert!(rt; is_filled(&mut sink));
     Ok(())
 }
 
@@ -116,31 +133,47 @@ fn content(alloc: Global) -> Result<Vec<u8>, AllocError> {
     Ok(bytes)
 }
 
-#[test]
-fn files_are_read_within_the_limit(rt: HostRuntime) -> Result<(), Fail> {
-    let alloc = rt.alloc();
-    let bytes = content(alloc)?;
-    let path = format!(in alloc; "/tmp/ports_file_store_{}", process::id(rt.process()))?;
-    fs::write(&rt, path.as_str(), bytes.as_slice())?;
-    let mut store = FileStore::fresh(&rt);
-    let whole = Wanted::Bytes(bytes.as_slice());
-    // path, limit, answer, bytes taken until then, faults until then
+/// Whether the reads of the rows are answered so.
+fn are_filed<R: Files>(
+    alloc: Global,
+    store: &mut FileStore<'_, R>,
+    rows: &[Row],
+) -> Result<bool, Memory> {
+    for row in rows {
+        if !is_read(alloc, store, row)? || store.taken != row.3 || store.faults != row.4 {
+            return Ok(false);
+        }
+    }
+    Ok(true)
+}
+
+/// Whether the file of the path, which has these 200,000 bytes, is read within the limit.
+fn is_limited<R: Files>(
+    alloc: Global,
+    store: &mut FileStore<'_, R>,
+    path: &str,
+    bytes: &[u8],
+) -> bool {
     let rows = [
-        (path.as_str(), 200_000, whole, 200_000, 0),
-        (path.as_str(), 199_999, Wanted::TooLong, 400_000, 0),
-        (path.as_str(), 0, Wanted::TooLong, 400_001, 0),
+        (path, 200_000, Wanted::Bytes(bytes), 200_000, 0),
+        (path, 199_999, Wanted::TooLong, 400_000, 0),
+        (path, 0, Wanted::TooLong, 400_001, 0),
         ("/tmp/ports_no_such_file", 9, Wanted::Failed, 400_001, 1),
         ("/tmp", 9, Wanted::Failed, 400_001, 2),
         ("a\0b", 9, Wanted::Failed, 400_001, 3),
     ];
-    for (path, limit, wanted, taken, faults) in rows {
-        let found = is_read(alloc, &mut store, path, limit, wanted)?;
-        assert!(rt;
-            found && store.taken == taken && store.faults == faults,
-            "{path}"
-        );
-    }
+    matches!(are_filed(alloc, store, &rows), Ok(true))
+}
+
+#[test]
+fn files_are_read_within_the_limit(rt: HostRuntime) -> Result<(), Fail> {
+    let bytes = content(rt.alloc())?;
+    let path = format!(in rt.alloc(); "/tmp/ports_file_store_{}", process::id(rt.process()))?;
+    fs::write(&rt, path.as_str(), bytes.as_slice())?;
+    let mut store = FileStore::fresh(&rt);
+    let limited = is_limited(rt.alloc(), &mut store, path.as_str(), bytes.as_slice());
     fs::remove_file(&rt, path.as_str())?;
+    assert!(rt; limited);
     Ok(())
 }
 
@@ -178,6 +211,14 @@ fn is_streamed(sink: &mut StreamSink<Narrow>, bytes: &str, written: bool, text: 
         && sink.writer.bytes.as_slice() == text.as_bytes()
 }
 
+/// Whether the writer gets what it has room for, and one put fails.
+fn is_narrow(sink: &mut StreamSink<Narrow>) -> bool {
+    is_streamed(sink, "abcde", true, "abcde")
+        && is_streamed(sink, "fghi", false, "abcdefgh")
+        && sink.writer.flushes == 1
+        && sink.faults == 1
+}
+
 #[test]
 fn a_stream_is_written_on_after_a_short_write(rt: HostRuntime) {
     let mut sink = StreamSink::fresh(Narrow {
@@ -186,8 +227,5 @@ fn a_stream_is_written_on_after_a_short_write(rt: HostRuntime) {
         was_interrupted: false,
         flushes: 0,
     });
-    for (bytes, written, text) in [("abcde", true, "abcde"), ("fghi", false, "abcdefgh")] {
-        assert!(rt; is_streamed(&mut sink, bytes, written, text), "{bytes}");
-    }
-    assert!(rt; sink.writer.flushes == 1 && sink.faults == 1);
+    assert!(rt; is_narrow(&mut sink));
 }
