@@ -2,9 +2,9 @@
 use Rattle.std.proofs.Common.{◌≡◌, ℕ, ◌+◌, ◌++◌, Bool, true, false, cond, eqb, List, [], ◌∷◌, length, map, Option, Some, None, ℤ, pos, inl, inr, refl, sym, ap, ◌∙◌, append_assoc}
 use Rattle.std.proofs.lemmas.List.{append-nil}
 use Rattle.std.specs.Option.{option_map, option_or, option_to_list}
-use Rattle.std.specs.Prelude.{IfSome, slice_range, unwrap_or}
+use Rattle.std.specs.Prelude.{All, IfSome, filter, slice_range, unwrap_or}
 use Rattle.std.proofs.lemmas.Bool.{cases_eq, ne_eqb}
-use Rattle.std.proofs.lemmas.List.Elements.{All-from_recursion}
+use Rattle.std.proofs.lemmas.List.Elements.{All-append, All-from_recursion}
 use Rattle.std.specs.List.{AllByRecursion, flat_map, fold, last_or, filter_map, cons_option}
 use Rattle.ev_types.specs.declared.event.Event.{Event}
 use Rattle.ev_types.specs.Set.{event_at}
@@ -15,17 +15,18 @@ use Rattle.pb_wire.specs.Spelling.{Content, Varint, Eight, Bytes, Four}
 use Rattle.pb_wire.specs.ReadBack.{FieldValue, values_of}
 use Rattle.riemann_msg.specs.declared.read.AttrDraft.{AttrDraft}
 use Rattle.riemann_msg.specs.declared.read.MsgDraft.{MsgDraft}
+use Rattle.riemann_msg.specs.declared.read.StateDraft.{StateDraft}
 use Rattle.riemann_msg.specs.declared.msg.QueryPart.{QueryPart}
-use Rattle.riemann_msg.specs.Value.{bytes_in, eight_in, four_in, bool_in, int64_in, sint64_in, ttl_in, attribute_in, event_in, field_in, all_in, last_in, attribute_of, event_of, query_of, queries_joined, second_of, message_of}
+use Rattle.riemann_msg.specs.Value.{bytes_in, eight_in, four_in, bool_in, int64_in, sint64_in, ttl_in, attribute_in, event_from, event_in, state_in, is_of_state, field_in, all_in, last_in, attribute_of, event_of, state_of, query_of, queries_joined, second_of, message_of}
 use Rattle.riemann_msg.specs.declared.fault.MsgFault.{MsgFault}
 use Rattle.riemann_msg.specs.declared.fault.MsgFault.TheVariants.{Refused, Memory}
 use Rattle.riemann_msg.specs.declared.fault.MsgWhy.TheVariants.{Key as why_key}
-use Rattle.riemann_msg.specs.Fault.{Fault, fault_at, moved, first_by, first_of, wire_fault, IsRefusedFor, attribute_field_fault, event_field_fault, query_field_fault, message_field_fault, attribute_fault, event_fault, query_fault, key_fault}
-use Rattle.riemann_msg.specs.Spelling.{IsSpellable, IsSpellableEvent}
+use Rattle.riemann_msg.specs.Fault.{Fault, fault_at, moved, first_by, first_of, wire_fault, IsRefusedFor, attribute_field_fault, event_field_fault, state_field_fault, query_field_fault, message_field_fault, attribute_fault, event_fault, state_fault, query_fault, key_fault}
+use Rattle.riemann_msg.specs.Spelling.{field, IsSpellable, IsSpellableEvent}
 use Rattle.riemann_msg.specs.Ttl.{IsSpellableTtl, seconds_of}
 use Rattle.riemann_msg.proofs.TtlBits.{ttl_from_seconds}
 use Rattle.riemann_msg.proofs.Joined.{IsWhole, values_of_all}
-use Rattle.riemann_msg.specs.Draft.{fresh_message, field_at, query_joined, value_at, attribute_with, query_with, event_with, message_with, query_after, no_query, rounded, message_in}
+use Rattle.riemann_msg.specs.Draft.{fresh_message, field_at, query_joined, value_at, attribute_with, query_with, event_with, state_with, fresh_state, message_with, query_after, no_query, rounded, message_in}
 
 pub last_step : {A : Type 0} (o x : Option A) (xs : List A) → last_or (option_or x o) xs ≡ last_or o (cons_option x xs)
 last_step o None xs = refl
@@ -98,9 +99,51 @@ event_grown event values = record {
 event_nothing : (event : Event) → event ≡ event_grown event []
 event_nothing event = simp append-nil
 
+event_step : (event : Event) (value : FieldValue) (values : List FieldValue) → event_grown (event_with event value) values ≡ event_grown event (value ∷ values)
+event_step event value values = simp (last_step, all_step, time_step)
+
 event_fold : (bytes : List ℕ) (fields : List FieldAt) (event : Event) → fold (λ event field. event_with event (value_at bytes field)) event fields ≡ event_grown event (map (value_at bytes) fields)
 event_fold bytes [] event = event_nothing event
-event_fold bytes (f ∷ fields) event = event_fold bytes fields (event_with event (value_at bytes f)) ∙ simp (last_step, all_step, time_step)
+event_fold bytes (f ∷ fields) event = event_fold bytes fields (event_with event (value_at bytes f)) ∙ event_step event (value_at bytes f) (map (value_at bytes) fields)
+
+-- ---- states
+
+abbrev of_state : List FieldValue → List FieldValue
+of_state values = filter (λ value. is_of_state value.number) values
+
+abbrev state_grown : Event → List FieldValue → StateDraft
+state_grown event values = record { event = event_grown event values }
+
+state_step : (test : Bool) (draft : StateDraft) (value : FieldValue) (values : List FieldValue)
+    → state_grown (cond {A = StateDraft} test (record { event = event_with draft.event value }) draft).event values ≡ state_grown draft.event (cond test (value ∷ values) values)
+state_step true draft value values = ap (λ (event : Event). draft_of event) (event_step draft.event value values)
+  where
+    draft_of : Event → StateDraft
+    draft_of event = record { event = event }
+state_step false draft value values = refl
+
+state_fold : (bytes : List ℕ) (fields : List FieldAt) (draft : StateDraft) → fold (λ draft field. state_with draft (value_at bytes field)) draft fields ≡ state_grown draft.event (of_state (map (value_at bytes) fields))
+state_fold bytes [] draft = ap (λ (event : Event). draft_of event) (event_nothing draft.event)
+  where
+    draft_of : Event → StateDraft
+    draft_of event = record { event = event }
+state_fold bytes (f ∷ fields) draft = state_fold bytes fields (state_with draft (value_at bytes f)) ∙ state_step (is_of_state f.number) draft (value_at bytes f) (of_state (map (value_at bytes) fields))
+
+-- a state has no time in microseconds
+no_micros : (values : List FieldValue) → all_in int64_in 10 (of_state values) ≡ []
+unfolding is_of_state
+no_micros [] = refl
+no_micros (value ∷ values) = step value.number value.content (no_micros values)
+  where
+    kept : (test : Bool) (number : ℕ) (content : Content) → eqb number 10 ≡ false → all_in int64_in 10 (of_state values) ≡ [] → all_in int64_in 10 (cond test (field number content ∷ of_state values) (of_state values)) ≡ []
+    kept true number content other none = rw other none
+    kept false number content other none = none
+
+    step : (number : ℕ) (content : Content) → all_in int64_in 10 (of_state values) ≡ [] → all_in int64_in 10 (of_state (field number content ∷ values)) ≡ []
+    step number content none = elim (cases_eq number 10) [
+      | inl is ↦ rw is none
+      | inr other ↦ kept (is_of_state number) number content (ne_eqb number 10 other) none
+    ]
 
 -- ---- messages
 
@@ -114,6 +157,7 @@ message_grown draft values = record {
   ok = last_or draft.ok (all_in bool_in 2 values);
   error = last_or draft.error (all_in bytes_in 3 values);
   query = fold query_joined draft.query (all_in bytes_in 5 values);
+  states = draft.states ++ all_in (state_in draft.now) 4 values;
   events = draft.events ++ all_in (event_in draft.now) 6 values;
 }
 
@@ -135,6 +179,18 @@ event_read now bytes base start read fresh clean is =
     let grown : read ≡ event_grown (event_at now) values =
     is ∙ ap (λ (event : Event). fold (λ event field. event_with event (value_at bytes field)) event (fields_of bytes)) fresh ∙ event_fold bytes (fields_of bytes) (event_at now) in
     (rw clean refl, ap rounded grown ∙ ap (λ (time : ℤ). record (event_grown (event_at now) values) { time = time }) (time_is now (option_map second_of (last_in int64_in 10 values)) (all_in int64_in 1 values)))
+
+pub state_read : (now : ℤ) (bytes : List ℕ) (base : ℕ) (start read : StateDraft) → start ≡ fresh_state now → first_by (state_field_fault bytes) bytes ≡ None
+    → read ≡ fold (λ draft field. state_with draft (value_at bytes field)) start (fields_of bytes)
+    → (option_map (moved base) (state_fault bytes) ≡ None) × (read.event ≡ state_of now bytes)
+unfolding state_fault state_of values_of
+state_read now bytes base start read fresh clean is =
+    let values = of_state (map (value_at bytes) (fields_of bytes)) in
+    let grown : read ≡ state_grown (event_at now) values =
+    is ∙ ap (λ (draft : StateDraft). fold (λ draft field. state_with draft (value_at bytes field)) draft (fields_of bytes)) fresh ∙ state_fold bytes (fields_of bytes) (fresh_state now) in
+    let timed : event_grown (event_at now) values ≡ event_from now values =
+    rw (no_micros (map (value_at bytes) (fields_of bytes))) (ap (λ (time : ℤ). record (event_grown (event_at now) values) { time = time; time_micros = None }) (sym (time_last now (all_in int64_in 1 values)))) in
+    (rw clean refl, ap (λ (draft : StateDraft). draft.event) grown ∙ timed)
 
 attribute_grows : (bytes : List ℕ) (draft : AttrDraft) → draft ≡ fold (λ draft field. attribute_with draft (value_at bytes field)) (record { key = None; value = None }) (fields_of bytes)
     → draft ≡ record { key = last_in bytes_in 1 (values_of bytes); value = last_in bytes_in 2 (values_of bytes) }
@@ -280,20 +336,30 @@ ttl_spellable value = one (eqb value.number 8) value.content
     one true (Bytes bytes) = tt
     one true (Four bits) = reported bits (seconds_of bits) refl
 
+values_spellable : (now : ℤ) (values : List FieldValue) → IsSpellableEvent (event_from now values)
+values_spellable now values = last_keeps IsSpellableTtl None (all_in ttl_in 8 values) (all_keep IsSpellableTtl (field_in ttl_in 8) values ttl_spellable) tt
+
 event_spellable : (now : ℤ) (bytes : List ℕ) → IsSpellableEvent (event_of now bytes)
 unfolding event_of
-event_spellable now bytes = last_keeps IsSpellableTtl None (all_in ttl_in 8 (values_of bytes)) (all_keep IsSpellableTtl (field_in ttl_in 8) (values_of bytes) ttl_spellable) tt
+event_spellable now bytes = values_spellable now (values_of bytes)
 
-event_in_spellable : (now : ℤ) (value : FieldValue) → IfSome (field_in (event_in now) 6 value) IsSpellableEvent
-event_in_spellable now value = one (eqb value.number 6) value.content
+state_spellable : (now : ℤ) (bytes : List ℕ) → IsSpellableEvent (state_of now bytes)
+unfolding state_of
+state_spellable now bytes = values_spellable now (of_state (values_of bytes))
+
+-- each event that the fields with a number hold
+all_spellable : (event : List ℕ → Event) (number : ℕ) (values : List FieldValue) → ((bytes : List ℕ) → IsSpellableEvent (event bytes))
+    → All IsSpellableEvent (all_in (λ content. option_map event (bytes_in content)) number values)
+all_spellable event number values each = All-from_recursion IsSpellableEvent _ (all_keep IsSpellableEvent (field_in (λ content. option_map event (bytes_in content)) number) values (λ value. one (eqb value.number number) value.content))
   where
-    one : (test : Bool) (content : Content) → IfSome (cond test (event_in now content) None) IsSpellableEvent
+    one : (test : Bool) (content : Content) → IfSome (cond test (option_map event (bytes_in content)) None) IsSpellableEvent
     one false content = tt
     one true (Varint value) = tt
     one true (Eight value) = tt
     one true (Four bits) = tt
-    one true (Bytes bytes) = event_spellable now bytes
+    one true (Bytes bytes) = each bytes
 
 pub message_spellable : (now : ℕ) (bytes : List ℕ) → IsSpellable (message_of now bytes)
 unfolding message_of
-message_spellable now bytes = All-from_recursion IsSpellableEvent (all_in (event_in (pos now)) 6 (values_of bytes)) (all_keep IsSpellableEvent (field_in (event_in (pos now)) 6) (values_of bytes) (event_in_spellable (pos now)))
+message_spellable now bytes =
+    All-append IsSpellableEvent _ _ (all_spellable (state_of (pos now)) 4 (values_of bytes) (state_spellable (pos now))) (all_spellable (event_of (pos now)) 6 (values_of bytes) (event_spellable (pos now)))

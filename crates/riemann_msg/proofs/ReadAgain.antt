@@ -22,8 +22,8 @@ use Rattle.pb_wire.proofs.ReadBackLaws.{fields_read_back}
 use Rattle.riemann_msg.specs.declared.msg.Msg.{Msg}
 use Rattle.riemann_msg.specs.declared.msg.QueryPart.{QueryPart}
 use Rattle.riemann_msg.specs.Ttl.{IsSpellableTtl, seconds_of, bits_of}
-use Rattle.riemann_msg.specs.Value.{bytes_in, eight_in, four_in, bool_in, int64_in, sint64_in, ttl_in, attribute_in, event_in, all_in, last_in, attribute_from, attribute_of, event_from, event_of, query_of, queries_joined, second_of, time_from, unzigzag, message_from, message_of}
-use Rattle.riemann_msg.specs.Fault.{Fault, is_among, first_by, first_of, attribute_field_fault, event_field_fault, query_field_fault, message_field_fault, attribute_fault, event_fault, query_fault, first_fault}
+use Rattle.riemann_msg.specs.Value.{bytes_in, eight_in, four_in, bool_in, int64_in, sint64_in, ttl_in, attribute_in, event_in, state_in, is_among, all_in, last_in, attribute_from, attribute_of, event_from, event_of, query_of, queries_joined, second_of, time_from, unzigzag, message_from, message_of}
+use Rattle.riemann_msg.specs.Fault.{Fault, first_by, first_of, attribute_field_fault, event_field_fault, query_field_fault, message_field_fault, attribute_fault, event_fault, state_fault, query_fault, first_fault}
 use Rattle.riemann_msg.specs.Spelling.{field, optional, repeated, spelled, zigzag, int64, sint64, attribute_values, attribute_content, name_values, number_values, event_values, event_content, query_values, query_content, message_values, spelling}
 use Rattle.riemann_msg.specs.ReadBack.{IsWellFormedAttribute, IsWellFormedEvent, IsWellFormedMessage, MessagesAreReadBack}
 use Rattle.riemann_msg.specs.Draft.{value_at, field_at}
@@ -517,6 +517,7 @@ record PartClean (number : ℕ) (bytes : List ℕ) : Type 0 where
   text : eqb number 3 ≡ true → is_utf8 bytes ≡ true
   query : eqb number 5 ≡ true → query_fault bytes ≡ None
   event : eqb number 6 ≡ true → event_fault bytes ≡ None
+  state : eqb number 4 ≡ true → state_fault bytes ≡ None
 
 abbrev BodyClean : ℕ → Content → Type 0
 BodyClean number (Bytes bytes) = PartClean number bytes
@@ -527,13 +528,15 @@ BodyClean number (Four value) = Unit {0}
 abbrev MessageClean : FieldValue → Type 0
 MessageClean value = BodyClean value.number value.content
 
-nothing : (number : ℕ) → cond (eqb number 3) None (cond (eqb number 5) None (cond {A = Option Fault} (eqb number 6) None None)) ≡ None
-nothing number = cond_none (eqb number 3) None _ (λ _. refl) (λ _. cond_none (eqb number 5) None _ (λ _. refl) (λ _. cond_none (eqb number 6) None None (λ _. refl) (λ _. refl)))
+nothing : (number : ℕ) → cond (eqb number 3) None (cond (eqb number 5) None (cond (eqb number 6) None (cond {A = Option Fault} (eqb number 4) None None))) ≡ None
+nothing number =
+    cond_none (eqb number 3) None _ (λ _. refl) (λ _. cond_none (eqb number 5) None _ (λ _. refl) (λ _. cond_none (eqb number 6) None _ (λ _. refl) (λ _. cond_none (eqb number 4) None None (λ _. refl) (λ _. refl))))
 
 message_field_clean : (bytes : List ℕ) (number place : ℕ) (body : Body) → BodyClean number (content_in bytes body) → message_field_fault bytes (field_at number body place) ≡ None
 message_field_clean bytes number place (body_bytes start last) clean =
     cond_none (eqb number 3) _ _ (λ test. utf8_none (slice_range bytes start last) _ (clean.text test))
-    (λ _. cond_none (eqb number 5) _ _ (λ test. rw (clean.query test) refl) (λ _. cond_none (eqb number 6) _ None (λ test. rw (clean.event test) refl) (λ _. refl)))
+    (λ _. cond_none (eqb number 5) _ _ (λ test. rw (clean.query test) refl) (λ _. cond_none (eqb number 6) _ _ (λ test. rw (clean.event test) refl)
+    (λ _. cond_none (eqb number 4) _ None (λ test. rw (clean.state test) refl) (λ _. refl))))
 message_field_clean bytes number place (body_varint value) clean = nothing number
 message_field_clean bytes number place (body_eight value) clean = nothing number
 message_field_clean bytes number place (body_four value) clean = nothing number
@@ -568,9 +571,9 @@ message_clean : (msg : Msg) → IsWellFormedMessage msg → IfSome msg.query Que
 message_clean msg reported query events =
     all_message MessageClean msg
     (all_optional MessageClean 2 (λ ok. Varint (from_bool ok)) msg.ok (any (λ ok. MessageClean (field 2 (Varint (from_bool ok)))) msg.ok (λ ok. tt)))
-    (all_optional MessageClean 3 Bytes msg.error (some_if IsUtf8 (λ bytes. MessageClean (field 3 (Bytes bytes))) msg.error reported.error (λ bytes known. record { text = λ _. is_utf8-from_IsUtf8 bytes known; query = λ is. no is; event = λ is. no is })))
-    (all_optional MessageClean 5 query_content msg.query (some_if QueryBack (λ query. MessageClean (field 5 (query_content query))) msg.query query (λ q back. record { text = λ is. no is; query = λ _. back.clean; event = λ is. no is })))
-    (all_repeated MessageClean 6 event_content msg.events (all_if EventBack (λ event. MessageClean (field 6 (event_content event))) msg.events events (λ event back. record { text = λ is. no is; query = λ is. no is; event = λ _. back.clean })))
+    (all_optional MessageClean 3 Bytes msg.error (some_if IsUtf8 (λ bytes. MessageClean (field 3 (Bytes bytes))) msg.error reported.error (λ bytes known. record { text = λ _. is_utf8-from_IsUtf8 bytes known; query = λ is. no is; event = λ is. no is; state = λ is. no is })))
+    (all_optional MessageClean 5 query_content msg.query (some_if QueryBack (λ query. MessageClean (field 5 (query_content query))) msg.query query (λ q back. record { text = λ is. no is; query = λ _. back.clean; event = λ is. no is; state = λ is. no is })))
+    (all_repeated MessageClean 6 event_content msg.events (all_if EventBack (λ event. MessageClean (field 6 (event_content event))) msg.events events (λ event back. record { text = λ is. no is; query = λ is. no is; event = λ _. back.clean; state = λ is. no is })))
 
 query_within : (n : ℕ) (query : Option QueryPart) → AllByRecursion (λ value. BytesWithin n value.content) (optional 5 query_content query) → IfSome query (λ query. length (spelled (query_values query)) ≤ n)
 query_within n None all = tt
@@ -605,6 +608,10 @@ message_events : (now : ℤ) (msg : Msg) → filter_map (λ event. event_in now 
 unfolding message_values
 message_events now msg back = simp (found_in_both, found_in_option, found_in_map, none_in_option, back)
 
+message_states : (now : ℤ) (msg : Msg) → all_in (state_in now) 4 (message_values msg) ≡ []
+unfolding message_values
+message_states now msg = simp (found_in_both, found_in_option, found_in_map, none_in_option, none_in_list, append-nil)
+
 message_parts : (msg : Msg) → all_in bytes_in 5 (message_values msg) ≡ option_to_list (option_map (λ query. spelled (query_values query)) msg.query)
 unfolding message_values
 message_parts msg = simp (found_in_both, found_in_option, found_in_map, none_in_option, none_in_list, append-nil, mapped_option)
@@ -620,7 +627,7 @@ query_again (Some query) back = ap (λ (bytes : List ℕ). some_query (query_of 
 message_again : (now : ℤ) (msg : Msg) → IfSome msg.query QueryBack → AllByRecursion EventBack msg.events → message_from now (message_values msg) ≡ msg
 message_again now msg query events =
     let all = some_in_list (λ event. event_in now (event_content event)) msg.events (all_if EventBack (λ event. event_in now (event_content event) ≡ Some event) msg.events events (λ event back. ap some_event (back.same now))) in
-    rw (message_ok msg, message_error msg, message_events now msg all, message_parts msg, query_again msg.query query) refl
+    rw (message_ok msg, message_error msg, message_states now msg, message_events now msg all, message_parts msg, query_again msg.query query) refl
 
 pub message_back : MessagesAreReadBack
 unfolding message_of first_fault spelling

@@ -5,20 +5,22 @@ use Rattle.std.specs.Str.{is_utf8}
 use Rattle.std.specs.Option.{option_map, option_or, option_to_list}
 use Rattle.std.specs.List.{fold}
 use Rattle.ev_types.specs.declared.event.Event.{Event}
+use Rattle.ev_types.specs.Set.{event_at}
 use Rattle.pb_wire.specs.declared.reader.Body.{Body}
 use Rattle.pb_wire.specs.Fields.{FieldAt, fields_of}
 use Rattle.pb_wire.specs.Spelling.{content_in}
 use Rattle.pb_wire.specs.ReadBack.{FieldValue}
 use Rattle.riemann_msg.specs.declared.read.AttrDraft.{AttrDraft}
+use Rattle.riemann_msg.specs.declared.read.StateDraft.{StateDraft}
 use Rattle.riemann_msg.specs.declared.read.MsgDraft.{MsgDraft}
 use Rattle.riemann_msg.specs.declared.msg.Msg.{Msg}
 use Rattle.riemann_msg.specs.declared.msg.QueryPart.{QueryPart}
 use Rattle.riemann_msg.specs.declared.fault.MsgFault.{MsgFault}
 use Rattle.riemann_msg.specs.declared.fault.MsgWhy.TheVariants.{Utf8 as why_utf8, Ttl as why_ttl}
 use Rattle.riemann_msg.specs.Ttl.{seconds_of}
-use Rattle.riemann_msg.specs.Fault.{Fault, fault_at, moved, is_among, IsRefusedFor, attribute_fault, query_fault, event_fault}
-use Rattle.riemann_msg.specs.Value.{bytes_in, eight_in, four_in, bool_in, int64_in, sint64_in, ttl_in, attribute_in, event_in, field_in, second_of}
-use Rattle.riemann_msg.specs.declared.fields.TheConstants.{ATTRIBUTES, DESCRIPTION, ERROR, EVENTS, HOST, KEY, METRIC_D, METRIC_F, METRIC_SINT64, OK, QUERY, SERVICE, STATE, STRING, TAGS, TIME, TIME_MICROS, TTL, VALUE}
+use Rattle.riemann_msg.specs.Fault.{Fault, fault_at, moved, IsRefusedFor, attribute_fault, query_fault, event_fault, state_fault}
+use Rattle.riemann_msg.specs.Value.{bytes_in, eight_in, four_in, bool_in, int64_in, sint64_in, ttl_in, attribute_in, event_in, state_in, is_among, is_of_state, field_in, second_of}
+use Rattle.riemann_msg.specs.declared.fields.TheConstants.{ATTRIBUTES, DESCRIPTION, ERROR, EVENTS, HOST, KEY, METRIC_D, METRIC_F, METRIC_SINT64, OK, QUERY, SERVICE, STATE, STATES, STRING, TAGS, TIME, TIME_MICROS, TTL, VALUE}
 
 abbrev pub field_at : ℕ → Body → ℕ → FieldAt
 field_at number body place = record { number = number; body = body; place = place }
@@ -53,6 +55,13 @@ event_with event value = record {
 abbrev pub rounded : Event → Event
 rounded event = record event { time = unwrap_or (option_map second_of event.time_micros) event.time }
 
+-- a field that a state does not have changes nothing
+abbrev pub state_with : StateDraft → FieldValue → StateDraft
+state_with draft value = if is_of_state value.number then record { event = event_with draft.event value } else draft
+
+abbrev pub fresh_state : ℤ → StateDraft
+fresh_state now = record { event = event_at now }
+
 abbrev pub no_query : QueryPart
 no_query = record { string = None }
 
@@ -70,15 +79,16 @@ message_with draft value = record {
   ok = option_or (field_in bool_in OK value) draft.ok;
   error = option_or (field_in bytes_in ERROR value) draft.error;
   query = query_after draft.query (field_in bytes_in QUERY value);
+  states = draft.states ++ option_to_list (field_in (state_in draft.now) STATES value);
   events = draft.events ++ option_to_list (field_in (event_in draft.now) EVENTS value);
 }
 
 abbrev pub fresh_message : ℤ → MsgDraft
-fresh_message now = record { now = now; ok = None; error = None; query = None; events = [] }
+fresh_message now = record { now = now; ok = None; error = None; query = None; states = []; events = [] }
 
 -- the message with the fields of the draft
 abbrev pub message_in : MsgDraft → Msg
-message_in draft = record { ok = draft.ok; error = draft.error; query = draft.query; events = draft.events }
+message_in draft = record { ok = draft.ok; error = draft.error; query = draft.query; events = draft.states ++ draft.events }
 
 -- the fault of a body whose tag, and whose bytes, begin at these places of the whole message
 abbrev pub utf8_fault : ℕ → List ℕ → Option Fault
@@ -96,7 +106,8 @@ abbrev pub part_fault : ℕ → List ℕ → ℕ → ℕ → Option Fault
 part_fault number bytes start place =
     if number == ERROR then utf8_fault place bytes
     else (if number == QUERY then option_map (moved start) (query_fault bytes)
-    else (if number == EVENTS then option_map (moved start) (event_fault bytes) else None))
+    else (if number == EVENTS then option_map (moved start) (event_fault bytes)
+    else (if number == STATES then option_map (moved start) (state_fault bytes) else None)))
 
 -- a field is read into a draft where it has no fault
 abbrev pub Puts : {A U : Type 0} → Option Fault → A → Result U MsgFault → A → Type 0

@@ -1,7 +1,6 @@
 -- For which fault a message is refused: the first one in the list of its fields. Places count bytes from the start of
 -- the message.
-use Rattle.std.specs.Prelude.{◌≡◌, ℕ, ◌+◌, ◌==◌, Bool, if◌then◌else◌, List, [], ◌∷◌, length, slice_range, codes, Option, Some, None, Result, Ok, Err, is_some}
-use Rattle.std.specs.List.{list_any}
+use Rattle.std.specs.Prelude.{◌≡◌, ℕ, ◌+◌, ◌==◌, if◌then◌else◌, List, [], ◌∷◌, length, slice_range, codes, Option, Some, None, Result, Ok, Err, is_some}
 use Rattle.std.specs.Option.{option_map, option_or}
 use Rattle.std.specs.Str.{is_utf8}
 use Rattle.pb_wire.specs.declared.reader.Body.{Body}
@@ -15,8 +14,8 @@ use Rattle.riemann_msg.specs.declared.fault.MsgFault.TheVariants.{Refused, Memor
 use Rattle.riemann_msg.specs.declared.fault.MsgWhy.{MsgWhy}
 use Rattle.riemann_msg.specs.declared.fault.MsgWhy.TheVariants.{Short as why_short, Varint as why_varint, Tag as why_tag, Wire as why_wire, Utf8 as why_utf8, Key as why_key, Ttl as why_ttl}
 use Rattle.riemann_msg.specs.Ttl.{seconds_of}
-use Rattle.riemann_msg.specs.Value.{bytes_in, last_in}
-use Rattle.riemann_msg.specs.declared.fields.TheConstants.{ATTRIBUTES, DESCRIPTION, ERROR, EVENTS, HOST, KEY, QUERY, SERVICE, STATE, STRING, TAGS, TTL, VALUE}
+use Rattle.riemann_msg.specs.Value.{bytes_in, is_among, is_of_state, last_in}
+use Rattle.riemann_msg.specs.declared.fields.TheConstants.{ATTRIBUTES, DESCRIPTION, ERROR, EVENTS, HOST, KEY, QUERY, SERVICE, STATE, STATES, STRING, TAGS, TTL, VALUE}
 
 -- the name of a cause
 abbrev pub why_name : MsgWhy → List ℕ
@@ -78,10 +77,7 @@ first_of fault (field ∷ fields) = option_or (fault field) (first_of fault fiel
 abbrev pub first_by : (FieldAt → Option Fault) → List ℕ → Option Fault
 first_by fault bytes = option_or (first_of fault (fields_of bytes)) (option_map wire_fault (fields_fault bytes))
 
-abbrev pub is_among : ℕ → List ℕ → Bool
-is_among number numbers = list_any (λ other. number == other) numbers
-
--- ---- attributes, events, queries, messages
+-- ---- attributes, events, states, queries, messages
 
 abbrev pub attribute_field_fault : List ℕ → FieldAt → Option Fault
 attribute_field_fault bytes field = if is_among field.number (KEY ∷ VALUE ∷ []) then text_fault bytes field.place field.body else None
@@ -102,6 +98,13 @@ event_field_fault bytes field =
 unfoldable pub event_fault : List ℕ → Option Fault
 event_fault bytes = first_by (event_field_fault bytes) bytes
 
+-- a field that a state does not have has no fault either
+abbrev pub state_field_fault : List ℕ → FieldAt → Option Fault
+state_field_fault bytes field = if is_of_state field.number then event_field_fault bytes field else None
+
+unfoldable pub state_fault : List ℕ → Option Fault
+state_fault bytes = first_by (state_field_fault bytes) bytes
+
 abbrev pub query_field_fault : List ℕ → FieldAt → Option Fault
 query_field_fault bytes field = if field.number == STRING then text_fault bytes field.place field.body else None
 
@@ -112,7 +115,8 @@ abbrev pub message_field_fault : List ℕ → FieldAt → Option Fault
 message_field_fault bytes field =
     if field.number == ERROR then text_fault bytes field.place field.body
     else (if field.number == QUERY then embedded_fault query_fault bytes field.body
-    else (if field.number == EVENTS then embedded_fault event_fault bytes field.body else None))
+    else (if field.number == EVENTS then embedded_fault event_fault bytes field.body
+    else (if field.number == STATES then embedded_fault state_fault bytes field.body else None)))
 
 unfoldable pub first_fault : List ℕ → Option Fault
 first_fault bytes = first_by (message_field_fault bytes) bytes

@@ -1,5 +1,5 @@
--- The numbers of the fields of messages, as Riemann's `proto.proto` has them.
-use Rattle.std.specs.Prelude.{ℕ}
+-- The numbers of the fields of messages, as Riemann's `proto.proto` has them. Those of a state are this project's profile.
+use Rattle.std.specs.Prelude.{ℕ, List, [], ◌∷◌}
 
 -- of a message: whether it was accepted
 abbrev pub ok_field : ℕ
@@ -8,6 +8,10 @@ ok_field = 2
 -- of a message: why it was not
 abbrev pub error_field : ℕ
 error_field = 3
+
+-- of a message: a state, as clients older than events send it
+abbrev pub states_field : ℕ
+states_field = 4
 
 -- of a message: its query
 abbrev pub query_field : ℕ
@@ -76,3 +80,8 @@ metric_d_field = 14
 -- of an event: its metric in 32 bits
 abbrev pub metric_f_field : ℕ
 metric_f_field = 15
+
+-- of a state: its time, state, service, host, description, tags and ttl, which are those of an event. Field 6, `once`, is
+-- not among them.
+abbrev pub fields_of_a_state : List ℕ
+fields_of_a_state = 1 ∷ 2 ∷ 3 ∷ 4 ∷ 5 ∷ 7 ∷ 8 ∷ []

@@ -1,8 +1,8 @@
 -- What a message is, by what its fields hold. Of a field that may be there once the last one counts; a field that is
 -- repeated keeps all, in order. Fields with another number, or of another type, count for nothing.
-use Rattle.std.specs.Prelude.{ℕ, ◌==◌, ◌/◌, ◌%◌, not, Bool, if◌then◌else◌, List, [], ◌∷◌, Option, Some, None, unwrap_or, ℤ, pos, negsuc}
+use Rattle.std.specs.Prelude.{ℕ, ◌==◌, ◌/◌, ◌%◌, not, Bool, if◌then◌else◌, List, [], ◌∷◌, ◌++◌, filter, Option, Some, None, unwrap_or, ℤ, pos, negsuc}
 use Rattle.std.specs.Int.{w64, cast_signed, int_div_euclid}
-use Rattle.std.specs.List.{concat, filter_map, last_or}
+use Rattle.std.specs.List.{concat, filter_map, last_or, list_any}
 use Rattle.std.specs.Option.{option_map, option_and_then, option_or}
 use Rattle.ev_types.specs.declared.event.Attr.{Attr}
 use Rattle.ev_types.specs.declared.event.Event.{Event}
@@ -11,7 +11,7 @@ use Rattle.pb_wire.specs.ReadBack.{FieldValue, values_of}
 use Rattle.riemann_msg.specs.declared.msg.Msg.{Msg}
 use Rattle.riemann_msg.specs.declared.msg.QueryPart.{QueryPart}
 use Rattle.riemann_msg.specs.Ttl.{seconds_of}
-use Rattle.riemann_msg.specs.declared.fields.TheConstants.{ATTRIBUTES, DESCRIPTION, ERROR, EVENTS, HOST, KEY, METRIC_D, METRIC_F, METRIC_SINT64, OK, QUERY, SERVICE, STATE, STRING, TAGS, TIME, TIME_MICROS, TTL, VALUE}
+use Rattle.riemann_msg.specs.declared.fields.TheConstants.{ATTRIBUTES, DESCRIPTION, ERROR, EVENTS, HOST, KEY, METRIC_D, METRIC_F, METRIC_SINT64, OK, QUERY, SERVICE, STATE, STATES, STRING, TAGS, TIME, TIME_MICROS, TTL, VALUE}
 
 -- ---- what a body holds, by its type
 
@@ -66,7 +66,10 @@ all_in read number values = filter_map (field_in read number) values
 abbrev pub last_in : {A : Type 0} → (Content → Option A) → ℕ → List FieldValue → Option A
 last_in read number values = last_or None (all_in read number values)
 
--- ---- attributes, events, queries, messages
+abbrev pub is_among : ℕ → List ℕ → Bool
+is_among number numbers = list_any (λ other. number == other) numbers
+
+-- ---- attributes, events, states, queries, messages
 
 abbrev pub attribute_from : List FieldValue → Attr
 attribute_from values = record { key = unwrap_or (last_in bytes_in KEY values) []; value = last_in bytes_in VALUE values }
@@ -107,6 +110,20 @@ event_of now bytes = event_from now (values_of bytes)
 abbrev pub event_in : ℤ → Content → Option Event
 event_in now content = option_map (event_of now) (bytes_in content)
 
+-- A state, as clients older than events send it, has some of the fields of an event, by the same numbers and types.
+abbrev pub state_fields : List ℕ
+state_fields = TIME ∷ STATE ∷ SERVICE ∷ HOST ∷ DESCRIPTION ∷ TAGS ∷ TTL ∷ []
+
+unfoldable pub is_of_state : ℕ → Bool
+is_of_state number = is_among number state_fields
+
+-- it is the event of these; its other fields count for nothing
+unfoldable pub state_of : ℤ → List ℕ → Event
+state_of now bytes = event_from now (filter (λ value. is_of_state value.number) (values_of bytes))
+
+abbrev pub state_in : ℤ → Content → Option Event
+state_in now content = option_map (state_of now) (bytes_in content)
+
 unfoldable pub query_of : List ℕ → QueryPart
 query_of bytes = record { string = last_in bytes_in STRING (values_of bytes) }
 
@@ -115,12 +132,13 @@ abbrev pub queries_joined : List (List ℕ) → Option QueryPart
 queries_joined [] = None
 queries_joined (part ∷ parts) = Some (query_of (concat (part ∷ parts)))
 
+-- the events are the states in order, and after them the events in order
 abbrev pub message_from : ℤ → List FieldValue → Msg
 message_from now values = record {
   ok = last_in bool_in OK values;
   error = last_in bytes_in ERROR values;
   query = queries_joined (all_in bytes_in QUERY values);
-  events = all_in (event_in now) EVENTS values;
+  events = all_in (state_in now) STATES values ++ all_in (event_in now) EVENTS values;
 }
 
 -- the message that the bytes are, read at the moment now in seconds

@@ -1,9 +1,12 @@
-//! The numbers of the fields, as Riemann's `proto.proto` has them.
+//! The numbers of the fields, as Riemann's `proto.proto` has them. Those of a state are this project's profile.
 
 /// Of a message.
 pub const OK: u32 = 2;
 
 pub const ERROR: u32 = 3;
+
+/// An event of a client that is older than events.
+pub const STATES: u32 = 4;
 
 pub const QUERY: u32 = 5;
 
@@ -17,7 +20,7 @@ pub const KEY: u32 = 1;
 
 pub const VALUE: u32 = 2;
 
-/// Of an event.
+/// Of an event. A state has those up to the ttl, by the same numbers and types.
 pub const TIME: u32 = 1;
 
 pub const STATE: u32 = 2;

@@ -7,15 +7,15 @@ ghost use Rattle.ev_types.specs.Set.{event_at};
 ghost use Rattle.pb_wire.specs.Fields.{FieldAt, LiesWithin, fields_of};
 ghost use Rattle.pb_wire.specs.Spelling.{Varint, Eight, Bytes, Four};
 ghost use Rattle.riemann_msg.specs.Cleared.{AreCleared};
-ghost use Rattle.riemann_msg.specs.Value.{event_of, attribute_of, message_of};
-ghost use Rattle.riemann_msg.specs.Fault.{Fault, moved, first_by, IsRefusedFor, Decodes, attribute_field_fault, event_field_fault, query_field_fault, message_field_fault, attribute_fault, event_fault, first_fault};
+ghost use Rattle.riemann_msg.specs.Value.{event_of, attribute_of, is_of_state, message_of, state_of};
+ghost use Rattle.riemann_msg.specs.Fault.{Fault, moved, first_by, IsRefusedFor, Decodes, attribute_field_fault, event_field_fault, state_field_fault, query_field_fault, message_field_fault, attribute_fault, event_fault, state_fault, first_fault};
 ghost use Rattle.riemann_msg.specs.Spelling.{field, IsSpellable};
-ghost use Rattle.riemann_msg.specs.Draft.{Puts, field_at, value_at, attribute_with, query_with, event_with, rounded, message_with, message_in, fresh_message, utf8_fault, four_fault, bytes_fault, part_fault};
+ghost use Rattle.riemann_msg.specs.Draft.{Puts, field_at, value_at, attribute_with, query_with, event_with, state_with, rounded, message_with, message_in, fresh_message, utf8_fault, four_fault, bytes_fault, part_fault};
 
 use crate::fault::{MsgFault, MsgWhy};
 use crate::fields::{
     ATTRIBUTES, DESCRIPTION, ERROR, EVENTS, HOST, KEY, METRIC_D, METRIC_F, METRIC_SINT64, OK,
-    QUERY, SERVICE, STATE, STRING, TAGS, TIME, TIME_MICROS, TTL, VALUE,
+    QUERY, SERVICE, STATE, STATES, STRING, TAGS, TIME, TIME_MICROS, TTL, VALUE,
 };
 use crate::msg::{Msg, QueryPart};
 use crate::spent::SpentEvents;
@@ -340,6 +340,91 @@ fn round_time(event: &mut Event)
     }
 }
 
+/// Whether a state has a field with this number, as an event has it.
+#[tactic(auto, unfolding(crate::specs::Value::is_of_state))]
+fn is_of_state(number: u32) -> bool
+    ensures { result ≡ is_of_state number }
+{
+    matches!(
+        number,
+        TIME | STATE | SERVICE | HOST | DESCRIPTION | TAGS | TTL
+    )
+}
+
+/// A state, of which some fields were read, as the event that it is.
+#[derive(Drop)]
+struct StateDraft {
+    event: Event,
+}
+
+impl Draft for StateDraft {
+    ghost fault = { state_field_fault };
+
+    ghost with_field = { λ bytes draft field. state_with draft (value_at bytes field) };
+
+    fn put(
+        &mut self,
+        alloc: Global,
+        bytes: &[u8],
+        base: usize,
+        number: u32,
+        body: Body,
+        place: usize,
+    ) -> Result<(), MsgFault> {
+        if is_of_state(number) {
+            self.event.put(alloc, bytes, base, number, body, place)?;
+        }
+        Ok(())
+    }
+}
+
+/// Reads the bytes, which begin at `base` in the whole message, as a state. One without a time gets `now`.
+#[tactic(auto, unfolding(crate::specs::Fault::state_fault))]
+fn read_state(alloc: Global, now: i64, bytes: &[u8], base: usize) -> Result<Event, MsgFault>
+    requires { base + length bytes.now < 2 ^ 64 }
+    ensures { Decodes (option_map (moved base) (state_fault bytes.now))
+        (state_of now bytes.now) result }
+{
+    let mut draft = StateDraft {
+        event: Event::at(alloc, now),
+    };
+    read_fields(alloc, bytes, base, &mut draft)?;
+    let StateDraft { event } = draft;
+    Ok(event)
+}
+
+/// Reads the bytes, which begin at `base` in the whole message, as a state, and adds it to the states. It is never inlined,
+/// since its local event is large and would be cleared at each entry of the caller.
+#[cold]
+#[inline(never)]
+fn push_state(
+    alloc: Global,
+    now: i64,
+    states: &mut Events,
+    bytes: &[u8],
+    base: usize,
+) -> Result<(), MsgFault>
+    requires { base + length bytes.now < 2 ^ 64 }
+    ensures { Puts (option_map (moved base) (state_fault bytes.now))
+        (states.old ++ state_of now bytes.now ∷ []) result states.new }
+{
+    states.push(alloc, read_state(alloc, now, bytes, base)?)?;
+    Ok(())
+}
+
+/// The states and after them the events, where there are states. Otherwise it takes no memory.
+fn states_first(states: Events, events: Events) -> Result<Events, Memory>
+    ensures { IfOk result (λ all. all ≡ states ++ events) }
+{
+    if states.len() == 0 {
+        return Ok(events);
+    }
+    let mut all = states.into_vec();
+    let mut events = events.into_vec();
+    all.append(&mut events)?;
+    Ok(Events::from_vec(all))
+}
+
 /// The events that were read so far: the first `count` of a list. The others are cleared, and their memory can be used
 /// for more events.
 #[derive(Drop)]
@@ -455,12 +540,13 @@ struct MsgDraft {
     ok: Option<bool>,
     error: Option<Text>,
     query: Option<QueryPart>,
+    states: Events,
     events: EventsDraft,
 }
 
 impl MsgDraft {
     /// No field, with the memory of `spent`.
-    fn reusing(spent: SpentEvents, now: u64) -> MsgDraft
+    fn reusing(alloc: Global, spent: SpentEvents, now: u64) -> MsgDraft
         requires { now < 2 ^ 63 }
         ensures { result ≡ fresh_message (pos now) }
     {
@@ -469,6 +555,7 @@ impl MsgDraft {
             ok: None,
             error: None,
             query: None,
+            states: Events::fresh(alloc),
             events: EventsDraft::reusing(spent),
         }
     }
@@ -495,28 +582,30 @@ impl MsgDraft {
                 self.query = Some(query);
             }
             EVENTS => self.events.add(alloc, self.now, bytes, base)?,
+            STATES => push_state(alloc, self.now, &mut self.states, bytes, base)?,
             _ => {}
         }
         Ok(())
     }
 
     /// The message that was read.
-    fn into_msg(self) -> Msg
-        ensures { result ≡ message_in self }
+    fn into_msg(self) -> Result<Msg, Memory>
+        ensures { IfOk result (λ msg. msg ≡ message_in self) }
     {
         let MsgDraft {
             now: _,
             ok,
             error,
             query,
+            states,
             events,
         } = self;
-        Msg {
+        Ok(Msg {
             ok,
             error,
             query,
-            events: events.into_events(),
-        }
+            events: states_first(states, events.into_events())?,
+        })
     }
 }
 
@@ -550,9 +639,9 @@ impl Draft for MsgDraft {
     }
 }
 
-/// Reads the bytes as a message, at the moment `now` in seconds since 1970, which is less than 2^63. An event without a
-/// time gets `now`. `Refused` comes for the first fault in the order of the fields, and then nothing was read.
-/// `Memory`: out of memory.
+/// Reads the bytes as a message, at the moment `now` in seconds since 1970, which is less than 2^63. Its states are events
+/// too, and come before the others. An event without a time gets `now`. `Refused` comes for the first fault in the order of
+/// the fields, and then nothing was read. `Memory`: out of memory.
 pub fn read_msg(alloc: Global, body: &[u8], now: u64) -> Result<Msg, MsgFault>
     requires { now < 2 ^ 63 }
     ensures reads { Decodes (first_fault body.now) (message_of now body.now) result }
@@ -573,7 +662,7 @@ pub fn read_msg_into(
     ensures reads { Decodes (first_fault body.now) (message_of now body.now) result }
     ensures spellable { IfOk result IsSpellable }
 {
-    let mut draft = MsgDraft::reusing(spent, now);
+    let mut draft = MsgDraft::reusing(alloc, spent, now);
     read_fields(alloc, body, 0, &mut draft)?;
-    Ok(draft.into_msg())
+    Ok(draft.into_msg()?)
 }
