@@ -1,7 +1,7 @@
 -- Reading fields one after the other gives what all fields hold.
 use Rattle.std.proofs.Common.{◌≡◌, ℕ, ◌+◌, ◌++◌, Bool, true, false, cond, eqb, List, [], ◌∷◌, length, map, Option, Some, None, ℤ, pos, inl, inr, refl, sym, ap, ◌∙◌, append_assoc}
 use Rattle.std.proofs.lemmas.List.{append-nil}
-use Rattle.std.specs.Option.{option_map, option_or, option_to_list}
+use Rattle.std.specs.Option.{option_map, option_or}
 use Rattle.std.specs.Prelude.{All, IfSome, filter, slice_range, unwrap_or}
 use Rattle.std.proofs.lemmas.Bool.{cases_eq, ne_eqb}
 use Rattle.std.proofs.lemmas.List.Elements.{All-append, All-from_recursion}
@@ -17,7 +17,7 @@ use Rattle.riemann_msg.specs.declared.read.AttrDraft.{AttrDraft}
 use Rattle.riemann_msg.specs.declared.read.MsgDraft.{MsgDraft}
 use Rattle.riemann_msg.specs.declared.read.StateDraft.{StateDraft}
 use Rattle.riemann_msg.specs.declared.msg.QueryPart.{QueryPart}
-use Rattle.riemann_msg.specs.Value.{bytes_in, eight_in, four_in, bool_in, int64_in, sint64_in, ttl_in, attribute_in, event_from, event_in, state_in, is_of_state, field_in, all_in, last_in, attribute_of, event_of, state_of, query_of, queries_joined, second_of, message_of}
+use Rattle.riemann_msg.specs.Value.{bytes_in, int64_in, ttl_in, event_from, event_with, rounded, is_of_state, field_in, all_in, last_in, attribute_of, event_of, state_of, query_of, queries_joined, message_of}
 use Rattle.riemann_msg.specs.declared.fault.MsgFault.{MsgFault}
 use Rattle.riemann_msg.specs.declared.fault.MsgFault.TheVariants.{Refused, Memory}
 use Rattle.riemann_msg.specs.declared.fault.MsgWhy.TheVariants.{Key as why_key}
@@ -26,85 +26,52 @@ use Rattle.riemann_msg.specs.Spelling.{field, IsSpellable, IsSpellableEvent}
 use Rattle.riemann_msg.specs.Ttl.{IsSpellableTtl, seconds_of}
 use Rattle.riemann_msg.proofs.TtlBits.{ttl_from_seconds}
 use Rattle.riemann_msg.proofs.Joined.{IsWhole, values_of_all}
-use Rattle.riemann_msg.specs.Draft.{fresh_message, field_at, query_joined, value_at, attribute_with, query_with, event_with, state_with, fresh_state, message_with, query_after, no_query, rounded, message_in}
+use Rattle.riemann_msg.specs.Draft.{fresh_message, field_at, query_joined, value_at, attribute_with, query_with, state_with, fresh_state, message_with, no_query, message_in}
 
-pub last_step : {A : Type 0} (o x : Option A) (xs : List A) → last_or (option_or x o) xs ≡ last_or o (cons_option x xs)
+-- what one field holds, and then what more fields hold
+last_step : {A : Type 0} (o x : Option A) (xs : List A) → last_or (last_or o (cons_option x [])) xs ≡ last_or o (cons_option x xs)
 last_step o None xs = refl
 last_step o (Some x) xs = refl
 
-pub all_step : {A : Type 0} (front : List A) (x : Option A) (xs : List A) → (front ++ option_to_list x) ++ xs ≡ front ++ cons_option x xs
+all_step : {A : Type 0} (front : List A) (x : Option A) (xs : List A) → (front ++ cons_option x []) ++ xs ≡ front ++ cons_option x xs
 all_step front None xs = ap (λ ys. ys ++ xs) (append-nil front)
 all_step front (Some x) xs = append_assoc front (x ∷ []) xs
 
-values_at : List ℕ → List FieldAt → List FieldValue
-values_at bytes fields = map (value_at bytes) fields
-
 -- ---- attributes
 
-abbrev attribute_grown : AttrDraft → List FieldValue → AttrDraft
-attribute_grown draft values = record { key = last_or draft.key (all_in bytes_in 1 values); value = last_or draft.value (all_in bytes_in 2 values) }
-
-attribute_fold : (bytes : List ℕ) (fields : List FieldAt) (draft : AttrDraft) → fold (λ draft field. attribute_with draft (value_at bytes field)) draft fields ≡ attribute_grown draft (map (value_at bytes) fields)
+attribute_fold : (bytes : List ℕ) (fields : List FieldAt) (draft : AttrDraft) → fold (λ draft field. attribute_with draft (value_at bytes field ∷ [])) draft fields ≡ attribute_with draft (map (value_at bytes) fields)
 attribute_fold bytes [] draft = refl
-attribute_fold bytes (f ∷ fields) draft = attribute_fold bytes fields (attribute_with draft (value_at bytes f)) ∙ simp last_step
+attribute_fold bytes (f ∷ fields) draft = attribute_fold bytes fields (attribute_with draft (value_at bytes f ∷ [])) ∙ simp last_step
 
 -- ---- queries
 
-abbrev query_grown : QueryPart → List FieldValue → QueryPart
-query_grown query values = record { string = last_or query.string (all_in bytes_in 1 values) }
-
-pub query_fold : (bytes : List ℕ) (fields : List FieldAt) (query : QueryPart) → fold (λ query field. query_with query (value_at bytes field)) query fields ≡ query_grown query (map (value_at bytes) fields)
+pub query_fold : (bytes : List ℕ) (fields : List FieldAt) (query : QueryPart) → fold (λ query field. query_with query (value_at bytes field ∷ [])) query fields ≡ query_with query (map (value_at bytes) fields)
 query_fold bytes [] query = refl
-query_fold bytes (f ∷ fields) query = query_fold bytes fields (query_with query (value_at bytes f)) ∙ simp last_step
+query_fold bytes (f ∷ fields) query = query_fold bytes fields (query_with query (value_at bytes f ∷ [])) ∙ simp last_step
 
 -- ---- events
 
--- the last of some times, or the one before them
-abbrev time_grown : ℤ → List ℤ → ℤ
-time_grown time [] = time
-time_grown time (x ∷ xs) = time_grown x xs
-
-time_step : (time : ℤ) (x : Option ℤ) (xs : List ℤ) → time_grown (unwrap_or x time) xs ≡ time_grown time (cons_option x xs)
-time_step time None xs = refl
-time_step time (Some x) xs = refl
-
-time_after : (other time : ℤ) (xs : List ℤ) → unwrap_or (last_or (Some time) xs) other ≡ time_grown time xs
+time_after : (other time : ℤ) (xs : List ℤ) → unwrap_or (last_or None xs) time ≡ unwrap_or (last_or (Some time) xs) other
 time_after other time [] = refl
-time_after other time (x ∷ xs) = time_after other x xs
+time_after other time (x ∷ xs) = some x xs
+  where
+    some : (x : ℤ) (xs : List ℤ) → unwrap_or (last_or (Some x) xs) time ≡ unwrap_or (last_or (Some x) xs) other
+    some x [] = refl
+    some x (y ∷ ys) = some y ys
 
-time_last : (time : ℤ) (xs : List ℤ) → unwrap_or (last_or None xs) time ≡ time_grown time xs
-time_last time [] = refl
-time_last time (x ∷ xs) = time_after time x xs
+time_step : (time : ℤ) (x : Option ℤ) (xs : List ℤ) → unwrap_or (last_or None xs) (unwrap_or (last_or None (cons_option x [])) time) ≡ unwrap_or (last_or None (cons_option x xs)) time
+time_step time None xs = refl
+time_step time (Some x) xs = time_after time x xs
 
-time_is : (now : ℤ) (micros : Option ℤ) (times : List ℤ) → unwrap_or micros (time_grown now times) ≡ unwrap_or (option_or micros (last_or None times)) now
-time_is now None times = sym (time_last now times)
-time_is now (Some second) times = refl
-
-abbrev event_grown : Event → List FieldValue → Event
-event_grown event values = record {
-  time = time_grown event.time (all_in int64_in 1 values);
-  state = last_or event.state (all_in bytes_in 2 values);
-  service = last_or event.service (all_in bytes_in 3 values);
-  host = last_or event.host (all_in bytes_in 4 values);
-  description = last_or event.description (all_in bytes_in 5 values);
-  tags = event.tags ++ all_in bytes_in 7 values;
-  ttl = last_or event.ttl (all_in ttl_in 8 values);
-  attributes = event.attributes ++ all_in attribute_in 9 values;
-  time_micros = last_or event.time_micros (all_in int64_in 10 values);
-  metric = last_or event.metric (all_in sint64_in 13 values);
-  raw_d = last_or event.raw_d (all_in eight_in 14 values);
-  raw_f = last_or event.raw_f (all_in four_in 15 values);
-}
-
-event_nothing : (event : Event) → event ≡ event_grown event []
+event_nothing : (event : Event) → event ≡ event_with event []
 event_nothing event = simp append-nil
 
-event_step : (event : Event) (value : FieldValue) (values : List FieldValue) → event_grown (event_with event value) values ≡ event_grown event (value ∷ values)
+event_step : (event : Event) (value : FieldValue) (values : List FieldValue) → event_with (event_with event (value ∷ [])) values ≡ event_with event (value ∷ values)
 event_step event value values = simp (last_step, all_step, time_step)
 
-event_fold : (bytes : List ℕ) (fields : List FieldAt) (event : Event) → fold (λ event field. event_with event (value_at bytes field)) event fields ≡ event_grown event (map (value_at bytes) fields)
+event_fold : (bytes : List ℕ) (fields : List FieldAt) (event : Event) → fold (λ event field. event_with event (value_at bytes field ∷ [])) event fields ≡ event_with event (map (value_at bytes) fields)
 event_fold bytes [] event = event_nothing event
-event_fold bytes (f ∷ fields) event = event_fold bytes fields (event_with event (value_at bytes f)) ∙ event_step event (value_at bytes f) (map (value_at bytes) fields)
+event_fold bytes (f ∷ fields) event = event_fold bytes fields (event_with event (value_at bytes f ∷ [])) ∙ event_step event (value_at bytes f) (map (value_at bytes) fields)
 
 -- ---- states
 
@@ -112,10 +79,10 @@ abbrev of_state : List FieldValue → List FieldValue
 of_state values = filter (λ value. is_of_state value.number) values
 
 abbrev state_grown : Event → List FieldValue → StateDraft
-state_grown event values = record { event = event_grown event values }
+state_grown event values = record { event = event_with event values }
 
 state_step : (test : Bool) (draft : StateDraft) (value : FieldValue) (values : List FieldValue)
-    → state_grown (cond {A = StateDraft} test (record { event = event_with draft.event value }) draft).event values ≡ state_grown draft.event (cond test (value ∷ values) values)
+    → state_grown (cond {A = StateDraft} test (record { event = event_with draft.event (value ∷ []) }) draft).event values ≡ state_grown draft.event (cond test (value ∷ values) values)
 state_step true draft value values = ap (λ (event : Event). draft_of event) (event_step draft.event value values)
   where
     draft_of : Event → StateDraft
@@ -147,38 +114,27 @@ no_micros (value ∷ values) = step value.number value.content (no_micros values
 
 -- ---- messages
 
-queries_step : (query : Option QueryPart) (x : Option (List ℕ)) (parts : List (List ℕ)) → fold query_joined (query_after query x) parts ≡ fold query_joined query (cons_option x parts)
+queries_step : (query : Option QueryPart) (x : Option (List ℕ)) (parts : List (List ℕ)) → fold query_joined (fold query_joined query (cons_option x [])) parts ≡ fold query_joined query (cons_option x parts)
 queries_step query None parts = refl
 queries_step query (Some part) parts = refl
 
-abbrev message_grown : MsgDraft → List FieldValue → MsgDraft
-message_grown draft values = record {
-  now = draft.now;
-  ok = last_or draft.ok (all_in bool_in 2 values);
-  error = last_or draft.error (all_in bytes_in 3 values);
-  query = fold query_joined draft.query (all_in bytes_in 5 values);
-  states = draft.states ++ all_in (state_in draft.now) 4 values;
-  events = draft.events ++ all_in (event_in draft.now) 6 values;
-}
-
-message_nothing : (draft : MsgDraft) → draft ≡ message_grown draft []
+message_nothing : (draft : MsgDraft) → draft ≡ message_with draft []
 message_nothing draft = simp append-nil
 
-message_fold : (bytes : List ℕ) (fields : List FieldAt) (draft : MsgDraft) → fold (λ draft field. message_with draft (value_at bytes field)) draft fields ≡ message_grown draft (map (value_at bytes) fields)
+message_fold : (bytes : List ℕ) (fields : List FieldAt) (draft : MsgDraft) → fold (λ draft field. message_with draft (value_at bytes field ∷ [])) draft fields ≡ message_with draft (map (value_at bytes) fields)
 message_fold bytes [] draft = message_nothing draft
-message_fold bytes (f ∷ fields) draft = message_fold bytes fields (message_with draft (value_at bytes f)) ∙ simp (last_step, all_step, queries_step)
+message_fold bytes (f ∷ fields) draft = message_fold bytes fields (message_with draft (value_at bytes f ∷ [])) ∙ simp (last_step, all_step, queries_step)
 
 -- ---- what was read, where there is no fault
 
 pub event_read : (now : ℤ) (bytes : List ℕ) (base : ℕ) (start read : Event) → start ≡ event_at now → first_by (event_field_fault bytes) bytes ≡ None
-    → read ≡ fold (λ event field. event_with event (value_at bytes field)) start (fields_of bytes)
+    → read ≡ fold (λ event field. event_with event (value_at bytes field ∷ [])) start (fields_of bytes)
     → (option_map (moved base) (event_fault bytes) ≡ None) × (rounded read ≡ event_of now bytes)
 unfolding event_fault event_of values_of
 event_read now bytes base start read fresh clean is =
-    let values = map (value_at bytes) (fields_of bytes) in
-    let grown : read ≡ event_grown (event_at now) values =
-    is ∙ ap (λ (event : Event). fold (λ event field. event_with event (value_at bytes field)) event (fields_of bytes)) fresh ∙ event_fold bytes (fields_of bytes) (event_at now) in
-    (rw clean refl, ap rounded grown ∙ ap (λ (time : ℤ). record (event_grown (event_at now) values) { time = time }) (time_is now (option_map second_of (last_in int64_in 10 values)) (all_in int64_in 1 values)))
+    let grown : read ≡ event_with (event_at now) (map (value_at bytes) (fields_of bytes)) =
+    is ∙ ap (λ (event : Event). fold (λ event field. event_with event (value_at bytes field ∷ [])) event (fields_of bytes)) fresh ∙ event_fold bytes (fields_of bytes) (event_at now) in
+    (rw clean refl, ap rounded grown)
 
 pub state_read : (now : ℤ) (bytes : List ℕ) (base : ℕ) (start read : StateDraft) → start ≡ fresh_state now → first_by (state_field_fault bytes) bytes ≡ None
     → read ≡ fold (λ draft field. state_with draft (value_at bytes field)) start (fields_of bytes)
@@ -188,17 +144,16 @@ state_read now bytes base start read fresh clean is =
     let values = of_state (map (value_at bytes) (fields_of bytes)) in
     let grown : read ≡ state_grown (event_at now) values =
     is ∙ ap (λ (draft : StateDraft). fold (λ draft field. state_with draft (value_at bytes field)) draft (fields_of bytes)) fresh ∙ state_fold bytes (fields_of bytes) (fresh_state now) in
-    let timed : event_grown (event_at now) values ≡ event_from now values =
-    rw (no_micros (map (value_at bytes) (fields_of bytes))) (ap (λ (time : ℤ). record (event_grown (event_at now) values) { time = time; time_micros = None }) (sym (time_last now (all_in int64_in 1 values)))) in
+    let timed : event_with (event_at now) values ≡ event_from now values = rw (no_micros (map (value_at bytes) (fields_of bytes))) refl in
     (rw clean refl, ap (λ (draft : StateDraft). draft.event) grown ∙ timed)
 
-attribute_grows : (bytes : List ℕ) (draft : AttrDraft) → draft ≡ fold (λ draft field. attribute_with draft (value_at bytes field)) (record { key = None; value = None }) (fields_of bytes)
+attribute_grows : (bytes : List ℕ) (draft : AttrDraft) → draft ≡ fold (λ draft field. attribute_with draft (value_at bytes field ∷ [])) (record { key = None; value = None }) (fields_of bytes)
     → draft ≡ record { key = last_in bytes_in 1 (values_of bytes); value = last_in bytes_in 2 (values_of bytes) }
 unfolding values_of
 attribute_grows bytes draft is = is ∙ attribute_fold bytes (fields_of bytes) (record { key = None; value = None })
 
 pub attribute_read : (bytes : List ℕ) (base : ℕ) (draft : AttrDraft) (key : List ℕ) → first_by (attribute_field_fault bytes) bytes ≡ None
-    → draft ≡ fold (λ draft field. attribute_with draft (value_at bytes field)) (record { key = None; value = None }) (fields_of bytes) → draft.key ≡ Some key
+    → draft ≡ fold (λ draft field. attribute_with draft (value_at bytes field ∷ [])) (record { key = None; value = None }) (fields_of bytes) → draft.key ≡ Some key
     → (option_map (moved base) (attribute_fault bytes) ≡ None) × (record { key = key; value = draft.value } ≡ attribute_of bytes)
 unfolding attribute_fault attribute_of
 attribute_read bytes base draft key clean is some =
@@ -207,7 +162,7 @@ attribute_read bytes base draft key clean is some =
     (rw (clean, reported) refl, rw (reported, ap (λ (d : AttrDraft). d.value) all) refl)
 
 pub attribute_keyless : (bytes : List ℕ) (base : ℕ) (draft : AttrDraft) → first_by (attribute_field_fault bytes) bytes ≡ None
-    → draft ≡ fold (λ draft field. attribute_with draft (value_at bytes field)) (record { key = None; value = None }) (fields_of bytes) → draft.key ≡ None
+    → draft ≡ fold (λ draft field. attribute_with draft (value_at bytes field ∷ [])) (record { key = None; value = None }) (fields_of bytes) → draft.key ≡ None
     → option_map (moved base) (attribute_fault bytes) ≡ Some (fault_at (base + length bytes) why_key)
 unfolding attribute_fault
 attribute_keyless bytes base draft clean is none =
@@ -239,7 +194,7 @@ filter_map_more : {A B : Type 0} (f : A → Option B) (xs ys : List A) → filte
 filter_map_more f [] ys = refl
 filter_map_more f (x ∷ xs) ys = ap (cons_option (f x)) (filter_map_more f xs ys) ∙ filter_map_step (f x) (filter_map f xs) (filter_map f ys)
 
-query_more : (query : QueryPart) (xs ys : List FieldValue) → query_grown (query_grown query xs) ys ≡ query_grown query (xs ++ ys)
+query_more : (query : QueryPart) (xs ys : List FieldValue) → query_with (query_with query xs) ys ≡ query_with query (xs ++ ys)
 query_more query xs ys =
     ap (λ (string : Option (List ℕ)). query_part string) (last_more query.string (all_in bytes_in 1 xs) (all_in bytes_in 1 ys) ∙ ap (last_or query.string) (sym (filter_map_more (field_in bytes_in 1) xs ys)))
   where
@@ -249,18 +204,18 @@ query_more query xs ys =
 abbrev some_query : QueryPart → Option QueryPart
 some_query query = Some query
 
-joined_fold : (parts : List (List ℕ)) (query : QueryPart) → fold query_joined (Some query) parts ≡ Some (query_grown query (flat_map values_of parts))
+joined_fold : (parts : List (List ℕ)) (query : QueryPart) → fold query_joined (Some query) parts ≡ Some (query_with query (flat_map values_of parts))
 unfolding values_of
 joined_fold [] query = refl
 joined_fold (part ∷ parts) query =
-    joined_fold parts (fold (λ query field. query_with query (value_at part field)) query (fields_of part))
-    ∙ ap (λ (q : QueryPart). some_query (query_grown q (flat_map values_of parts))) (query_fold part (fields_of part) query)
+    joined_fold parts (fold (λ query field. query_with query (value_at part field ∷ [])) query (fields_of part))
+    ∙ ap (λ (q : QueryPart). some_query (query_with q (flat_map values_of parts))) (query_fold part (fields_of part) query)
     ∙ ap some_query (query_more query (values_of part) (flat_map values_of parts))
 
 pub queries_read : (parts : List (List ℕ)) → AllByRecursion IsWhole parts → fold query_joined None parts ≡ queries_joined parts
 unfolding query_of
 queries_read [] whole = refl
-queries_read (part ∷ parts) whole = joined_fold (part ∷ parts) no_query ∙ ap (λ (values : List FieldValue). some_query (query_grown no_query values)) (sym (values_of_all (part ∷ parts) whole))
+queries_read (part ∷ parts) whole = joined_fold (part ∷ parts) no_query ∙ ap (λ (values : List FieldValue). some_query (query_with no_query values)) (sym (values_of_all (part ∷ parts) whole))
 
 -- ---- where a message has no fault, no query in it has one
 
@@ -299,14 +254,14 @@ parts_whole bytes (field ∷ fields) none =
 -- ---- the whole message
 
 pub message_read : (now : ℕ) (bytes : List ℕ) (start draft : MsgDraft) → start ≡ fresh_message (pos now) → first_by (message_field_fault bytes) bytes ≡ None
-    → draft ≡ fold (λ draft field. message_with draft (value_at bytes field)) start (fields_of bytes) → message_in draft ≡ message_of now bytes
+    → draft ≡ fold (λ draft field. message_with draft (value_at bytes field ∷ [])) start (fields_of bytes) → message_in draft ≡ message_of now bytes
 unfolding message_of values_of
 message_read now bytes start draft fresh clean is =
-    let grown : draft ≡ message_grown (fresh_message (pos now)) (map (value_at bytes) (fields_of bytes)) =
-    is ∙ ap (λ (d : MsgDraft). fold (λ draft field. message_with draft (value_at bytes field)) d (fields_of bytes)) fresh ∙ message_fold bytes (fields_of bytes) (fresh_message (pos now)) in
+    let grown : draft ≡ message_with (fresh_message (pos now)) (map (value_at bytes) (fields_of bytes)) =
+    is ∙ ap (λ (d : MsgDraft). fold (λ draft field. message_with draft (value_at bytes field ∷ [])) d (fields_of bytes)) fresh ∙ message_fold bytes (fields_of bytes) (fresh_message (pos now)) in
     let parts = or_none (first_of (message_field_fault bytes) (fields_of bytes)) (option_map wire_fault (fields_fault bytes)) clean in
     ap message_in grown
-    ∙ ap (λ (query : Option QueryPart). record (message_in (message_grown (fresh_message (pos now)) (map (value_at bytes) (fields_of bytes)))) { query = query }) (queries_read (all_in bytes_in 5 (map (value_at bytes) (fields_of bytes))) (parts_whole bytes (fields_of bytes) parts.0))
+    ∙ ap (λ (query : Option QueryPart). record (message_in (message_with (fresh_message (pos now)) (map (value_at bytes) (fields_of bytes)))) { query = query }) (queries_read (all_in bytes_in 5 (map (value_at bytes) (fields_of bytes))) (parts_whole bytes (fields_of bytes) parts.0))
 
 -- ---- each ttl that is read can be spelled
 

@@ -1,6 +1,6 @@
 -- A message that is written is read again.
 use Rattle.std.proofs.Common.{◌≡◌, ℕ, ◌+◌, ◌*◌, ◌/◌, ◌%◌, ◌^◌, ◌<◌, ◌≤◌, Bool, true, false, cond, eqb, List, [], ◌∷◌, ◌++◌, length, map, Option, Some, None, ℤ, pos, negsuc, refl, sym, ap, subst, ◌∙◌, arith, length-append}
-use Rattle.std.specs.Prelude.{IfSome, FitsSigned, is_some, slice_range}
+use Rattle.std.specs.Prelude.{IfSome, FitsSigned, is_some, slice_range, unwrap_or}
 use Rattle.std.specs.Int.{w64, cast_unsigned, from_bool}
 use Rattle.std.specs.List.{AllByRecursion, filter_map, cons_option, last_or}
 use Rattle.std.specs.Option.{option_map, option_to_list, option_and_then}
@@ -22,7 +22,7 @@ use Rattle.pb_wire.proofs.ReadBackLaws.{fields_read_back}
 use Rattle.riemann_msg.specs.declared.msg.Msg.{Msg}
 use Rattle.riemann_msg.specs.declared.msg.QueryPart.{QueryPart}
 use Rattle.riemann_msg.specs.Ttl.{IsSpellableTtl, seconds_of, bits_of}
-use Rattle.riemann_msg.specs.Value.{bytes_in, eight_in, four_in, bool_in, int64_in, sint64_in, ttl_in, attribute_in, event_in, state_in, is_among, all_in, last_in, attribute_from, attribute_of, event_from, event_of, query_of, queries_joined, second_of, time_from, unzigzag, message_from, message_of}
+use Rattle.riemann_msg.specs.Value.{bytes_in, eight_in, four_in, bool_in, int64_in, sint64_in, ttl_in, attribute_in, event_in, state_in, is_among, all_in, last_in, attribute_from, attribute_of, event_from, event_of, query_of, queries_joined, second_of, unzigzag, message_from, message_of}
 use Rattle.riemann_msg.specs.Fault.{Fault, first_by, first_of, attribute_field_fault, event_field_fault, query_field_fault, message_field_fault, attribute_fault, event_fault, state_fault, query_fault, first_fault}
 use Rattle.riemann_msg.specs.Spelling.{field, optional, repeated, spelled, zigzag, int64, sint64, attribute_values, attribute_content, name_values, number_values, event_values, event_content, query_values, query_content, message_values, spelling}
 use Rattle.riemann_msg.specs.ReadBack.{IsWellFormedAttribute, IsWellFormedEvent, IsWellFormedMessage, MessagesAreReadBack}
@@ -334,14 +334,14 @@ event_time : (event : Event) → BodiesBack event → last_in int64_in 1 (event_
 unfolding event_values
 event_time event back = simp (found_in_both, found_in_option, found_in_map, none_in_option, none_in_list, append-nil) back.time
 
-time_again : (now time : ℤ) (micros : Option ℤ) → IfSome micros (λ micros. time ≡ second_of micros) → time_from now micros (Some time) ≡ time
-time_again now time None reported = refl
-time_again now time (Some micros) reported = sym reported
+time_again : (time : ℤ) (micros : Option ℤ) → IfSome micros (λ micros. time ≡ second_of micros) → unwrap_or (option_map second_of micros) time ≡ time
+time_again time None reported = refl
+time_again time (Some micros) reported = sym reported
 
 event_again : (now : ℤ) (event : Event) → BodiesBack event → IfSome event.time_micros (λ micros. event.time ≡ second_of micros) → event_from now (event_values event) ≡ event
 event_again now event back timely =
     rw (event_state event, event_service event, event_host event, event_description event, event_tags event, event_ttl event back, event_attributes event back, event_micros event back, event_metric event back, event_double event, event_float event, event_time event back)
-    (ap (λ (time : ℤ). record event { time = time }) (time_again now event.time event.time_micros timely))
+    (ap (λ (time : ℤ). record event { time = time }) (time_again event.time event.time_micros timely))
 
 record EventBack (event : Event) : Type 0 where
   same : (now : ℤ) → event_of now (spelled (event_values event)) ≡ event

@@ -2,9 +2,8 @@
 -- cites them.
 use Rattle.std.specs.Prelude.{◌≡◌, ℕ, ◌==◌, if◌then◌else◌, is_some, ℤ, Result, Ok, Err, ◌++◌, List, [], ◌∷◌, Option, Some, None, unwrap_or}
 use Rattle.std.specs.Str.{is_utf8}
-use Rattle.std.specs.Option.{option_map, option_or, option_to_list}
+use Rattle.std.specs.Option.{option_map}
 use Rattle.std.specs.List.{fold}
-use Rattle.ev_types.specs.declared.event.Event.{Event}
 use Rattle.ev_types.specs.Set.{event_at}
 use Rattle.pb_wire.specs.declared.reader.Body.{Body}
 use Rattle.pb_wire.specs.Fields.{FieldAt, fields_of}
@@ -19,8 +18,8 @@ use Rattle.riemann_msg.specs.declared.fault.MsgFault.{MsgFault}
 use Rattle.riemann_msg.specs.declared.fault.MsgWhy.TheVariants.{Utf8 as why_utf8, Ttl as why_ttl}
 use Rattle.riemann_msg.specs.Ttl.{seconds_of}
 use Rattle.riemann_msg.specs.Fault.{Fault, fault_at, moved, IsRefusedFor, attribute_fault, query_fault, event_fault, state_fault}
-use Rattle.riemann_msg.specs.Value.{bytes_in, eight_in, four_in, bool_in, int64_in, sint64_in, ttl_in, attribute_in, event_in, state_in, is_among, is_of_state, field_in, second_of}
-use Rattle.riemann_msg.specs.declared.fields.TheConstants.{ATTRIBUTES, DESCRIPTION, ERROR, EVENTS, HOST, KEY, METRIC_D, METRIC_F, METRIC_SINT64, OK, QUERY, SERVICE, STATE, STATES, STRING, TAGS, TIME, TIME_MICROS, TTL, VALUE}
+use Rattle.riemann_msg.specs.Value.{all_in, bytes_in, bool_in, event_in, event_with, state_in, is_among, is_of_state, later}
+use Rattle.riemann_msg.specs.declared.fields.TheConstants.{ATTRIBUTES, DESCRIPTION, ERROR, EVENTS, HOST, KEY, OK, QUERY, SERVICE, STATE, STATES, STRING, TAGS, TTL, VALUE}
 
 abbrev pub field_at : ℕ → Body → ℕ → FieldAt
 field_at number body place = record { number = number; body = body; place = place }
@@ -28,36 +27,16 @@ field_at number body place = record { number = number; body = body; place = plac
 abbrev pub value_at : List ℕ → FieldAt → FieldValue
 value_at bytes field = record { number = field.number; content = content_in bytes field.body }
 
--- the draft when one more field was read
-abbrev pub attribute_with : AttrDraft → FieldValue → AttrDraft
-attribute_with draft value = record { key = option_or (field_in bytes_in KEY value) draft.key; value = option_or (field_in bytes_in VALUE value) draft.value }
+-- the drafts, once more fields were read
+abbrev pub attribute_with : AttrDraft → List FieldValue → AttrDraft
+attribute_with draft values = record { key = later draft.key bytes_in KEY values; value = later draft.value bytes_in VALUE values }
 
-abbrev pub query_with : QueryPart → FieldValue → QueryPart
-query_with query value = record { string = option_or (field_in bytes_in STRING value) query.string }
-
-abbrev pub event_with : Event → FieldValue → Event
-event_with event value = record {
-  time = unwrap_or (field_in int64_in TIME value) event.time;
-  state = option_or (field_in bytes_in STATE value) event.state;
-  service = option_or (field_in bytes_in SERVICE value) event.service;
-  host = option_or (field_in bytes_in HOST value) event.host;
-  description = option_or (field_in bytes_in DESCRIPTION value) event.description;
-  tags = event.tags ++ option_to_list (field_in bytes_in TAGS value);
-  ttl = option_or (field_in ttl_in TTL value) event.ttl;
-  attributes = event.attributes ++ option_to_list (field_in attribute_in ATTRIBUTES value);
-  time_micros = option_or (field_in int64_in TIME_MICROS value) event.time_micros;
-  metric = option_or (field_in sint64_in METRIC_SINT64 value) event.metric;
-  raw_d = option_or (field_in eight_in METRIC_D value) event.raw_d;
-  raw_f = option_or (field_in four_in METRIC_F value) event.raw_f;
-}
-
--- the event, whose time is that in microseconds, rounded down to seconds, where it has one
-abbrev pub rounded : Event → Event
-rounded event = record event { time = unwrap_or (option_map second_of event.time_micros) event.time }
+abbrev pub query_with : QueryPart → List FieldValue → QueryPart
+query_with query values = record { string = later query.string bytes_in STRING values }
 
 -- a field that a state does not have changes nothing
 abbrev pub state_with : StateDraft → FieldValue → StateDraft
-state_with draft value = if is_of_state value.number then record { event = event_with draft.event value } else draft
+state_with draft value = if is_of_state value.number then record { event = event_with draft.event (value ∷ []) } else draft
 
 abbrev pub fresh_state : ℤ → StateDraft
 fresh_state now = record { event = event_at now }
@@ -67,20 +46,16 @@ no_query = record { string = None }
 
 -- the fields of one more query
 abbrev pub query_joined : Option QueryPart → List ℕ → Option QueryPart
-query_joined query bytes = Some (fold (λ query field. query_with query (value_at bytes field)) (unwrap_or query no_query) (fields_of bytes))
+query_joined query bytes = Some (fold (λ query field. query_with query (value_at bytes field ∷ [])) (unwrap_or query no_query) (fields_of bytes))
 
-abbrev pub query_after : Option QueryPart → Option (List ℕ) → Option QueryPart
-query_after query None = query
-query_after query (Some bytes) = query_joined query bytes
-
-abbrev pub message_with : MsgDraft → FieldValue → MsgDraft
-message_with draft value = record {
+abbrev pub message_with : MsgDraft → List FieldValue → MsgDraft
+message_with draft values = record {
   now = draft.now;
-  ok = option_or (field_in bool_in OK value) draft.ok;
-  error = option_or (field_in bytes_in ERROR value) draft.error;
-  query = query_after draft.query (field_in bytes_in QUERY value);
-  states = draft.states ++ option_to_list (field_in (state_in draft.now) STATES value);
-  events = draft.events ++ option_to_list (field_in (event_in draft.now) EVENTS value);
+  ok = later draft.ok bool_in OK values;
+  error = later draft.error bytes_in ERROR values;
+  query = fold query_joined draft.query (all_in bytes_in QUERY values);
+  states = draft.states ++ all_in (state_in draft.now) STATES values;
+  events = draft.events ++ all_in (event_in draft.now) EVENTS values;
 }
 
 abbrev pub fresh_message : ℤ → MsgDraft

@@ -3,9 +3,10 @@
 use Rattle.std.specs.Prelude.{ℕ, ◌==◌, ◌/◌, ◌%◌, not, Bool, if◌then◌else◌, List, [], ◌∷◌, ◌++◌, filter, Option, Some, None, unwrap_or, ℤ, pos, negsuc}
 use Rattle.std.specs.Int.{w64, cast_signed, int_div_euclid}
 use Rattle.std.specs.List.{concat, filter_map, last_or, list_any}
-use Rattle.std.specs.Option.{option_map, option_and_then, option_or}
+use Rattle.std.specs.Option.{option_map, option_and_then}
 use Rattle.ev_types.specs.declared.event.Attr.{Attr}
 use Rattle.ev_types.specs.declared.event.Event.{Event}
+use Rattle.ev_types.specs.Set.{event_at}
 use Rattle.pb_wire.specs.Spelling.{Content, Varint, Eight, Bytes, Four}
 use Rattle.pb_wire.specs.ReadBack.{FieldValue, values_of}
 use Rattle.riemann_msg.specs.declared.msg.Msg.{Msg}
@@ -63,8 +64,12 @@ field_in read number value = if value.number == number then read value.content e
 abbrev pub all_in : {A : Type 0} → (Content → Option A) → ℕ → List FieldValue → List A
 all_in read number values = filter_map (field_in read number) values
 
+-- the last of them, or what was there before
+abbrev pub later : {A : Type 0} → Option A → (Content → Option A) → ℕ → List FieldValue → Option A
+later before read number values = last_or before (all_in read number values)
+
 abbrev pub last_in : {A : Type 0} → (Content → Option A) → ℕ → List FieldValue → Option A
-last_in read number values = last_or None (all_in read number values)
+last_in read number values = later None read number values
 
 abbrev pub is_among : ℕ → List ℕ → Bool
 is_among number numbers = list_any (λ other. number == other) numbers
@@ -84,25 +89,30 @@ attribute_in content = option_map attribute_of (bytes_in content)
 abbrev pub second_of : ℤ → ℤ
 second_of micros = int_div_euclid micros (pos 1000000)
 
--- the time is that of time_micros where that is there, and else that of time, and else the moment of reading
-abbrev pub time_from : ℤ → Option ℤ → Option ℤ → ℤ
-time_from now micros time = unwrap_or (option_or (option_map second_of micros) time) now
-
-abbrev pub event_from : ℤ → List FieldValue → Event
-event_from now values = record {
-  time = time_from now (last_in int64_in TIME_MICROS values) (last_in int64_in TIME values);
-  state = last_in bytes_in STATE values;
-  service = last_in bytes_in SERVICE values;
-  host = last_in bytes_in HOST values;
-  description = last_in bytes_in DESCRIPTION values;
-  tags = all_in bytes_in TAGS values;
-  ttl = last_in ttl_in TTL values;
-  attributes = all_in attribute_in ATTRIBUTES values;
-  time_micros = last_in int64_in TIME_MICROS values;
-  metric = last_in sint64_in METRIC_SINT64 values;
-  raw_d = last_in eight_in METRIC_D values;
-  raw_f = last_in four_in METRIC_F values;
+-- the fields of an event: what it is, once more of them were read
+abbrev pub event_with : Event → List FieldValue → Event
+event_with event values = record {
+  time = unwrap_or (last_in int64_in TIME values) event.time;
+  state = later event.state bytes_in STATE values;
+  service = later event.service bytes_in SERVICE values;
+  host = later event.host bytes_in HOST values;
+  description = later event.description bytes_in DESCRIPTION values;
+  tags = event.tags ++ all_in bytes_in TAGS values;
+  ttl = later event.ttl ttl_in TTL values;
+  attributes = event.attributes ++ all_in attribute_in ATTRIBUTES values;
+  time_micros = later event.time_micros int64_in TIME_MICROS values;
+  metric = later event.metric sint64_in METRIC_SINT64 values;
+  raw_d = later event.raw_d eight_in METRIC_D values;
+  raw_f = later event.raw_f four_in METRIC_F values;
 }
+
+-- the time is that of time_micros, where that is there
+abbrev pub rounded : Event → Event
+rounded event = record event { time = unwrap_or (option_map second_of event.time_micros) event.time }
+
+-- without a time of its own an event has the moment of reading
+abbrev pub event_from : ℤ → List FieldValue → Event
+event_from now values = rounded (event_with (event_at now) values)
 
 unfoldable pub event_of : ℤ → List ℕ → Event
 event_of now bytes = event_from now (values_of bytes)

@@ -7,10 +7,10 @@ ghost use Rattle.ev_types.specs.Set.{event_at};
 ghost use Rattle.pb_wire.specs.Fields.{FieldAt, LiesWithin, fields_of};
 ghost use Rattle.pb_wire.specs.Spelling.{Varint, Eight, Bytes, Four};
 ghost use Rattle.riemann_msg.specs.Cleared.{AreCleared};
-ghost use Rattle.riemann_msg.specs.Value.{event_of, attribute_of, is_of_state, message_of, state_of};
+ghost use Rattle.riemann_msg.specs.Value.{event_of, event_with, attribute_of, is_of_state, message_of, rounded, state_of};
 ghost use Rattle.riemann_msg.specs.Fault.{Fault, moved, first_by, IsRefusedFor, Decodes, attribute_field_fault, event_field_fault, state_field_fault, query_field_fault, message_field_fault, attribute_fault, event_fault, state_fault, first_fault};
 ghost use Rattle.riemann_msg.specs.Spelling.{field, IsSpellable};
-ghost use Rattle.riemann_msg.specs.Draft.{Puts, field_at, value_at, attribute_with, query_with, event_with, state_with, rounded, message_with, message_in, fresh_message, utf8_fault, four_fault, bytes_fault, part_fault};
+ghost use Rattle.riemann_msg.specs.Draft.{Puts, field_at, value_at, attribute_with, query_with, state_with, message_with, message_in, fresh_message, utf8_fault, four_fault, bytes_fault, part_fault};
 
 use crate::fault::{MsgFault, MsgWhy};
 use crate::fields::{
@@ -134,7 +134,7 @@ struct AttrDraft {
 impl Draft for AttrDraft {
     ghost fault = { attribute_field_fault };
 
-    ghost with_field = { λ bytes draft field. attribute_with draft (value_at bytes field) };
+    ghost with_field = { λ bytes draft field. attribute_with draft (value_at bytes field ∷ []) };
 
     fn put(
         &mut self,
@@ -197,7 +197,7 @@ fn push_attribute(
 impl Draft for QueryPart {
     ghost fault = { query_field_fault };
 
-    ghost with_field = { λ bytes query field. query_with query (value_at bytes field) };
+    ghost with_field = { λ bytes query field. query_with query (value_at bytes field ∷ []) };
 
     fn put(
         &mut self,
@@ -220,7 +220,7 @@ impl Draft for QueryPart {
 
 /// Reads a field of the type varint.
 fn put_varint(event: &mut Event, number: u32, value: u64)
-    ensures { event.new ≡ event_with event.old (field number (Varint value)) }
+    ensures { event.new ≡ event_with event.old (field number (Varint value) ∷ []) }
 {
     match number {
         TIME => event.time = value.cast_signed(),
@@ -232,7 +232,7 @@ fn put_varint(event: &mut Event, number: u32, value: u64)
 
 /// Reads a field of eight bytes.
 fn put_eight(event: &mut Event, number: u32, bits: u64)
-    ensures { event.new ≡ event_with event.old (field number (Eight bits)) }
+    ensures { event.new ≡ event_with event.old (field number (Eight bits) ∷ []) }
 {
     if number == METRIC_D {
         event.raw_d = Some(bits);
@@ -242,7 +242,7 @@ fn put_eight(event: &mut Event, number: u32, bits: u64)
 /// Reads a field of four bytes.
 fn put_four(event: &mut Event, number: u32, bits: u32, place: usize) -> Result<(), MsgFault>
     ensures { Puts (four_fault number bits place)
-        (event_with event.old (field number (Four bits))) result event.new }
+        (event_with event.old (field number (Four bits) ∷ [])) result event.new }
 {
     if number == TTL {
         let Some(ttl) = ttl_of_bits(bits) else {
@@ -269,7 +269,7 @@ fn put_bytes(
 ) -> Result<(), MsgFault>
     requires { base + length bytes.now < 2 ^ 64 }
     ensures { Puts (bytes_fault number bytes.now base place)
-        (event_with event.old (field number (Bytes bytes.now))) result event.new }
+        (event_with event.old (field number (Bytes bytes.now) ∷ [])) result event.new }
 {
     match number {
         STATE => put_text(alloc, &mut event.state, bytes, place)?,
@@ -286,7 +286,7 @@ fn put_bytes(
 impl Draft for Event {
     ghost fault = { event_field_fault };
 
-    ghost with_field = { λ bytes event field. event_with event (value_at bytes field) };
+    ghost with_field = { λ bytes event field. event_with event (value_at bytes field ∷ []) };
 
     fn put(
         &mut self,
@@ -572,7 +572,7 @@ impl MsgDraft {
     ) -> Result<(), MsgFault>
         requires { base + length bytes.now < 2 ^ 64 }
         ensures { Puts (part_fault number bytes.now base place)
-            (message_with self.old (field number (Bytes bytes.now))) result self.new }
+            (message_with self.old (field number (Bytes bytes.now) ∷ [])) result self.new }
     {
         match number {
             ERROR => put_text(alloc, &mut self.error, bytes, place)?,
@@ -612,7 +612,7 @@ impl MsgDraft {
 impl Draft for MsgDraft {
     ghost fault = { message_field_fault };
 
-    ghost with_field = { λ bytes draft field. message_with draft (value_at bytes field) };
+    ghost with_field = { λ bytes draft field. message_with draft (value_at bytes field ∷ []) };
 
     fn put(
         &mut self,
