@@ -1,4 +1,5 @@
-//! Reading messages, field by field.
+//! Reading messages, field by field. What reads a field of an event is always inlined: the reading of a state is a second
+//! caller, and each field of an event would else be a call.
 
 ghost use Rattle.std.specs.Prelude.{◌≡◌, ℕ, ◌+◌, ◌^◌, ◌<◌, ◌≤◌, ◌++◌, ◌∷◌, [], List, drop, length, take, Option, OnOk, OnErr, IfOk, IfErr, None, pos};
 ghost use Rattle.std.specs.List.{fold};
@@ -56,6 +57,7 @@ trait Draft {
 
 /// Reads the fields of the bytes into the draft, up to the first fault. The bytes begin at `base` in the whole
 /// message.
+#[inline(always)]
 fn read_fields<D: Draft>(
     alloc: Global,
     bytes: &[u8],
@@ -104,6 +106,7 @@ fn text_of(alloc: Global, bytes: &[u8], place: usize) -> Result<Text, MsgFault>
 
 /// Puts the bytes as a text in the place of what the field held. Where they are not UTF-8, the fault is at `place` in
 /// the whole message.
+#[inline(always)]
 fn put_text(
     alloc: Global,
     field: &mut Option<Text>,
@@ -117,6 +120,7 @@ fn put_text(
 }
 
 /// Adds the bytes as a text to the tags. Where they are not UTF-8, the fault is at `place` in the whole message.
+#[inline(always)]
 fn push_tag(alloc: Global, tags: &mut Tags, bytes: &[u8], place: usize) -> Result<(), MsgFault>
     ensures { Puts (utf8_fault place bytes.now) (tags.old ++ bytes.now ∷ []) result tags.new }
 {
@@ -136,6 +140,7 @@ impl Draft for AttrDraft {
 
     ghost with_field = { λ bytes draft field. attribute_with draft (value_at bytes field ∷ []) };
 
+    #[inline(always)]
     fn put(
         &mut self,
         alloc: Global,
@@ -159,6 +164,7 @@ impl Draft for AttrDraft {
 }
 
 /// Reads the bytes, which begin at `base` in the whole message, as an attribute.
+#[inline(always)]
 fn read_attribute(alloc: Global, bytes: &[u8], base: usize) -> Result<Attr, MsgFault>
     requires { base + length bytes.now < 2 ^ 64 }
     ensures { Decodes (option_map (moved base) (attribute_fault bytes.now))
@@ -180,6 +186,7 @@ fn read_attribute(alloc: Global, bytes: &[u8], base: usize) -> Result<Attr, MsgF
 }
 
 /// Reads the bytes, which begin at `base` in the whole message, as an attribute, and adds it to the attributes.
+#[inline(always)]
 fn push_attribute(
     alloc: Global,
     attributes: &mut Attrs,
@@ -219,6 +226,7 @@ impl Draft for QueryPart {
 }
 
 /// Reads a field of the type varint.
+#[inline(always)]
 fn put_varint(event: &mut Event, number: u32, value: u64)
     ensures { event.new ≡ event_with event.old (field number (Varint value) ∷ []) }
 {
@@ -231,6 +239,7 @@ fn put_varint(event: &mut Event, number: u32, value: u64)
 }
 
 /// Reads a field of eight bytes.
+#[inline(always)]
 fn put_eight(event: &mut Event, number: u32, bits: u64)
     ensures { event.new ≡ event_with event.old (field number (Eight bits) ∷ []) }
 {
@@ -240,6 +249,7 @@ fn put_eight(event: &mut Event, number: u32, bits: u64)
 }
 
 /// Reads a field of four bytes.
+#[inline(always)]
 fn put_four(event: &mut Event, number: u32, bits: u32, place: usize) -> Result<(), MsgFault>
     ensures { Puts (four_fault number bits place)
         (event_with event.old (field number (Four bits) ∷ [])) result event.new }
@@ -259,6 +269,7 @@ fn put_four(event: &mut Event, number: u32, bits: u32, place: usize) -> Result<(
 }
 
 /// Reads a field of bytes, which begin at `base` in the whole message. Its tag is at `place`.
+#[inline(always)]
 fn put_bytes(
     event: &mut Event,
     alloc: Global,
@@ -288,6 +299,7 @@ impl Draft for Event {
 
     ghost with_field = { λ bytes event field. event_with event (value_at bytes field ∷ []) };
 
+    #[inline(always)]
     fn put(
         &mut self,
         alloc: Global,
@@ -393,8 +405,8 @@ fn read_state(alloc: Global, now: i64, bytes: &[u8], base: usize) -> Result<Even
     Ok(event)
 }
 
-/// Reads the bytes, which begin at `base` in the whole message, as a state, and adds it to the states. It is never inlined,
-/// since its local event is large and would be cleared at each entry of the caller.
+/// Reads the bytes, which begin at `base` in the whole message, as a state, and adds it to the states. It is never
+/// inlined, since its local event is large and would be cleared at each entry of the caller.
 #[cold]
 #[inline(never)]
 fn push_state(

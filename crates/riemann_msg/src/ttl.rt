@@ -18,6 +18,7 @@ const GREATEST_EXPONENT: u32 = 157;
 
 /// The whole number of seconds that the bits of a binary32 number represent. It is `None` for fractions, negative
 /// numbers, infinities, NaNs, and numbers from 2^31 on. Both zeros are 0.
+#[inline(always)]
 pub fn ttl_of_bits(bits: u32) -> Option<u32>
     ensures value { result ≡ seconds_of bits }
     ensures whole { (seconds : ℕ) → (result ≡ Some seconds) ↔ IsTtl bits seconds }
@@ -35,6 +36,7 @@ pub fn ttl_of_bits(bits: u32) -> Option<u32>
 
 /// The eight bits below the sign.
 #[tactic(auto, using(crate::proofs::TtlBits::eight_bits))]
+#[inline(always)]
 fn exponent_of(bits: u32) -> u32
     ensures { result ≡ exponent_of bits }
 {
@@ -43,6 +45,7 @@ fn exponent_of(bits: u32) -> u32
 
 /// The lowest 23 bits.
 #[tactic(auto, using(crate::proofs::TtlBits::lowest_bits))]
+#[inline(always)]
 fn fraction_of(bits: u32) -> u32
     ensures { result ≡ fraction_of bits }
 {
@@ -50,6 +53,7 @@ fn fraction_of(bits: u32) -> u32
 }
 
 /// `significand * 2^(exponent - 150)`, where that is a whole number.
+#[inline(always)]
 fn whole_of(significand: u32, exponent: u32) -> Option<u32>
     requires least { 2 ^ 23 ≤ significand }
     requires greatest { significand < 2 ^ 24 }
