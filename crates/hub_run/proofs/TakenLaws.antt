@@ -5,7 +5,7 @@ use Rattle.std.specs.List.{AllByRecursion, list_any}
 use Rattle.std.proofs.lemmas.Grind.{flat_map-append}
 use Rattle.std.proofs.lemmas.List.Folds.{list_any-append}
 use Rattle.ev_types.specs.declared.item.Notice.{Notice}
-use Rattle.conn_core.specs.event_core.Core.{CoreConfig, forks_by}
+use Rattle.conn_core.specs.event_core.Core.{CoreConfig, forks_by, notices_by}
 use Rattle.conn_core.specs.hub_link.Added.{IsSendOrClose}
 use Rattle.conn_core.specs.hub_meaning.Legal.{IsLegal}
 use Rattle.ports.specs.Playing.{is_turn_answer}
@@ -27,6 +27,9 @@ use Rattle.conn_core.specs.declared.stop.Stop.TheVariants.{SinkFault}
 use Rattle.hub_run.specs.declared.fault.RunFault.{RunFault}
 use Rattle.hub_run.specs.declared.fault.RunFault.TheVariants.{Sink}
 use Rattle.conn_core.proofs.LineLaws.{counted_nothing, got_nothing, got_then}
+use Rattle.key_laws.proofs.PartLaws.{keys_have_notices, notices_of_one}
+use Rattle.stream_meaning.specs.Arrivals.{Arrival}
+use Rattle.hub_run.specs.Apart.{KeysHaveTheirOwn}
 use Rattle.hub_run.specs.Runs.{RunReport, StopsIn, TakesTurns}
 use Rattle.hub_run.specs.Taken.{IsOneTurn, TakenTurn, entries_of, entries_of_turn, steps_of, steps_of_turn, verdicts_of, verdicts_of_turn}
 
@@ -94,6 +97,14 @@ lines_then a b c first second one two = record {
       (puts_then a.puts b.puts c.puts (length first) (length second) one.puts two.puts);
 }
 
+-- ---- keys
+
+keys_have_own : (config : CoreConfig) (arrivals : List Arrival) → KeysHaveTheirOwn config arrivals (notices_by config arrivals)
+keys_have_own config arrivals fields apart = record {
+  one = notices_of_one fields config.plan config.expiry config.start arrivals apart;
+  own = λ key. keys_have_notices fields config.plan config.expiry config.start arrivals key apart;
+}
+
 -- ---- turns
 
 pub takes_nothing : (config : CoreConfig) (report : RunReport) → TakesTurns config report report []
@@ -105,6 +116,7 @@ takes_nothing config report =
       each = tt;
       verdicts = no_verdicts report.patterns;
       lines = record { text = got_nothing report.sink.text; puts = counted_nothing report.sink.puts };
+      apart = keys_have_own config [];
       forks = omega (arith, none);
     }
 
@@ -134,6 +146,7 @@ module _ (config : CoreConfig) (old mid new : RunReport) (hub hub' : Hub) (turns
             (verdicts_then old.patterns mid.patterns new.patterns (verdicts_of turns) does.verdicts takes.verdicts does.reported);
         lines = subst (λ (ns : List Notice). GotLines old.sink ns new.sink) (sym notices)
             (lines_then old.sink mid.sink new.sink before does.made takes.lines does.lines);
+        apart = keys_have_own config (state_after config (steps_of (turns ++ last ∷ []))).arrivals;
         forks = subst (λ (steps : List Step). new.forks ≡ old.forks + forks_by config (state_after config steps).arrivals) (sym is)
             (omega (arith, takes.forks, does.counted));
       }
@@ -144,6 +157,8 @@ module _ (config : CoreConfig) (old mid new : RunReport) (hub hub' : Hub) (turns
   stops_more fault stop tells does =
       let last : TakenTurn = taken_turn (wants_in hub) turn piece does.verdicts calls in
       let is = steps_more turns last in
+      let arrivals : List Arrival = (state_after config (steps_of (turns ++ last ∷ []))).arrivals in
+      let notices : notices_by config arrivals ≡ notices_after config (steps_of turns) ++ does.made = ap (notices_after config) is ∙ does.notices in
       record {
         legal = subst (IsLegal config) (sym is) does.legal;
         settled = takes.settled;
@@ -151,9 +166,10 @@ module _ (config : CoreConfig) (old mid new : RunReport) (hub hub' : Hub) (turns
         verdicts = subst (AfterVerdicts old.patterns new.patterns) (sym (verdicts_more turns last))
             (verdicts_then old.patterns mid.patterns new.patterns (verdicts_of turns) does.verdicts takes.verdicts does.reported);
         made = does.made;
-        notices = ap (notices_after config) is ∙ does.notices;
+        notices = notices;
         count = does.prefix.0;
         lines = got_then old.sink.text mid.sink.text new.sink.text (lines_of (notices_after config (steps_of turns))) (take does.prefix.0 (lines_of does.made))
             takes.lines.text does.prefix.1;
+        apart = subst (KeysHaveTheirOwn config arrivals) notices (keys_have_own config arrivals);
         some = λ is. does.some (ap Err (tells is));
       }

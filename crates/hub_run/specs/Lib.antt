@@ -1,4 +1,5 @@
 pub mod Taken
+pub mod Apart
 pub mod Runs
 pub mod Taking
 pub use Rattle.conn_core.specs as conn_core

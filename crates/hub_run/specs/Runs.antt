@@ -20,6 +20,7 @@ use Rattle.ports.specs.declared.links.ListenAnswer.TheVariants as listen
 use Rattle.ports.specs.declared.links.Turn.{Turn}
 use Rattle.ports.specs.declared.links.Want.{Want}
 use Rattle.ports.specs.declared.links.What.TheVariants.{Failed}
+use Rattle.hub_run.specs.Apart.{KeysHaveTheirOwn}
 use Rattle.hub_run.specs.Taken.{HasEnded, IsOneTurn, MayGoOn, TakenTurn, entries_of, steps_of, verdicts_of}
 use Rattle.hub_run.specs.declared.fault.RunFault.{RunFault}
 use Rattle.hub_run.specs.declared.fault.RunFault.TheVariants.{Links, Sink, Memory}
@@ -57,6 +58,8 @@ pub record TakesTurns (config : CoreConfig) (old new : RunReport) (turns : List 
   pub each : AllByRecursion IsOneTurn turns
   pub verdicts : AfterVerdicts old.patterns new.patterns (verdicts_of turns)
   pub lines : GotLines old.sink (notices_after config (steps_of turns)) new.sink
+  -- of the same notices, those of each host are its own
+  pub apart : KeysHaveTheirOwn config (state_after config (steps_of turns)).arrivals (notices_after config (steps_of turns))
   pub forks : new.forks ≡ old.forks + forks_by config (state_after config (steps_of turns)).arrivals
 
 -- Whole turns, and then one that was not finished for this fault. The lines of the whole turns were written, and a prefix
@@ -70,6 +73,7 @@ pub record StopsIn (config : CoreConfig) (fault : RunFault) (old new : RunReport
   pub notices : notices_after config (steps_of (turns ++ last ∷ [])) ≡ notices_after config (steps_of turns) ++ made
   pub count : ℕ
   pub lines : Got old.sink.text (lines_of (notices_after config (steps_of turns)) ++ take count (lines_of made)) new.sink.text
+  pub apart : KeysHaveTheirOwn config (state_after config (steps_of (turns ++ last ∷ []))).arrivals (notices_after config (steps_of turns) ++ made)
   pub some : fault ≡ Sink → made ≢ []
 
 -- ---- how a run ends

@@ -1,8 +1,9 @@
 -- The run on the arrivals of one key is the part of the whole run that is of the key.
-use Rattle.std.proofs.Common.{◌≡◌, ℕ, ◌+◌, ◌-◌, ◌%◌, ◌==◌, Bool, true, false, ◌&&◌, cond, List, [], ◌∷◌, ◌++◌, map, Option, Some, None, refl, sym, ap, ◌∙◌}
+use Rattle.std.proofs.Common.{◌≡◌, ℕ, ◌-◌, ◌%◌, ◌==◌, Bool, true, false, ◌&&◌, cond, List, [], ◌∷◌, ◌++◌, map, Option, Some, None, refl, sym, ap, ◌∙◌}
 use mathlib.Core.Bool.{true≢false}
 use Rattle.std.specs.List.{AllByRecursion, filter, list_all}
 use Rattle.std.proofs.lemmas.List.{append-nil}
+use Rattle.std.proofs.lemmas.List.Elements.{filter-append}
 use Rattle.ev_types.specs.declared.event.Event.{Event}
 use Rattle.ev_types.specs.declared.field.Field.{Field}
 use Rattle.ev_types.specs.declared.field.Field.TheVariants.{Host, Service, State, Description, Time, Ttl, Metric, Attribute}
@@ -19,16 +20,19 @@ use Rattle.ev_types.specs.Rebirth.{expired_copy}
 use Rattle.index_log.specs.Live.{IndexLog, Write, Reap, live_events}
 use Rattle.index_log.specs.OfKey.{are_index_fields, event_has, log_of_key}
 use Rattle.index_log.proofs.OfKeyLaws.{both_true, keys_have_logs}
-use Rattle.stream_plan.specs.Tree.{By, StreamTrees, stream, none, also}
+use Rattle.stream_plan.specs.Tree.{StreamTrees}
 use Rattle.stream_meaning.specs.declared.entry.Entry.TheVariants.{Tick, Item as In}
 use Rattle.stream_meaning.specs.History.{History, since, ◌▸◌, begun, moment_of}
 use Rattle.stream_meaning.specs.Outputs.{outputs_at, outputs_of}
 use Rattle.stream_meaning.specs.Arrivals.{Arrival, Elapsed, Post, CoreState, writes_among, notices_among, entered, streamed, expired_copies, with_reap, fed_back, swept, state_from, state_after, notices_of}
 use Rattle.stream_meaning.specs.Keys.{notice_has, output_has}
-use Rattle.stream_meaning.specs.KeyLaws.{one_by, keeps_keys, HasOneKey}
-use Rattle.stream_meaning.specs.Laws.{of_key, SameMoments}
-use Rattle.stream_meaning.proofs.KeyLaws.{own_tick, own_event, acts_at_other, own_outputs, have_one, KeepsKeys, kept_parts}
-use Rattle.key_laws.specs.Apart.{keeps_field, expiry_keeps, has_fields}
+use Rattle.stream_meaning.specs.KeyLaws.{outputs_for, HasOneKey}
+use Rattle.stream_meaning.specs.Laws.{of_key}
+use Rattle.stream_meaning.proofs.KeptEvents.{all-append}
+use Rattle.key_laws.specs.Apart.{keeps_field, expiry_keeps, plan_apart, keys_apart}
+use Rattle.key_laws.proofs.KeyMoments.{key_moments}
+use Rattle.key_laws.proofs.PlainLaws.{plan_gives_one, plan_splits}
+use Rattle.key_laws.proofs.SplitLaws.{Splits, GivesOne}
 use Rattle.key_laws.specs.Laws.{arrivals_of, KeysHaveTheirNotices, IsOfOneKey, NoticesAreOfOneKey, KeysHaveTheirLiveEvents}
 
 -- ---- notices and writes of a key
@@ -73,21 +77,6 @@ log-append fields key (Write event ∷ log) more =
     step true xs ys = refl
     step false xs ys = refl
 
--- ---- moments
-
-either_moments : (t : Bool) (event : Event) (g h : History) → SameMoments g h → SameMoments (cond t (g ▸ In (One event)) g) h
-either_moments true event g h same = record { begins = same.begins; ends = same.ends }
-either_moments false event g h same = same
-
-key_moments : (fields : List Field) (key : List Value) (h : History) → SameMoments (of_key fields key h) h
-key_moments fields key (since start) = record { begins = refl; ends = refl }
-key_moments fields key (h ▸ Tick) = let same = key_moments fields key h in record { begins = same.begins; ends = ap (λ n. n + 1) same.ends }
-key_moments fields key (h ▸ In (One event)) =
-    let same = key_moments fields key h in
-    let longer = either_moments (event_has fields key event) event (of_key fields key h) h same in
-    record { begins = longer.begins; ends = longer.ends }
-key_moments fields key (h ▸ In (Many es)) = let same = key_moments fields key h in record { begins = same.begins; ends = same.ends }
-
 -- ---- the key of an event that comes again
 
 copy_key : (fields : List Field) (keep : List KeepKey) (event : Event) (now : ℕ) → are_index_fields fields ≡ true → list_all (keeps_field keep) fields ≡ true →
@@ -122,15 +111,46 @@ filter-changed p q f same (event ∷ es) = step (q event) (p event) refl refl (f
     step false true e d ih = ih ∙ sym (ap (λ s. map f (cond s (event ∷ filter q (filter p es)) (filter q (filter p es)))) e)
     step false false e d ih = ih
 
+-- ---- what comes to a plan are single events
+
+abbrev IsOneByOne : History → Type 0
+IsOneByOne (since start) = Unit {0}
+IsOneByOne (h ▸ Tick) = IsOneByOne h
+IsOneByOne (h ▸ In (One event)) = IsOneByOne h
+IsOneByOne (h ▸ In (Many es)) = ⊥
+
+module _ (plan : StreamTrees) where
+  streams_one_by_one : (es : List Event) (state : CoreState) → IsOneByOne state.history → IsOneByOne (streamed plan es state).history
+  streams_one_by_one [] state k = k
+  streams_one_by_one (event ∷ es) state k = streams_one_by_one es (entered plan (In (One event)) state) k
+
+  sweeps_one_by_one : (expiry : Option Expiry) (state : CoreState) → IsOneByOne state.history → IsOneByOne (swept plan expiry state).history
+  sweeps_one_by_one None state k = k
+  sweeps_one_by_one (Some expiry) state k = step ((moment_of state.history - begun state.history) % expiry.interval == 0)
+    where
+      step : (t : Bool) → IsOneByOne (cond t (fed_back plan expiry.keep state) state).history
+      step true = streams_one_by_one (expired_copies expiry.keep state) (with_reap state) k
+      step false = k
+
+  comes_one_by_one : (expiry : Option Expiry) (arrivals : List Arrival) (state : CoreState) → IsOneByOne state.history → IsOneByOne (state_from plan expiry arrivals state).history
+  comes_one_by_one expiry [] state k = k
+  comes_one_by_one expiry (Elapsed ∷ more) state k = comes_one_by_one expiry more (swept plan expiry (entered plan Tick state)) (sweeps_one_by_one expiry (entered plan Tick state) k)
+  comes_one_by_one expiry (Post event ∷ more) state k = comes_one_by_one expiry more (entered plan (In (One event)) state) k
+
+-- each output over such a history is of one key
+all_of_one : (fields : List Field) (plan : StreamTrees) → GivesOne fields plan → (h : History) → IsOneByOne h → AllByRecursion (HasOneKey fields) (outputs_of plan h)
+all_of_one fields plan gives (since start) k = tt
+all_of_one fields plan gives (h ▸ Tick) k = all-append (HasOneKey fields) (outputs_of plan h) (outputs_at plan (h ▸ Tick)) (all_of_one fields plan gives h k) (gives.tick h)
+all_of_one fields plan gives (h ▸ In (One event)) k =
+    all-append (HasOneKey fields) (outputs_of plan h) (outputs_at plan (h ▸ In (One event))) (all_of_one fields plan gives h k) (gives.event h event)
+all_of_one fields plan gives (h ▸ In (Many es)) k = absurd k
+
 -- ---- the part of a state that is of a key
 
 abbrev with_parts : History → IndexLog → CoreState
 with_parts h log = record { history = h; log = log }
 
-module _ (fields : List Field) (key : List Value) (children otherwise : StreamTrees) (own : KeepsKeys fields children otherwise) where
-  abbrev plan : StreamTrees
-  plan = one_by fields children otherwise
-
+module _ (fields : List Field) (within : are_index_fields fields ≡ true) (key : List Value) (plan : StreamTrees) (splits : Splits fields key plan) where
   abbrev pub part : CoreState → CoreState
   part state = record { history = of_key fields key state.history; log = log_of_key fields key state.log }
 
@@ -144,20 +164,20 @@ module _ (fields : List Field) (key : List Value) (children otherwise : StreamTr
   part-tick state =
       both_parts (of_key fields key state.history ▸ Tick) (of_key fields key state.history ▸ Tick) _ _ refl
       (more_log state.log (outputs_at plan (state.history ▸ Tick)) (outputs_at plan (of_key fields key state.history ▸ Tick))
-      (own_tick fields own.within children otherwise own.children_keep own.otherwise_keep state.history key))
+      (splits.tick state.history))
 
   part-own : (state : CoreState) (event : Event) → event_has fields key event ≡ true → part (entered plan (In (One event)) state) ≡ entered plan (In (One event)) (part state)
   part-own state event e =
       both_parts (of_key fields key (state.history ▸ In (One event))) (of_key fields key state.history ▸ In (One event)) _ _
       (ap (λ t. cond t (of_key fields key state.history ▸ In (One event)) (of_key fields key state.history)) e)
       (more_log state.log (outputs_at plan (state.history ▸ In (One event))) (outputs_at plan (of_key fields key state.history ▸ In (One event)))
-      (own_event fields own.within children otherwise own.children_keep own.otherwise_keep state.history key event e))
+      (splits.own state.history event e))
 
   part-other : (state : CoreState) (event : Event) → event_has fields key event ≡ false → part (entered plan (In (One event)) state) ≡ part state
   part-other state event e =
       both_parts (of_key fields key (state.history ▸ In (One event))) (of_key fields key state.history) _ _
       (ap (λ t. cond t (of_key fields key state.history ▸ In (One event)) (of_key fields key state.history)) e)
-      (more_log state.log (outputs_at plan (state.history ▸ In (One event))) [] (acts_at_other fields own.within children otherwise own.children_keep own.otherwise_keep state.history key event e)
+      (more_log state.log (outputs_at plan (state.history ▸ In (One event))) [] (splits.other state.history event e)
       ∙ append-nil (log_of_key fields key state.log))
 
   part-streamed : (es : List Event) (state : CoreState) → part (streamed plan es state) ≡ streamed plan (filter (event_has fields key) es) (part state)
@@ -175,8 +195,8 @@ module _ (fields : List Field) (key : List Value) (children otherwise : StreamTr
   part-copies keep state kept =
       let now = moment_of state.history in
       let copy = λ (n : ℕ) (event : Event). expired_copy keep event n in
-      filter-changed (event_has fields key) (is_expired now) (copy now) (λ event. ap (λ (k : List Value). same_key k key) (copy_key fields keep event now own.within kept)) (live_events state.log)
-      ∙ ap (λ es. map (copy now) (filter (is_expired now) es)) (keys_have_logs fields key state.log own.within)
+      filter-changed (event_has fields key) (is_expired now) (copy now) (λ event. ap (λ (k : List Value). same_key k key) (copy_key fields keep event now within kept)) (live_events state.log)
+      ∙ ap (λ es. map (copy now) (filter (is_expired now) es)) (keys_have_logs fields key state.log within)
       ∙ ap (λ n. map (copy n) (filter (is_expired n) (live_events (log_of_key fields key state.log)))) (sym (key_moments fields key state.history).ends)
 
   part-reap : (state : CoreState) → part (with_reap state) ≡ with_reap (part state)
@@ -218,6 +238,22 @@ module _ (fields : List Field) (key : List Value) (children otherwise : StreamTr
 
   -- ---- the laws for this plan
 
+  -- the outputs of a key over a history are those over its own
+  own_outputs : (h : History) → IsOneByOne h → filter (output_has fields key) (outputs_of plan h) ≡ outputs_of plan (of_key fields key h)
+  own_outputs (since start) k = refl
+  own_outputs (h ▸ Tick) k =
+      filter-append (output_has fields key) (outputs_of plan h) (outputs_at plan (h ▸ Tick))
+      ∙ ap (λ l. l ++ outputs_for fields key plan (h ▸ Tick)) (own_outputs h k) ∙ ap (λ l. outputs_of plan (of_key fields key h) ++ l) (splits.tick h)
+  own_outputs (h ▸ In (One event)) k =
+      filter-append (output_has fields key) (outputs_of plan h) (outputs_at plan (h ▸ In (One event)))
+      ∙ ap (λ l. l ++ outputs_for fields key plan (h ▸ In (One event))) (own_outputs h k) ∙ step (event_has fields key event) refl
+    where
+      step : (t : Bool) → event_has fields key event ≡ t →
+          outputs_of plan (of_key fields key h) ++ outputs_for fields key plan (h ▸ In (One event)) ≡ outputs_of plan (cond t (of_key fields key h ▸ In (One event)) (of_key fields key h))
+      step true e = ap (λ l. outputs_of plan (of_key fields key h) ++ l) (splits.own h event e)
+      step false e = ap (λ l. outputs_of plan (of_key fields key h) ++ l) (splits.other h event e) ∙ append-nil _
+  own_outputs (h ▸ In (Many es)) k = absurd k
+
   pub key_state : (expiry : Option Expiry) → expiry_keeps fields expiry ≡ true → (start : ℕ) (arrivals : List Arrival) →
       part (state_after plan expiry start arrivals) ≡ state_after plan expiry start (arrivals_of fields key arrivals)
   key_state expiry kept start arrivals = part-from expiry kept arrivals (record { history = since start; log = [] })
@@ -227,13 +263,13 @@ module _ (fields : List Field) (key : List Value) (children otherwise : StreamTr
   key_notices expiry kept start arrivals =
       let h = (state_after plan expiry start arrivals).history in
       notices_of_key fields key (outputs_of plan h)
-      ∙ ap notices_among (own_outputs fields own.within children otherwise own.children_keep own.otherwise_keep key h)
+      ∙ ap notices_among (own_outputs h (comes_one_by_one plan expiry arrivals (record { history = since start; log = [] }) tt))
       ∙ ap (λ (state : CoreState). notices_among (outputs_of plan state.history)) (key_state expiry kept start arrivals)
 
   pub key_live : (expiry : Option Expiry) → expiry_keeps fields expiry ≡ true → (start : ℕ) (arrivals : List Arrival) →
       filter (event_has fields key) (live_events (state_after plan expiry start arrivals).log) ≡ live_events (state_after plan expiry start (arrivals_of fields key arrivals)).log
   key_live expiry kept start arrivals =
-      keys_have_logs fields key (state_after plan expiry start arrivals).log own.within
+      keys_have_logs fields key (state_after plan expiry start arrivals).log within
       ∙ ap (λ (state : CoreState). live_events state.log) (key_state expiry kept start arrivals)
 
 -- ---- the laws
@@ -243,40 +279,30 @@ notices_one fields [] k = tt
 notices_one fields (write event ∷ os) k = notices_one fields os k.1
 notices_one fields (notice given ∷ os) k = (record { key = k.0.key; has = k.0.has; only = k.0.only }, notices_one fields os k.1)
 
--- the premise of a plan of one `by`, in its parts
-record Premise (fields : List Field) (children otherwise : StreamTrees) (expiry : Option Expiry) : Type 0 where
-  own : KeepsKeys fields children otherwise
+-- the premise, in its parts
+record Premise (fields : List Field) (plan : StreamTrees) (expiry : Option Expiry) : Type 0 where
+  within : are_index_fields fields ≡ true
+  apart : plan_apart fields plan ≡ true
   kept : expiry_keeps fields expiry ≡ true
 
-premise : (fields : List Field) (children otherwise : StreamTrees) (expiry : Option Expiry) → has_fields fields && (keeps_keys fields children otherwise && expiry_keeps fields expiry) ≡ true →
-    Premise fields children otherwise expiry
-premise fields children otherwise expiry e =
-    let later = both_true (has_fields fields) (keeps_keys fields children otherwise && expiry_keeps fields expiry) e in
-    let parts = both_true (keeps_keys fields children otherwise) (expiry_keeps fields expiry) later.1 in
-    record { own = kept_parts fields children otherwise parts.0; kept = parts.1 }
+premise : (fields : List Field) (plan : StreamTrees) (expiry : Option Expiry) → keys_apart fields plan expiry ≡ true → Premise fields plan expiry
+premise fields plan expiry e =
+    let first = both_true (are_index_fields fields) (plan_apart fields plan && expiry_keeps fields expiry) e in
+    let more = both_true (plan_apart fields plan) (expiry_keeps fields expiry) first.1 in
+    record { within = first.0; apart = more.0; kept = more.1 }
 
 pub keys_have_notices : KeysHaveTheirNotices
-keys_have_notices none expiry start arrivals key e = absurd (true≢false (sym e))
-keys_have_notices (also first (also second more)) expiry start arrivals key e = absurd (true≢false (sym e))
-keys_have_notices (also (stream (By fields) children otherwise) none) expiry start arrivals key e =
-    let parts = premise fields children otherwise expiry e in
-    key_notices fields key children otherwise parts.own expiry parts.kept start arrivals
-keys_have_notices (also (stream kind children otherwise) none) expiry start arrivals key e = absurd (true≢false (sym e))
+keys_have_notices fields plan expiry start arrivals key e =
+    let parts = premise fields plan expiry e in
+    key_notices fields parts.within key plan (plan_splits fields parts.within key plan parts.apart) expiry parts.kept start arrivals
 
 pub keys_have_live : KeysHaveTheirLiveEvents
-keys_have_live none expiry start arrivals key e = absurd (true≢false (sym e))
-keys_have_live (also first (also second more)) expiry start arrivals key e = absurd (true≢false (sym e))
-keys_have_live (also (stream (By fields) children otherwise) none) expiry start arrivals key e =
-    let parts = premise fields children otherwise expiry e in
-    key_live fields key children otherwise parts.own expiry parts.kept start arrivals
-keys_have_live (also (stream kind children otherwise) none) expiry start arrivals key e = absurd (true≢false (sym e))
+keys_have_live fields plan expiry start arrivals key e =
+    let parts = premise fields plan expiry e in
+    key_live fields parts.within key plan (plan_splits fields parts.within key plan parts.apart) expiry parts.kept start arrivals
 
 pub notices_of_one : NoticesAreOfOneKey
-notices_of_one none expiry start arrivals e = absurd (true≢false (sym e))
-notices_of_one (also first (also second more)) expiry start arrivals e = absurd (true≢false (sym e))
-notices_of_one (also (stream (By fields) children otherwise) none) expiry start arrivals e =
-    let own = (premise fields children otherwise expiry e).own in
-    let plan = one_by fields children otherwise in
+notices_of_one fields plan expiry start arrivals e =
+    let parts = premise fields plan expiry e in
     let h = (state_after plan expiry start arrivals).history in
-    notices_one fields (outputs_of plan h) (have_one fields own.within children otherwise own.children_keep own.otherwise_keep h)
-notices_of_one (also (stream kind children otherwise) none) expiry start arrivals e = absurd (true≢false (sym e))
+    notices_one fields (outputs_of plan h) (all_of_one fields plan (plan_gives_one fields parts.within plan parts.apart) h (comes_one_by_one plan expiry arrivals (record { history = since start; log = [] }) tt))

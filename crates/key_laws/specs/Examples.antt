@@ -6,12 +6,12 @@ use Rattle.ev_types.specs.declared.settings.Expiry.{Expiry}
 use Rattle.ev_types.specs.declared.settings.KeepKey.TheVariants.{Field as field}
 use Rattle.ev_types.specs.declared.value.Value.{Value}
 use Rattle.ev_types.specs.declared.value.Value.TheVariants.{Nil, Text}
-use Rattle.stream_plan.specs.Tree.{Index, With, By, Changed, StreamTrees, none, also}
+use Rattle.stream_plan.specs.Tree.{Index, Sdo, With, By, Changed, Throttle, StreamTree, StreamTrees, none, also}
 use Rattle.stream_meaning.specs.Arrivals.{Arrival, Post, notices_of}
 use Rattle.stream_meaning.specs.Keys.{notice_has}
-use Rattle.stream_meaning.specs.Small.{above, alone, noticed, a}
+use Rattle.stream_meaning.specs.Small.{above, alone, noticed, a, b}
 use Rattle.stream_meaning.specs.IndexExamples.{every, elapsed, fading}
-use Rattle.key_laws.specs.Apart.{keys_apart, key_fields}
+use Rattle.key_laws.specs.Apart.{keys_apart}
 use Rattle.key_laws.specs.Laws.{arrivals_of}
 
 abbrev pub by_on : List Field → StreamTrees → StreamTrees
@@ -31,25 +31,44 @@ setting_state = alone (above (With (record { field = State; value = Text (codes 
 abbrev pub forgetting_host : Option Expiry
 forgetting_host = Some (record { interval = 10; keep = field Service ∷ [] })
 
+-- one event in ten seconds passes
+abbrev pub throttled : StreamTrees
+throttled = alone (above (Throttle 1 10) (noticed "n"))
+
+-- a stream that keeps the last state, beside or above others
+abbrev pub changing : StreamTrees → StreamTree
+changing = above (Changed State (Some Nil))
+
 pub record TestExamples : Type 0 where
-  pub by_host : keys_apart (by_on (Host ∷ []) indexed) (every 10) ≡ true
-  pub by_both : keys_apart (by_on (Host ∷ Service ∷ []) (alone (above (Changed State (Some Nil)) indexed))) (every 10) ≡ true
-  pub sets_another : keys_apart (by_on (Host ∷ []) setting_state) (every 10) ≡ true
-  pub by_state : keys_apart (by_on (State ∷ []) indexed) (every 10) ≡ false
-  pub sets_host : keys_apart (by_on (Host ∷ []) setting_host) (every 10) ≡ false
-  pub forgets_host : keys_apart (by_on (Host ∷ []) indexed) forgetting_host ≡ false
-  pub forgets_host_by_service : keys_apart (by_on (Service ∷ []) indexed) forgetting_host ≡ true
-  pub above_by : keys_apart (alone (above (Changed State (Some Nil)) (by_on (Host ∷ []) indexed))) (every 10) ≡ false
+  pub by_host : keys_apart (Host ∷ []) (by_on (Host ∷ []) throttled) (every 10) ≡ true
+  pub by_both : keys_apart (Host ∷ Service ∷ []) (by_on (Host ∷ Service ∷ []) (alone (changing indexed))) (every 10) ≡ true
+  pub host_by_both : keys_apart (Host ∷ []) (by_on (Service ∷ Host ∷ []) throttled) (every 10) ≡ true
+  pub both_by_host : keys_apart (Host ∷ Service ∷ []) (by_on (Host ∷ []) throttled) (every 10) ≡ false
+  pub without_by : keys_apart (Host ∷ []) indexed (every 10) ≡ true
+  pub below_another : keys_apart (Host ∷ []) (also (above Index none) (alone (above Sdo (by_on (Host ∷ []) throttled)))) (every 10) ≡ true
+  pub sets_another : keys_apart (Host ∷ []) (by_on (Host ∷ []) setting_state) (every 10) ≡ true
+  pub by_state : keys_apart (Host ∷ []) (by_on (State ∷ []) throttled) (every 10) ≡ false
+  pub of_state : keys_apart (State ∷ []) (by_on (State ∷ []) throttled) (every 10) ≡ false
+  pub sets_host : keys_apart (Host ∷ []) (by_on (Host ∷ []) setting_host) (every 10) ≡ false
+  pub sets_host_outside : keys_apart (Host ∷ []) setting_host (every 10) ≡ false
+  pub forgets_host : keys_apart (Host ∷ []) (by_on (Host ∷ []) indexed) forgetting_host ≡ false
+  pub forgets_host_of_services : keys_apart (Service ∷ []) (by_on (Service ∷ []) indexed) forgetting_host ≡ true
+  pub kept_above : keys_apart (Host ∷ []) (alone (changing (by_on (Host ∷ []) indexed))) (every 10) ≡ false
+  pub kept_beside : keys_apart (Host ∷ []) (also (above (By (Host ∷ [])) throttled) throttled) (every 10) ≡ false
 
--- how many notices have the key, and how many there are over the arrivals of the key alone
-pub record Counts (plan : StreamTrees) (expiry : Option Expiry) (start : ℕ) (arrivals : List Arrival) (key : List Value) (among own : ℕ) : Type 0 where
-  pub all : length (filter (notice_has (key_fields plan) key) (notices_of plan expiry start arrivals)) ≡ among
-  pub alone : length (notices_of plan expiry start (arrivals_of (key_fields plan) key arrivals)) ≡ own
+-- how many notices have the host, and how many there are over the arrivals of the host alone
+pub record Counts (plan : StreamTrees) (expiry : Option Expiry) (start : ℕ) (arrivals : List Arrival) (host : Value) (among own : ℕ) : Type 0 where
+  pub all : length (filter (notice_has (Host ∷ []) (host ∷ [])) (notices_of plan expiry start arrivals)) ≡ among
+  pub alone : length (notices_of plan expiry start (arrivals_of (Host ∷ []) (host ∷ []) arrivals)) ≡ own
 
--- an event of host "a" gives a notice of host "b" where a stream below sets the host
+-- an event of host "a" gives a notice of host "b" where a stream sets the host
 abbrev pub SetHostMixes : Type 0
-SetHostMixes = Counts (by_on (Host ∷ []) setting_host) (every 10) 100 (Post (a 100) ∷ []) (Text (codes "b") ∷ []) 1 0
+SetHostMixes = Counts (by_on (Host ∷ []) setting_host) (every 10) 100 (Post (a 100) ∷ []) (Text (codes "b")) 1 0
 
 -- an expired event of host "a" comes again as one of no host where its host is not kept
 abbrev pub ForgottenHostMixes : Type 0
-ForgottenHostMixes = Counts (by_on (Host ∷ []) indexed) forgetting_host 100 (Post fading ∷ elapsed 10) (Nil ∷ []) 1 0
+ForgottenHostMixes = Counts (by_on (Host ∷ []) indexed) forgetting_host 100 (Post fading ∷ elapsed 10) Nil 1 0
+
+-- an event of host "a" keeps one of host "b" from passing a stream beside the `by`
+abbrev pub SharedStreamMixes : Type 0
+SharedStreamMixes = Counts (also (above (By (Host ∷ [])) throttled) throttled) (every 10) 100 (Post (a 100) ∷ Post (b 100) ∷ []) (Text (codes "b")) 1 2

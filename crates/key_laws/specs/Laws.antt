@@ -10,7 +10,7 @@ use Rattle.index_log.specs.OfKey.{event_has}
 use Rattle.stream_plan.specs.Tree.{StreamTrees}
 use Rattle.stream_meaning.specs.Arrivals.{Arrival, Elapsed, Post, state_after, notices_of}
 use Rattle.stream_meaning.specs.Keys.{notice_has}
-use Rattle.key_laws.specs.Apart.{keys_apart, key_fields}
+use Rattle.key_laws.specs.Apart.{keys_apart}
 
 -- the arrivals of a key: all seconds, and the posted events of the key
 abbrev pub arrivals_of : List Field → List Value → List Arrival → List Arrival
@@ -21,10 +21,9 @@ arrivals_of fields key (Post event ∷ more) =
 
 -- the notices of a key are the notices over the arrivals of the key alone
 abbrev pub KeysHaveTheirNotices : Type 0
-KeysHaveTheirNotices = (plan : StreamTrees) (expiry : Option Expiry) (start : ℕ) (arrivals : List Arrival) (key : List Value) →
-    IsTrue (keys_apart plan expiry) →
-    filter (notice_has (key_fields plan) key) (notices_of plan expiry start arrivals)
-    ≡ notices_of plan expiry start (arrivals_of (key_fields plan) key arrivals)
+KeysHaveTheirNotices = (fields : List Field) (plan : StreamTrees) (expiry : Option Expiry) (start : ℕ) (arrivals : List Arrival) (key : List Value) →
+    IsTrue (keys_apart fields plan expiry) →
+    filter (notice_has fields key) (notices_of plan expiry start arrivals) ≡ notices_of plan expiry start (arrivals_of fields key arrivals)
 
 -- the notice has a key, and no other
 pub record IsOfOneKey (fields : List Field) (given : Notice) : Type 0 where
@@ -33,13 +32,12 @@ pub record IsOfOneKey (fields : List Field) (given : Notice) : Type 0 where
   pub only : (other : List Value) → IsTrue (notice_has fields other given) → other ≡ key
 
 abbrev pub NoticesAreOfOneKey : Type 0
-NoticesAreOfOneKey = (plan : StreamTrees) (expiry : Option Expiry) (start : ℕ) (arrivals : List Arrival) →
-    IsTrue (keys_apart plan expiry) →
-    AllByRecursion (IsOfOneKey (key_fields plan)) (notices_of plan expiry start arrivals)
+NoticesAreOfOneKey = (fields : List Field) (plan : StreamTrees) (expiry : Option Expiry) (start : ℕ) (arrivals : List Arrival) →
+    IsTrue (keys_apart fields plan expiry) → AllByRecursion (IsOfOneKey fields) (notices_of plan expiry start arrivals)
 
 -- what the index holds of a key is what it holds after the arrivals of the key alone
 abbrev pub KeysHaveTheirLiveEvents : Type 0
-KeysHaveTheirLiveEvents = (plan : StreamTrees) (expiry : Option Expiry) (start : ℕ) (arrivals : List Arrival) (key : List Value) →
-    IsTrue (keys_apart plan expiry) →
-    filter (event_has (key_fields plan) key) (live_events (state_after plan expiry start arrivals).log)
-    ≡ live_events (state_after plan expiry start (arrivals_of (key_fields plan) key arrivals)).log
+KeysHaveTheirLiveEvents = (fields : List Field) (plan : StreamTrees) (expiry : Option Expiry) (start : ℕ) (arrivals : List Arrival) (key : List Value) →
+    IsTrue (keys_apart fields plan expiry) →
+    filter (event_has fields key) (live_events (state_after plan expiry start arrivals).log)
+    ≡ live_events (state_after plan expiry start (arrivals_of fields key arrivals)).log

@@ -7,38 +7,75 @@ ghost use Rattle.index_log.specs.OfKey.{is_index_field, are_index_fields};
 ghost use Rattle.stream_plan.specs.Search.{opened};
 ghost use Rattle.stream_plan.specs.Tree.{kind_tree, list_trees, plan_tree};
 ghost use Rattle.stream_meaning.specs.Keys.{same_index_field, sets_one, kind_keeps, stream_keeps, plan_keeps};
-ghost use Rattle.key_laws.specs.Apart.{keeps_field, expiry_keeps, is_apart, keys_apart};
+ghost use Rattle.key_laws.specs.Apart.{has_all, keeps_field, keeps_nothing, keys_apart, expiry_keeps, plan_apart, splits, stream_apart};
 
 use ev_types::{Expiry, Field, KeepKey, Set};
 use stream_plan::{Kind, Plan, Stream};
 
-/// Whether the notices of each key of this configuration depend on what comes of the key alone: its plan is one `by` on
-/// host or service or both, no stream below it sets one of these fields, and events that expire keep them.
-#[tactic(auto, using(crate::proofs::TreeLaws::one_stream_apart, crate::proofs::TreeLaws::more_streams_not_apart))]
-pub fn keys_are_apart(plan: &Plan, expiry: &Option<Expiry>) -> bool
-    ensures { result ≡ keys_apart (plan_tree plan.now) expiry.now }
+/// Whether what is noticed of each key of the fields depends on what comes of this key alone. The fields are the host, the
+/// service or both. No stream of the plan sets one of them, each stream that keeps something is below a `by` that has all
+/// of them, and events that expire keep them.
+pub fn keys_are_apart(fields: &[Field], plan: &Plan, expiry: &Option<Expiry>) -> bool
+    ensures { result ≡ keys_apart fields.now (plan_tree plan.now) expiry.now }
 {
-    match plan.streams.as_slice() {
-        [stream] => is_apart(stream, expiry),
+    are_index_fields(fields)
+        && plan_apart(fields, plan.streams.as_slice())
+        && expiry_keeps(fields, expiry)
+}
+
+/// Whether the keys are apart in all of the streams.
+#[cycle(apart)]
+fn plan_apart(fields: &[Field], streams: &[Stream]) -> bool
+    ensures { result ≡ plan_apart fields.now (list_trees streams.now) }
+{
+    for stream in streams {
+        if !stream_apart(fields, stream) {
+            return false;
+        }
+    }
+    true
+}
+
+#[cycle(apart)]
+#[tactic(auto, unfolding(stream_plan::specs::Search::opened))]
+fn stream_apart(fields: &[Field], stream: &Stream) -> bool
+    ensures { result ≡ stream_apart fields.now (opened stream.now) }
+{
+    let kept = plan_keeps(fields, &stream.children) && plan_keeps(fields, &stream.otherwise);
+    let apart = plan_apart(fields, &stream.children) && plan_apart(fields, &stream.otherwise);
+    let by = splits(fields, &stream.kind) && kept;
+    let plain = keeps_nothing(&stream.kind) && kind_keeps(fields, &stream.kind) && apart;
+    by || plain
+}
+
+fn splits(fields: &[Field], kind: &Kind) -> bool
+    ensures { result ≡ splits fields.now (kind_tree kind.now) }
+{
+    match kind {
+        Kind::By(others) => has_all(fields, others.as_slice()),
         _ => false,
     }
 }
 
-#[tactic(auto, unfolding(stream_plan::specs::Search::opened))]
-fn is_apart(stream: &Stream, expiry: &Option<Expiry>) -> bool
-    ensures { result ≡ is_apart (opened stream.now) expiry.now }
+fn has_all(fields: &[Field], others: &[Field]) -> bool
+    ensures { result ≡ has_all fields.now others.now }
 {
-    match &stream.kind {
-        Kind::By(fields) => {
-            let fields = fields.as_slice();
-            !fields.is_empty()
-                && are_index_fields(fields)
-                && plan_keeps(fields, &stream.children)
-                && plan_keeps(fields, &stream.otherwise)
-                && expiry_keeps(fields, expiry)
-        }
-        _ => false,
-    }
+    fields.iter().all(|field| is_one_of(field, others))
+}
+
+fn keeps_nothing(kind: &Kind) -> bool
+    ensures { result ≡ keeps_nothing (kind_tree kind.now) }
+{
+    matches!(
+        kind,
+        Kind::Index
+            | Kind::Notice(_)
+            | Kind::Sdo
+            | Kind::Where(_)
+            | Kind::With(_)
+            | Kind::Default(_)
+            | Kind::Tag(_)
+    )
 }
 
 fn are_index_fields(fields: &[Field]) -> bool

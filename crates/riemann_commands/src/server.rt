@@ -70,7 +70,9 @@ pub fn riemann<S: Store, L: Links, O: Sink, E: Sink, P: Patterns, G: Ledger>(
     ensures link_fault { result ≡ Status.LinkFault →
         Rose (L.faults links.old) (L.faults links.new) }
 
-    // What each command promises. The equality is for the record's fact that no pattern was asked for.
+    // What each command promises. Where it ran a server, that has the lines of its notices, and that the notices of each
+    // host are its own (`Runs.antt` and `Apart.antt` of `hub_run`). The equality is for the record's fact that no pattern
+    // was asked for.
     ensures feed { OnFeed words.now (λ config file. Feeds config file
         (reports (store_report (S.held store.old) (S.reads store.old) (S.taken store.old)
         (S.faults store.old)) (links_report (L.log links.old) (L.faults links.old))

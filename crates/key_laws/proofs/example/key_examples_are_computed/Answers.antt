@@ -7,12 +7,19 @@ pub returns-clause-tests : goal.returns-clause-tests
 returns-clause-tests c = record {
   by_host = refl;
   by_both = refl;
+  host_by_both = refl;
+  both_by_host = refl;
+  without_by = refl;
+  below_another = refl;
   sets_another = refl;
   by_state = refl;
+  of_state = refl;
   sets_host = refl;
+  sets_host_outside = refl;
   forgets_host = refl;
-  forgets_host_by_service = refl;
-  above_by = refl;
+  forgets_host_of_services = refl;
+  kept_above = refl;
+  kept_beside = refl;
 }
 
 pub returns-clause-set_host : goal.returns-clause-set_host
@@ -22,3 +29,7 @@ returns-clause-set_host c = record { all = refl; alone = refl }
 pub returns-clause-forgotten_host : goal.returns-clause-forgotten_host
 unfolding index_key_cmp live_events
 returns-clause-forgotten_host c = record { all = refl; alone = refl }
+
+pub returns-clause-shared_stream : goal.returns-clause-shared_stream
+unfolding index_key_cmp live_events
+returns-clause-shared_stream c = record { all = refl; alone = refl }
