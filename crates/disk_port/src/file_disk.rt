@@ -1,0 +1,136 @@
+ghost use Rattle.std.specs.Prelude.{◌≡◌, ◌≤◌, None, length, drop, IfOk, IsErrOf};
+ghost use Rattle.disk_port.specs.Calls.{HasCause};
+
+use crate::disk::{Disk, DiskError};
+use ev_types::Text;
+use std::alloc::Global;
+use std::fs::{OpenFile, OpenOptions};
+use std::io;
+use std::io::{ErrorKind, Read, Seek, SeekFrom, Write};
+use std::rt::Files;
+
+/// A file of the machine, by its path. It does not report what the file holds. Before a file is open, each call but
+/// [`Disk::open`] fails.
+#[derive(Drop)]
+pub struct FileDisk<'a, R: Files> {
+    rt: &'a R,
+    file: Option<R::File>,
+    /// How many calls failed.
+    pub faults: u64,
+}
+
+impl<'a, R: Files> FileDisk<'a, R> {
+    /// A disk with no file open, of the files that the runtime reaches.
+    pub fn fresh(rt: &'a R) -> FileDisk<'a, R>
+        ensures { result.faults ≡ 0 }
+    {
+        FileDisk {
+            rt,
+            file: None,
+            faults: 0,
+        }
+    }
+}
+
+impl<'a, R: Files> Disk for FileDisk<'a, R> {
+    ghost report = { λ disk. record { past = None; opened = None; faults = disk.faults } };
+
+    fn open(&mut self, _alloc: Global, name: &Text) -> Result<(), DiskError> {
+        let opened = open_file(self.rt, name.as_str());
+        match opened {
+            Ok(file) => {
+                self.file = Some(file);
+                Ok(())
+            }
+            Err(_) => {
+                self.faults = self.faults.saturating_add(1);
+                Err(DiskError::Failed)
+            }
+        }
+    }
+
+    fn length(&mut self, _alloc: Global) -> Result<u64, DiskError> {
+        let outcome = match &self.file {
+            Some(file) => length_of(file),
+            None => Err(not_open()),
+        };
+        answer(&mut self.faults, outcome)
+    }
+
+    fn read(&mut self, _alloc: Global, place: u64, buf: &mut [u8]) -> Result<usize, DiskError> {
+        let outcome = match &mut self.file {
+            Some(file) => read_from(file, place, buf),
+            None => Err(not_open()),
+        };
+        answer(&mut self.faults, outcome)
+    }
+
+    fn write_at(&mut self, _alloc: Global, place: u64, bytes: &[u8]) -> Result<(), DiskError> {
+        let outcome = match &mut self.file {
+            Some(file) => write_to(file, place, bytes),
+            None => Err(not_open()),
+        };
+        answer(&mut self.faults, outcome)
+    }
+
+    fn sync(&mut self, _alloc: Global) -> Result<(), DiskError> {
+        let outcome = match &self.file {
+            Some(file) => file.sync_all(),
+            None => Err(not_open()),
+        };
+        answer(&mut self.faults, outcome)
+    }
+}
+
+/// Opens the file of the path for reading and writing, and makes an empty one if there is none.
+fn open_file<R: Files>(rt: &R, path: &str) -> io::Result<R::File> {
+    let mut options = OpenOptions::new();
+    options.read(true).write(true).create(true);
+    options.open(rt, path)
+}
+
+fn length_of<F: OpenFile>(file: &F) -> io::Result<u64> {
+    Ok(file.metadata()?.len())
+}
+
+/// Reads the bytes from `place` on into the start of `buf`, as many as there are and fit, and gives their number.
+fn read_from<F: Read + Seek + OpenFile>(
+    file: &mut F,
+    place: u64,
+    buf: &mut [u8],
+) -> io::Result<usize>
+    ensures within { IfOk result (λ count. count ≤ length buf.new) }
+    ensures rest { IfOk result (λ count. drop count buf.new ≡ drop count buf.old) }
+{
+    let left = length_of(file)?.saturating_sub(place);
+    let count = left.min(buf.len() as u64) as usize;
+    file.seek(SeekFrom::Start(place))?;
+    file.read_exact(&mut buf[..count])?;
+    Ok(count)
+}
+
+/// Writes the bytes over those from `place` on, and past the end.
+fn write_to<F: Write + Seek>(file: &mut F, place: u64, bytes: &[u8]) -> io::Result<()> {
+    file.seek(SeekFrom::Start(place))?;
+    file.write_all(bytes)?;
+    Ok(())
+}
+
+fn not_open() -> io::Error {
+    io::Error::from(ErrorKind::NotFound)
+}
+
+/// The outcome of a call as its answer. A failure is counted.
+fn answer<T>(faults: &mut u64, outcome: io::Result<T>) -> Result<T, DiskError>
+    ensures value { IfOk result (λ value. outcome ≡ Ok value) }
+    ensures cause { HasCause faults.old faults.new result }
+    ensures answered { IsErrOf result DiskError.Memory → ⊥ }
+{
+    match outcome {
+        Ok(value) => Ok(value),
+        Err(_) => {
+            *faults = faults.saturating_add(1);
+            Err(DiskError::Failed)
+        }
+    }
+}
