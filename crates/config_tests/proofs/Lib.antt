@@ -1,0 +1,3 @@
+pub mod MapLaws
+pub mod ReadLaws
+pub mod ShortLaws

@@ -1,0 +1,16 @@
+//! Tests of configurations, as texts of s-expressions. A test has seconds and events that come to the streams of a
+//! configuration, and the items that they are to give notice of under a name.
+#![tactic(auto)]
+
+mod draft;
+mod entry;
+mod fault;
+mod map;
+mod read;
+mod suite;
+mod word;
+
+pub use draft::{MAX_SECONDS, MAX_TICK};
+pub use entry::{Entries, Entry, Expect, Expects, Test, Tests};
+pub use fault::TestFault;
+pub use read::read_tests;
