@@ -1,0 +1,9 @@
+pub mod Finds
+pub mod WordLaws
+pub mod LineLaws
+pub mod NumberLaws
+pub mod PathLaws
+pub mod Spelled
+pub mod LineSays
+pub mod Texts
+pub mod ReadAgain
