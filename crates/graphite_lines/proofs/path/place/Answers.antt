@@ -5,17 +5,17 @@ use Rattle.graphite_lines.proofs.path.place.Goals as goal
 
 pub range-requires-clause-start_boundary : goal.range-requires-clause-start_boundary
 range-requires-clause-start_boundary c positive =
-    start_may_be_cut c.args.path.now c.in-Some.number c.in-Some-part_span.start c.in-Some-part_span.end c.utf8.path
+    start_may_be_cut c.args.path.now _ c.in-Some-part_span.start c.in-Some-part_span.end c.utf8.path
     (rw c.as_bytes.ensures.value at c.in-Some-part_span.ensures)
 
 pub range-requires-in-Some-part_span-clause-end_boundary : goal.range-requires-in-Some-part_span-clause-end_boundary
 range-requires-in-Some-part_span-clause-end_boundary c =
-    start_may_be_cut c.args.path.now c.in-Some.number c.in-Some-part_span.start c.in-Some-part_span.end c.utf8.path
+    start_may_be_cut c.args.path.now _ c.in-Some-part_span.start c.in-Some-part_span.end c.utf8.path
     (rw c.as_bytes.ensures.value at c.in-Some-part_span.ensures)
 
 pub range_from-requires : goal.range_from-requires
 range_from-requires c positive =
-    end_may_be_cut c.args.path.now c.in-Some.number c.in-Some-part_span.start c.in-Some-part_span.end c.utf8.path
+    end_may_be_cut c.args.path.now _ c.in-Some-part_span.start c.in-Some-part_span.end c.utf8.path
     (rw c.as_bytes.ensures.value at c.in-Some-part_span.ensures)
 
 pub returns-in-None : goal.returns-in-None
