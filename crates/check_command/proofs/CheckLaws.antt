@@ -22,8 +22,8 @@ use Rattle.command_io.specs.Configs.{RefusesConfig}
 use Rattle.command_io.specs.Endings.{IsComplete, IsDoneOrMemory, IsReadOnce, ReadsFiles, TookMore, status_of}
 use Rattle.command_io.specs.Fetches.{IsFetchFault, ending_of_fetch}
 use Rattle.command_io.specs.Files.{ReadMore, good_read}
-use Rattle.command_io.specs.Reports.{SinkReport}
-use Rattle.command_io.specs.hub_meaning.Verdicts.{PatternsState}
+use Rattle.ports.specs.Writing.{SinkReport}
+use Rattle.command_io.specs.hub_meaning.Verdicts.{PatternsReport}
 use Rattle.command_io.proofs.ConfigLaws.{HoldsConfig, config_not_refused, for_config, refuses_pattern}
 use Rattle.command_io.proofs.EndingLaws.{not_over}
 use Rattle.command_io.proofs.ReadLaws.{read_alone}
@@ -38,7 +38,7 @@ check_cause_fault config faults faults' taken taken' (File file.TooLong) cause =
 check_cause_fault config faults faults' taken taken' (File file.Memory) cause = tt
 check_cause_fault config faults faults' taken taken' Memory cause = tt
 
-pub check_writes_fault : (config : Content) (faults faults' taken taken' : ℕ) (patterns : PatternsState) (out : SinkReport) (fault : FetchFault)
+pub check_writes_fault : (config : Content) (faults faults' taken taken' : ℕ) (patterns : PatternsReport) (out : SinkReport) (fault : FetchFault)
     → IsFetchFault config faults faults' taken taken' fault → CheckWrites config patterns patterns out out (ending_of_fetch fault)
 check_writes_fault config faults faults' taken taken' patterns out (Refused place why) cause = ((cause, refl), refl)
 check_writes_fault config faults faults' taken taken' patterns out (File file.Unread) cause = (refl, refl)
@@ -48,7 +48,7 @@ check_writes_fault config faults faults' taken taken' patterns out Memory cause 
 
 -- ---- once it has its configuration
 
-pub check_cause : (content : Content) (config : Config) (patterns patterns' : PatternsState) (out out' : SinkReport) (ending : Ending)
+pub check_cause : (content : Content) (config : Config) (patterns patterns' : PatternsReport) (out out' : SinkReport) (ending : Ending)
     → EndsCheck config patterns patterns' out out' ending → CheckCause content ending
 check_cause content config patterns patterns' out out' Finished ends = tt
 check_cause content config patterns patterns' out out' (ConfigRefused refusal) ends = tt
@@ -60,7 +60,7 @@ check_cause content config patterns patterns' out out' (ScriptRefused line) ends
 check_cause content config patterns patterns' out out' WriteFailed ends = tt
 check_cause content config patterns patterns' out out' OutOfMemory ends = tt
 
-pub check_took : (config : Config) (patterns patterns' : PatternsState) (out out' : SinkReport) (ending : Ending) (taken taken' : ℕ)
+pub check_took : (config : Config) (patterns patterns' : PatternsReport) (out out' : SinkReport) (ending : Ending) (taken taken' : ℕ)
     → EndsCheck config patterns patterns' out out' ending → TookMore ending taken taken'
 check_took config patterns patterns' out out' Finished taken taken' ends = tt
 check_took config patterns patterns' out out' (ConfigRefused refusal) taken taken' ends = tt
@@ -72,12 +72,12 @@ check_took config patterns patterns' out out' (ScriptRefused line) taken taken' 
 check_took config patterns patterns' out out' WriteFailed taken taken' ends = tt
 check_took config patterns patterns' out out' OutOfMemory taken taken' ends = tt
 
-config_refuses : (content : Content) (config : Config) (refusal : ConfigRefusal) (patterns patterns' : PatternsState) (out out' : SinkReport) → HoldsConfig content config
+config_refuses : (content : Content) (config : Config) (refusal : ConfigRefusal) (patterns patterns' : PatternsReport) (out out' : SinkReport) → HoldsConfig content config
     → EndsCheck config patterns patterns' out out' (ConfigRefused refusal) → RefusesConfig content patterns patterns' refusal × (out' ≡ out)
 config_refuses content config (refusals.Refused place why) patterns patterns' out out' holds ends = absurd ends
 config_refuses content config (refusals.Pattern number) patterns patterns' out out' holds ends = (refuses_pattern content config number patterns patterns' holds ends.0, ends.1)
 
-pub check_writes : (content : Content) (config : Config) (patterns patterns' : PatternsState) (out out' : SinkReport) (ending : Ending) → HoldsConfig content config
+pub check_writes : (content : Content) (config : Config) (patterns patterns' : PatternsReport) (out out' : SinkReport) (ending : Ending) → HoldsConfig content config
     → EndsCheck config patterns patterns' out out' ending → CheckWrites content patterns patterns' out out' ending
 check_writes content config patterns patterns' out out' Finished holds ends = (for_config content config _ holds (ends.0, ends.1), ends.3)
 check_writes content config patterns patterns' out out' WriteFailed holds ends = (for_config content config _ holds (ends.0, ends.1), ends.2, ends.3)
@@ -89,7 +89,7 @@ check_writes content config patterns patterns' out out' (BytesLeft count) holds 
 check_writes content config patterns patterns' out out' LinksFailed holds ends = absurd ends
 check_writes content config patterns patterns' out out' (ScriptRefused line) holds ends = absurd ends
 
-pub check_quiet : (config : Config) (patterns patterns' : PatternsState) (out out' : SinkReport) (ending : Ending)
+pub check_quiet : (config : Config) (patterns patterns' : PatternsReport) (out out' : SinkReport) (ending : Ending)
     → EndsCheck config patterns patterns' out out' ending → IsComplete ending → out'.faults ≡ out.faults
 check_quiet config patterns patterns' out out' Finished ends complete = ends.2
 check_quiet config patterns patterns' out out' (ConfigRefused refusal) ends complete = absurd complete
@@ -101,7 +101,7 @@ check_quiet config patterns patterns' out out' (ScriptRefused line) ends complet
 check_quiet config patterns patterns' out out' WriteFailed ends complete = absurd complete
 check_quiet config patterns patterns' out out' OutOfMemory ends complete = absurd complete
 
-pub check_not_read : (config : Config) (patterns patterns' : PatternsState) (out out' : SinkReport) (ending : Ending)
+pub check_not_read : (config : Config) (patterns patterns' : PatternsReport) (out out' : SinkReport) (ending : Ending)
     → EndsCheck config patterns patterns' out out' ending → status_of ending ≡ ReadFault → ⊥
 check_not_read config patterns patterns' out out' Finished ends e = cc
 check_not_read config patterns patterns' out out' (ConfigRefused refusal) ends e = cc
@@ -113,7 +113,7 @@ check_not_read config patterns patterns' out out' (ScriptRefused line) ends e = 
 check_not_read config patterns patterns' out out' WriteFailed ends e = cc
 check_not_read config patterns patterns' out out' OutOfMemory ends e = cc
 
-pub check_rose : (config : Config) (patterns patterns' : PatternsState) (out out' : SinkReport) (ending : Ending)
+pub check_rose : (config : Config) (patterns patterns' : PatternsReport) (out out' : SinkReport) (ending : Ending)
     → EndsCheck config patterns patterns' out out' ending → status_of ending ≡ SinkFault → Rose out.faults out'.faults
 check_rose config patterns patterns' out out' Finished ends e = cc
 check_rose config patterns patterns' out out' (ConfigRefused refusal) ends e = cc
@@ -139,7 +139,7 @@ links_not_called content OutOfMemory cause e = cc
 
 -- ---- completeness
 
-pub check_complete : (content : Content) (text : List ℕ) (read : Config) (patterns patterns' : PatternsState) (out out' : SinkReport) (reads reads' : ℕ) (ending : Ending)
+pub check_complete : (content : Content) (text : List ℕ) (read : Config) (patterns patterns' : PatternsReport) (out out' : SinkReport) (reads reads' : ℕ) (ending : Ending)
     → IsHeld content text → IsConfigOf text read → length text ≤ CONFIG_LIMIT → CheckCause content ending → CheckWrites content patterns patterns' out out' ending
     → (status_of ending ≡ ReadFault → Rose reads reads') → (status_of ending ≡ SinkFault → Rose out.faults out'.faults)
     → IsStill reads reads' → IsStill out.faults out'.faults → IsStill patterns.refusals patterns'.refusals → IsDoneOrMemory (status_of ending)
@@ -160,7 +160,7 @@ check_complete content text read patterns patterns' out out' reads reads' (Scrip
 
 -- ---- what it read
 
-pub check_reads : (old new : Option (List StoreRead)) (name : List ℕ) (config : Config) (patterns patterns' : PatternsState) (out out' : SinkReport) (ending : Ending)
+pub check_reads : (old new : Option (List StoreRead)) (name : List ℕ) (config : Config) (patterns patterns' : PatternsReport) (out out' : SinkReport) (ending : Ending)
     → EndsCheck config patterns patterns' out out' ending → ReadMore (good_read name ∷ []) old new → ReadsFiles (name ∷ []) (IsReadOnce ending) old new ending
 check_reads old new name config patterns patterns' out out' Finished ends grew = read_alone _ old new name _ grew refl (refl, tt)
 check_reads old new name config patterns patterns' out out' (ConfigRefused refusal) ends grew = read_alone _ old new name _ grew refl (refl, tt)

@@ -2,7 +2,7 @@
 use Rattle.std.specs.Prelude.{◌≡◌, ℕ, ◌≤◌, List, [], ◌∷◌, length}
 use Rattle.ports.specs.Counts.{IsStill, Rose}
 use Rattle.ports.specs.Reading.{Content, IsHeld, IsOverLimit}
-use Rattle.ports.specs.Writing.{Got, GotPrefix}
+use Rattle.ports.specs.Writing.{Got, GotPrefix, SinkReport}
 use Rattle.command_io.specs.sexp_config.declared.config.Config.{Config as Configuration}
 use Rattle.command_io.specs.sexp_config.Canonical.{canonical_text}
 use Rattle.command_io.specs.sexp_config.Config.{IsConfigOf}
@@ -14,8 +14,8 @@ use Rattle.command_io.specs.declared.status.Status.{Status}
 use Rattle.command_io.specs.Building.{AreBuilt}
 use Rattle.command_io.specs.Configs.{ForConfig, RefusesConfig}
 use Rattle.command_io.specs.Endings.{HasNoConfig, IsComplete, IsDoneOrMemory, IsReadOnce, ReadsFiles, Says, TookMore, status_of}
-use Rattle.command_io.specs.Reports.{Reports, SinkReport}
-use Rattle.command_io.specs.hub_meaning.Verdicts.{PatternsState}
+use Rattle.command_io.specs.Reports.{Reports}
+use Rattle.command_io.specs.hub_meaning.Verdicts.{PatternsReport}
 
 -- what an ending says of the contents of the file
 abbrev pub CheckCause : Content → Ending → Type 0
@@ -33,7 +33,7 @@ WritesText content Wrote = ForConfig content (λ config. AreBuilt config.plan ×
 
 -- What was written, and which pattern was refused: the canonical text where all was done, and a prefix of it where a
 -- write failed.
-abbrev pub CheckWrites : Content → PatternsState → PatternsState → SinkReport → SinkReport → Ending → Type 0
+abbrev pub CheckWrites : Content → PatternsReport → PatternsReport → SinkReport → SinkReport → Ending → Type 0
 CheckWrites config patterns patterns' out out' Finished = WritesText config (λ text. Got out.text text out'.text) × (patterns' ≡ patterns)
 CheckWrites config patterns patterns' out out' WriteFailed = WritesText config (λ text. GotPrefix out.text text out'.text) × Rose out.faults out'.faults × (patterns' ≡ patterns)
 CheckWrites config patterns patterns' out out' (ConfigRefused refusal) = RefusesConfig config patterns patterns' refusal × (out' ≡ out)

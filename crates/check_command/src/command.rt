@@ -4,8 +4,8 @@ ghost use Rattle.stream_plan.specs.Ready.{plan_patterns};
 ghost use Rattle.check_command.specs.Building.{BuildsText, EndsCheck};
 ghost use Rattle.check_command.specs.Checks.{CheckCause, CheckWrites, Checks};
 ghost use Rattle.command_io.specs.Endings.{HasNoConfig, HasNoLine, IsComplete, IsReadOnce, IsRefusalOrMemory, ReadsFiles, TookMore, status_of};
-ghost use Rattle.command_io.specs.Reports.{LinksReport, reports, sink_report, store_report};
-ghost use Rattle.command_io.specs.hub_meaning.Verdicts.{patterns_state};
+ghost use Rattle.ports.specs.Calls.{LinksReport};
+ghost use Rattle.command_io.specs.Reports.{reports};
 
 use command_io::sexp_config::{Config, write_config};
 use command_io::{
@@ -38,22 +38,15 @@ pub fn check<S: Store, O: Sink, E: Sink, P: Patterns>(
     err: &mut E,
     patterns: &mut P,
 ) -> Status
-    ensures promise { (links : LinksReport) (forks : ℕ) → Checks config.now
-        (reports (store_report (S.held store.old) (S.reads store.old) (S.taken store.old)
-        (S.faults store.old)) links
-        (sink_report (O.text out.old) (O.puts out.old) (O.faults out.old))
-        (sink_report (E.text err.old) (E.puts err.old) (E.faults err.old))
-        (patterns_state (P.refusals patterns.old) (P.refused patterns.old)) forks)
-        (reports (store_report (S.held store.new) (S.reads store.new) (S.taken store.new)
-        (S.faults store.new)) links
-        (sink_report (O.text out.new) (O.puts out.new) (O.faults out.new))
-        (sink_report (E.text err.new) (E.puts err.new) (E.faults err.new))
-        (patterns_state (P.refusals patterns.new) (P.refused patterns.new)) forks)
-        (patterns.new ≡ patterns.old) result }
+    ensures promise { (links : LinksReport) (forks : ℕ) →
+        Checks config.now (reports (S.report store.old) links (O.report out.old) (E.report err.old)
+        (P.report patterns.old) forks)
+        (reports (S.report store.new) links (O.report out.new) (E.report err.new)
+        (P.report patterns.new) forks) (patterns.new ≡ patterns.old) result }
     ensures read_fault { result ≡ Status.ReadFault →
-        Rose (S.faults store.old) (S.faults store.new) }
+        Rose (S.report store.old).faults (S.report store.new).faults }
     ensures sink_fault { result ≡ Status.SinkFault →
-        Rose (O.faults out.old) (O.faults out.new) }
+        Rose (O.report out.old).faults (O.report out.new).faults }
     ensures links_work { result ≢ Status.LinkFault }
     ensures untouched { IsRefusalOrMemory result → out.new ≡ out.old }
     ensures no_line { HasNoLine result → err.new ≡ err.old }
@@ -70,21 +63,18 @@ fn check_file<S: Store, O: Sink, P: Patterns>(
     out: &mut O,
     patterns: &mut P,
 ) -> Ending
-    ensures cause { CheckCause (S.held store.old config.now) result }
-    ensures reads { ReadsFiles (config.now ∷ []) (IsReadOnce result) (S.reads store.old)
-        (S.reads store.new) result }
-    ensures taken { TookMore result (S.taken store.old) (S.taken store.new) }
-    ensures writes { CheckWrites (S.held store.old config.now)
-        (patterns_state (P.refusals patterns.old) (P.refused patterns.old))
-        (patterns_state (P.refusals patterns.new) (P.refused patterns.new))
-        (sink_report (O.text out.old) (O.puts out.old) (O.faults out.old))
-        (sink_report (O.text out.new) (O.puts out.new) (O.faults out.new)) result }
-    ensures quiet { IsComplete result → (S.faults store.new ≡ S.faults store.old) ×
-        (O.faults out.new ≡ O.faults out.old) }
+    ensures cause { CheckCause ((S.report store.old).held config.now) result }
+    ensures reads { ReadsFiles (config.now ∷ []) (IsReadOnce result) (S.report store.old).reads
+        (S.report store.new).reads result }
+    ensures taken { TookMore result (S.report store.old).taken (S.report store.new).taken }
+    ensures writes { CheckWrites ((S.report store.old).held config.now) (P.report patterns.old)
+        (P.report patterns.new) (O.report out.old) (O.report out.new) result }
+    ensures quiet { IsComplete result → ((S.report store.new).faults ≡ (S.report store.old).faults)
+        × ((O.report out.new).faults ≡ (O.report out.old).faults) }
     ensures read_fault { status_of result ≡ Status.ReadFault →
-        Rose (S.faults store.old) (S.faults store.new) }
+        Rose (S.report store.old).faults (S.report store.new).faults }
     ensures sink_fault { status_of result ≡ Status.SinkFault →
-        Rose (O.faults out.old) (O.faults out.new) }
+        Rose (O.report out.old).faults (O.report out.new).faults }
     ensures untouched { IsRefusalOrMemory (status_of result) → out.new ≡ out.old }
     ensures unasked { HasNoConfig result → patterns.new ≡ patterns.old }
 {
@@ -102,11 +92,8 @@ fn check_config<O: Sink, P: Patterns>(
     patterns: &mut P,
 ) -> Ending
     requires few { length (plan_patterns config.plan) ≤ CONFIG_LIMIT }
-    ensures ends { EndsCheck config
-        (patterns_state (P.refusals patterns.old) (P.refused patterns.old))
-        (patterns_state (P.refusals patterns.new) (P.refused patterns.new))
-        (sink_report (O.text out.old) (O.puts out.old) (O.faults out.old))
-        (sink_report (O.text out.new) (O.puts out.new) (O.faults out.new)) result }
+    ensures ends { EndsCheck config (P.report patterns.old) (P.report patterns.new)
+        (O.report out.old) (O.report out.new) result }
     ensures untouched { IsRefusalOrMemory (status_of result) → out.new ≡ out.old }
     ensures asked { HasNoConfig result → ⊥ }
 {
@@ -129,9 +116,7 @@ fn build_text<P: Patterns>(
     patterns: &mut P,
 ) -> Result<Blob, BuildFault>
     requires few { length (plan_patterns config.plan) ≤ CONFIG_LIMIT }
-    ensures { BuildsText config
-        (patterns_state (P.refusals patterns.old) (P.refused patterns.old))
-        (patterns_state (P.refusals patterns.new) (P.refused patterns.new)) result }
+    ensures { BuildsText config (P.report patterns.old) (P.report patterns.new) result }
 {
     let mut text = Blob::fresh(alloc);
     write_config(alloc, &config, &mut text)?;

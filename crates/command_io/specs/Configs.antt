@@ -1,7 +1,7 @@
 -- The configuration of a command, and why it is refused.
 use Rattle.std.specs.Prelude.{◌≡◌, ℕ, ◌≤◌, List, [], ◌∷◌, ◌++◌, length, slice_get, Some}
 use Rattle.std.specs.Option.{option_map}
-use Rattle.hub_meaning.specs.Verdicts.{PatternsState}
+use Rattle.hub_meaning.specs.Verdicts.{PatternsReport}
 use Rattle.ports.specs.Counts.{Rose}
 use Rattle.ports.specs.Reading.{Content}
 use Rattle.sexp_config.specs.declared.config.Config.{Config}
@@ -33,13 +33,13 @@ abbrev pub ForRefused : Content → ℕ → ConfigWhy → Type 0
 ForRefused content place why = ForHeld content (λ text. (length text ≤ CONFIG_LIMIT) × IsRefused text place why)
 
 -- the pattern of this number of the configuration was refused: it is reported, and counted
-pub record RefusesPattern (content : Content) (number : ℕ) (old new : PatternsState) : Type 0 where
+pub record RefusesPattern (content : Content) (number : ℕ) (old new : PatternsReport) : Type 0 where
   pub pattern : List ℕ
   pub reported : new.refused ≡ option_map (λ refused. refused ++ pattern ∷ []) old.refused
   pub rose : Rose old.refusals new.refusals
   pub numbered : ForConfig content (λ config. slice_get (plan_patterns config.plan) number ≡ Some pattern)
 
 -- why a configuration is refused; without such a pattern what is known of patterns stays the same
-abbrev pub RefusesConfig : Content → PatternsState → PatternsState → ConfigRefusal → Type 0
+abbrev pub RefusesConfig : Content → PatternsReport → PatternsReport → ConfigRefusal → Type 0
 RefusesConfig content old new (Refused place why) = ForRefused content place why × (new ≡ old)
 RefusesConfig content old new (Pattern number) = RefusesPattern content number old new

@@ -1,7 +1,7 @@
 -- How a call ends: its status, its line, and what it read of its files.
 use Rattle.std.specs.Prelude.{◌≡◌, ℕ, ◌+◌, List, [], length, take, map, Option}
 use Rattle.ports.specs.Counts.{RoseBy}
-use Rattle.ports.specs.Writing.{GotLine, sink_state}
+use Rattle.ports.specs.Writing.{GotLine, SinkReport}
 use Rattle.ports.specs.declared.store.StoreRead.{StoreRead}
 use Rattle.command_io.specs.declared.ending.ConfigRefusal.TheVariants.{Refused}
 use Rattle.command_io.specs.declared.ending.Ending.{Ending}
@@ -13,7 +13,6 @@ use Rattle.command_io.specs.declared.status.Status.{Status}
 use Rattle.command_io.specs.declared.status.Status.TheVariants.{Done, Usage, Config, ReadFault, SinkFault, LinkFault, Memory, Script, Truncated, TooLong}
 use Rattle.command_io.specs.Files.{LastFailed, NoneFailed, ReadMore, read_name}
 use Rattle.command_io.specs.Lines.{left_line, links_line, memory_line, refusal_line, script_line, too_long_line, unread_line}
-use Rattle.command_io.specs.Reports.{SinkReport}
 
 -- the number of each status
 abbrev pub code_of : Status → ℕ
@@ -59,7 +58,7 @@ line_of config other OutOfMemory = memory_line
 line_of config other _ = []
 
 abbrev pub GotLineOf : List ℕ → SinkReport → SinkReport → Type 0
-GotLineOf line old new = GotLine (sink_state old.text old.faults) line (sink_state new.text new.faults)
+GotLineOf line old new = GotLine old line new
 
 -- the error stream got the line of an ending, or a prefix of it where a put failed; without a line nothing was put
 abbrev pub Says : List ℕ → List ℕ → Ending → SinkReport → SinkReport → Type 0

@@ -1,5 +1,4 @@
 ghost use Rattle.std.specs.Prelude.{◌≡◌, ◌≤◌, length};
-ghost use Rattle.hub_meaning.specs.Verdicts.{patterns_state};
 ghost use Rattle.stream_plan.specs.Ready.{plan_patterns};
 ghost use Rattle.command_io.specs.Building.{BuildsPlan};
 
@@ -10,16 +9,14 @@ use stream_plan::{CheckedPlan, ReadyPlan, build_plan};
 
 /// Builds the patterns of a plan, at most [`CONFIG_LIMIT`] of them. An error is the number, from 0, of the pattern that
 /// was refused, or out of memory.
-#[tactic(auto, using(crate::proofs::BuildLaws::refused_pattern))]
+#[tactic(auto, using(crate::proofs::BuildLaws::refused_pattern, crate::proofs::BuildLaws::same_report))]
 pub fn build_ready<P: Patterns>(
     alloc: Global,
     plan: CheckedPlan,
     patterns: &mut P,
 ) -> Result<ReadyPlan, BuildFault>
     requires few { length (plan_patterns plan) ≤ CONFIG_LIMIT }
-    ensures { BuildsPlan plan
-        (patterns_state (P.refusals patterns.old) (P.refused patterns.old))
-        (patterns_state (P.refusals patterns.new) (P.refused patterns.new)) result }
+    ensures { BuildsPlan plan (P.report patterns.old) (P.report patterns.new) result }
 {
     match build_plan(alloc, plan, patterns) {
         Ok(ready) => {

@@ -45,17 +45,19 @@ pub fn fetch_config<S: Store>(
     name: &Text,
     store: &mut S,
 ) -> Result<Config, FetchFault>
-    ensures config { IfOk result (λ config. ForHeld (S.held store.old name.now)
+    ensures config { IfOk result
+        (λ config. ForHeld ((S.report store.old).held name.now)
         (λ text. (length text ≤ CONFIG_LIMIT) × ReadsAs text config)) }
     ensures few { IfOk result (λ config. length (plan_patterns config.plan) ≤ CONFIG_LIMIT) }
     ensures interval { IfOk result (λ config. IsInterval config.expiry) }
-    ensures fault { IfErr result (λ fault. IsFetchFault (S.held store.old name.now)
-        (S.faults store.old) (S.faults store.new) (S.taken store.old) (S.taken store.new) fault) }
-    ensures reads { ReadMore (fetch_reads name.now result) (S.reads store.old)
-        (S.reads store.new) }
-    ensures quiet { OnOk result (S.faults store.new ≡ S.faults store.old) }
-    ensures held { S.held store.new ≡ S.held store.old }
-    ensures taken { S.taken store.old ≤ S.taken store.new }
+    ensures fault { IfErr result (λ fault. IsFetchFault ((S.report store.old).held name.now)
+        (S.report store.old).faults (S.report store.new).faults (S.report store.old).taken
+        (S.report store.new).taken fault) }
+    ensures reads { ReadMore (fetch_reads name.now result) (S.report store.old).reads
+        (S.report store.new).reads }
+    ensures quiet { OnOk result ((S.report store.new).faults ≡ (S.report store.old).faults) }
+    ensures held { (S.report store.new).held ≡ (S.report store.old).held }
+    ensures taken { (S.report store.old).taken ≤ (S.report store.new).taken }
 {
     match read_file(alloc, name, CONFIG_LIMIT, store) {
         Ok(text) => read_text(alloc, text.as_slice()),

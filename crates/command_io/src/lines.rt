@@ -1,9 +1,8 @@
 ghost use Rattle.std.specs.Prelude.{◌≡◌, ℕ, ◌≤◌, List, OnOk, OnErr};
 ghost use Rattle.ports.specs.Counts.{Rose};
-ghost use Rattle.ports.specs.Writing.{Got, GotPrefix, GotLine, sink_state};
+ghost use Rattle.ports.specs.Writing.{Got, GotPrefix, GotLine};
 ghost use Rattle.command_io.specs.Endings.{HasNoLine, Says, limit_of, of_source, status_of};
 ghost use Rattle.command_io.specs.Lines.{joined, left_line, pattern_line, refusal_line, refused_line, script_line, too_long_line, unread_line};
-ghost use Rattle.command_io.specs.Reports.{sink_report};
 
 use crate::Status;
 use crate::ending::{ConfigRefusal, Ending, Source};
@@ -26,9 +25,7 @@ const LINKS_LINE: &str = "riemann: links failed\n";
 /// Writes the line of an ending, with the names of the command's two files, and gives the status. It takes no memory.
 pub fn report<E: Sink>(ending: Ending, config: &Text, other: &Text, err: &mut E) -> Status
     ensures status { result ≡ status_of ending }
-    ensures says { Says config.now other.now ending
-        (sink_report (E.text err.old) (E.puts err.old) (E.faults err.old))
-        (sink_report (E.text err.new) (E.puts err.new) (E.faults err.new)) }
+    ensures says { Says config.now other.now ending (E.report err.old) (E.report err.new) }
     ensures no_line { HasNoLine result → err.new ≡ err.old }
 {
     report_line(ending, config, other, err);
@@ -36,9 +33,7 @@ pub fn report<E: Sink>(ending: Ending, config: &Text, other: &Text, err: &mut E)
 }
 
 fn report_line<E: Sink>(ending: Ending, config: &Text, other: &Text, err: &mut E)
-    ensures says { Says config.now other.now ending
-        (sink_report (E.text err.old) (E.puts err.old) (E.faults err.old))
-        (sink_report (E.text err.new) (E.puts err.new) (E.faults err.new)) }
+    ensures says { Says config.now other.now ending (E.report err.old) (E.report err.new) }
     ensures no_line { HasNoLine (status_of ending) → err.new ≡ err.old }
 {
     match ending {
@@ -56,8 +51,7 @@ fn report_line<E: Sink>(ending: Ending, config: &Text, other: &Text, err: &mut E
 }
 
 fn report_refusal<E: Sink>(refusal: ConfigRefusal, err: &mut E)
-    ensures { GotLine (sink_state (E.text err.old) (E.faults err.old)) (refusal_line refusal)
-        (sink_state (E.text err.new) (E.faults err.new)) }
+    ensures { GotLine (E.report err.old) (refusal_line refusal) (E.report err.new) }
 {
     match refusal {
         ConfigRefusal::Refused { place, why } => report_refused(place, why, err),
@@ -66,8 +60,7 @@ fn report_refusal<E: Sink>(refusal: ConfigRefusal, err: &mut E)
 }
 
 fn report_refused<E: Sink>(place: usize, why: ConfigWhy, err: &mut E)
-    ensures { GotLine (sink_state (E.text err.old) (E.faults err.old)) (refused_line place why)
-        (sink_state (E.text err.new) (E.faults err.new)) }
+    ensures { GotLine (E.report err.old) (refused_line place why) (E.report err.new) }
 {
     let mut digits = Buffer::new();
     let place = digits.format(place);
@@ -78,8 +71,7 @@ fn report_refused<E: Sink>(place: usize, why: ConfigWhy, err: &mut E)
 }
 
 fn report_pattern<E: Sink>(number: u32, err: &mut E)
-    ensures { GotLine (sink_state (E.text err.old) (E.faults err.old)) (pattern_line number)
-        (sink_state (E.text err.new) (E.faults err.new)) }
+    ensures { GotLine (E.report err.old) (pattern_line number) (E.report err.new) }
 {
     let mut digits = Buffer::new();
     let number = digits.format(number);
@@ -87,8 +79,7 @@ fn report_pattern<E: Sink>(number: u32, err: &mut E)
 }
 
 fn report_script<E: Sink>(line: u64, err: &mut E)
-    ensures { GotLine (sink_state (E.text err.old) (E.faults err.old)) (script_line line)
-        (sink_state (E.text err.new) (E.faults err.new)) }
+    ensures { GotLine (E.report err.old) (script_line line) (E.report err.new) }
 {
     let mut digits = Buffer::new();
     let line = digits.format(line);
@@ -96,16 +87,13 @@ fn report_script<E: Sink>(line: u64, err: &mut E)
 }
 
 fn report_unread<E: Sink>(name: &Text, err: &mut E)
-    ensures { GotLine (sink_state (E.text err.old) (E.faults err.old)) (unread_line name.now)
-        (sink_state (E.text err.new) (E.faults err.new)) }
+    ensures { GotLine (E.report err.old) (unread_line name.now) (E.report err.new) }
 {
     put_line(err, &["riemann: cannot read ", name.as_str(), "\n"]);
 }
 
 fn report_too_long<E: Sink>(name: &Text, limit: u64, err: &mut E)
-    ensures { GotLine (sink_state (E.text err.old) (E.faults err.old))
-        (too_long_line name.now limit)
-        (sink_state (E.text err.new) (E.faults err.new)) }
+    ensures { GotLine (E.report err.old) (too_long_line name.now limit) (E.report err.new) }
 {
     let mut digits = Buffer::new();
     let limit = digits.format(limit);
@@ -122,8 +110,7 @@ fn report_too_long<E: Sink>(name: &Text, limit: u64, err: &mut E)
 }
 
 fn report_left<E: Sink>(left: usize, err: &mut E)
-    ensures { GotLine (sink_state (E.text err.old) (E.faults err.old)) (left_line left)
-        (sink_state (E.text err.new) (E.faults err.new)) }
+    ensures { GotLine (E.report err.old) (left_line left) (E.report err.new) }
 {
     let mut digits = Buffer::new();
     let left = digits.format(left);
@@ -150,18 +137,18 @@ fn limit_of(source: Source) -> u64
 
 /// Writes the pieces of a line. A write that fails ends the line, and is not reported.
 pub fn put_line<E: Sink>(err: &mut E, pieces: &[&str])
-    ensures { GotLine (sink_state (E.text err.old) (E.faults err.old)) (joined pieces.now)
-        (sink_state (E.text err.new) (E.faults err.new)) }
+    ensures { GotLine (E.report err.old) (joined pieces.now) (E.report err.new) }
 {
     let _ = put_pieces(err, pieces);
 }
 
 /// Writes the pieces one after another, up to the first write that fails.
 fn put_pieces<E: Sink>(err: &mut E, pieces: &[&str]) -> Result<(), Failed>
-    ensures all { OnOk result (Got (E.text err.old) (joined pieces.now) (E.text err.new)) }
+    ensures all { OnOk result (Got (E.report err.old).text (joined pieces.now)
+        (E.report err.new).text) }
     ensures prefix { OnErr result
-        (GotPrefix (E.text err.old) (joined pieces.now) (E.text err.new)) }
-    ensures fault { OnErr result (Rose (E.faults err.old) (E.faults err.new)) }
+        (GotPrefix (E.report err.old).text (joined pieces.now) (E.report err.new).text) }
+    ensures fault { OnErr result (Rose (E.report err.old).faults (E.report err.new).faults) }
 {
     for piece in pieces {
         put_all(err, piece.as_bytes())?;

@@ -38,15 +38,17 @@ pub fn read_file<S: Store>(
     store: &mut S,
 ) -> Result<Blob, FileFault>
     requires { limit < 2 ^ 63 }
-    ensures file { IfOk result (λ bytes. ForHeld (S.held store.old name.now)
+    ensures file { IfOk result (λ bytes. ForHeld ((S.report store.old).held name.now)
         (λ held. (held ≡ bytes) × (length bytes ≤ limit))) }
     ensures within { IfOk result (λ bytes. length bytes ≤ limit) }
-    ensures fault { IfErr result (λ fault. IsFileFault (S.held store.old name.now) limit
-        (S.faults store.old) (S.faults store.new) (S.taken store.old) (S.taken store.new) fault) }
-    ensures reads { ReadMore (reads_of name.now result) (S.reads store.old) (S.reads store.new) }
-    ensures quiet { OnOk result (S.faults store.new ≡ S.faults store.old) }
-    ensures held { S.held store.new ≡ S.held store.old }
-    ensures taken { S.taken store.old ≤ S.taken store.new }
+    ensures fault { IfErr result (λ fault. IsFileFault ((S.report store.old).held name.now) limit
+        (S.report store.old).faults (S.report store.new).faults (S.report store.old).taken
+        (S.report store.new).taken fault) }
+    ensures reads { ReadMore (reads_of name.now result) (S.report store.old).reads
+        (S.report store.new).reads }
+    ensures quiet { OnOk result ((S.report store.new).faults ≡ (S.report store.old).faults) }
+    ensures held { (S.report store.new).held ≡ (S.report store.old).held }
+    ensures taken { (S.report store.old).taken ≤ (S.report store.new).taken }
 {
     match store.read(alloc, name, limit) {
         ReadAnswer::Bytes(bytes) => Ok(bytes),

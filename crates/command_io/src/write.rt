@@ -6,10 +6,11 @@ use ports::{Failed, Sink};
 
 /// Writes the bytes, if there are any, in one put.
 pub fn put_all<O: Sink>(out: &mut O, bytes: &[u8]) -> Result<(), Failed>
-    ensures all { OnOk result (Got (O.text out.old) bytes.now (O.text out.new)) }
-    ensures quiet { OnOk result (O.faults out.new ≡ O.faults out.old) }
-    ensures prefix { OnErr result (GotPrefix (O.text out.old) bytes.now (O.text out.new)) }
-    ensures fault { OnErr result (Rose (O.faults out.old) (O.faults out.new)) }
+    ensures all { OnOk result (Got (O.report out.old).text bytes.now (O.report out.new).text) }
+    ensures quiet { OnOk result ((O.report out.new).faults ≡ (O.report out.old).faults) }
+    ensures prefix { OnErr result
+        (GotPrefix (O.report out.old).text bytes.now (O.report out.new).text) }
+    ensures fault { OnErr result (Rose (O.report out.old).faults (O.report out.new).faults) }
 {
     if bytes.is_empty() {
         return Ok(());

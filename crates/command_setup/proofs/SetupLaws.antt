@@ -1,8 +1,8 @@
 -- What a command knows that has no configuration.
 use Rattle.std.proofs.Common.{◌≡◌, ℕ, ◌≤◌, List, length, refl, arith}
-use Rattle.hub_run.specs.hub_meaning.Verdicts.{PatternsState}
+use Rattle.hub_run.specs.hub_meaning.Verdicts.{PatternsReport}
 use Rattle.ports.specs.Counts.{IsStill, Rose}
-use Rattle.ports.specs.Reading.{Content, IsHeld}
+use Rattle.ports.specs.Reading.{Content, IsHeld, StoreReport}
 use Rattle.command_io.specs.sexp_config.declared.config.Config.{Config}
 use Rattle.command_io.specs.sexp_config.Config.{IsConfigOf}
 use Rattle.command_io.specs.declared.ending.Ending.{Ending}
@@ -15,12 +15,11 @@ use Rattle.command_io.specs.declared.read.FileFault.TheVariants as file
 use Rattle.command_io.specs.declared.status.Status.TheVariants.{ReadFault, SinkFault, LinkFault}
 use Rattle.command_io.specs.Endings.{IsComplete, status_of}
 use Rattle.command_io.specs.Fetches.{IsFetchFault, ending_of_fetch}
-use Rattle.command_io.specs.Reports.{StoreReport}
 use Rattle.command_io.proofs.ConfigLaws.{config_not_refused}
 use Rattle.command_io.proofs.EndingLaws.{not_over}
 use Rattle.command_setup.specs.Setups.{RefusesSetup}
 
-pub refuses_fetch : (content : Content) (store store' : StoreReport) (patterns : PatternsState) (fault : FetchFault)
+pub refuses_fetch : (content : Content) (store store' : StoreReport) (patterns : PatternsReport) (fault : FetchFault)
     → IsFetchFault content store.faults store'.faults store.taken store'.taken fault → RefusesSetup content store store' patterns patterns (ending_of_fetch fault)
 refuses_fetch content store store' patterns (Refused place why) cause = (cause, refl)
 refuses_fetch content store store' patterns (File file.Unread) cause = (cause, refl)
@@ -30,7 +29,7 @@ refuses_fetch content store store' patterns Memory cause = refl
 
 -- ---- how a command does not end that has no configuration
 
-pub refused_not_complete : (content : Content) (store store' : StoreReport) (patterns patterns' : PatternsState) (ending : Ending)
+pub refused_not_complete : (content : Content) (store store' : StoreReport) (patterns patterns' : PatternsReport) (ending : Ending)
     → RefusesSetup content store store' patterns patterns' ending → IsComplete ending → ⊥
 refused_not_complete content store store' patterns patterns' Finished refuses complete = refuses
 refused_not_complete content store store' patterns patterns' (ConfigRefused refusal) refuses complete = complete
@@ -42,7 +41,7 @@ refused_not_complete content store store' patterns patterns' LinksFailed refuses
 refused_not_complete content store store' patterns patterns' (ScriptRefused line) refuses complete = complete
 refused_not_complete content store store' patterns patterns' OutOfMemory refuses complete = complete
 
-pub refused_not_written : (content : Content) (store store' : StoreReport) (patterns patterns' : PatternsState) (ending : Ending)
+pub refused_not_written : (content : Content) (store store' : StoreReport) (patterns patterns' : PatternsReport) (ending : Ending)
     → RefusesSetup content store store' patterns patterns' ending → status_of ending ≡ SinkFault → ⊥
 refused_not_written content store store' patterns patterns' Finished refuses e = cc
 refused_not_written content store store' patterns patterns' (ConfigRefused refusal) refuses e = cc
@@ -54,7 +53,7 @@ refused_not_written content store store' patterns patterns' LinksFailed refuses 
 refused_not_written content store store' patterns patterns' (ScriptRefused line) refuses e = cc
 refused_not_written content store store' patterns patterns' OutOfMemory refuses e = cc
 
-pub refused_not_linked : (content : Content) (store store' : StoreReport) (patterns patterns' : PatternsState) (ending : Ending)
+pub refused_not_linked : (content : Content) (store store' : StoreReport) (patterns patterns' : PatternsReport) (ending : Ending)
     → RefusesSetup content store store' patterns patterns' ending → status_of ending ≡ LinkFault → ⊥
 refused_not_linked content store store' patterns patterns' Finished refuses e = cc
 refused_not_linked content store store' patterns patterns' (ConfigRefused refusal) refuses e = cc
@@ -68,7 +67,7 @@ refused_not_linked content store store' patterns patterns' OutOfMemory refuses e
 
 -- ---- the causes of the others
 
-pub refused_rose : (content : Content) (store store' : StoreReport) (patterns patterns' : PatternsState) (ending : Ending)
+pub refused_rose : (content : Content) (store store' : StoreReport) (patterns patterns' : PatternsReport) (ending : Ending)
     → RefusesSetup content store store' patterns patterns' ending → status_of ending ≡ ReadFault → Rose store.faults store'.faults
 refused_rose content store store' patterns patterns' Finished refuses e = cc
 refused_rose content store store' patterns patterns' (ConfigRefused refusal) refuses e = cc
@@ -82,7 +81,7 @@ refused_rose content store store' patterns patterns' (ScriptRefused line) refuse
 refused_rose content store store' patterns patterns' OutOfMemory refuses e = cc
 
 -- a configuration within its limit is refused only for lack of memory, where no fault and no refusal is counted
-pub refused_for_memory : (content : Content) (text : List ℕ) (read : Config) (store store' : StoreReport) (patterns patterns' : PatternsState) (ending : Ending)
+pub refused_for_memory : (content : Content) (text : List ℕ) (read : Config) (store store' : StoreReport) (patterns patterns' : PatternsReport) (ending : Ending)
     → IsHeld content text → IsConfigOf text read → length text ≤ CONFIG_LIMIT → IsStill store.faults store'.faults
     → IsStill patterns.refusals patterns'.refusals → RefusesSetup content store store' patterns patterns' ending → ending ≡ OutOfMemory
 refused_for_memory content text read store store' patterns patterns' Finished holds is fits reads_still still refuses = absurd refuses

@@ -1,17 +1,17 @@
 -- What a configuration says that a server is run with, and why a command has no such configuration.
 use Rattle.std.specs.Prelude.{◌≡◌, ℕ, ◌+◌, List, ◌++◌, codes, Result, Ok, Err}
 use Rattle.std.specs.Fmt.{decimal}
-use Rattle.hub_run.specs.conn_core.Turning.{sink_got}
-use Rattle.hub_run.specs.hub_meaning.Verdicts.{PatternsState}
+use Rattle.hub_run.specs.hub_meaning.Verdicts.{PatternsReport}
 use Rattle.hub_run.specs.Runs.{RunReport, run_report}
 use Rattle.hub_run.specs.declared.setup.Setup.{Setup}
 use Rattle.ports.specs.Counts.{Rose, RoseBy}
-use Rattle.ports.specs.Reading.{Content, IsOverLimit}
+use Rattle.ports.specs.Reading.{Content, IsOverLimit, StoreReport}
 use Rattle.command_io.specs.sexp_config.declared.config.Config.{Config}
 use Rattle.stream_plan.specs.Ready.{plan_patterns}
 use Rattle.command_io.specs.Building.{AreBuilt, IsRefusedPattern}
 use Rattle.command_io.specs.Configs.{ForConfig, RefusesConfig}
-use Rattle.command_io.specs.Reports.{Reports, SinkReport, StoreReport}
+use Rattle.ports.specs.Writing.{SinkReport}
+use Rattle.command_io.specs.Reports.{Reports}
 use Rattle.command_io.specs.declared.ending.ConfigRefusal.TheVariants.{Pattern}
 use Rattle.command_io.specs.declared.ending.Ending.{Ending}
 use Rattle.command_io.specs.declared.ending.Ending.TheVariants.{ConfigRefused, Unread, OverLimit, OutOfMemory}
@@ -31,7 +31,7 @@ abbrev pub SetsUp : Content → Setup → Type 0
 SetsUp content setup = ForConfig content (λ config. AreBuilt config.plan × (setup ≡ setup_of config))
 
 -- Why a command has no such configuration, from what the store and the builder of patterns report before and after.
-abbrev pub RefusesSetup : Content → StoreReport → StoreReport → PatternsState → PatternsState → Ending → Type 0
+abbrev pub RefusesSetup : Content → StoreReport → StoreReport → PatternsReport → PatternsReport → Ending → Type 0
 RefusesSetup content store store' patterns patterns' (ConfigRefused refusal) = RefusesConfig content patterns patterns' refusal
 RefusesSetup content store store' patterns patterns' (Unread ConfigFile) = Rose store.faults store'.faults × (patterns' ≡ patterns)
 RefusesSetup content store store' patterns patterns' (OverLimit ConfigFile) =
@@ -41,10 +41,10 @@ RefusesSetup content store store' patterns patterns' _ = ⊥
 
 -- what changes in a run whose notice lines go to this sink
 abbrev pub run_report_of : Reports → SinkReport → RunReport
-run_report_of reports sink = run_report reports.patterns reports.forks (sink_got sink.text sink.puts)
+run_report_of reports sink = run_report reports.patterns reports.forks sink
 
 -- what a configuration that was read is run with, or why it is not
-abbrev pub MakesSetup : Config → PatternsState → PatternsState → Result Setup Ending → Type 0
+abbrev pub MakesSetup : Config → PatternsReport → PatternsReport → Result Setup Ending → Type 0
 MakesSetup config patterns patterns' (Ok setup) = (setup ≡ setup_of config) × AreBuilt config.plan × (patterns' ≡ patterns)
 MakesSetup config patterns patterns' (Err (ConfigRefused (Pattern number))) = IsRefusedPattern (plan_patterns config.plan) number patterns patterns'
 MakesSetup config patterns patterns' (Err OutOfMemory) = patterns' ≡ patterns

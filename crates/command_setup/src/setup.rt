@@ -1,10 +1,8 @@
 ghost use Rattle.std.specs.Prelude.{◌≡◌, ◌≤◌, [], ◌∷◌, length, IfErr, IfOk, OnOk};
-ghost use Rattle.hub_run.specs.hub_meaning.Verdicts.{patterns_state};
 ghost use Rattle.command_io.specs.sexp_config.Expiry.{IsInterval};
 ghost use Rattle.stream_plan.specs.Ready.{plan_patterns};
 ghost use Rattle.command_io.specs.Endings.{HasNoConfig, IsReadOnce, ReadsFiles};
 ghost use Rattle.command_io.specs.Files.{ReadMore, good_read};
-ghost use Rattle.command_io.specs.Reports.{store_report};
 ghost use Rattle.command_setup.specs.Setups.{MakesSetup, RefusesSetup, SetsUp, address_text};
 
 use command_io::sexp_config::Config;
@@ -23,27 +21,21 @@ pub fn fetch_setup<S: Store, P: Patterns>(
     store: &mut S,
     patterns: &mut P,
 ) -> Result<Setup, Ending>
-    ensures setup { IfOk result (λ setup. SetsUp (S.held store.old name.now) setup) }
+    ensures setup { IfOk result (λ setup. SetsUp ((S.report store.old).held name.now) setup) }
     ensures interval { IfOk result (λ setup. IsInterval setup.expiry) }
-    ensures fault { IfErr result (λ ending. RefusesSetup (S.held store.old name.now)
-        (store_report (S.held store.old) (S.reads store.old) (S.taken store.old)
-        (S.faults store.old))
-        (store_report (S.held store.new) (S.reads store.new) (S.taken store.new)
-        (S.faults store.new))
-        (patterns_state (P.refusals patterns.old) (P.refused patterns.old))
-        (patterns_state (P.refusals patterns.new) (P.refused patterns.new)) ending) }
-    ensures read { OnOk result (ReadMore (good_read name.now ∷ []) (S.reads store.old)
-        (S.reads store.new)) }
+    ensures fault { IfErr result (λ ending. RefusesSetup ((S.report store.old).held name.now)
+        (S.report store.old) (S.report store.new) (P.report patterns.old) (P.report patterns.new)
+        ending) }
+    ensures read { OnOk result (ReadMore (good_read name.now ∷ []) (S.report store.old).reads
+        (S.report store.new).reads) }
     ensures reads { IfErr result (λ ending. ReadsFiles (name.now ∷ []) (IsReadOnce ending)
-        (S.reads store.old) (S.reads store.new) ending) }
-    ensures quiet { OnOk result (S.faults store.new ≡ S.faults store.old) }
-    ensures same { OnOk result
-        (patterns_state (P.refusals patterns.new) (P.refused patterns.new) ≡
-        patterns_state (P.refusals patterns.old) (P.refused patterns.old)) }
+        (S.report store.old).reads (S.report store.new).reads ending) }
+    ensures quiet { OnOk result ((S.report store.new).faults ≡ (S.report store.old).faults) }
+    ensures same { OnOk result (P.report patterns.new ≡ P.report patterns.old) }
     ensures unasked { IfErr result (λ ending. HasNoConfig ending →
         patterns.new ≡ patterns.old) }
-    ensures held { S.held store.new ≡ S.held store.old }
-    ensures taken { S.taken store.old ≤ S.taken store.new }
+    ensures held { (S.report store.new).held ≡ (S.report store.old).held }
+    ensures taken { (S.report store.old).taken ≤ (S.report store.new).taken }
 {
     match fetch_config(alloc, name, store) {
         Ok(config) => setup_of(alloc, config, patterns),
@@ -54,9 +46,7 @@ pub fn fetch_setup<S: Store, P: Patterns>(
 /// Builds the patterns of the configuration, and gives what a server is run with.
 fn setup_of<P: Patterns>(alloc: Global, config: Config, patterns: &mut P) -> Result<Setup, Ending>
     requires few { length (plan_patterns config.plan) ≤ CONFIG_LIMIT }
-    ensures makes { MakesSetup config
-        (patterns_state (P.refusals patterns.old) (P.refused patterns.old))
-        (patterns_state (P.refusals patterns.new) (P.refused patterns.new)) result }
+    ensures makes { MakesSetup config (P.report patterns.old) (P.report patterns.new) result }
     ensures asked { IfErr result (λ ending. HasNoConfig ending → ⊥) }
 {
     let Ok(address) = address_text(alloc, &config.host, config.port) else {

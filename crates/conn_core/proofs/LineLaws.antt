@@ -7,9 +7,9 @@ use Rattle.std.proofs.lemmas.List.{drop_more, take-append-le, take_all, take_mor
 use Rattle.std.proofs.Math.Seq.{take-append-add}
 use Rattle.ev_types.specs.declared.item.Notice.{Notice}
 use Rattle.notice_sink.specs.Lines.{lines_of, notice_line}
-use Rattle.ports.specs.Writing.{Got, GotPrefix}
+use Rattle.ports.specs.Writing.{Got, GotPrefix, SinkReport}
 use Rattle.list_laws.specs.Prefix.{IsPrefix}
-use Rattle.conn_core.specs.Turning.{CountedPuts, GotFirstLines, SinkGot, puts_after}
+use Rattle.conn_core.specs.Turning.{CountedPuts, GotFirstLines, puts_after}
 
 pub got_nothing : (text : Option (List ℕ)) → Got text [] text
 got_nothing None = refl
@@ -89,7 +89,7 @@ part_of : (n : ℕ) (bytes : List ℕ) → IsPrefix (take n bytes) bytes
 part_of n bytes = (drop n bytes, sym (take-append-drop n bytes))
 
 -- nothing was written
-pub first_nothing : (got : SinkGot) (notices : List Notice) → GotFirstLines got notices got
+pub first_nothing : (got : SinkReport) (notices : List Notice) → GotFirstLines got notices got
 first_nothing got notices = record {
   whole = 0;
   within = omega arith;
@@ -100,7 +100,7 @@ first_nothing got notices = record {
 }
 
 -- a notice's line was not written whole
-pub first_then : (old mid new : SinkGot) (notices : List Notice) (i : ℕ) (notice : Notice) → i < length notices
+pub first_then : (old mid new : SinkReport) (notices : List Notice) (i : ℕ) (notice : Notice) → i < length notices
     → notice ≡ get_or notices i notice → Got old.text (lines_of (take i notices)) mid.text
     → CountedPuts old.puts i mid.puts → GotPrefix mid.text (notice_line notice) new.text → new.puts ≡ mid.puts
     → GotFirstLines old notices new

@@ -11,7 +11,7 @@ use Rattle.hub_link.specs.hub_meaning.declared.status.Status.TheVariants.{Open, 
 use Rattle.hub_link.specs.hub_meaning.Links.{Link, changed, find_link, is_connected, is_open, is_open_status, is_read_closed_status, with_status}
 use Rattle.hub_link.specs.hub_meaning.Replies.{reply_to_oversized}
 use Rattle.hub_link.specs.hub_meaning.Runs.{RunState, Talk, all_answered, answered, cut_off, is_oversized, messages_in, occurred, plain, read_by, read_from, state_from, talk_of, with_links, with_reply, with_talk}
-use Rattle.hub_link.specs.hub_meaning.Verdicts.{Message, PatternsState, Refusal}
+use Rattle.hub_link.specs.hub_meaning.Verdicts.{Message, PatternsReport, Refusal}
 use Rattle.hub_link.proofs.HubMeaningLinkLaws.{all_found, found_number}
 use Rattle.hub_link.specs.declared.link.HubLink.{HubLink}
 use Rattle.hub_link.specs.Hearing.{Hears, HearsPiece, talk_after}
@@ -102,7 +102,7 @@ links_done hub table' config state there run reported at now arrivals ends =
       heard = heard_nothing config state.arrivals reported;
     })
 
-pub occurs_changed : (what : What) (piece : List ℕ) (hub : Hub) (table' : Kept HubLink) (patterns : PatternsState) (reported : Reported) (result : Result (Unit {0}) Memory) (run : List Entry)
+pub occurs_changed : (what : What) (piece : List ℕ) (hub : Hub) (table' : Kept HubLink) (patterns : PatternsReport) (reported : Reported) (result : Result (Unit {0}) Memory) (run : List Entry)
     → IsReadless what → Changes (links_after what) hub.table table' result run → OccursFrom what piece hub (record hub { table = table' }) patterns patterns reported reported result run
 occurs_changed what piece hub table' patterns reported result run other changes config state at settled =
     let reach = changes config state at.links settled in
@@ -124,7 +124,7 @@ not_open ReadClosed is = refl
 not_open Closing is = refl
 not_open Closed is = refl
 
-pub occurs_absent : (number count : ℕ) (piece : List ℕ) (hub : Hub) (patterns : PatternsState) (reported : Reported) → IsAbsent number hub.table
+pub occurs_absent : (number count : ℕ) (piece : List ℕ) (hub : Hub) (patterns : PatternsReport) (reported : Reported) → IsAbsent number hub.table
     → OccursFrom (Read number count) piece hub hub patterns patterns reported reported (Ok tt) []
 occurs_absent number count piece hub patterns reported absent config state at settled =
     let gone = absent_gone hub.table number state.links at.links absent in
@@ -226,7 +226,7 @@ module _ (config : CoreConfig) (piece : List ℕ) (verdicts : List (Option Refus
       }) (all_number ∙ same)
       by_test false = ap (λ (ls : List Link). with_links ls state) (sym still)
 
-module _ (number count place : ℕ) (piece : List ℕ) (hub : Hub) (core' : Core) (value value' : HubLink) (patterns patterns' : PatternsState) (old new : Reported)
+module _ (number count place : ℕ) (piece : List ℕ) (hub : Hub) (core' : Core) (value value' : HubLink) (patterns patterns' : PatternsReport) (old new : Reported)
     (at_place : IsAtPlace number hub.table place) (at_value : (other : HubLink) → get_or hub.table.values place other ≡ value) where
   is_at : (config : CoreConfig) (state : RunState) → IsAt hub config state → (meant : Link) → Focus hub.table number place state.links meant → hearing.IsAt hub.core value state meant
   is_at config state at meant focus =

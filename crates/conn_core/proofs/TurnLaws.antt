@@ -9,7 +9,7 @@ use Rattle.hub_link.specs.hub_meaning.Legal.{AreSettled, IsLegal, IsLegalFrom, V
 use Rattle.hub_link.specs.hub_meaning.Links.{Link, find_link, is_open}
 use Rattle.hub_link.specs.hub_meaning.Runs.{RunState, Step, after_step, first_state, new_frames, notices_after, occurred, passed, plain, state_after, state_from, talk_of}
 use Rattle.ports.specs.Playing.{is_turn_answer}
-use Rattle.hub_link.specs.hub_meaning.Verdicts.{PatternsState, Refusal}
+use Rattle.hub_link.specs.hub_meaning.Verdicts.{PatternsReport, Refusal}
 use Rattle.hub_link.proofs.HubMeaningRunLaws.{legal_append, state_append}
 use Rattle.hub_link.proofs.HearLaws.{none_refused}
 use Rattle.list_laws.specs.declared.memory.Memory.{Memory}
@@ -21,11 +21,11 @@ use Rattle.ports.specs.declared.entry.Entry.{Entry}
 use Rattle.ports.specs.declared.links.Turn.{Turn}
 use Rattle.ports.specs.declared.links.What.{What}
 use Rattle.ports.specs.declared.links.What.TheVariants.{Idle, Opened, Read, Ended, Broken, Room, Stopped, Failed, Memory as NoMemory}
-use Rattle.ports.specs.Writing.{GotPrefix}
+use Rattle.ports.specs.Writing.{GotPrefix, SinkReport}
 use Rattle.stream_meaning.specs.Arrivals.{Arrival, Elapsed}
 use Rattle.conn_core.specs.Hub.{Follows, IsAt, wants_in}
 use Rattle.conn_core.specs.Occurring.{OccursFrom}
-use Rattle.conn_core.specs.Turning.{GotFirstLines, GotLines, SinkGot, Turns, longer, turn_step}
+use Rattle.conn_core.specs.Turning.{GotFirstLines, GotLines, Turns, longer, turn_step}
 use Rattle.conn_core.specs.declared.hub.Hub.{Hub}
 use Rattle.conn_core.specs.declared.stop.Stop.{Stop}
 use Rattle.conn_core.specs.declared.stop.Stop.TheVariants.{SinkFault, Memory as StopMemory}
@@ -101,7 +101,7 @@ module _ (turn : Turn) (piece : List ℕ) (hub : Hub) (config : CoreConfig) (ste
       (record { wanted = follows.state.links.wants; settled = follows.settled; verdicts = possible }, subst (IsLegalFrom config (plain run)) (sym (turned_is verdicts)) legal)
 
   -- out of memory while the seconds passed
-  pub turns_unpassed : (hub' : Hub) (patterns : PatternsState) (forks forks' : ℕ) (text : SinkGot) (result : Result (Unit {0}) Stop) → IsErr result → result ≢ Err SinkFault
+  pub turns_unpassed : (hub' : Hub) (patterns : PatternsReport) (forks forks' : ℕ) (text : SinkReport) (result : Result (Unit {0}) Stop) → IsErr result → result ≢ Err SinkFault
       → Turns turn piece hub hub' patterns patterns forks forks' text text result config steps []
   turns_unpassed hub' patterns forks forks' text result failed no_sink =
       let tells = more_notices config steps (turn_step (wants_in hub) turn piece [] ∷ []) in
@@ -134,7 +134,7 @@ module _ (turn : Turn) (piece : List ℕ) (hub : Hub) (config : CoreConfig) (ste
       }
 
   -- out of memory at its occurrence
-  pub turns_unfinished : (one hub' : Hub) (patterns patterns' : PatternsState) (old new : Reported) (forks forks' : ℕ) (text : SinkGot) (result : Result (Unit {0}) Stop) (failure : Result (Unit {0}) Memory) (run : List Entry) → IsErr result → result ≢ Err SinkFault
+  pub turns_unfinished : (one hub' : Hub) (patterns patterns' : PatternsReport) (old new : Reported) (forks forks' : ℕ) (text : SinkReport) (result : Result (Unit {0}) Stop) (failure : Result (Unit {0}) Memory) (run : List Entry) → IsErr result → result ≢ Err SinkFault
       → IsAt one config (passed (next_moment (state_after config steps).now turn.secs) (state_after config steps))
       → OccursFrom turn.what piece one hub' patterns patterns' old new failure run
       → Turns turn piece hub hub' patterns patterns' forks forks' text text result config steps run
@@ -156,7 +156,7 @@ module _ (turn : Turn) (piece : List ℕ) (hub : Hub) (config : CoreConfig) (ste
       }
 
   -- all was done but the lines
-  pub turns_reported : (one hub' : Hub) (patterns patterns' : PatternsState) (middle : Reported) (notices : List Notice) (forks forks' : ℕ) (text text' : SinkGot) (result : Result (Unit {0}) Stop) (run : List Entry)
+  pub turns_reported : (one hub' : Hub) (patterns patterns' : PatternsReport) (middle : Reported) (notices : List Notice) (forks forks' : ℕ) (text text' : SinkReport) (result : Result (Unit {0}) Stop) (run : List Entry)
       → ((arrivals : List Arrival) → Represents hub.core arrivals → Arrives hub.core one.core arrivals (replicate (next_moment (now_of hub.core) turn.secs - now_of hub.core) Elapsed) (reported [] forks) middle)
       → IsAt one config (passed (next_moment (state_after config steps).now turn.secs) (state_after config steps))
       → OccursFrom turn.what piece one hub' patterns patterns' middle (reported notices forks') (Ok tt) run

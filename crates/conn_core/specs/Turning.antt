@@ -5,7 +5,7 @@ use Rattle.ev_types.specs.declared.item.Notice.{Notice}
 use Rattle.hub_link.specs.event_core.Core.{CoreConfig, forks_by}
 use Rattle.hub_link.specs.hub_meaning.Legal.{IsLegal}
 use Rattle.hub_link.specs.hub_meaning.Runs.{Step, notices_after, plain, state_after}
-use Rattle.hub_link.specs.hub_meaning.Verdicts.{AfterVerdicts, PatternsState, Refusal}
+use Rattle.hub_link.specs.hub_meaning.Verdicts.{AfterVerdicts, PatternsReport, Refusal}
 use Rattle.list_laws.specs.Prefix.{IsPrefix}
 use Rattle.notice_sink.specs.Lines.{lines_of}
 use Rattle.ports.specs.declared.entry.Entry.{Entry}
@@ -13,19 +13,11 @@ use Rattle.ports.specs.declared.entry.Entry.TheVariants.{Next}
 use Rattle.ports.specs.declared.links.Turn.{Turn}
 use Rattle.ports.specs.declared.links.Want.{Want}
 use Rattle.ports.specs.Counts.{count_after}
-use Rattle.ports.specs.Writing.{Got, GotPrefix}
+use Rattle.ports.specs.Writing.{Got, GotPrefix, SinkReport}
 use Rattle.conn_core.specs.Hub.{Follows, wants_in}
 use Rattle.conn_core.specs.declared.hub.Hub.{Hub}
 use Rattle.conn_core.specs.declared.stop.Stop.{Stop}
 use Rattle.conn_core.specs.declared.stop.Stop.TheVariants.{SinkFault}
-
--- what a sink of lines reports: all that it got, and how many puts succeeded
-pub record SinkGot : Type 0 where
-  pub text : Option (List ℕ)
-  pub puts : Option ℕ
-
-abbrev pub sink_got : Option (List ℕ) → Option ℕ → SinkGot
-sink_got text puts = record { text = text; puts = puts }
 
 -- a count of puts after n more; at its greatest number it stays
 abbrev pub puts_after : ℕ → ℕ → ℕ
@@ -37,13 +29,13 @@ abbrev pub CountedPuts : Option ℕ → ℕ → Option ℕ → Type 0
 CountedPuts old more new = new ≡ option_map (puts_after more) old
 
 -- the sink got the lines of these notices, each in one put
-pub record GotLines (old : SinkGot) (notices : List Notice) (new : SinkGot) : Type 0 where
+pub record GotLines (old : SinkReport) (notices : List Notice) (new : SinkReport) : Type 0 where
   pub text : Got old.text (lines_of notices) new.text
   pub puts : CountedPuts old.puts (length notices) new.puts
 
 -- The sink got the lines of the first of these notices, each in one put. Of the next line it may have got a prefix, in
 -- a put that failed and does not count.
-pub record GotFirstLines (old : SinkGot) (notices : List Notice) (new : SinkGot) : Type 0 where
+pub record GotFirstLines (old : SinkReport) (notices : List Notice) (new : SinkReport) : Type 0 where
   pub whole : ℕ
   pub within : whole ≤ length notices
   pub part : List ℕ
@@ -61,8 +53,8 @@ longer steps turn run = steps ++ (turn ∷ plain run)
 
 -- The turn was done, or the hub stopped in the middle of it. The verdicts on its messages are those that were reported
 -- of the patterns.
-pub record Turns (turn : Turn) (piece : List ℕ) (hub hub' : Hub) (patterns patterns' : PatternsState) (forks forks' : ℕ)
-    (sink sink' : SinkGot) (result : Result (Unit {0}) Stop) (config : CoreConfig) (steps : List Step) (run : List Entry) : Type 0 where
+pub record Turns (turn : Turn) (piece : List ℕ) (hub hub' : Hub) (patterns patterns' : PatternsReport) (forks forks' : ℕ)
+    (sink sink' : SinkReport) (result : Result (Unit {0}) Stop) (config : CoreConfig) (steps : List Step) (run : List Entry) : Type 0 where
   pub verdicts : List (Option Refusal)
   pub reported : AfterVerdicts patterns patterns' verdicts
   pub legal : IsLegal config (longer steps (turn_step (wants_in hub) turn piece verdicts) run)
@@ -80,7 +72,7 @@ pub record Turns (turn : Turn) (piece : List ℕ) (hub hub' : Hub) (patterns pat
       ≡ forks' + forks_by config (state_after config steps).arrivals)
 
 -- it does so after any steps that the hub follows
-abbrev pub TurnsFrom : Turn → List ℕ → Hub → Hub → PatternsState → PatternsState → ℕ → ℕ → SinkGot → SinkGot → Result (Unit {0}) Stop → List Entry → Type 0
+abbrev pub TurnsFrom : Turn → List ℕ → Hub → Hub → PatternsReport → PatternsReport → ℕ → ℕ → SinkReport → SinkReport → Result (Unit {0}) Stop → List Entry → Type 0
 TurnsFrom turn piece hub hub' patterns patterns' forks forks' sink sink' result run =
     (config : CoreConfig) (steps : List Step) → Follows hub config steps
     → Turns turn piece hub hub' patterns patterns' forks forks' sink sink' result config steps run

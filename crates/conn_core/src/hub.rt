@@ -2,14 +2,12 @@ ghost use Rattle.std.specs.Prelude.{◌≡◌, ◌≢◌, ◌+◌, ◌-◌, ◌^
 ghost use Rattle.conn_core.specs.Hub.{core_of, wants_in, Follows};
 ghost use Rattle.conn_core.specs.Known.{Answered, AreUnclosed, IsOpenedBy};
 ghost use Rattle.conn_core.specs.Occurring.{OccursFrom};
-ghost use Rattle.conn_core.specs.Turning.{TurnsFrom, sink_got};
+ghost use Rattle.conn_core.specs.Turning.{TurnsFrom};
 ghost use Rattle.hub_link.specs.event_core.Core.{Represents, config_of, now_of};
 ghost use Rattle.hub_link.specs.Added.{Added};
 ghost use Rattle.hub_link.specs.hub_meaning.Clock.{next_moment};
-ghost use Rattle.hub_link.specs.hub_meaning.Verdicts.{patterns_state};
 ghost use Rattle.hub_link.specs.msg_replies.Arriving.{Arrives, reported};
 ghost use Rattle.ports.specs.Counts.{Rose};
-ghost use Rattle.ports.specs.Playing.{Plays};
 ghost use Rattle.stream_meaning.specs.Arrivals.{Arrival, Elapsed};
 
 use crate::lines::write_lines;
@@ -84,23 +82,18 @@ impl Hub {
     ) -> Result<(), Stop>
         requires failed { turn.what ≢ What.Failed }
         requires memory { turn.what ≢ What.Memory }
-        requires known { AreUnclosed (L.log links.old) (wants_in self.old) }
-        requires answered { Answered (L.log links.old) turn }
-        ensures known { OnOk result (AreUnclosed (L.log links.new) (wants_in self.new)) }
-        ensures turns { Added (L.log links.old) (L.log links.new)
-            (TurnsFrom turn piece.now self.old self.new
-            (patterns_state (P.refusals patterns.old) (P.refused patterns.old))
-            (patterns_state (P.refusals patterns.new) (P.refused patterns.new))
-            steps.old.forks steps.new.forks (sink_got (O.text sink.old) (O.puts sink.old))
-            (sink_got (O.text sink.new) (O.puts sink.new)) result) }
+        requires known { AreUnclosed (L.report links.old).log (wants_in self.old) }
+        requires answered { Answered (L.report links.old).log turn }
+        ensures known { OnOk result (AreUnclosed (L.report links.new).log (wants_in self.new)) }
+        ensures turns { Added (L.report links.old) (L.report links.new)
+            (TurnsFrom turn piece.now self.old self.new (P.report patterns.old)
+            (P.report patterns.new) steps.old.forks steps.new.forks (O.report sink.old)
+            (O.report sink.new) result) }
         ensures fault { result ≡ Err Stop.SinkFault →
-            Rose (O.faults sink.old) (O.faults sink.new) }
-        ensures memory { result ≡ Err Stop.Memory → O.faults sink.new ≡ O.faults sink.old }
-        ensures no_fault { OnOk result (O.faults sink.new ≡ O.faults sink.old) }
-        ensures faults { L.faults links.new ≡ L.faults links.old }
-        ensures script { L.script links.new ≡ L.script links.old }
-        ensures plays { Plays (L.script links.old) (L.log links.old)
-            → Plays (L.script links.new) (L.log links.new) }
+            Rose (O.report sink.old).faults (O.report sink.new).faults }
+        ensures memory { result ≡ Err Stop.Memory → (O.report sink.new).faults ≡
+            (O.report sink.old).faults }
+        ensures no_fault { OnOk result ((O.report sink.new).faults ≡ (O.report sink.old).faults) }
     {
         let mut notices = Notices::fresh(alloc);
         pass(alloc, &mut self.core, turn.secs, &mut notices, steps)?;
@@ -128,18 +121,13 @@ impl Hub {
         notices: &mut Notices,
         steps: &mut Steps<G>,
     ) -> Result<(), Memory>
-        requires known { AreUnclosed (L.log links.old) (wants_in self.old) }
-        requires opened { IsOpenedBy (L.log links.old) what }
-        ensures known { OnOk result (AreUnclosed (L.log links.new) (wants_in self.new)) }
-        ensures occurs { Added (L.log links.old) (L.log links.new)
-            (OccursFrom what piece.now self.old self.new
-            (patterns_state (P.refusals patterns.old) (P.refused patterns.old))
-            (patterns_state (P.refusals patterns.new) (P.refused patterns.new))
-            (reported notices.old steps.old.forks) (reported notices.new steps.new.forks) result) }
-        ensures faults { L.faults links.new ≡ L.faults links.old }
-        ensures script { L.script links.new ≡ L.script links.old }
-        ensures plays { Plays (L.script links.old) (L.log links.old)
-            → Plays (L.script links.new) (L.log links.new) }
+        requires known { AreUnclosed (L.report links.old).log (wants_in self.old) }
+        requires opened { IsOpenedBy (L.report links.old).log what }
+        ensures known { OnOk result (AreUnclosed (L.report links.new).log (wants_in self.new)) }
+        ensures occurs { Added (L.report links.old) (L.report links.new)
+            (OccursFrom what piece.now self.old self.new (P.report patterns.old)
+            (P.report patterns.new) (reported notices.old steps.old.forks)
+            (reported notices.new steps.new.forks) result) }
     {
         match what {
             What::Read { link, .. } => {
@@ -160,17 +148,12 @@ impl Hub {
         notices: &mut Notices,
         steps: &mut Steps<G>,
     ) -> Result<(), Memory>
-        requires { AreUnclosed (L.log links.old) (wants_in self.old) }
-        ensures known { OnOk result (AreUnclosed (L.log links.new) (wants_in self.new)) }
-        ensures occurs { (count : ℕ) → Added (L.log links.old) (L.log links.new)
-            (OccursFrom (What.Read number count) piece.now self.old self.new
-            (patterns_state (P.refusals patterns.old) (P.refused patterns.old))
-            (patterns_state (P.refusals patterns.new) (P.refused patterns.new))
-            (reported notices.old steps.old.forks) (reported notices.new steps.new.forks) result) }
-        ensures faults { L.faults links.new ≡ L.faults links.old }
-        ensures script { L.script links.new ≡ L.script links.old }
-        ensures plays { Plays (L.script links.old) (L.log links.old)
-            → Plays (L.script links.new) (L.log links.new) }
+        requires { AreUnclosed (L.report links.old).log (wants_in self.old) }
+        ensures known { OnOk result (AreUnclosed (L.report links.new).log (wants_in self.new)) }
+        ensures occurs { (count : ℕ) → Added (L.report links.old) (L.report links.new)
+            (OccursFrom (What.Read number count) piece.now self.old self.new (P.report patterns.old)
+            (P.report patterns.new) (reported notices.old steps.old.forks)
+            (reported notices.new steps.new.forks) result) }
     {
         let Some(place) = self.table.find(number) else {
             return Ok(());

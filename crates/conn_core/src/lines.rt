@@ -1,8 +1,8 @@
 ghost use Rattle.std.specs.Prelude.{◌≡◌, ◌≢◌, ◌≤◌, [], Err, OnErr, OnOk};
-ghost use Rattle.conn_core.specs.Turning.{CountedPuts, GotFirstLines, GotLines, sink_got};
+ghost use Rattle.conn_core.specs.Turning.{GotFirstLines, GotLines};
 ghost use Rattle.notice_sink.specs.Lines.{lines_of, notice_line};
 ghost use Rattle.ports.specs.Counts.{Rose};
-ghost use Rattle.ports.specs.Writing.{Got, GotPrefix};
+ghost use Rattle.ports.specs.Writing.{GotPrefix, Puts};
 
 use crate::stop::Stop;
 use ev_types::Notice;
@@ -16,17 +16,18 @@ pub(crate) fn write_lines<O: Sink>(
     notices: &[Notice],
     sink: &mut O,
 ) -> Result<(), Stop>
-    ensures all { OnOk result (GotLines (sink_got (O.text sink.old) (O.puts sink.old)) notices.now
-        (sink_got (O.text sink.new) (O.puts sink.new))) }
-    ensures prefix { OnErr result (GotPrefix (O.text sink.old) (lines_of notices.now)
-        (O.text sink.new)) }
-    ensures first_lines { OnErr result (GotFirstLines (sink_got (O.text sink.old)
-        (O.puts sink.old)) notices.now (sink_got (O.text sink.new) (O.puts sink.new))) }
+    ensures all { OnOk result (GotLines (O.report sink.old) notices.now (O.report sink.new)) }
+    ensures prefix { OnErr result (GotPrefix (O.report sink.old).text (lines_of notices.now)
+        (O.report sink.new).text) }
+    ensures first_lines { OnErr result
+        (GotFirstLines (O.report sink.old) notices.now (O.report sink.new)) }
     ensures some { result ≡ Err Stop.SinkFault → notices.now ≢ [] }
-    ensures fault { result ≡ Err Stop.SinkFault → Rose (O.faults sink.old) (O.faults sink.new) }
-    ensures memory { result ≡ Err Stop.Memory → O.faults sink.new ≡ O.faults sink.old }
-    ensures no_fault { OnOk result (O.faults sink.new ≡ O.faults sink.old) }
-    ensures faults { O.faults sink.old ≤ O.faults sink.new }
+    ensures fault { result ≡ Err Stop.SinkFault →
+        Rose (O.report sink.old).faults (O.report sink.new).faults }
+    ensures memory { result ≡ Err Stop.Memory → (O.report sink.new).faults ≡
+        (O.report sink.old).faults }
+    ensures no_fault { OnOk result ((O.report sink.new).faults ≡ (O.report sink.old).faults) }
+    ensures faults { (O.report sink.old).faults ≤ (O.report sink.new).faults }
 {
     let mut writer = NoticeWriter::fresh(alloc);
     for notice in notices {
@@ -42,16 +43,16 @@ fn write_line<O: Sink>(
     notice: &Notice,
     sink: &mut O,
 ) -> Result<(), Stop>
-    ensures all { OnOk result (Got (O.text sink.old) (notice_line notice.now)
-        (O.text sink.new)) }
-    ensures counted { OnOk result (CountedPuts (O.puts sink.old) 1 (O.puts sink.new)) }
-    ensures prefix { OnErr result (GotPrefix (O.text sink.old) (notice_line notice.now)
-        (O.text sink.new)) }
-    ensures uncounted { OnErr result (O.puts sink.new ≡ O.puts sink.old) }
-    ensures fault { result ≡ Err Stop.SinkFault → Rose (O.faults sink.old) (O.faults sink.new) }
-    ensures memory { result ≡ Err Stop.Memory → O.faults sink.new ≡ O.faults sink.old }
-    ensures no_fault { OnOk result (O.faults sink.new ≡ O.faults sink.old) }
-    ensures faults { O.faults sink.old ≤ O.faults sink.new }
+    ensures puts { OnOk result
+        (Puts (O.report sink.old) (notice_line notice.now) (O.report sink.new)) }
+    ensures prefix { OnErr result (GotPrefix (O.report sink.old).text (notice_line notice.now)
+        (O.report sink.new).text) }
+    ensures uncounted { OnErr result ((O.report sink.new).puts ≡ (O.report sink.old).puts) }
+    ensures fault { result ≡ Err Stop.SinkFault →
+        Rose (O.report sink.old).faults (O.report sink.new).faults }
+    ensures memory { result ≡ Err Stop.Memory → (O.report sink.new).faults ≡
+        (O.report sink.old).faults }
+    ensures faults { (O.report sink.old).faults ≤ (O.report sink.new).faults }
 {
     match writer.write(alloc, notice, sink) {
         Ok(()) => Ok(()),

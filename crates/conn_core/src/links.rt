@@ -4,7 +4,6 @@ ghost use Rattle.conn_core.specs.Reaching.{links_after, AddsLink, Changes, Finis
 ghost use Rattle.hub_link.specs.Added.{Added};
 ghost use Rattle.hub_link.specs.hub_meaning.Links.{broken, changed, ended, opened, unblocked};
 ghost use Rattle.link_table.specs.Kept.{is_newer, IsAt};
-ghost use Rattle.ports.specs.Playing.{Plays};
 
 use ev_types::Memory;
 use hub_link::HubLink;
@@ -22,15 +21,11 @@ pub(crate) fn change<L: Links>(
     what: What,
     links: &mut L,
 ) -> Result<(), Memory>
-    requires known { AreUnclosed (L.log links.old) table.old.wants }
-    requires opened { IsOpenedBy (L.log links.old) what }
-    ensures known { OnOk result (AreUnclosed (L.log links.new) table.new.wants) }
-    ensures changes { Added (L.log links.old) (L.log links.new)
+    requires known { AreUnclosed (L.report links.old).log table.old.wants }
+    requires opened { IsOpenedBy (L.report links.old).log what }
+    ensures known { OnOk result (AreUnclosed (L.report links.new).log table.new.wants) }
+    ensures changes { Added (L.report links.old) (L.report links.new)
         (Changes (links_after what) table.old table.new result) }
-    ensures faults { L.faults links.new ≡ L.faults links.old }
-    ensures script { L.script links.new ≡ L.script links.old }
-    ensures plays { Plays (L.script links.old) (L.log links.old)
-        → Plays (L.script links.new) (L.log links.new) }
 {
     match what {
         What::Opened { link } => open(alloc, table, link, links),
@@ -48,15 +43,11 @@ fn open<L: Links>(
     number: u64,
     links: &mut L,
 ) -> Result<(), Memory>
-    requires known { AreUnclosed (L.log links.old) table.old.wants }
-    requires opened { IsUnclosed (L.log links.old) number }
-    ensures known { OnOk result (AreUnclosed (L.log links.new) table.new.wants) }
-    ensures changes { Added (L.log links.old) (L.log links.new)
+    requires known { AreUnclosed (L.report links.old).log table.old.wants }
+    requires opened { IsUnclosed (L.report links.old).log number }
+    ensures known { OnOk result (AreUnclosed (L.report links.new).log table.new.wants) }
+    ensures changes { Added (L.report links.old) (L.report links.new)
         (Changes (opened number) table.old table.new result) }
-    ensures faults { L.faults links.new ≡ L.faults links.old }
-    ensures script { L.script links.new ≡ L.script links.old }
-    ensures plays { Plays (L.script links.old) (L.log links.old)
-        → Plays (L.script links.new) (L.log links.new) }
 {
     if !table.is_newer(number) {
         return Ok(());
@@ -87,14 +78,10 @@ fn end<L: Links>(
     number: u64,
     links: &mut L,
 ) -> Result<(), Memory>
-    requires { AreUnclosed (L.log links.old) table.old.wants }
-    ensures known { OnOk result (AreUnclosed (L.log links.new) table.new.wants) }
-    ensures changes { Added (L.log links.old) (L.log links.new)
+    requires { AreUnclosed (L.report links.old).log table.old.wants }
+    ensures known { OnOk result (AreUnclosed (L.report links.new).log table.new.wants) }
+    ensures changes { Added (L.report links.old) (L.report links.new)
         (Changes (changed number ended) table.old table.new result) }
-    ensures faults { L.faults links.new ≡ L.faults links.old }
-    ensures script { L.script links.new ≡ L.script links.old }
-    ensures plays { Plays (L.script links.old) (L.log links.old)
-        → Plays (L.script links.new) (L.log links.new) }
 {
     let Some(place) = table.find(number) else {
         return Ok(());
@@ -111,14 +98,10 @@ fn fail<L: Links>(
     number: u64,
     links: &mut L,
 ) -> Result<(), Memory>
-    requires { AreUnclosed (L.log links.old) table.old.wants }
-    ensures known { OnOk result (AreUnclosed (L.log links.new) table.new.wants) }
-    ensures changes { Added (L.log links.old) (L.log links.new)
+    requires { AreUnclosed (L.report links.old).log table.old.wants }
+    ensures known { OnOk result (AreUnclosed (L.report links.new).log table.new.wants) }
+    ensures changes { Added (L.report links.old) (L.report links.new)
         (Changes (changed number broken) table.old table.new result) }
-    ensures faults { L.faults links.new ≡ L.faults links.old }
-    ensures script { L.script links.new ≡ L.script links.old }
-    ensures plays { Plays (L.script links.old) (L.log links.old)
-        → Plays (L.script links.new) (L.log links.new) }
 {
     let Some(place) = table.find(number) else {
         return Ok(());
@@ -135,14 +118,10 @@ fn unblock<L: Links>(
     number: u64,
     links: &mut L,
 ) -> Result<(), Memory>
-    requires { AreUnclosed (L.log links.old) table.old.wants }
-    ensures known { OnOk result (AreUnclosed (L.log links.new) table.new.wants) }
-    ensures changes { Added (L.log links.old) (L.log links.new)
+    requires { AreUnclosed (L.report links.old).log table.old.wants }
+    ensures known { OnOk result (AreUnclosed (L.report links.new).log table.new.wants) }
+    ensures changes { Added (L.report links.old) (L.report links.new)
         (Changes (changed number unblocked) table.old table.new result) }
-    ensures faults { L.faults links.new ≡ L.faults links.old }
-    ensures script { L.script links.new ≡ L.script links.old }
-    ensures plays { Plays (L.script links.old) (L.log links.old)
-        → Plays (L.script links.new) (L.log links.new) }
 {
     let Some(place) = table.find(number) else {
         return Ok(());
@@ -162,14 +141,10 @@ pub(crate) fn settle<L: Links>(
     links: &mut L,
 ) -> Result<(), Memory>
     requires at { IsAt number table.old place }
-    requires known { AreUnclosed (L.log links.old) table.old.wants }
-    ensures known { OnOk result (AreUnclosed (L.log links.new) table.new.wants) }
-    ensures settles { Added (L.log links.old) (L.log links.new)
+    requires known { AreUnclosed (L.report links.old).log table.old.wants }
+    ensures known { OnOk result (AreUnclosed (L.report links.new).log table.new.wants) }
+    ensures settles { Added (L.report links.old) (L.report links.new)
         (Settles table.old table.new number place result) }
-    ensures faults { L.faults links.new ≡ L.faults links.old }
-    ensures script { L.script links.new ≡ L.script links.old }
-    ensures plays { Plays (L.script links.old) (L.log links.old)
-        → Plays (L.script links.new) (L.log links.new) }
 {
     table.value_mut(place).send_all(alloc, links)?;
     finish(alloc, table, number, place, links);
@@ -185,14 +160,10 @@ fn finish<L: Links>(
     links: &mut L,
 )
     requires at { IsAt number table.old place }
-    requires known { AreUnclosed (L.log links.old) table.old.wants }
-    ensures known { AreUnclosed (L.log links.new) table.new.wants }
-    ensures finishes { Added (L.log links.old) (L.log links.new)
+    requires known { AreUnclosed (L.report links.old).log table.old.wants }
+    ensures known { AreUnclosed (L.report links.new).log table.new.wants }
+    ensures finishes { Added (L.report links.old) (L.report links.new)
         (Finishes table.old table.new number place (Ok tt)) }
-    ensures faults { L.faults links.new ≡ L.faults links.old }
-    ensures script { L.script links.new ≡ L.script links.old }
-    ensures plays { Plays (L.script links.old) (L.log links.old)
-        → Plays (L.script links.new) (L.log links.new) }
 {
     let link = table.value(place);
     if link.is_over() {

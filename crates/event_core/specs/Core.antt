@@ -1,20 +1,14 @@
 -- What a core represents, and what it gives for what arrives.
-use Rattle.std.specs.Prelude.{◌≡◌, ℕ, ◌+◌, ◌≤◌, Bool, false, List, ◌++◌, Option}
+use Rattle.std.specs.Prelude.{◌≡◌, ℕ, ◌+◌, ◌≤◌, Bool, false, List, ◌++◌}
 use Rattle.ev_types.specs.declared.item.Notice.{Notice}
-use Rattle.ev_types.specs.declared.settings.Expiry.{Expiry}
-use Rattle.stream_plan.specs.Tree.{StreamTrees}
 use Rattle.stream_meaning.specs.History.{moment_of}
-use Rattle.stream_meaning.specs.Arrivals.{Arrival, CoreState, state_after, notices_of}
+use Rattle.stream_meaning.specs.Arrivals.{Arrival}
+pub use Rattle.stream_meaning.specs.Arrivals.{CoreConfig, state_by, notices_by}
 use Rattle.event_core.specs.declared.arrivals.Core.{Core}
 use Rattle.event_core.specs.Counts.{forks_in, visits_to}
 use Rattle.event_core.specs.Streams.{plan_of, Holds}
 
 -- what a core is made with, and keeps
-pub record CoreConfig : Type 0 where
-  pub plan : StreamTrees
-  pub expiry : Option Expiry
-  pub start : ℕ
-
 abbrev pub config_of : Core → CoreConfig
 config_of core = record { plan = plan_of core.streams; expiry = core.clock.expiry; start = core.clock.start }
 
@@ -26,15 +20,7 @@ now_of core = core.clock.moment
 abbrev pub is_poisoned : Core → Bool
 is_poisoned core = core.poisoned
 
--- the state after these arrivals
-abbrev pub state_by : CoreConfig → List Arrival → CoreState
-state_by config arrivals = state_after config.plan config.expiry config.start arrivals
-
--- the notices given over them
-abbrev pub notices_by : CoreConfig → List Arrival → List Notice
-notices_by config arrivals = notices_of config.plan config.expiry config.start arrivals
-
--- how many forks are due over them, and how often an item comes to a `by`
+-- how many forks are due over these arrivals, and how often an item comes to a `by`
 abbrev pub forks_by : CoreConfig → List Arrival → ℕ
 forks_by config arrivals = forks_in config.plan (state_by config arrivals).history
 

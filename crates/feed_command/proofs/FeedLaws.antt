@@ -2,7 +2,9 @@
 use Rattle.std.proofs.Common.{◌≡◌, ℕ, ◌≤◌, ◌⊎◌, List, length, refl, sym, inl, inr, subst, arith}
 use Rattle.file_run.proofs.CommandIoEndingLaws.{reported_of}
 use Rattle.file_run.specs.command_io.Endings.{Says, status_of}
-use Rattle.file_run.specs.command_io.Reports.{LinksReport, Reports, SinkReport, StoreReport, reports}
+use Rattle.ports.specs.Calls.{LinksReport}
+use Rattle.ports.specs.Writing.{SinkReport}
+use Rattle.file_run.specs.command_io.Reports.{Reports, reports}
 use Rattle.file_run.specs.command_io.declared.ending.Ending.{Ending}
 use Rattle.file_run.specs.command_io.declared.ending.Ending.TheVariants.{Finished, ConfigRefused, Unread, OverLimit, BytesLeft, WriteFailed, LinksFailed, ScriptRefused, OutOfMemory}
 use Rattle.file_run.specs.command_io.declared.limits.TheConstants.{CONFIG_LIMIT, FILE_LIMIT}
@@ -12,10 +14,10 @@ use Rattle.file_run.specs.command_setup.Setups.{SetsUp}
 use Rattle.file_run.proofs.OtherLaws.{file_refused_for_memory, file_refused_since, file_rose}
 use Rattle.file_run.specs.Files.{RefusesFile}
 use Rattle.framing.specs.Frames.{partial}
-use Rattle.file_run.specs.hub_meaning.Verdicts.{PatternsState}
+use Rattle.file_run.specs.hub_meaning.Verdicts.{PatternsReport}
 use Rattle.file_run.specs.hub_run.declared.setup.Setup.{Setup}
 use Rattle.ports.specs.Counts.{IsStill, Rose}
-use Rattle.ports.specs.Reading.{Content, IsHeld}
+use Rattle.ports.specs.Reading.{Content, IsHeld, StoreReport}
 use Rattle.file_run.specs.sexp_config.declared.config.Config.{Config}
 use Rattle.file_run.specs.sexp_config.Config.{IsConfigOf}
 use Rattle.feed_command.specs.Feeds.{BytesEnd, FeedEnds, FeedsAll, FileEnds, HasFed}
@@ -23,7 +25,7 @@ use Rattle.feed_command.specs.Feeds.{BytesEnd, FeedEnds, FeedsAll, FileEnds, Has
 -- ---- what a run does not depend on
 
 all_since : (setup : Setup) (bytes : List ℕ) (store mid store' : StoreReport) (links : LinksReport) (out out' err err' : SinkReport)
-    (patterns patterns' : PatternsState) (forks forks' : ℕ) (Wrote : List ℕ → Type 0)
+    (patterns patterns' : PatternsReport) (forks forks' : ℕ) (Wrote : List ℕ → Type 0)
     → FeedsAll setup bytes (reports mid links out err patterns forks) (reports store' links out' err' patterns' forks') Wrote
     → FeedsAll setup bytes (reports store links out err patterns forks) (reports store' links out' err' patterns' forks') Wrote
 all_since setup bytes store mid store' links out out' err err' patterns patterns' forks forks' Wrote all =
@@ -31,7 +33,7 @@ all_since setup bytes store mid store' links out out' err err' patterns patterns
 
 -- what the store reported does not matter once the file was read
 bytes_since : (setup : Setup) (bytes : List ℕ) (store mid store' : StoreReport) (links : LinksReport) (out out' err err' : SinkReport)
-    (patterns patterns' : PatternsState) (forks forks' : ℕ) (ending : Ending)
+    (patterns patterns' : PatternsReport) (forks forks' : ℕ) (ending : Ending)
     → BytesEnd setup bytes (reports mid links out err patterns forks) (reports store' links out' err' patterns' forks') ending
     → BytesEnd setup bytes (reports store links out err patterns forks) (reports store' links out' err' patterns' forks') ending
 bytes_since setup bytes store mid store' links out out' err err' patterns patterns' forks forks' Finished ends =
@@ -54,7 +56,7 @@ bytes_since setup bytes store mid store' links out out' err err' patterns patter
 
 -- the configuration was accepted, and then the file was refused or fed
 pub feed_ended : (config file : Content) (setup : Setup) (store mid store' : StoreReport) (links : LinksReport) (out out' err err' : SinkReport)
-    (patterns between patterns' : PatternsState) (forks forks' : ℕ) (ending : Ending) → SetsUp config setup → mid.faults ≡ store.faults
+    (patterns between patterns' : PatternsReport) (forks forks' : ℕ) (ending : Ending) → SetsUp config setup → mid.faults ≡ store.faults
     → store.taken ≤ mid.taken → between ≡ patterns
     → FileEnds setup file (reports mid links out err between forks) (reports store' links out' err' patterns' forks') ending
     → FeedEnds config file (reports store links out err patterns forks) (reports store' links out' err' patterns' forks') ending

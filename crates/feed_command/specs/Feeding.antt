@@ -1,10 +1,9 @@
 -- What is known once the file was fed.
 use Rattle.std.specs.Prelude.{◌≡◌, ◌≢◌, ℕ, List, [], length}
-use Rattle.file_run.specs.command_io.Reports.{SinkReport}
 use Rattle.file_run.specs.command_io.declared.ending.Ending.{Ending}
 use Rattle.file_run.specs.command_io.declared.ending.Ending.TheVariants.{Finished, BytesLeft, WriteFailed}
 use Rattle.ports.specs.Counts.{Rose}
-use Rattle.ports.specs.Writing.{Got, GotPrefix}
+use Rattle.ports.specs.Writing.{Got, GotPrefix, SinkReport}
 
 -- the replies were written, or a prefix of them; `rest` are the bytes after the last whole frame
 abbrev pub WritesReplies : List ℕ → List ℕ → SinkReport → SinkReport → Ending → Type 0

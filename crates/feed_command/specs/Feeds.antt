@@ -1,7 +1,7 @@
 -- What `feed CONFIG FILE` promises.
 use Rattle.std.specs.Prelude.{◌≡◌, ◌≢◌, ℕ, ◌≤◌, ◌⊎◌, List, [], ◌∷◌, length, Err}
 use Rattle.file_run.specs.command_io.Endings.{HasNoConfig, IsComplete, ReadsFiles, Says, status_of}
-use Rattle.file_run.specs.command_io.Reports.{IsIdle, Reports, SinkReport}
+use Rattle.file_run.specs.command_io.Reports.{IsIdle, Reports}
 use Rattle.file_run.specs.command_io.declared.ending.Ending.{Ending}
 use Rattle.file_run.specs.command_io.declared.ending.Ending.TheVariants.{Finished, BytesLeft, WriteFailed, OutOfMemory}
 use Rattle.file_run.specs.command_io.declared.limits.TheConstants.{CONFIG_LIMIT, FILE_LIMIT}
@@ -22,7 +22,7 @@ use Rattle.ports.specs.Counts.{IsStill, Rose}
 use Rattle.ports.specs.Pieces.{feed_script}
 use Rattle.ports.specs.Playing.{IsScriptedRun}
 use Rattle.ports.specs.Reading.{Content, IsHeld}
-use Rattle.ports.specs.Writing.{Got, GotPrefix}
+use Rattle.ports.specs.Writing.{Got, GotPrefix, SinkReport}
 use Rattle.ports.specs.declared.entry.Entry.{Entry}
 use Rattle.ports.specs.declared.links.TheConstants.{PIECE_LIMIT}
 use Rattle.run_laws.specs.Taking.{replies_on}

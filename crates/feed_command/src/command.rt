@@ -1,10 +1,10 @@
 ghost use Rattle.std.specs.Prelude.{◌≡◌, ◌≢◌, ◌≤◌, ◌⊎◌, [], ◌∷◌};
 ghost use Rattle.std.specs.Option.{ForSome};
 ghost use Rattle.file_run.specs.command_io.Endings.{HasNoConfig, IsComplete, IsRefusalOrMemory, ReadsFiles, status_of};
-ghost use Rattle.file_run.specs.command_io.Reports.{LinksReport, reports, sink_report, store_report};
+ghost use Rattle.ports.specs.Calls.{LinksReport};
+ghost use Rattle.file_run.specs.command_io.Reports.{reports};
 ghost use Rattle.feed_command.specs.Feeds.{FeedEnds, Feeds, FileEnds};
 ghost use Rattle.file_run.specs.Files.{OtherReads, ReadCounts};
-ghost use Rattle.file_run.specs.hub_meaning.Verdicts.{patterns_state};
 ghost use Rattle.ports.specs.Counts.{Rose};
 
 use crate::serve::serve_bytes;
@@ -44,22 +44,16 @@ pub fn feed<S: Store, O: Sink, E: Sink, P: Patterns, G: Ledger>(
     patterns: &mut P,
     steps: &mut Steps<G>,
 ) -> Status
-    ensures promise { (links : LinksReport) → Feeds config.now file.now
-        (reports (store_report (S.held store.old) (S.reads store.old) (S.taken store.old)
-        (S.faults store.old)) links
-        (sink_report (O.text out.old) (O.puts out.old) (O.faults out.old))
-        (sink_report (E.text err.old) (E.puts err.old) (E.faults err.old))
-        (patterns_state (P.refusals patterns.old) (P.refused patterns.old)) steps.old.forks)
-        (reports (store_report (S.held store.new) (S.reads store.new) (S.taken store.new)
-        (S.faults store.new)) links
-        (sink_report (O.text out.new) (O.puts out.new) (O.faults out.new))
-        (sink_report (E.text err.new) (E.puts err.new) (E.faults err.new))
-        (patterns_state (P.refusals patterns.new) (P.refused patterns.new)) steps.new.forks)
-        (patterns.new ≡ patterns.old) result }
+    ensures promise { (links : LinksReport) →
+        Feeds config.now file.now (reports (S.report store.old) links (O.report out.old)
+        (E.report err.old) (P.report patterns.old) steps.old.forks)
+        (reports (S.report store.new) links (O.report out.new) (E.report err.new)
+        (P.report patterns.new) steps.new.forks) (patterns.new ≡ patterns.old) result }
     ensures read_fault { result ≡ Status.ReadFault →
-        Rose (S.faults store.old) (S.faults store.new) }
+        Rose (S.report store.old).faults (S.report store.new).faults }
     ensures sink_fault { result ≡ Status.SinkFault →
-        Rose (O.faults out.old) (O.faults out.new) ⊎ Rose (E.faults err.old) (E.faults err.new) }
+        Rose (O.report out.old).faults (O.report out.new).faults ⊎ Rose (E.report err.old).faults
+        (E.report err.new).faults }
     ensures links_work { result ≢ Status.LinkFault }
     ensures untouched { IsRefusalOrMemory result → out.new ≡ out.old }
 {
@@ -78,24 +72,18 @@ fn feed_files<S: Store, O: Sink, E: Sink, P: Patterns, G: Ledger>(
     patterns: &mut P,
     steps: &mut Steps<G>,
 ) -> Ending
-    ensures ends { (links : LinksReport) →
-        FeedEnds (S.held store.old config.now) (S.held store.old file.now)
-        (reports (store_report (S.held store.old) (S.reads store.old) (S.taken store.old)
-        (S.faults store.old)) links
-        (sink_report (O.text out.old) (O.puts out.old) (O.faults out.old))
-        (sink_report (E.text err.old) (E.puts err.old) (E.faults err.old))
-        (patterns_state (P.refusals patterns.old) (P.refused patterns.old)) steps.old.forks)
-        (reports (store_report (S.held store.new) (S.reads store.new) (S.taken store.new)
-        (S.faults store.new)) links
-        (sink_report (O.text out.new) (O.puts out.new) (O.faults out.new))
-        (sink_report (E.text err.new) (E.puts err.new) (E.faults err.new))
-        (patterns_state (P.refusals patterns.new) (P.refused patterns.new)) steps.new.forks)
-        result }
+    ensures ends { (links : LinksReport) → FeedEnds ((S.report store.old).held config.now)
+        ((S.report store.old).held file.now)
+        (reports (S.report store.old) links (O.report out.old) (E.report err.old)
+        (P.report patterns.old) steps.old.forks)
+        (reports (S.report store.new) links (O.report out.new) (E.report err.new)
+        (P.report patterns.new) steps.new.forks) result }
     ensures reads { ReadsFiles (config.now ∷ (file.now ∷ []))
-        (ReadCounts (S.held store.old config.now) result) (S.reads store.old)
-        (S.reads store.new) result }
-    ensures quiet { IsComplete result → (S.faults store.new ≡ S.faults store.old) ×
-        (O.faults out.new ≡ O.faults out.old) × (E.faults err.new ≡ E.faults err.old) }
+        (ReadCounts ((S.report store.old).held config.now) result) (S.report store.old).reads
+        (S.report store.new).reads result }
+    ensures quiet { IsComplete result → ((S.report store.new).faults ≡ (S.report store.old).faults)
+        × ((O.report out.new).faults ≡ (O.report out.old).faults) ×
+        ((E.report err.new).faults ≡ (E.report err.old).faults) }
     ensures untouched { IsRefusalOrMemory (status_of result) → out.new ≡ out.old }
     ensures unasked { HasNoConfig result → patterns.new ≡ patterns.old }
 {
@@ -118,21 +106,16 @@ fn feed_file<S: Store, O: Sink, E: Sink, P: Patterns, G: Ledger>(
 ) -> Ending
     requires interval { ForSome setup.expiry (λ set. (1 ≤ set.interval) ×
         (set.interval ≤ 604800)) }
-    ensures ends { (links : LinksReport) → FileEnds setup (S.held store.old file.now)
-        (reports (store_report (S.held store.old) (S.reads store.old) (S.taken store.old)
-        (S.faults store.old)) links
-        (sink_report (O.text out.old) (O.puts out.old) (O.faults out.old))
-        (sink_report (E.text err.old) (E.puts err.old) (E.faults err.old))
-        (patterns_state (P.refusals patterns.old) (P.refused patterns.old)) steps.old.forks)
-        (reports (store_report (S.held store.new) (S.reads store.new) (S.taken store.new)
-        (S.faults store.new)) links
-        (sink_report (O.text out.new) (O.puts out.new) (O.faults out.new))
-        (sink_report (E.text err.new) (E.puts err.new) (E.faults err.new))
-        (patterns_state (P.refusals patterns.new) (P.refused patterns.new)) steps.new.forks)
+    ensures ends { (links : LinksReport) → FileEnds setup ((S.report store.old).held file.now)
+        (reports (S.report store.old) links (O.report out.old) (E.report err.old)
+        (P.report patterns.old) steps.old.forks)
+        (reports (S.report store.new) links (O.report out.new) (E.report err.new)
+        (P.report patterns.new) steps.new.forks) result }
+    ensures reads { OtherReads file.now (S.report store.old).reads (S.report store.new).reads
         result }
-    ensures reads { OtherReads file.now (S.reads store.old) (S.reads store.new) result }
-    ensures quiet { IsComplete result → (S.faults store.new ≡ S.faults store.old) ×
-        (O.faults out.new ≡ O.faults out.old) × (E.faults err.new ≡ E.faults err.old) }
+    ensures quiet { IsComplete result → ((S.report store.new).faults ≡ (S.report store.old).faults)
+        × ((O.report out.new).faults ≡ (O.report out.old).faults) ×
+        ((E.report err.new).faults ≡ (E.report err.old).faults) }
     ensures untouched { IsRefusalOrMemory (status_of result) → out.new ≡ out.old }
     ensures asked { HasNoConfig result → ⊥ }
 {

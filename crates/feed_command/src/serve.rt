@@ -1,12 +1,13 @@
 ghost use Rattle.std.specs.Prelude.{◌≡◌, ℕ, ◌≤◌, List, [], length};
 ghost use Rattle.std.specs.Option.{ForSome};
 ghost use Rattle.file_run.specs.command_io.Endings.{IsComplete, IsRefusalOrMemory, status_of};
-ghost use Rattle.file_run.specs.command_io.Reports.{LinksReport, StoreReport, reports, sink_report};
+ghost use Rattle.ports.specs.Calls.{LinksReport};
+ghost use Rattle.ports.specs.Reading.{StoreReport};
+ghost use Rattle.file_run.specs.command_io.Reports.{reports};
 ghost use Rattle.feed_command.specs.Feeding.{WritesReplies};
 ghost use Rattle.feed_command.specs.Feeds.{BytesEnd};
 ghost use Rattle.file_run.specs.Files.{IsAfterRun};
 ghost use Rattle.framing.specs.Frames.{partial};
-ghost use Rattle.file_run.specs.hub_meaning.Verdicts.{patterns_state};
 ghost use Rattle.ports.specs.Pieces.{feed_script};
 
 use crate::left::bytes_left;
@@ -33,16 +34,13 @@ pub(crate) fn serve_bytes<O: Sink, E: Sink, P: Patterns, G: Ledger>(
 ) -> Ending
     requires interval { ForSome setup.expiry (λ set. (1 ≤ set.interval) ×
         (set.interval ≤ 604800)) }
-    ensures ends { (store store' : StoreReport) (links : LinksReport) → BytesEnd setup bytes
-        (reports store links (sink_report (O.text out.old) (O.puts out.old) (O.faults out.old))
-        (sink_report (E.text err.old) (E.puts err.old) (E.faults err.old))
-        (patterns_state (P.refusals patterns.old) (P.refused patterns.old)) steps.old.forks)
-        (reports store' links (sink_report (O.text out.new) (O.puts out.new) (O.faults out.new))
-        (sink_report (E.text err.new) (E.puts err.new) (E.faults err.new))
-        (patterns_state (P.refusals patterns.new) (P.refused patterns.new)) steps.new.forks)
-        result }
-    ensures quiet { IsComplete result → (O.faults out.new ≡ O.faults out.old) ×
-        (E.faults err.new ≡ E.faults err.old) }
+    ensures ends { (store store' : StoreReport) (links : LinksReport) →
+        BytesEnd setup bytes (reports store links (O.report out.old) (E.report err.old)
+        (P.report patterns.old) steps.old.forks)
+        (reports store' links (O.report out.new) (E.report err.new) (P.report patterns.new)
+        steps.new.forks) result }
+    ensures quiet { IsComplete result → ((O.report out.new).faults ≡ (O.report out.old).faults) ×
+        ((E.report err.new).faults ≡ (E.report err.old).faults) }
     ensures after { IsAfterRun result }
     ensures untouched { IsRefusalOrMemory (status_of result) → out.new ≡ out.old }
 {
@@ -69,16 +67,12 @@ fn serve_links<O: Sink, E: Sink, P: Patterns, G: Ledger>(
     requires begins { links.log ≡ [] }
     ensures ends { (bytes : List ℕ) (store store' : StoreReport) (given : LinksReport) →
         links.script ≡ feed_script PIECE_LIMIT bytes → left ≡ length (partial bytes) →
-        BytesEnd setup bytes
-        (reports store given (sink_report (O.text out.old) (O.puts out.old) (O.faults out.old))
-        (sink_report (E.text err.old) (E.puts err.old) (E.faults err.old))
-        (patterns_state (P.refusals patterns.old) (P.refused patterns.old)) steps.old.forks)
-        (reports store' given (sink_report (O.text out.new) (O.puts out.new) (O.faults out.new))
-        (sink_report (E.text err.new) (E.puts err.new) (E.faults err.new))
-        (patterns_state (P.refusals patterns.new) (P.refused patterns.new)) steps.new.forks)
-        result }
-    ensures quiet { IsComplete result → (O.faults out.new ≡ O.faults out.old) ×
-        (E.faults err.new ≡ E.faults err.old) }
+        BytesEnd setup bytes (reports store given (O.report out.old) (E.report err.old)
+        (P.report patterns.old) steps.old.forks)
+        (reports store' given (O.report out.new) (E.report err.new) (P.report patterns.new)
+        steps.new.forks) result }
+    ensures quiet { IsComplete result → ((O.report out.new).faults ≡ (O.report out.old).faults) ×
+        ((E.report err.new).faults ≡ (E.report err.old).faults) }
     ensures after { IsAfterRun result }
     ensures untouched { IsRefusalOrMemory (status_of result) → out.new ≡ out.old }
 {
@@ -96,10 +90,9 @@ fn serve_links<O: Sink, E: Sink, P: Patterns, G: Ledger>(
 /// Writes the replies to a file, of which `left` bytes come after the last whole frame.
 fn write_replies<O: Sink>(replies: &[u8], left: usize, out: &mut O) -> Ending
     ensures after { IsAfterRun result }
-    ensures writes { (rest : List ℕ) → left ≡ length rest → WritesReplies replies.now rest
-        (sink_report (O.text out.old) (O.puts out.old) (O.faults out.old))
-        (sink_report (O.text out.new) (O.puts out.new) (O.faults out.new)) result }
-    ensures quiet { IsComplete result → O.faults out.new ≡ O.faults out.old }
+    ensures writes { (rest : List ℕ) → left ≡ length rest →
+        WritesReplies replies.now rest (O.report out.old) (O.report out.new) result }
+    ensures quiet { IsComplete result → (O.report out.new).faults ≡ (O.report out.old).faults }
     ensures untouched { IsRefusalOrMemory (status_of result) → out.new ≡ out.old }
 {
     let Ok(()) = put_all(out, replies) else {

@@ -5,7 +5,6 @@ use Rattle.command_setup.proofs.CommandIoSinks.{appended_twice}
 use Rattle.command_setup.specs.command_io.Endings.{HasNoConfig, HaveFailed, IsComplete, IsReadOnce, IsRefusal, ReadsFiles, status_of}
 use Rattle.command_setup.specs.command_io.Files.{IsFileFault, LastFailed, ReadMore, bad_read, good_read, read_name, reads_of_fault}
 use Rattle.command_setup.specs.command_io.Fetches.{ending_of_file}
-use Rattle.command_setup.specs.command_io.Reports.{StoreReport}
 use Rattle.command_setup.specs.command_io.declared.ending.Ending.{Ending}
 use Rattle.command_setup.specs.command_io.declared.ending.Ending.TheVariants.{Finished, ConfigRefused, Unread, OverLimit, BytesLeft, WriteFailed, LinksFailed, ScriptRefused, OutOfMemory}
 use Rattle.command_setup.specs.command_io.declared.ending.Source.TheVariants.{ConfigFile, OtherFile}
@@ -15,10 +14,10 @@ use Rattle.command_setup.specs.command_io.declared.read.FileFault.TheVariants as
 use Rattle.command_setup.specs.command_io.declared.status.Status.TheVariants.{ReadFault}
 use Rattle.command_setup.proofs.CommandIoEndingLaws.{not_over}
 use Rattle.command_setup.specs.Setups.{RefusesSetup, SetsUp}
-use Rattle.command_setup.specs.hub_meaning.Verdicts.{PatternsState}
+use Rattle.command_setup.specs.hub_meaning.Verdicts.{PatternsReport}
 use Rattle.command_setup.specs.hub_run.declared.setup.Setup.{Setup}
 use Rattle.ports.specs.Counts.{IsStill, Rose}
-use Rattle.ports.specs.Reading.{Content, IsHeld}
+use Rattle.ports.specs.Reading.{Content, IsHeld, StoreReport}
 use Rattle.ports.specs.declared.store.StoreRead.{StoreRead}
 use Rattle.file_run.specs.Files.{IsAfterRun, IsOtherCount, OtherReads, ReadCounts, RefusesFile}
 
@@ -189,7 +188,7 @@ named_first f [] first other named = refl
 named_first f (read ∷ []) first other named = named
 named_first f (read ∷ (next ∷ made)) first other named = (let few = few_named f (read ∷ (next ∷ made)) first named in absurd (omega arith))
 
-first_counted : (content : Content) (store store' : StoreReport) (patterns patterns' : PatternsState) (ending : Ending) (count : ℕ)
+first_counted : (content : Content) (store store' : StoreReport) (patterns patterns' : PatternsReport) (ending : Ending) (count : ℕ)
     → RefusesSetup content store store' patterns patterns' ending → IsReadOnce ending count → count ≤ 1 → ReadCounts content ending count
 first_counted content store store' patterns patterns' (ConfigRefused refusal) count refuses counted few = (counted, λ two. absurd (omega arith))
 first_counted content store store' patterns patterns' (Unread ConfigFile) count refuses counted few = (counted, λ two. absurd (omega arith))
@@ -205,7 +204,7 @@ first_counted content store store' patterns patterns' (ScriptRefused line) count
 
 -- where the configuration was refused, the other file was not read
 pub first_read : (old new : Option (List StoreRead)) (config other : List ℕ) (content : Content) (store store' : StoreReport)
-    (patterns patterns' : PatternsState) (ending : Ending) → RefusesSetup content store store' patterns patterns' ending
+    (patterns patterns' : PatternsReport) (ending : Ending) → RefusesSetup content store store' patterns patterns' ending
     → ReadsFiles (config ∷ []) (IsReadOnce ending) old new ending → ReadsFiles (config ∷ (other ∷ [])) (ReadCounts content ending) old new ending
 first_read old new config other content store store' patterns patterns' ending refuses first = record {
   made = first.made;

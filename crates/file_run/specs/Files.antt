@@ -2,7 +2,6 @@
 use Rattle.std.specs.Prelude.{◌≡◌, ℕ, ◌+◌, ◌≤◌, List, [], ◌∷◌, length, Option, Result, Ok, Err}
 use Rattle.command_setup.specs.command_io.Endings.{ReadsFiles, of_source}
 use Rattle.command_setup.specs.command_io.Files.{ForHeld, ReadMore, good_read}
-use Rattle.command_setup.specs.command_io.Reports.{StoreReport}
 use Rattle.command_setup.specs.command_io.declared.ending.Ending.{Ending}
 use Rattle.command_setup.specs.command_io.declared.ending.Ending.TheVariants.{Finished, ConfigRefused, Unread, OverLimit, BytesLeft, WriteFailed, OutOfMemory}
 use Rattle.command_setup.specs.command_io.declared.ending.Source.TheVariants.{ConfigFile, OtherFile}
@@ -10,7 +9,7 @@ use Rattle.command_setup.specs.command_io.declared.limits.TheConstants.{FILE_LIM
 use Rattle.command_setup.specs.Setups.{SetsUp}
 use Rattle.command_setup.specs.hub_run.declared.setup.Setup.{Setup}
 use Rattle.ports.specs.Counts.{Rose, RoseBy}
-use Rattle.ports.specs.Reading.{Content, IsOverLimit}
+use Rattle.ports.specs.Reading.{Content, IsOverLimit, StoreReport}
 use Rattle.ports.specs.declared.store.StoreRead.{StoreRead}
 
 -- the file has these bytes, and is within its limit

@@ -1,7 +1,5 @@
 ghost use Rattle.std.specs.Prelude.{◌≡◌, ◌≢◌, ◌≤◌, [], Err, IfErr, OnOk};
 ghost use Rattle.std.specs.Option.{ForSome};
-ghost use Rattle.command_setup.specs.conn_core.Turning.{sink_got};
-ghost use Rattle.command_setup.specs.hub_meaning.Verdicts.{patterns_state};
 ghost use Rattle.command_setup.specs.hub_run.Runs.{run_report};
 ghost use Rattle.ports.specs.Counts.{Rose};
 ghost use Rattle.file_run.specs.Runs.{RunsScript, RunsWhole};
@@ -14,7 +12,7 @@ use step_count::{Ledger, Steps};
 
 /// Runs a server over the links from the first turn of their script to its last, with at most `u64::MAX` turns.
 /// Notices are written to `sink`, a line in each put.
-#[tactic(auto, using(crate::proofs::PlayLaws::plays_at_first, crate::proofs::PlayLaws::run_of_all, crate::proofs::PlayLaws::scripted))]
+#[tactic(auto, using(crate::proofs::PlayLaws::ran_script, crate::proofs::PlayLaws::same_script))]
 pub fn run_script<O: Sink, P: Patterns, G: Ledger>(
     alloc: Global,
     setup: Setup,
@@ -27,21 +25,18 @@ pub fn run_script<O: Sink, P: Patterns, G: Ledger>(
         (set.interval ≤ 604800)) }
     requires begins { links.old.log ≡ [] }
     ensures whole { OnOk result (RunsWhole setup links.old.script
-        (run_report (patterns_state (P.refusals patterns.old) (P.refused patterns.old))
-        steps.old.forks (sink_got (O.text sink.old) (O.puts sink.old)))
-        (run_report (patterns_state (P.refusals patterns.new) (P.refused patterns.new))
-        steps.new.forks (sink_got (O.text sink.new) (O.puts sink.new))) links.new.log) }
+        (run_report (P.report patterns.old) steps.old.forks (O.report sink.old))
+        (run_report (P.report patterns.new) steps.new.forks (O.report sink.new)) links.new.log) }
     ensures cut { IfErr result (λ fault. RunsScript setup links.old.script
-        (run_report (patterns_state (P.refusals patterns.old) (P.refused patterns.old))
-        steps.old.forks (sink_got (O.text sink.old) (O.puts sink.old)))
-        (run_report (patterns_state (P.refusals patterns.new) (P.refused patterns.new))
-        steps.new.forks (sink_got (O.text sink.new) (O.puts sink.new))) (Err fault)
+        (run_report (P.report patterns.old) steps.old.forks (O.report sink.old))
+        (run_report (P.report patterns.new) steps.new.forks (O.report sink.new)) (Err fault)
         links.new.log) }
     ensures script { links.new.script ≡ links.old.script }
     ensures links_work { result ≢ Err RunFault.Links }
     ensures sink_fault { result ≡ Err RunFault.Sink →
-        Rose (O.faults sink.old) (O.faults sink.new) }
-    ensures sink_quiet { result ≢ Err RunFault.Sink → O.faults sink.new ≡ O.faults sink.old }
+        Rose (O.report sink.old).faults (O.report sink.new).faults }
+    ensures sink_quiet { result ≢ Err RunFault.Sink → (O.report sink.new).faults ≡
+        (O.report sink.old).faults }
 {
     let _hub = run(alloc, setup, u64::MAX, links, sink, patterns, steps)?;
     Ok(())

@@ -14,7 +14,7 @@ use Rattle.msg_replies.specs.hub_meaning.Links.{Link, unsent}
 use Rattle.msg_replies.specs.hub_meaning.Messages.{posts_of}
 use Rattle.msg_replies.specs.hub_meaning.Replies.{reply_to}
 use Rattle.msg_replies.specs.hub_meaning.Runs.{Talk, all_answered, answered, with_reply}
-use Rattle.msg_replies.specs.hub_meaning.Verdicts.{AfterVerdicts, IsOfRule, IsPossible, Message, PatternsState, Refusal, built_rule, judged}
+use Rattle.msg_replies.specs.hub_meaning.Verdicts.{AfterVerdicts, IsOfRule, IsPossible, Message, PatternsReport, Refusal, built_rule, judged}
 use Rattle.msg_replies.specs.Answering.{AnswersMessage, Replies}
 use Rattle.msg_replies.specs.Arriving.{Arrives, Reported}
 use Rattle.msg_replies.proofs.AnswerLaws.{arrives_nothing, arrives_then}
@@ -116,7 +116,7 @@ module _ (core one two : Core) (left left' left'' : List ℕ) (a b c : Reported)
 -- ---- the loop over the frames
 
 -- these messages were answered, and removed from what is held
-pub record SoFar (input input' : Held) (left left' : List ℕ) (core core' : Core) (patterns patterns' : PatternsState) (old new : Reported) : Type 0 where
+pub record SoFar (input input' : Held) (left left' : List ℕ) (core core' : Core) (patterns patterns' : PatternsReport) (old new : Reported) : Type 0 where
   pub messages : List Message
   pub frames : frames_of input.bytes ≡ map body_of messages ++ frames_of input'.bytes
   pub rest : partial input.bytes ≡ partial input'.bytes
@@ -125,7 +125,7 @@ pub record SoFar (input input' : Held) (left left' : List ℕ) (core core' : Cor
   pub possible : (talk : Talk) → IsTalk core left talk → ArePossible (config_of core) (now_of core) messages talk
   pub answered : (talk : Talk) → IsTalk core left talk → Answered core core' left' old new messages talk
 
-pub so_far_nothing : (input : Held) (left : List ℕ) (core : Core) (patterns : PatternsState) (old : Reported) → SoFar input input left left core core patterns patterns old old
+pub so_far_nothing : (input : Held) (left : List ℕ) (core : Core) (patterns : PatternsReport) (old : Reported) → SoFar input input left left core core patterns patterns old old
 so_far_nothing input left core patterns old = record {
   messages = [];
   frames = refl;
@@ -136,7 +136,7 @@ so_far_nothing input left core patterns old = record {
   answered = λ talk is. answered_nothing core left old talk is;
 }
 
-module _ (input input' input'' : Held) (left left' left'' : List ℕ) (core one two : Core) (patterns patterns' patterns'' : PatternsState) (a b c : Reported) where
+module _ (input input' input'' : Held) (left left' left'' : List ℕ) (core one two : Core) (patterns patterns' patterns'' : PatternsReport) (a b c : Reported) where
   -- one message more
   pub so_far_more : SoFar input input' left left' core one patterns patterns' a b
       → AnswersFirst input' input'' left' left'' one two patterns' patterns'' b c (Ok true)
@@ -195,7 +195,7 @@ module _ (input input' input'' : Held) (left left' left'' : List ℕ) (core one 
       shorter [] body bodies verdict = omega arith
       shorter (message ∷ messages) body bodies verdict = let h = shorter messages body bodies verdict in omega arith
 
-module _ (input input' : Held) (left left' : List ℕ) (core one : Core) (patterns patterns' : PatternsState) (a b : Reported) where
+module _ (input input' : Held) (left left' : List ℕ) (core one : Core) (patterns patterns' : PatternsReport) (a b : Reported) where
   -- no frame is left
   pub so_far_all : SoFar input input' left left' core one patterns patterns' a b → (HasFrame input'.bytes → ⊥) → AnswersFrames input input' left left' core one patterns patterns' a b (Ok tt)
   so_far_all so_far bare =
@@ -216,7 +216,7 @@ module _ (input input' : Held) (left left' : List ℕ) (core one : Core) (patter
       same_length [] = omega arith
       same_length (message ∷ messages) = let h = same_length messages in omega arith
 
-module _ (input input' input'' : Held) (left left' left'' : List ℕ) (core one two : Core) (patterns patterns' patterns'' : PatternsState) (a b c : Reported) where
+module _ (input input' input'' : Held) (left left' left'' : List ℕ) (core one two : Core) (patterns patterns' patterns'' : PatternsReport) (a b c : Reported) where
   -- after one round of the loop
   pub so_far_next : (whole : Bool) → whole ≡ true → SoFar input input' left left' core one patterns patterns' a b
       → AnswersFirst input' input'' left' left'' one two patterns' patterns'' b c (Ok whole) → SoFar input input'' left left'' core two patterns patterns'' a c

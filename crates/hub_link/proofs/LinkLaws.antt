@@ -17,7 +17,7 @@ use Rattle.msg_replies.specs.hub_meaning.declared.status.Status.{Status}
 use Rattle.msg_replies.specs.hub_meaning.declared.status.Status.TheVariants.{Open, ReadClosed, Closing, Closed}
 use Rattle.msg_replies.specs.hub_meaning.Replies.{reply_to_oversized}
 use Rattle.msg_replies.specs.hub_meaning.Runs.{RunState, Talk, all_answered, answered, cut_off, is_oversized, messages_in, new_frames, talk_of, with_reply}
-use Rattle.msg_replies.specs.hub_meaning.Verdicts.{Message, PatternsState, Refusal, judged}
+use Rattle.msg_replies.specs.hub_meaning.Verdicts.{Message, PatternsReport, Refusal, judged}
 use Rattle.msg_replies.proofs.HubMeaningRunLaws.{new_frames_rest}
 use Rattle.msg_replies.specs.Arriving.{Reported}
 use Rattle.msg_replies.proofs.AnswerLaws.{arrives_nothing}
@@ -106,7 +106,7 @@ no_verdicts_are piece link core state meant = by_case (is_open meant)
 abbrev no_talk : RunState → Link → Talk
 no_talk state meant = record { arrivals = state.arrivals; link = meant }
 
-pub hears_nothing : (piece : List ℕ) (link : HubLink) (core : Core) (patterns : PatternsState) (old : Reported) → ((meant : Link) → RepresentsLink link meant → is_open meant ≡ false)
+pub hears_nothing : (piece : List ℕ) (link : HubLink) (core : Core) (patterns : PatternsReport) (old : Reported) → ((meant : Link) → RepresentsLink link meant → is_open meant ≡ false)
     → HearsPiece piece link link core core patterns patterns old old (Ok tt)
 hears_nothing piece link core patterns old shut = record {
   verdicts = [];
@@ -125,7 +125,7 @@ hears_nothing piece link core patterns old shut = record {
 }
 
 -- there was no memory for the piece
-pub hears_no_piece : (piece : List ℕ) (link link' : HubLink) (core : Core) (patterns : PatternsState) (old : Reported) (memory : Memory) → HearsPiece piece link link' core core patterns patterns old old (Err memory)
+pub hears_no_piece : (piece : List ℕ) (link link' : HubLink) (core : Core) (patterns : PatternsReport) (old : Reported) (memory : Memory) → HearsPiece piece link link' core core patterns patterns old old (Err memory)
 hears_no_piece piece link link' core patterns old memory = record {
   verdicts = [];
   reported = no_verdicts patterns;
@@ -133,7 +133,7 @@ hears_no_piece piece link link' core patterns old memory = record {
   heard = tt;
 }
 
-module _ (piece : List ℕ) (link : HubLink) (pushed held : Held) (left : List ℕ) (core core' : Core) (patterns patterns' : PatternsState) (old new : Reported)
+module _ (piece : List ℕ) (link : HubLink) (pushed held : Held) (left : List ℕ) (core core' : Core) (patterns patterns' : PatternsReport) (old new : Reported)
     (opened : IsOpenLink link) (is_held : IsHeldOf link piece pushed) where
   -- memory ran out at one of the messages, or at a length over the limit
   pub hears_in_part : (link' : HubLink) (memory : Memory) (result : Result (Unit {0}) Memory) → AnswersFrames pushed held link.unsent left core core' patterns patterns' old new result

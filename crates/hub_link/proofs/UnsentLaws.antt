@@ -4,13 +4,13 @@ use Rattle.std.specs.Prelude.{Result}
 use Rattle.std.proofs.lemmas.List.{take_all, take-append-le}
 use Rattle.msg_replies.specs.event_core.declared.arrivals.Core.{Core}
 use Rattle.list_laws.specs.declared.memory.Memory.{Memory}
-use Rattle.msg_replies.specs.hub_meaning.Verdicts.{PatternsState}
+use Rattle.msg_replies.specs.hub_meaning.Verdicts.{PatternsReport}
 use Rattle.msg_replies.specs.Answering.{AnswersMessage}
 use Rattle.msg_replies.specs.Arriving.{Reported}
 use Rattle.msg_replies.proofs.AnswerLaws.{on_ok}
 
 -- a reply that is appended to what came later is appended to the whole
-pub answers_after : (front later later' : List ℕ) (body : List ℕ) (count : ℕ) (core core' : Core) (patterns patterns' : PatternsState) (old new : Reported) (result : Result (Unit {0}) Memory)
+pub answers_after : (front later later' : List ℕ) (body : List ℕ) (count : ℕ) (core core' : Core) (patterns patterns' : PatternsReport) (old new : Reported) (result : Result (Unit {0}) Memory)
     → AnswersMessage body count core core' patterns patterns' later later' old new result
     → AnswersMessage body count core core' patterns patterns' (front ++ later) (front ++ later') old new result
 answers_after front later later' body count core core' patterns patterns' old new result answers = record {

@@ -9,12 +9,12 @@ use Rattle.stream_meaning.specs.Arrivals.{Arrival}
 use Rattle.msg_replies.specs.hub_meaning.Legal.{ArePossible}
 use Rattle.msg_replies.specs.hub_meaning.Links.{unsent}
 use Rattle.msg_replies.specs.hub_meaning.Runs.{Talk, all_answered}
-use Rattle.msg_replies.specs.hub_meaning.Verdicts.{AfterVerdicts, Message, PatternsState, Refusal, judged}
+use Rattle.msg_replies.specs.hub_meaning.Verdicts.{AfterVerdicts, Message, PatternsReport, Refusal, judged}
 use Rattle.msg_replies.specs.Answering.{AnswersMessage}
 use Rattle.msg_replies.specs.Arriving.{Arrives, Reported}
 
 -- nothing came of it
-pub record IsSame (input input' : Held) (left left' : List ℕ) (core core' : Core) (patterns patterns' : PatternsState) (old new : Reported) : Type 0 where
+pub record IsSame (input input' : Held) (left left' : List ℕ) (core core' : Core) (patterns patterns' : PatternsReport) (old new : Reported) : Type 0 where
   pub input_is : input' ≡ input
   pub left_is : left' ≡ left
   pub core_is : core' ≡ core
@@ -22,7 +22,7 @@ pub record IsSame (input input' : Held) (left left' : List ℕ) (core core' : Co
   pub reported_is : new ≡ old
 
 -- the first frame's message was answered and the frame removed, or there is no whole frame
-abbrev pub AnswersFirst : Held → Held → List ℕ → List ℕ → Core → Core → PatternsState → PatternsState → Reported → Reported → Result Bool Memory → Type 0
+abbrev pub AnswersFirst : Held → Held → List ℕ → List ℕ → Core → Core → PatternsReport → PatternsReport → Reported → Reported → Result Bool Memory → Type 0
 AnswersFirst input input' left left' core core' patterns patterns' old new (Ok true) =
     HandsOut input (first_body input.bytes) input'
     × AnswersMessage (first_body input.bytes) (length left) core core' patterns patterns' left left' old new (Ok tt)
@@ -48,7 +48,7 @@ pub record Answered (core core' : Core) (left' : List ℕ) (old new : Reported) 
       ≤ length (all_answered (config_of core) (now_of core) messages talk).link.replies
 
 -- the messages of all whole frames were answered, or memory ran out at one of them
-pub record AnswersFrames (input input' : Held) (left left' : List ℕ) (core core' : Core) (patterns patterns' : PatternsState) (old new : Reported)
+pub record AnswersFrames (input input' : Held) (left left' : List ℕ) (core core' : Core) (patterns patterns' : PatternsReport) (old new : Reported)
     (result : Result (Unit {0}) Memory) : Type 0 where
   pub verdicts : List (Option Refusal)
   pub few : length verdicts ≤ length (frames_of input.bytes)

@@ -7,7 +7,7 @@ use Rattle.stream_meaning.specs.Arrivals.{Arrival}
 use Rattle.msg_replies.specs.hub_meaning.Legal.{VerdictsIf}
 use Rattle.msg_replies.specs.hub_meaning.Links.{Link, is_open}
 use Rattle.msg_replies.specs.hub_meaning.Runs.{RunState, Talk, all_answered, cut_off, messages_in, talk_of}
-use Rattle.msg_replies.specs.hub_meaning.Verdicts.{AfterVerdicts, PatternsState, Refusal}
+use Rattle.msg_replies.specs.hub_meaning.Verdicts.{AfterVerdicts, PatternsReport, Refusal}
 use Rattle.msg_replies.specs.Arriving.{Arrives, Reported}
 use Rattle.hub_link.specs.declared.link.HubLink.{HubLink}
 use Rattle.hub_link.specs.HubLink.{RepresentsLink}
@@ -37,7 +37,7 @@ pub record Hears (piece : List ℕ) (verdicts : List (Option Refusal)) (core cor
   pub link : RepresentsLink link' (talk_after (config_of core) piece verdicts state meant).link
 
 -- The piece was heard, or memory ran out; the verdicts on its messages are those that were reported of the patterns.
-pub record HearsPiece (piece : List ℕ) (link link' : HubLink) (core core' : Core) (patterns patterns' : PatternsState) (old new : Reported)
+pub record HearsPiece (piece : List ℕ) (link link' : HubLink) (core core' : Core) (patterns patterns' : PatternsReport) (old new : Reported)
     (result : Result (Unit {0}) Memory) : Type 0 where
   pub verdicts : List (Option Refusal)
   pub reported : AfterVerdicts patterns patterns' verdicts

@@ -1,5 +1,4 @@
 ghost use Rattle.std.specs.Prelude.{◌≡◌, OnOk};
-ghost use Rattle.msg_replies.specs.hub_meaning.Verdicts.{patterns_state};
 ghost use Rattle.msg_replies.specs.Arriving.{reported};
 ghost use Rattle.framing.specs.Frames.{HasFrame};
 ghost use Rattle.hub_link.specs.Answering.{AnswersFirst, AnswersFrames};
@@ -26,9 +25,8 @@ pub(crate) fn answer_frames<P: Patterns, G: Ledger>(
     steps: &mut Steps<G>,
 ) -> Result<(), Memory>
     ensures frames { AnswersFrames input.old input.new unsent.old unsent.new core.old core.new
-        (patterns_state (P.refusals patterns.old) (P.refused patterns.old))
-        (patterns_state (P.refusals patterns.new) (P.refused patterns.new))
-        (reported notices.old steps.old.forks) (reported notices.new steps.new.forks) result }
+        (P.report patterns.old) (P.report patterns.new) (reported notices.old steps.old.forks)
+        (reported notices.new steps.new.forks) result }
     ensures none_left { OnOk result (HasFrame input.new.bytes → ⊥) }
 {
     'frames: loop {
@@ -51,9 +49,8 @@ fn answer_first<P: Patterns, G: Ledger>(
     steps: &mut Steps<G>,
 ) -> Result<bool, Memory>
     ensures { AnswersFirst input.old input.new unsent.old unsent.new core.old core.new
-        (patterns_state (P.refusals patterns.old) (P.refused patterns.old))
-        (patterns_state (P.refusals patterns.new) (P.refused patterns.new))
-        (reported notices.old steps.old.forks) (reported notices.new steps.new.forks) result }
+        (P.report patterns.old) (P.report patterns.new) (reported notices.old steps.old.forks)
+        (reported notices.new steps.new.forks) result }
 {
     match input.front() {
         FirstFrame::Whole(body) => {

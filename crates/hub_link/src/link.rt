@@ -3,10 +3,8 @@ ghost use Rattle.msg_replies.specs.hub_meaning.Replies.{reply_to_oversized};
 ghost use Rattle.msg_replies.specs.hub_meaning.Legal.{MayClose};
 ghost use Rattle.msg_replies.specs.hub_meaning.Links.{Link, broken, connected, connected_limit, ended, is_open, is_open_status, is_read_closed_status, new_link, sent, unblocked, want_of};
 ghost use Rattle.msg_replies.specs.hub_meaning.Runs.{cut_off};
-ghost use Rattle.msg_replies.specs.hub_meaning.Verdicts.{patterns_state};
 ghost use Rattle.msg_replies.specs.Arriving.{reported};
 ghost use Rattle.ports.specs.Links.{IsWithin};
-ghost use Rattle.ports.specs.Playing.{Plays};
 ghost use Rattle.hub_link.specs.Added.{Added};
 ghost use Rattle.hub_link.specs.Hearing.{HearsPiece};
 ghost use Rattle.hub_link.specs.HubLink.{Follows, RepresentsLink, number_of};
@@ -74,9 +72,8 @@ impl HubLink {
     ) -> Result<(), Memory>
         ensures number { number_of self.new ≡ number_of self.old }
         ensures hears { HearsPiece piece.now self.old self.new core.old core.new
-            (patterns_state (P.refusals patterns.old) (P.refused patterns.old))
-            (patterns_state (P.refusals patterns.new) (P.refused patterns.new))
-            (reported notices.old steps.old.forks) (reported notices.new steps.new.forks) result }
+            (P.report patterns.old) (P.report patterns.new) (reported notices.old steps.old.forks)
+            (reported notices.new steps.new.forks) result }
     {
         if !self.is_open() {
             return Ok(());
@@ -212,12 +209,8 @@ impl HubLink {
     /// Sends what is unsent, until all was taken, or the link takes nothing now, or the send failed.
     pub fn send_all<L: Links>(&mut self, alloc: Global, links: &mut L) -> Result<(), Memory>
         ensures number { number_of self.new ≡ number_of self.old }
-        ensures sends { Added (L.log links.old) (L.log links.new) (Sends self.old self.new) }
+        ensures sends { Added (L.report links.old) (L.report links.new) (Sends self.old self.new) }
         ensures sent { OnOk result (IsSent self.new) }
-        ensures faults { L.faults links.new ≡ L.faults links.old }
-        ensures script { L.script links.new ≡ L.script links.old }
-        ensures plays { Plays (L.script links.old) (L.log links.old)
-            → Plays (L.script links.new) (L.log links.new) }
     {
         'sends: while self.can_send() {
             self.send(alloc, links)?;
@@ -236,12 +229,8 @@ impl HubLink {
     fn send<L: Links>(&mut self, alloc: Global, links: &mut L) -> Result<(), Memory>
         requires { can_send self.old ≡ true }
         ensures number { number_of self.new ≡ number_of self.old }
-        ensures sends { Added (L.log links.old) (L.log links.new) (Sends self.old self.new) }
+        ensures sends { Added (L.report links.old) (L.report links.new) (Sends self.old self.new) }
         ensures less { OnOk result (sendable self.new < sendable self.old) }
-        ensures faults { L.faults links.new ≡ L.faults links.old }
-        ensures script { L.script links.new ≡ L.script links.old }
-        ensures plays { Plays (L.script links.old) (L.log links.old)
-            → Plays (L.script links.new) (L.log links.new) }
     {
         let answer = links.send(alloc, self.number, self.unsent.front());
         self.note(alloc, answer);

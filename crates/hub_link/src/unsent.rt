@@ -1,6 +1,5 @@
 ghost use Rattle.std.specs.Prelude.{◌≡◌, ◌<◌, ◌≤◌, ◌++◌, [], length, take, drop, OnOk};
 ghost use Rattle.msg_replies.specs.hub_meaning.Replies.{reply_to_oversized};
-ghost use Rattle.msg_replies.specs.hub_meaning.Verdicts.{patterns_state};
 ghost use Rattle.msg_replies.specs.Answering.{AnswersMessage};
 ghost use Rattle.msg_replies.specs.Arriving.{reported};
 
@@ -79,10 +78,8 @@ impl Unsent {
         steps: &mut Steps<G>,
     ) -> Result<(), Memory>
         ensures { AnswersMessage body.now (length self.old) core.old core.new
-            (patterns_state (P.refusals patterns.old) (P.refused patterns.old))
-            (patterns_state (P.refusals patterns.new) (P.refused patterns.new))
-            self.old self.new (reported notices.old steps.old.forks)
-            (reported notices.new steps.new.forks) result }
+            (P.report patterns.old) (P.report patterns.new) self.old self.new
+            (reported notices.old steps.old.forks) (reported notices.new steps.new.forks) result }
     {
         let unsent = self.len();
         answer(

@@ -1,6 +1,6 @@
 -- Small runs, as the definitions compute them.
 use Rattle.std.specs.Prelude.{◌≡◌, ℕ, zero, suc, true, false, List, [], ◌∷◌, ◌++◌, length, None}
-use Rattle.event_core.specs.Core.{CoreConfig}
+use Rattle.stream_meaning.specs.Arrivals.{CoreConfig}
 use Rattle.ports.specs.declared.entry.Entry.{Entry}
 use Rattle.ports.specs.declared.entry.Entry.TheVariants.{Next, Send, Close}
 use Rattle.ports.specs.declared.links.SendAnswer.TheVariants.{Took, Later}

@@ -1,7 +1,7 @@
 -- Laws of runs.
 use Rattle.std.specs.Prelude.{◌≡◌, ℕ, ◌<◌, List, [], ◌∷◌, ◌++◌}
 use Rattle.std.specs.List.{AllByRecursion}
-use Rattle.event_core.specs.Core.{CoreConfig}
+use Rattle.stream_meaning.specs.Arrivals.{CoreConfig}
 use Rattle.framing.specs.Frames.{frames_of, partial}
 use Rattle.list_laws.specs.Prefix.{IsPrefix}
 use Rattle.hub_meaning.specs.Links.{Link}

@@ -1,6 +1,6 @@
 -- Which calls a server may make, one after another.
 use Rattle.std.specs.Prelude.{◌≡◌, ℕ, ◌<◌, ◌≤◌, Bool, true, false, List, [], ◌∷◌, length, take, Option, Some, None}
-use Rattle.event_core.specs.Core.{CoreConfig}
+use Rattle.stream_meaning.specs.Arrivals.{CoreConfig}
 use Rattle.ports.specs.declared.entry.Entry.{Entry}
 use Rattle.ports.specs.declared.entry.Entry.TheVariants.{Listen, Next, Send, Close}
 use Rattle.ports.specs.declared.links.Turn.{Turn}

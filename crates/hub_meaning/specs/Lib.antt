@@ -7,4 +7,3 @@ pub mod Runs
 pub mod Legal
 pub mod Laws
 pub mod Examples
-pub use Rattle.event_core.specs as event_core

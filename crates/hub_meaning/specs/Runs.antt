@@ -2,7 +2,6 @@
 -- one occurrence on one link.
 use Rattle.std.specs.Prelude.{ℕ, ◌-◌, if◌then◌else◌, List, [], ◌∷◌, ◌++◌, length, map, drop, replicate, Option, Some, None, nat_lt, ◌&&◌, nat_le, Bool, true, false}
 use Rattle.ev_types.specs.declared.item.Notice.{Notice}
-use Rattle.event_core.specs.Core.{CoreConfig, state_by, notices_by}
 use Rattle.framing.specs.declared.TheConstants.{BODY_LIMIT}
 use Rattle.framing.specs.Frames.{frames_of, partial, length_at}
 use Rattle.ports.specs.declared.entry.Entry.{Entry}
@@ -11,7 +10,7 @@ use Rattle.ports.specs.declared.links.Turn.{Turn}
 use Rattle.ports.specs.Playing.{is_turn_answer}
 use Rattle.ports.specs.declared.links.What.{What}
 use Rattle.ports.specs.declared.links.What.TheVariants.{Idle, Opened, Read, Ended, Broken, Room, Stopped, Failed, Memory}
-use Rattle.stream_meaning.specs.Arrivals.{Arrival, Elapsed}
+use Rattle.stream_meaning.specs.Arrivals.{Arrival, Elapsed, CoreConfig, state_by, notices_by}
 use Rattle.hub_meaning.specs.Clock.{next_moment}
 use Rattle.hub_meaning.specs.Links.{Link, ReadClosed, changed, closed, broken, ended, find_link, is_open, opened, sent, unblocked, unsent, with_status}
 use Rattle.hub_meaning.specs.Messages.{posts_of}

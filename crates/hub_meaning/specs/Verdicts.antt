@@ -4,6 +4,7 @@ use Rattle.std.specs.Prelude.{◌≡◌, ℕ, ◌≤◌, Bool, false, IsTrue, If
 use Rattle.std.specs.List.{flat_map, list_any}
 use Rattle.framing.specs.declared.TheConstants.{BODY_LIMIT}
 use Rattle.list_laws.specs.Counts.{Rose}
+pub use Rattle.pred_eval.specs.Building.{PatternsReport}
 use Rattle.pred_eval.specs.Tree.{Tree}
 use Rattle.pred_eval.specs.Truth.{searches}
 use Rattle.hub_meaning.specs.Messages.{rule_of}
@@ -50,16 +51,8 @@ refused_text refusal = refusal.text
 abbrev pub texts_refused : List (Option Refusal) → List (List ℕ)
 texts_refused = flat_map (λ verdict. option_to_list (option_map refused_text verdict))
 
--- what the object that builds patterns reports of itself: how many it refused, and which
-pub record PatternsState : Type 0 where
-  pub refusals : ℕ
-  pub refused : Option (List (List ℕ))
-
-abbrev pub patterns_state : ℕ → Option (List (List ℕ)) → PatternsState
-patterns_state refusals refused = record { refusals = refusals; refused = refused }
-
 -- after these verdicts: it refused exactly the patterns that they name
-pub record AfterVerdicts (old new : PatternsState) (verdicts : List (Option Refusal)) : Type 0 where
+pub record AfterVerdicts (old new : PatternsReport) (verdicts : List (Option Refusal)) : Type 0 where
   pub reported : new.refused ≡ option_map (λ texts. texts ++ texts_refused verdicts) old.refused
   pub never_falls : old.refusals ≤ new.refusals
   pub rose : IsTrue (list_any is_refused verdicts) → Rose old.refusals new.refusals

@@ -6,7 +6,6 @@ mod example;
 mod law;
 mod status;
 
-pub use event_core;
 pub use example::examples_are_computed;
 pub use law::{messages_come_whole, numbers_rise, prefixes_are_sent, steps_come_in_order};
 pub use status::Status;

@@ -1,9 +1,10 @@
 -- How a run goes on, turn after turn, and how it ends.
 use Rattle.std.proofs.Common.{◌≡◌, ◌≢◌, ◌↔◌, ℕ, Bool, true, false, ◌+◌, ◌<◌, inl, inr, List, [], ◌∷◌, ◌++◌, length, Ok, Err, refl, ap, sym, ◌∙◌, subst, arith, append-nil, length-append}
-use Rattle.std.specs.Prelude.{IsTrue, Option}
+use Rattle.std.specs.Prelude.{IsTrue}
 use Rattle.std.proofs.lemmas.Bool.{false≢true}
 use Rattle.std.specs.List.{AllByRecursion}
 use Rattle.conn_core.specs.event_core.Core.{CoreConfig}
+use Rattle.ports.specs.Calls.{LinksReport}
 use Rattle.ports.specs.declared.entry.Entry.{Entry}
 use Rattle.ports.specs.declared.links.Turn.{Turn}
 use Rattle.ports.specs.declared.links.What.TheVariants.{Stopped}
@@ -130,19 +131,19 @@ ends_at_limit config hub old new limit run took = record {
 
 -- ---- the loop
 
-pub record SoFar (log log' : Option (List Entry)) (hub hub' : Hub) (old new : RunReport) (count : ℕ) : Type 0 where
-  pub known : AreUnclosed log' (wants_in hub')
-  pub took : AddsRun log log' (TookFrom hub hub' old new count)
+pub record SoFar (before now : LinksReport) (hub hub' : Hub) (old new : RunReport) (count : ℕ) : Type 0 where
+  pub known : AreUnclosed now.log (wants_in hub')
+  pub took : AddsRun before now (TookFrom hub hub' old new count)
 
-pub so_far_nothing : (log : Option (List Entry)) (hub : Hub) (report : RunReport) → AreUnclosed log (wants_in hub) → SoFar log log hub hub report report 0
-so_far_nothing log hub report known = record {
+pub so_far_nothing : (links : LinksReport) (hub : Hub) (report : RunReport) → AreUnclosed links.log (wants_in hub) → SoFar links links hub hub report report 0
+so_far_nothing links hub report known = record {
   known = known;
-  took = adds_nothing log (TookFrom hub hub report report 0) (λ config follows. took_nothing config hub report follows);
+  took = adds_nothing links (TookFrom hub hub report report 0) (λ config follows. took_nothing config hub report follows);
 }
 
-module _ (a b c : Option (List Entry)) (hub one two : Hub) (old mid new : RunReport) (count : ℕ) (so_far : SoFar a b hub one old mid count) where
+module _ (a b c : LinksReport) (hub one two : Hub) (old mid new : RunReport) (count : ℕ) (so_far : SoFar a b hub one old mid count) where
   -- one more turn, which was not the last
-  pub so_far_more : (turn : Turn) → turn.what ≢ Stopped → AreUnclosed c (wants_in two) → AddsRun b c (TakesTurn one two mid new (Ok turn)) → SoFar a c hub two old new (count + 1)
+  pub so_far_more : (turn : Turn) → turn.what ≢ Stopped → AreUnclosed c.log (wants_in two) → AddsRun b c (TakesTurn one two mid new (Ok turn)) → SoFar a c hub two old new (count + 1)
   so_far_more turn goes_on known takes = record {
     known = known;
     took = adds_then a b c (TookFrom hub one old mid count) (TakesTurn one two mid new (Ok turn)) (TookFrom hub two old new (count + 1)) so_far.took takes
@@ -163,7 +164,7 @@ module _ (a b c : Option (List Entry)) (hub one two : Hub) (old mid new : RunRep
       (λ first second took does config follows. ends_failed config one two old mid new count first second (took config follows) limit fewer fault does)
 
 -- no turn is left
-pub so_far_at_limit : (a b : Option (List Entry)) (hub one : Hub) (old new : RunReport) (count limit : ℕ) → count ≡ limit → SoFar a b hub one old new count
+pub so_far_at_limit : (a b : LinksReport) (hub one : Hub) (old new : RunReport) (count limit : ℕ) → count ≡ limit → SoFar a b hub one old new count
     → AddsRun a b (TakesAll hub one limit old new (Ok tt))
 so_far_at_limit a b hub one old new count limit same so_far =
     adds_weaken a b (TookFrom hub one old new count) (TakesAll hub one limit old new (Ok tt))

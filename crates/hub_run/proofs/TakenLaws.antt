@@ -10,7 +10,7 @@ use Rattle.conn_core.specs.hub_link.Added.{IsSendOrClose}
 use Rattle.conn_core.specs.hub_meaning.Legal.{IsLegal}
 use Rattle.ports.specs.Playing.{is_turn_answer}
 use Rattle.conn_core.specs.hub_meaning.Runs.{Step, notices_after, state_after}
-use Rattle.conn_core.specs.hub_meaning.Verdicts.{AfterVerdicts, PatternsState, Refusal, is_refused, refused_text, texts_refused}
+use Rattle.conn_core.specs.hub_meaning.Verdicts.{AfterVerdicts, PatternsReport, Refusal, is_refused, refused_text, texts_refused}
 use Rattle.list_laws.specs.Counts.{Rose}
 use Rattle.conn_core.proofs.MsgRepliesVerdictLaws.{appended_twice, no_verdicts}
 use Rattle.notice_sink.specs.Lines.{lines_of, notice_line}
@@ -18,9 +18,9 @@ use Rattle.ports.specs.declared.entry.Entry.{Entry}
 use Rattle.ports.specs.declared.links.Turn.{Turn}
 use Rattle.ports.specs.declared.links.Want.{Want}
 use Rattle.ports.specs.Counts.{count_after}
-use Rattle.ports.specs.Writing.{Got}
+use Rattle.ports.specs.Writing.{Got, SinkReport}
 use Rattle.conn_core.specs.Hub.{Follows, wants_in}
-use Rattle.conn_core.specs.Turning.{CountedPuts, GotLines, SinkGot, Turns, longer, puts_after, turn_step}
+use Rattle.conn_core.specs.Turning.{CountedPuts, GotLines, Turns, longer, puts_after, turn_step}
 use Rattle.conn_core.specs.declared.hub.Hub.{Hub}
 use Rattle.conn_core.specs.declared.stop.Stop.{Stop}
 use Rattle.conn_core.specs.declared.stop.Stop.TheVariants.{SinkFault}
@@ -60,7 +60,7 @@ still_both : (t u : Bool) (a b c : ℕ) → (t ≡ false → b ≡ a) → (u ≡
 still_both true u a b c first last neither = absurd (cc neither)
 still_both false u a b c first last neither = last neither ∙ first refl
 
-pub verdicts_then : (a b c : PatternsState) (first second : List (Option Refusal)) → AfterVerdicts a b first → AfterVerdicts b c second → AfterVerdicts a c (first ++ second)
+pub verdicts_then : (a b c : PatternsReport) (first second : List (Option Refusal)) → AfterVerdicts a b first → AfterVerdicts b c second → AfterVerdicts a c (first ++ second)
 verdicts_then a b c first second one two = record {
   reported = two.reported
       ∙ ap (option_map (λ (texts : List (List ℕ)). texts ++ texts_refused second)) one.reported
@@ -89,7 +89,7 @@ puts_both (Some count) i j = ap Some (puts_more i j count)
 puts_then : (a b c : Option ℕ) (i j : ℕ) → CountedPuts a i b → CountedPuts b j c → CountedPuts a (i + j) c
 puts_then a b c i j one two = two ∙ ap (option_map (puts_after j)) one ∙ puts_both a i j
 
-lines_then : (a b c : SinkGot) (first second : List Notice) → GotLines a first b → GotLines b second c → GotLines a (first ++ second) c
+lines_then : (a b c : SinkReport) (first second : List Notice) → GotLines a first b → GotLines b second c → GotLines a (first ++ second) c
 lines_then a b c first second one two = record {
   text = subst (λ (bytes : List ℕ). Got a.text bytes c.text) (sym (flat_map-append notice_line first second))
       (got_then a.text b.text c.text (lines_of first) (lines_of second) one.text two.text);

@@ -8,6 +8,8 @@ use Rattle.ports.specs.declared.links.Turn.{Turn}
 use Rattle.ports.specs.declared.links.Want.{Want}
 use Rattle.ports.specs.declared.links.What.{What}
 use Rattle.ports.specs.declared.links.What.TheVariants.{Idle, Opened, Read, Ended, Broken, Room, Stopped, Failed, Memory as NoMemory}
+use Rattle.ports.specs.Calls.{LinksReport}
+use Rattle.ports.proofs.CallLemmas.{calls_then}
 use Rattle.ports.specs.Links.{HasNextCause, entries_of_turn, grown, next_entries, piece_of}
 use Rattle.conn_core.specs.Hub.{wants_in}
 use Rattle.conn_core.specs.Known.{Answered, AreUnclosed, EndsWith}
@@ -21,7 +23,7 @@ use Rattle.hub_run.specs.Runs.{AddsRun, RunReport}
 use Rattle.hub_run.specs.Taking.{AskFails, AsksFor, DoesTurn, StopsAt, TakesTurn}
 use Rattle.hub_run.specs.declared.fault.RunFault.{RunFault}
 use Rattle.hub_run.specs.declared.fault.RunFault.TheVariants.{Links, Sink, Memory}
-use Rattle.hub_run.proofs.AddsLaws.{adds_weaken, grown_twice}
+use Rattle.hub_run.proofs.AddsLaws.{adds_weaken}
 
 -- ---- the call
 
@@ -58,21 +60,21 @@ next_quiet NoMemory old new not_failed cause = cause
 
 -- ---- a turn was asked for
 
-module _ (log log' : Option (List Entry)) (asked : List Want) (buf : List ℕ) (turn : Turn) (asks : AddsRun log log' (AsksFor asked buf (Ok turn))) where
-  asked_log : log' ≡ grown log (Next asked turn (piece_of turn.what buf) ∷ [])
-  asked_log = asks.grew ∙ ap (grown log) asks.holds
+module _ (before after : LinksReport) (asked : List Want) (buf : List ℕ) (turn : Turn) (asks : AddsRun before after (AsksFor asked buf (Ok turn))) where
+  asked_log : after.log ≡ grown before.log (Next asked turn (piece_of turn.what buf) ∷ [])
+  asked_log = asks.grew.log ∙ ap (grown before.log) asks.holds
 
-  pub asked_known : (wants : List Want) → AreUnclosed log wants → AreUnclosed log' wants
-  asked_known wants known = subst (λ (l : Option (List Entry)). AreUnclosed l wants) (sym asked_log) (known_next log wants asked turn (piece_of turn.what buf) known)
+  pub asked_known : (wants : List Want) → AreUnclosed before.log wants → AreUnclosed after.log wants
+  asked_known wants known = subst (λ (l : Option (List Entry)). AreUnclosed l wants) (sym asked_log) (known_next before.log wants asked turn (piece_of turn.what buf) known)
 
-  pub asked_answered : Answered log' turn
-  asked_answered = subst (λ (l : Option (List Entry)). Answered l turn) (sym asked_log) (ends_with log)
+  pub asked_answered : Answered after.log turn
+  asked_answered = subst (λ (l : Option (List Entry)). Answered l turn) (sym asked_log) (ends_with before.log)
     where
-      ends_with : (before : Option (List Entry)) (entries : List Entry) → grown before (Next asked turn (piece_of turn.what buf) ∷ []) ≡ Some entries → EndsWith turn entries
+      ends_with : (log : Option (List Entry)) (entries : List Entry) → grown log (Next asked turn (piece_of turn.what buf) ∷ []) ≡ Some entries → EndsWith turn entries
       ends_with None entries is = absurd (cc is)
-      ends_with (Some before) entries is =
-          let same : before ++ Next asked turn (piece_of turn.what buf) ∷ [] ≡ entries = cc in
-          record { before = before; wants = asked; piece = piece_of turn.what buf; is = sym same }
+      ends_with (Some log) entries is =
+          let same : log ++ Next asked turn (piece_of turn.what buf) ∷ [] ≡ entries = cc in
+          record { before = log; wants = asked; piece = piece_of turn.what buf; is = sym same }
 
 pub ask_failed : (fault : RunFault) (hub : Hub) (report : RunReport) (buf : List ℕ) (run : List Entry) → AsksFor (wants_in hub) buf (Err fault) run
     → TakesTurn hub hub report report (Err fault) run
@@ -82,13 +84,13 @@ ask_failed Memory hub report buf run asks = inl (record { is = asks; same = refl
 
 -- ---- the turn that came
 
-module _ (a b c : Option (List Entry)) (hub hub' : Hub) (old new : RunReport) (buf piece : List ℕ) (turn : Turn) (result : Result (Unit {0}) Stop) where
+module _ (a b c : LinksReport) (hub hub' : Hub) (old new : RunReport) (buf piece : List ℕ) (turn : Turn) (result : Result (Unit {0}) Stop) where
   pub turn_done : AddsRun a b (AsksFor (wants_in hub) buf (Ok turn)) → turn.what ≢ Failed → turn.what ≢ NoMemory → piece ≡ piece_of turn.what buf
       → Added b c (TurnsFrom turn piece hub hub' old.patterns new.patterns old.forks new.forks old.sink new.sink result)
       → AddsRun a c (DoesTurn hub hub' old new result turn)
   turn_done asks not_failed not_memory is does = record {
     run = asks.run ++ does.run;
-    grew = does.grew ∙ ap (λ (log : Option (List Entry)). grown log does.run) asks.grew ∙ grown_twice a asks.run does.run;
+    grew = calls_then a b c asks.run does.run asks.grew does.grew;
     holds = record {
       piece = piece;
       calls = does.run;
@@ -100,12 +102,12 @@ module _ (a b c : Option (List Entry)) (hub hub' : Hub) (old new : RunReport) (b
   }
 
 -- the hub stopped in the middle of it
-pub turn_stopped : (a c : Option (List Entry)) (hub hub' : Hub) (old new : RunReport) (turn : Turn) (stop : Stop) → AddsRun a c (DoesTurn hub hub' old new (Err stop) turn)
+pub turn_stopped : (a c : LinksReport) (hub hub' : Hub) (old new : RunReport) (turn : Turn) (stop : Stop) → AddsRun a c (DoesTurn hub hub' old new (Err stop) turn)
     → AddsRun a c (StopsAt hub hub' old new stop)
 turn_stopped a c hub hub' old new turn stop does =
     adds_weaken a c (DoesTurn hub hub' old new (Err stop) turn) (StopsAt hub hub' old new stop) (λ run one. record { turn = turn; cut = one }) does
 
-pub turn_out_of_memory : (a c : Option (List Entry)) (hub hub' : Hub) (old new : RunReport) → AddsRun a c (StopsAt hub hub' old new StopMemory)
+pub turn_out_of_memory : (a c : LinksReport) (hub hub' : Hub) (old new : RunReport) → AddsRun a c (StopsAt hub hub' old new StopMemory)
     → AddsRun a c (TakesTurn hub hub' old new (Err Memory))
 turn_out_of_memory a c hub hub' old new stops =
     adds_weaken a c (StopsAt hub hub' old new StopMemory) (TakesTurn hub hub' old new (Err Memory)) (λ run at. inr at) stops

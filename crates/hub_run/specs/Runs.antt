@@ -1,8 +1,8 @@
 -- What a run of a server comes to.
-use Rattle.std.specs.Prelude.{◌≡◌, ◌≢◌, ℕ, ◌+◌, ◌⊎◌, List, [], ◌∷◌, ◌++◌, take, Option, Result, Ok, Err}
+use Rattle.std.specs.Prelude.{◌≡◌, ◌≢◌, ℕ, ◌+◌, ◌⊎◌, List, [], ◌∷◌, ◌++◌, take, Result, Ok, Err}
 use Rattle.std.specs.List.{AllByRecursion}
 use Rattle.conn_core.specs.Hub.{Follows}
-use Rattle.conn_core.specs.Turning.{GotLines, SinkGot}
+use Rattle.conn_core.specs.Turning.{GotLines}
 use Rattle.conn_core.specs.declared.hub.Hub.{Hub}
 use Rattle.ev_types.specs.declared.item.Notice.{Notice}
 use Rattle.conn_core.specs.event_core.Core.{CoreConfig, forks_by}
@@ -10,10 +10,10 @@ use Rattle.conn_core.specs.hub_meaning.Clock.{first_moment}
 use Rattle.conn_core.specs.hub_meaning.Legal.{AreSettled, IsLegal}
 use Rattle.conn_core.specs.hub_meaning.Links.{wants_of}
 use Rattle.conn_core.specs.hub_meaning.Runs.{notices_after, state_after}
-use Rattle.conn_core.specs.hub_meaning.Verdicts.{AfterVerdicts, PatternsState}
+use Rattle.conn_core.specs.hub_meaning.Verdicts.{AfterVerdicts, PatternsReport}
 use Rattle.notice_sink.specs.Lines.{lines_of}
-use Rattle.ports.specs.Links.{grown}
-use Rattle.ports.specs.Writing.{Got}
+use Rattle.ports.specs.Calls.{AddsCalls, LinksReport}
+use Rattle.ports.specs.Writing.{Got, SinkReport}
 use Rattle.ports.specs.declared.entry.Entry.{Entry}
 use Rattle.ports.specs.declared.entry.Entry.TheVariants.{Listen, Next}
 use Rattle.ports.specs.declared.links.ListenAnswer.TheVariants as listen
@@ -26,22 +26,22 @@ use Rattle.hub_run.specs.declared.fault.RunFault.{RunFault}
 use Rattle.hub_run.specs.declared.fault.RunFault.TheVariants.{Links, Sink, Memory}
 use Rattle.hub_run.specs.declared.setup.Setup.{Setup}
 
--- the log of the links grew by a run, of which the fact holds; of a log that is not reported it holds for some run
-pub record AddsRun (before now : Option (List Entry)) (P : List Entry → Type 0) : Type 0 where
+-- calls were made of links, of which the fact holds; of a log that is not reported it holds for some calls
+pub record AddsRun (before now : LinksReport) (P : List Entry → Type 0) : Type 0 where
   pub run : List Entry
-  pub grew : now ≡ grown before run
+  pub grew : AddsCalls before now run
   pub holds : P run
 
 -- what changes in a run beside the links
 pub record RunReport : Type 0 where
   -- what is known of the patterns of queries
-  pub patterns : PatternsState
+  pub patterns : PatternsReport
   -- how many forks were entered
   pub forks : ℕ
-  -- what the sink of the notice lines got
-  pub sink : SinkGot
+  -- the sink of the notice lines
+  pub sink : SinkReport
 
-abbrev pub run_report : PatternsState → ℕ → SinkGot → RunReport
+abbrev pub run_report : PatternsReport → ℕ → SinkReport → RunReport
 run_report patterns forks sink = record { patterns = patterns; forks = forks; sink = sink }
 
 -- the core of a server that reads the clock first at `secs`

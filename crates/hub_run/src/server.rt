@@ -2,12 +2,9 @@ ghost use Rattle.std.specs.Prelude.{◌≡◌, ◌≢◌, ◌≤◌, length, Err
 ghost use Rattle.std.specs.Option.{ForSome};
 ghost use Rattle.conn_core.specs.Hub.{wants_in};
 ghost use Rattle.conn_core.specs.Known.{AreUnclosed};
-ghost use Rattle.conn_core.specs.Turning.{sink_got};
-ghost use Rattle.conn_core.specs.hub_meaning.Verdicts.{patterns_state};
 ghost use Rattle.hub_run.specs.Runs.{AddsRun, RunsTo, run_report};
 ghost use Rattle.hub_run.specs.Taking.{TakesAll};
 ghost use Rattle.ports.specs.Counts.{Rose};
-ghost use Rattle.ports.specs.Playing.{Plays};
 
 use crate::fault::RunFault;
 use crate::setup::Setup;
@@ -32,21 +29,17 @@ pub fn run<L: Links, O: Sink, P: Patterns, G: Ledger>(
 ) -> Result<Hub, RunFault>
     requires interval { ForSome setup.expiry (λ set. (1 ≤ set.interval) ×
         (set.interval ≤ 604800)) }
-    ensures runs { AddsRun (L.log links.old) (L.log links.new) (RunsTo setup turns
-        (run_report (patterns_state (P.refusals patterns.old) (P.refused patterns.old))
-        steps.old.forks (sink_got (O.text sink.old) (O.puts sink.old)))
-        (run_report (patterns_state (P.refusals patterns.new) (P.refused patterns.new))
-        steps.new.forks (sink_got (O.text sink.new) (O.puts sink.new))) result) }
+    ensures runs { AddsRun (L.report links.old) (L.report links.new)
+        (RunsTo setup turns (run_report (P.report patterns.old) steps.old.forks (O.report sink.old))
+        (run_report (P.report patterns.new) steps.new.forks (O.report sink.new)) result) }
     ensures links_fault { result ≡ Err RunFault.Links →
-        Rose (L.faults links.old) (L.faults links.new) }
-    ensures links_quiet { result ≢ Err RunFault.Links →
-        L.faults links.new ≡ L.faults links.old }
+        Rose (L.report links.old).faults (L.report links.new).faults }
+    ensures links_quiet { result ≢ Err RunFault.Links → (L.report links.new).faults ≡
+        (L.report links.old).faults }
     ensures sink_fault { result ≡ Err RunFault.Sink →
-        Rose (O.faults sink.old) (O.faults sink.new) }
-    ensures sink_quiet { result ≢ Err RunFault.Sink → O.faults sink.new ≡ O.faults sink.old }
-    ensures script { L.script links.new ≡ L.script links.old }
-    ensures plays { Plays (L.script links.old) (L.log links.old)
-        → Plays (L.script links.new) (L.log links.new) }
+        Rose (O.report sink.old).faults (O.report sink.new).faults }
+    ensures sink_quiet { result ≢ Err RunFault.Sink → (O.report sink.new).faults ≡
+        (O.report sink.old).faults }
 {
     let mut buf = buffer(alloc)?;
     let secs = listen(alloc, &setup.address, links)?;
@@ -76,22 +69,19 @@ fn take_turns<L: Links, O: Sink, P: Patterns, G: Ledger>(
     steps: &mut Steps<G>,
 ) -> Result<(), RunFault>
     requires whole { length buf.old ≡ PIECE_LIMIT }
-    requires known { AreUnclosed (L.log links.old) (wants_in hub.old) }
-    ensures takes { AddsRun (L.log links.old) (L.log links.new) (TakesAll hub.old hub.new turns
-        (run_report (patterns_state (P.refusals patterns.old) (P.refused patterns.old))
-        steps.old.forks (sink_got (O.text sink.old) (O.puts sink.old)))
-        (run_report (patterns_state (P.refusals patterns.new) (P.refused patterns.new))
-        steps.new.forks (sink_got (O.text sink.new) (O.puts sink.new))) result) }
+    requires known { AreUnclosed (L.report links.old).log (wants_in hub.old) }
+    ensures takes { AddsRun (L.report links.old) (L.report links.new)
+        (TakesAll hub.old hub.new turns
+        (run_report (P.report patterns.old) steps.old.forks (O.report sink.old))
+        (run_report (P.report patterns.new) steps.new.forks (O.report sink.new)) result) }
     ensures links_fault { result ≡ Err RunFault.Links →
-        Rose (L.faults links.old) (L.faults links.new) }
-    ensures links_quiet { result ≢ Err RunFault.Links →
-        L.faults links.new ≡ L.faults links.old }
+        Rose (L.report links.old).faults (L.report links.new).faults }
+    ensures links_quiet { result ≢ Err RunFault.Links → (L.report links.new).faults ≡
+        (L.report links.old).faults }
     ensures sink_fault { result ≡ Err RunFault.Sink →
-        Rose (O.faults sink.old) (O.faults sink.new) }
-    ensures sink_quiet { result ≢ Err RunFault.Sink → O.faults sink.new ≡ O.faults sink.old }
-    ensures script { L.script links.new ≡ L.script links.old }
-    ensures plays { Plays (L.script links.old) (L.log links.old)
-        → Plays (L.script links.new) (L.log links.new) }
+        Rose (O.report sink.old).faults (O.report sink.new).faults }
+    ensures sink_quiet { result ≢ Err RunFault.Sink → (O.report sink.new).faults ≡
+        (O.report sink.old).faults }
 {
     for _taken in 0..turns {
         let turn = take_turn(alloc, hub, buf, links, sink, patterns, steps)?;

@@ -4,7 +4,6 @@ ghost use Rattle.conn_core.specs.Hub.{Follows, wants_in};
 ghost use Rattle.hub_run.specs.Runs.{AddsRun, config_at};
 ghost use Rattle.hub_run.specs.Taking.{ListensOn};
 ghost use Rattle.ports.specs.Counts.{Rose};
-ghost use Rattle.ports.specs.Playing.{Plays};
 
 use crate::{RunFault, Setup};
 use conn_core::Hub;
@@ -29,16 +28,13 @@ pub(crate) fn listen<L: Links>(
     address: &Text,
     links: &mut L,
 ) -> Result<u64, RunFault>
-    ensures listens { AddsRun (L.log links.old) (L.log links.new)
+    ensures listens { AddsRun (L.report links.old) (L.report links.new)
         (ListensOn address.now result) }
     ensures links_fault { result ≡ Err RunFault.Links →
-        Rose (L.faults links.old) (L.faults links.new) }
-    ensures links_quiet { result ≢ Err RunFault.Links →
-        L.faults links.new ≡ L.faults links.old }
+        Rose (L.report links.old).faults (L.report links.new).faults }
+    ensures links_quiet { result ≢ Err RunFault.Links → (L.report links.new).faults ≡
+        (L.report links.old).faults }
     ensures no_sink { result ≢ Err RunFault.Sink }
-    ensures script { L.script links.new ≡ L.script links.old }
-    ensures plays { Plays (L.script links.old) (L.log links.old)
-        → Plays (L.script links.new) (L.log links.new) }
 {
     match links.listen(alloc, address) {
         ListenAnswer::Ready { secs } => Ok(secs),

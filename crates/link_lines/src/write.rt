@@ -1,6 +1,6 @@
 ghost use Rattle.std.specs.Prelude.{◌≡◌, ◌≢◌, ◌<◌, ◌++◌, length, Err, OnOk, OnErr};
 ghost use Rattle.ports.specs.Counts.{Rose};
-ghost use Rattle.ports.specs.Writing.{Got, GotPrefix};
+ghost use Rattle.ports.specs.Writing.{FailsToPut, Got, GotPrefix, Puts};
 ghost use Rattle.std.specs.List.{flat_map};
 ghost use Rattle.link_lines.specs.LinkLines.{line_after, link_line, link_lines, taken_text};
 ghost use Rattle.link_lines.specs.declared.write.LineFault.TheVariants.{Memory as out_of_memory};
@@ -38,12 +38,15 @@ pub fn write_link_lines<O: Sink>(
     links: &ScriptLinks,
     out: &mut O,
 ) -> Result<(), LineFault>
-    ensures all { OnOk result (Got (O.text out.old)
-        (link_lines links.now.script links.now.log) (O.text out.new)) }
-    ensures front { OnErr result (GotPrefix (O.text out.old)
-        (link_lines links.now.script links.now.log) (O.text out.new)) }
-    ensures fault { result ≡ Err LineFault.Sink → Rose (O.faults out.old) (O.faults out.new) }
-    ensures quiet { result ≢ Err LineFault.Sink → O.faults out.new ≡ O.faults out.old }
+    ensures all { OnOk result (Got (O.report out.old).text
+        (link_lines links.now.script links.now.log) (O.report out.new).text) }
+    ensures front { OnErr result
+        (GotPrefix (O.report out.old).text (link_lines links.now.script links.now.log)
+        (O.report out.new).text) }
+    ensures fault { result ≡ Err LineFault.Sink →
+        Rose (O.report out.old).faults (O.report out.new).faults }
+    ensures quiet { result ≢ Err LineFault.Sink → (O.report out.new).faults ≡
+        (O.report out.old).faults }
 {
     let numbers = opened_numbers(alloc, links.script().steps.as_slice())?;
     write_lines(alloc, numbers.as_slice(), links, out)?;
@@ -57,12 +60,15 @@ fn write_lines<O: Sink>(
     links: &ScriptLinks,
     out: &mut O,
 ) -> Result<(), LineFault>
-    ensures all { OnOk result (Got (O.text out.old)
-        (flat_map (line_after links.now.log) numbers.now) (O.text out.new)) }
-    ensures front { OnErr result (GotPrefix (O.text out.old)
-        (flat_map (line_after links.now.log) numbers.now) (O.text out.new)) }
-    ensures fault { result ≡ Err LineFault.Sink → Rose (O.faults out.old) (O.faults out.new) }
-    ensures quiet { result ≢ Err LineFault.Sink → O.faults out.new ≡ O.faults out.old }
+    ensures all { OnOk result (Got (O.report out.old).text
+        (flat_map (line_after links.now.log) numbers.now) (O.report out.new).text) }
+    ensures front { OnErr result
+        (GotPrefix (O.report out.old).text (flat_map (line_after links.now.log) numbers.now)
+        (O.report out.new).text) }
+    ensures fault { result ≡ Err LineFault.Sink →
+        Rose (O.report out.old).faults (O.report out.new).faults }
+    ensures quiet { result ≢ Err LineFault.Sink → (O.report out.new).faults ≡
+        (O.report out.old).faults }
 {
     let mut line = Vec::new(alloc);
     for number in numbers {
@@ -79,12 +85,15 @@ fn write_line<O: Sink>(
     line: &mut Vec<u8>,
     out: &mut O,
 ) -> Result<(), LineFault>
-    ensures all { OnOk result (Got (O.text out.old)
-        (line_after links.now.log number) (O.text out.new)) }
-    ensures front { OnErr result (GotPrefix (O.text out.old)
-        (line_after links.now.log number) (O.text out.new)) }
-    ensures fault { result ≡ Err LineFault.Sink → Rose (O.faults out.old) (O.faults out.new) }
-    ensures quiet { result ≢ Err LineFault.Sink → O.faults out.new ≡ O.faults out.old }
+    ensures all { OnOk result (Got (O.report out.old).text (line_after links.now.log number)
+        (O.report out.new).text) }
+    ensures front { OnErr result
+        (GotPrefix (O.report out.old).text (line_after links.now.log number)
+        (O.report out.new).text) }
+    ensures fault { result ≡ Err LineFault.Sink →
+        Rose (O.report out.old).faults (O.report out.new).faults }
+    ensures quiet { result ≢ Err LineFault.Sink → (O.report out.new).faults ≡
+        (O.report out.old).faults }
 {
     line.clear();
     push_line(alloc, number, links.taken(number).as_slice(), line)?;
@@ -120,10 +129,8 @@ fn push_taken(alloc: Global, taken: &[u8], line: &mut Vec<u8>) -> Result<(), Mem
 /// Puts a line once.
 fn put_line<O: Sink>(line: &[u8], out: &mut O) -> Result<(), LineFault>
     requires { 0 < length line.now }
-    ensures all { OnOk result (Got (O.text out.old) line.now (O.text out.new)) }
-    ensures front { OnErr result (GotPrefix (O.text out.old) line.now (O.text out.new)) }
-    ensures fault { OnErr result (Rose (O.faults out.old) (O.faults out.new)) }
-    ensures quiet { OnOk result (O.faults out.new ≡ O.faults out.old) }
+    ensures puts { OnOk result (Puts (O.report out.old) line.now (O.report out.new)) }
+    ensures fails { OnErr result (FailsToPut (O.report out.old) line.now (O.report out.new)) }
     ensures no_memory { result ≢ Err LineFault.Memory }
 {
     match out.put(line) {

@@ -1,7 +1,7 @@
 -- What `load` promises, from what its parts say.
 use Rattle.std.proofs.Common.{◌≡◌, ℕ, ◌≤◌, List, [], ◌∷◌, length, refl, sym, subst, inl, inr, arith}
 use Rattle.std.specs.Prelude.{Option}
-use Rattle.command_setup.specs.hub_meaning.Verdicts.{PatternsState}
+use Rattle.command_setup.specs.hub_meaning.Verdicts.{PatternsReport}
 use Rattle.command_setup.specs.hub_run.declared.setup.Setup.{Setup}
 use Rattle.ports.specs.Counts.{IsStill, Rose}
 use Rattle.ports.specs.Reading.{Content, IsHeld}
@@ -14,7 +14,8 @@ use Rattle.command_setup.specs.command_io.declared.limits.TheConstants.{CONFIG_L
 use Rattle.command_setup.specs.command_io.declared.status.Status.TheVariants.{ReadFault, SinkFault, LinkFault}
 use Rattle.command_setup.specs.command_io.Endings.{IsComplete, IsDoneOrMemory, IsReadOnce, ReadsFiles, status_of}
 use Rattle.command_setup.specs.command_io.Files.{ReadMore, good_read}
-use Rattle.command_setup.specs.command_io.Reports.{Reports as Reporting, SinkReport}
+use Rattle.ports.specs.Writing.{SinkReport}
+use Rattle.command_setup.specs.command_io.Reports.{Reports as Reporting}
 use Rattle.command_setup.proofs.CommandIoReadLaws.{read_alone}
 use Rattle.command_setup.proofs.SetupLaws.{refused_for_memory, refused_not_linked, refused_not_written, refused_rose}
 use Rattle.load_command.specs.Loads.{LoadEnds, RunEnds, WritesSummary}
@@ -40,7 +41,7 @@ written_after summary out out' LinksFailed writes = writes
 written_after summary out out' (ScriptRefused line) writes = writes
 written_after summary out out' OutOfMemory writes = tt
 
-pub ends_after_run : (setup : Setup) (count start : ℕ) (patterns patterns' : PatternsState) (forks forks' : ℕ) (out out' : SinkReport) (ending : Ending)
+pub ends_after_run : (setup : Setup) (count start : ℕ) (patterns patterns' : PatternsReport) (forks forks' : ℕ) (out out' : SinkReport) (ending : Ending)
     → RunEnds setup count start patterns patterns' forks forks' out out' ending → AfterRun out out' ending
 ends_after_run setup count start patterns patterns' forks forks' out out' ending ends = elim ends [
   | inl cut ↦ subst (λ e. AfterRun out out' e) (sym cut.0) tt

@@ -1,10 +1,10 @@
 -- What `load CONFIG N START` promises.
 use Rattle.std.specs.Prelude.{◌≡◌, ℕ, ◌≤◌, ◌⊎◌, List, [], ◌∷◌, length}
-use Rattle.command_setup.specs.hub_meaning.Verdicts.{PatternsState}
+use Rattle.command_setup.specs.hub_meaning.Verdicts.{PatternsReport}
 use Rattle.command_setup.specs.hub_run.declared.setup.Setup.{Setup}
 use Rattle.ports.specs.Counts.{IsStill, Rose}
 use Rattle.ports.specs.Reading.{Content, IsHeld}
-use Rattle.ports.specs.Writing.{Got, GotPrefix}
+use Rattle.ports.specs.Writing.{Got, GotPrefix, SinkReport}
 use Rattle.command_setup.specs.sexp_config.declared.config.Config.{Config}
 use Rattle.command_setup.specs.sexp_config.Config.{IsConfigOf}
 use Rattle.command_setup.specs.command_io.declared.ending.Ending.{Ending}
@@ -12,7 +12,7 @@ use Rattle.command_setup.specs.command_io.declared.ending.Ending.TheVariants.{Fi
 use Rattle.command_setup.specs.command_io.declared.limits.TheConstants.{CONFIG_LIMIT}
 use Rattle.command_setup.specs.command_io.declared.status.Status.{Status}
 use Rattle.command_setup.specs.command_io.Endings.{HasNoConfig, IsComplete, IsDoneOrMemory, IsReadOnce, ReadsFiles, Says, status_of}
-use Rattle.command_setup.specs.command_io.Reports.{IsIdle, Reports, SinkReport}
+use Rattle.command_setup.specs.command_io.Reports.{IsIdle, Reports}
 use Rattle.command_setup.specs.Setups.{RefusesSetup, SetsUp}
 use Rattle.load_command.specs.Summaries.{IsCutOff, IsPlayed, summary_line}
 use Rattle.load_command.specs.declared.summary.Summary.{Summary}
@@ -25,7 +25,7 @@ WritesSummary summary out out' OutOfMemory = out' ≡ out
 WritesSummary summary out out' _ = ⊥
 
 -- the run was cut off and nothing was written, or the load was played to its end
-abbrev pub RunEnds : Setup → ℕ → ℕ → PatternsState → PatternsState → ℕ → ℕ → SinkReport → SinkReport → Ending → Type 0
+abbrev pub RunEnds : Setup → ℕ → ℕ → PatternsReport → PatternsReport → ℕ → ℕ → SinkReport → SinkReport → Ending → Type 0
 RunEnds setup count start patterns patterns' forks forks' out out' ending =
     ((ending ≡ OutOfMemory) × IsCutOff setup count start patterns patterns' forks forks' × (out' ≡ out))
     ⊎ ((summary : Summary) × IsPlayed setup count start patterns patterns' forks forks' summary × WritesSummary summary out out' ending)

@@ -1,12 +1,11 @@
 -- What a load comes to.
 use Rattle.std.specs.Prelude.{◌≡◌, ℕ, List, [], ◌∷◌, ◌++◌, codes, length, min, None, Some, Result, Ok, Err}
 use Rattle.std.specs.Fmt.{decimal}
-use Rattle.command_setup.specs.conn_core.Turning.{sink_got}
 use Rattle.command_setup.specs.conn_core.declared.hub.Hub.{Hub}
 use Rattle.command_setup.specs.event_core.Core.{CoreConfig, state_by}
 use Rattle.framing.specs.Frames.{frames_of}
 use Rattle.command_setup.specs.hub_meaning.Runs.{Step, notices_after, state_after}
-use Rattle.command_setup.specs.hub_meaning.Verdicts.{PatternsState}
+use Rattle.command_setup.specs.hub_meaning.Verdicts.{PatternsReport}
 use Rattle.command_setup.specs.hub_run.Runs.{Finishes, RunReport, RunsTo, config_at, run_report}
 use Rattle.command_setup.specs.hub_run.Taken.{steps_of}
 use Rattle.command_setup.specs.hub_run.declared.fault.RunFault.TheVariants.{Memory}
@@ -37,12 +36,12 @@ summary_of count config steps run = record {
 }
 
 -- what changes in a run whose notice lines are counted, and not written
-abbrev pub counted : PatternsState → ℕ → ℕ → RunReport
-counted patterns forks lines = run_report patterns forks (sink_got None (Some lines))
+abbrev pub counted : PatternsReport → ℕ → ℕ → RunReport
+counted patterns forks lines = run_report patterns forks (record { text = None; puts = Some lines; faults = 0 })
 
 -- A server was run over the load of `count` events that are drawn from the number `start`, to its last turn, and this is
 -- what the load came to.
-pub record IsPlayed (setup : Setup) (count start : ℕ) (patterns patterns' : PatternsState) (forks forks' : ℕ) (summary : Summary) : Type 0 where
+pub record IsPlayed (setup : Setup) (count start : ℕ) (patterns patterns' : PatternsReport) (forks forks' : ℕ) (summary : Summary) : Type 0 where
   pub run : List Entry
   pub hub : Hub
   pub scripted : IsScriptedRun (load_script count start) run
@@ -50,7 +49,7 @@ pub record IsPlayed (setup : Setup) (count start : ℕ) (patterns patterns' : Pa
   pub sums : summary ≡ summary_of count (config_at setup finishes.secs) (steps_of finishes.turns) run
 
 -- a server was run over the load until memory ran out
-pub record IsCutOff (setup : Setup) (count start : ℕ) (patterns patterns' : PatternsState) (forks forks' : ℕ) : Type 0 where
+pub record IsCutOff (setup : Setup) (count start : ℕ) (patterns patterns' : PatternsReport) (forks forks' : ℕ) : Type 0 where
   pub run : List Entry
   pub lines : ℕ
   pub scripted : IsScriptedRun (load_script count start) run

@@ -1,9 +1,10 @@
 ghost use Rattle.std.specs.Prelude.{◌≡◌, ◌≢◌, ◌≤◌, [], ◌∷◌};
 ghost use Rattle.std.specs.Option.{ForSome};
-ghost use Rattle.command_setup.specs.hub_meaning.Verdicts.{patterns_state};
 ghost use Rattle.ports.specs.Counts.{Rose};
 ghost use Rattle.command_setup.specs.command_io.Endings.{HasNoConfig, HasNoLine, IsComplete, IsReadOnce, IsRefusalOrMemory, ReadsFiles, status_of};
-ghost use Rattle.command_setup.specs.command_io.Reports.{LinksReport, SinkReport, reports, sink_report, store_report};
+ghost use Rattle.ports.specs.Calls.{LinksReport};
+ghost use Rattle.ports.specs.Writing.{SinkReport};
+ghost use Rattle.command_setup.specs.command_io.Reports.{reports};
 ghost use Rattle.load_command.specs.Loads.{LoadEnds, Loads, RunEnds, WritesSummary};
 
 use crate::play::{EVENT_LIMIT, play};
@@ -41,22 +42,16 @@ pub fn load<S: Store, O: Sink, E: Sink, P: Patterns, G: Ledger>(
     steps: &mut Steps<G>,
 ) -> Status
     requires few { count ≤ EVENT_LIMIT }
-    ensures promise { (links : LinksReport) → Loads config.now count start
-        (reports (store_report (S.held store.old) (S.reads store.old) (S.taken store.old)
-        (S.faults store.old)) links
-        (sink_report (O.text out.old) (O.puts out.old) (O.faults out.old))
-        (sink_report (E.text err.old) (E.puts err.old) (E.faults err.old))
-        (patterns_state (P.refusals patterns.old) (P.refused patterns.old)) steps.old.forks)
-        (reports (store_report (S.held store.new) (S.reads store.new) (S.taken store.new)
-        (S.faults store.new)) links
-        (sink_report (O.text out.new) (O.puts out.new) (O.faults out.new))
-        (sink_report (E.text err.new) (E.puts err.new) (E.faults err.new))
-        (patterns_state (P.refusals patterns.new) (P.refused patterns.new)) steps.new.forks)
-        (patterns.new ≡ patterns.old) result }
+    ensures promise { (links : LinksReport) →
+        Loads config.now count start
+        (reports (S.report store.old) links (O.report out.old) (E.report err.old)
+        (P.report patterns.old) steps.old.forks)
+        (reports (S.report store.new) links (O.report out.new) (E.report err.new)
+        (P.report patterns.new) steps.new.forks) (patterns.new ≡ patterns.old) result }
     ensures read_fault { result ≡ Status.ReadFault →
-        Rose (S.faults store.old) (S.faults store.new) }
+        Rose (S.report store.old).faults (S.report store.new).faults }
     ensures sink_fault { result ≡ Status.SinkFault →
-        Rose (O.faults out.old) (O.faults out.new) }
+        Rose (O.report out.old).faults (O.report out.new).faults }
     ensures links_work { result ≢ Status.LinkFault }
     ensures untouched { IsRefusalOrMemory result → out.new ≡ out.old }
     ensures no_line { HasNoLine result → err.new ≡ err.old }
@@ -78,20 +73,14 @@ fn load_config<S: Store, O: Sink, P: Patterns, G: Ledger>(
 ) -> Ending
     requires few { count ≤ EVENT_LIMIT }
     ensures ends { (links : LinksReport) (err err' : SinkReport) →
-        LoadEnds (S.held store.old config.now) count start
-        (reports (store_report (S.held store.old) (S.reads store.old) (S.taken store.old)
-        (S.faults store.old)) links
-        (sink_report (O.text out.old) (O.puts out.old) (O.faults out.old)) err
-        (patterns_state (P.refusals patterns.old) (P.refused patterns.old)) steps.old.forks)
-        (reports (store_report (S.held store.new) (S.reads store.new) (S.taken store.new)
-        (S.faults store.new)) links
-        (sink_report (O.text out.new) (O.puts out.new) (O.faults out.new)) err'
-        (patterns_state (P.refusals patterns.new) (P.refused patterns.new)) steps.new.forks)
-        result }
-    ensures reads { ReadsFiles (config.now ∷ []) (IsReadOnce result) (S.reads store.old)
-        (S.reads store.new) result }
-    ensures quiet { IsComplete result → (S.faults store.new ≡ S.faults store.old) ×
-        (O.faults out.new ≡ O.faults out.old) }
+        LoadEnds ((S.report store.old).held config.now) count start
+        (reports (S.report store.old) links (O.report out.old) err (P.report patterns.old)
+        steps.old.forks) (reports (S.report store.new) links (O.report out.new) err'
+        (P.report patterns.new) steps.new.forks) result }
+    ensures reads { ReadsFiles (config.now ∷ []) (IsReadOnce result) (S.report store.old).reads
+        (S.report store.new).reads result }
+    ensures quiet { IsComplete result → ((S.report store.new).faults ≡ (S.report store.old).faults)
+        × ((O.report out.new).faults ≡ (O.report out.old).faults) }
     ensures untouched { IsRefusalOrMemory (status_of result) → out.new ≡ out.old }
     ensures unasked { HasNoConfig result → patterns.new ≡ patterns.old }
 {
@@ -114,12 +103,8 @@ fn run_load<O: Sink, P: Patterns, G: Ledger>(
     requires few { count ≤ EVENT_LIMIT }
     requires interval { ForSome setup.expiry (λ set. (1 ≤ set.interval) ×
         (set.interval ≤ 604800)) }
-    ensures ends { RunEnds setup count start
-        (patterns_state (P.refusals patterns.old) (P.refused patterns.old))
-        (patterns_state (P.refusals patterns.new) (P.refused patterns.new))
-        steps.old.forks steps.new.forks
-        (sink_report (O.text out.old) (O.puts out.old) (O.faults out.old))
-        (sink_report (O.text out.new) (O.puts out.new) (O.faults out.new)) result }
+    ensures ends { RunEnds setup count start (P.report patterns.old) (P.report patterns.new)
+        steps.old.forks steps.new.forks (O.report out.old) (O.report out.new) result }
     ensures untouched { IsRefusalOrMemory (status_of result) → out.new ≡ out.old }
     ensures asked { HasNoConfig result → ⊥ }
 {
@@ -133,9 +118,7 @@ fn run_load<O: Sink, P: Patterns, G: Ledger>(
 
 /// Writes the summary as a line, in one put.
 fn write_summary<O: Sink>(alloc: Global, summary: &Summary, out: &mut O) -> Ending
-    ensures writes { WritesSummary summary.now
-        (sink_report (O.text out.old) (O.puts out.old) (O.faults out.old))
-        (sink_report (O.text out.new) (O.puts out.new) (O.faults out.new)) result }
+    ensures writes { WritesSummary summary.now (O.report out.old) (O.report out.new) result }
     ensures untouched { IsRefusalOrMemory (status_of result) → out.new ≡ out.old }
     ensures asked { HasNoConfig result → ⊥ }
 {

@@ -1,6 +1,5 @@
 ghost use Rattle.std.specs.Prelude.{◌≡◌, ◌≤◌, IfErr, IfOk, OnErr};
 ghost use Rattle.std.specs.Option.{ForSome};
-ghost use Rattle.command_setup.specs.hub_meaning.Verdicts.{patterns_state};
 ghost use Rattle.command_setup.specs.hub_run.declared.fault.RunFault.TheVariants.{Memory as out_of_memory};
 ghost use Rattle.load_command.specs.Summaries.{IsCutOff, IsPlayed};
 
@@ -28,14 +27,12 @@ pub(crate) fn play<P: Patterns, G: Ledger>(
     requires few { count ≤ EVENT_LIMIT }
     requires interval { ForSome setup.expiry (λ set. (1 ≤ set.interval) ×
         (set.interval ≤ 604800)) }
-    ensures played { IfOk result (IsPlayed setup count start
-        (patterns_state (P.refusals patterns.old) (P.refused patterns.old))
-        (patterns_state (P.refusals patterns.new) (P.refused patterns.new))
-        steps.old.forks steps.new.forks) }
-    ensures cut_off { OnErr result (IsCutOff setup count start
-        (patterns_state (P.refusals patterns.old) (P.refused patterns.old))
-        (patterns_state (P.refusals patterns.new) (P.refused patterns.new))
-        steps.old.forks steps.new.forks) }
+    ensures played { IfOk result
+        (IsPlayed setup count start (P.report patterns.old) (P.report patterns.new) steps.old.forks
+        steps.new.forks) }
+    ensures cut_off { OnErr result
+        (IsCutOff setup count start (P.report patterns.old) (P.report patterns.new) steps.old.forks
+        steps.new.forks) }
     ensures memory { IfErr result (λ fault. fault ≡ out_of_memory) }
 {
     let mut links = LoadLinks::fresh(alloc, count, start)?;

@@ -82,11 +82,9 @@ fn push_events(alloc: Global, count: u64, start: u64, steps: &mut ScriptSteps) -
 }
 
 impl Links for LoadLinks {
-    ghost log = { λ links. Some links.log };
+    ghost use Rattle.ports.specs.ScriptLinks.{script_report};
 
-    ghost script = { λ links. Some links.script };
-
-    ghost faults = { λ _. 0 };
+    ghost report = { λ links. script_report links };
 
     fn listen(&mut self, alloc: Global, address: &Text) -> ListenAnswer {
         self.inner.listen(alloc, address)

@@ -1,5 +1,7 @@
-ghost use Rattle.std.specs.Prelude.{◌≡◌, ◌≢◌, ◌+◌, ◌<◌, ◌≤◌, None, length, IfOk, OnErr};
-ghost use Rattle.ports.specs.Links.{HasListenCause, HasNextCause, IsPieceWithin, IsWithin};
+ghost use Rattle.std.specs.Prelude.{◌≡◌, ◌≢◌, ◌+◌, ◌<◌, ◌≤◌, [], ◌∷◌, length, IfOk, OnErr};
+ghost use Rattle.ports.specs.Calls.{AddsCalls};
+ghost use Rattle.ports.specs.Links.{HasListenCause, HasNextCause, IsPieceWithin, IsWithin, listen_entries, next_entries, send_entries};
+ghost use Rattle.ports.specs.declared.entry.Entry.TheVariants.{Close};
 ghost use Rattle.mio_links.specs.Turns.{CountsOpened, IsGiven, OfLink, OpensAt};
 ghost use Rattle.mio_links.specs.Sockets.{IsOpenOn};
 
@@ -88,15 +90,15 @@ impl<'a, R: Net + Clock> MioLinks<'a, R> {
 }
 
 impl<'a, R: Net + Clock> Links for MioLinks<'a, R> {
-    ghost log = { λ _. None };
+    ghost use Rattle.mio_links.specs.Reports.{report_of};
 
-    ghost script = { λ _. None };
+    ghost report = { λ links. report_of links.faults };
 
-    ghost faults = { λ links. links.faults };
-
+    #[tactic(auto, using(crate::proofs::ReportLemmas::unreported))]
     fn listen(&mut self, alloc: Global, address: &Text) -> ListenAnswer
+        ensures adds { AddsCalls (report_of self.old.faults) (report_of self.new.faults)
+            (listen_entries address.now result) }
         ensures cause { HasListenCause self.old.faults self.new.faults result }
-        ensures faults { self.old.faults ≤ self.new.faults }
 
         // More than links must report: the numbers of links do not begin again.
         ensures opened { self.new.opened ≡ self.old.opened }
@@ -116,11 +118,13 @@ impl<'a, R: Net + Clock> Links for MioLinks<'a, R> {
         }
     }
 
+    #[tactic(auto, using(crate::proofs::ReportLemmas::unreported))]
     fn next(&mut self, _alloc: Global, wants: &Wants, buf: &mut [u8]) -> Turn
         requires { length buf.old ≡ PIECE_LIMIT }
         ensures within { IsPieceWithin PIECE_LIMIT result.what }
+        ensures adds { AddsCalls (report_of self.old.faults) (report_of self.new.faults)
+            (next_entries wants.now buf.new result) }
         ensures cause { HasNextCause self.old.faults self.new.faults result.what }
-        ensures faults { self.old.faults ≤ self.new.faults }
 
         // More than links must report: the number of a link that opens, that a turn is of an open link, and that no
         // turn is the last.
@@ -135,10 +139,13 @@ impl<'a, R: Net + Clock> Links for MioLinks<'a, R> {
         }
     }
 
+    #[tactic(auto, using(crate::proofs::ReportLemmas::unreported))]
     fn send(&mut self, _alloc: Global, link: u64, bytes: &[u8]) -> SendAnswer
         requires { 0 < length bytes.now }
         ensures within { IsWithin (length bytes.now) result }
-        ensures faults { self.new.faults ≡ self.old.faults }
+        ensures adds { AddsCalls (report_of self.old.faults) (report_of self.new.faults)
+            (send_entries link bytes.now result) }
+        ensures no_fault { self.new.faults ≡ self.old.faults }
 
         // More than links must report: it opens no link.
         ensures opened { self.new.opened ≡ self.old.opened }
@@ -149,8 +156,11 @@ impl<'a, R: Net + Clock> Links for MioLinks<'a, R> {
         }
     }
 
+    #[tactic(auto, using(crate::proofs::ReportLemmas::unreported))]
     fn close(&mut self, link: u64)
-        ensures faults { self.new.faults ≡ self.old.faults }
+        ensures adds { AddsCalls (report_of self.old.faults) (report_of self.new.faults)
+            (Close link ∷ []) }
+        ensures no_fault { self.new.faults ≡ self.old.faults }
 
         // More than links must report: its number is not given again.
         ensures opened { self.new.opened ≡ self.old.opened }

@@ -3,8 +3,8 @@ use Rattle.std.proofs.Common.{◌≡◌, ◌≢◌, ℕ, ◌+◌, ◌<◌, Bool,
 use Rattle.std.proofs.lemmas.List.{drop-set, drop-set-lt, map-append, set-get_or, take_more}
 use Rattle.std.specs.Prelude.{Option, Some, None, Result, Ok, Err, OnOk, OnErr, option_and_then}
 use Rattle.ev_types.specs.declared.event.Event.{Event}
-use Rattle.hub_meaning.specs.event_core.declared.arrivals.Core.{Core}
-use Rattle.hub_meaning.specs.event_core.Core.{Heard, Represents, CoreConfig, now_of, notices_by, config_of, state_by}
+use Rattle.event_core.specs.declared.arrivals.Core.{Core}
+use Rattle.event_core.specs.Core.{Heard, Represents, CoreConfig, now_of, notices_by, config_of, state_by}
 use Rattle.index_log.specs.Live.{IndexLog}
 use Rattle.list_laws.specs.declared.memory.Memory.{Memory}
 use Rattle.pred_eval.specs.Tree.{Tree}
@@ -19,7 +19,7 @@ use Rattle.riemann_msg.specs.Value.{message_of}
 use Rattle.stream_meaning.specs.Arrivals.{Arrival, Post}
 use Rattle.hub_meaning.specs.Messages.{posts_of, reading_of, rule_of, rule_of_query, rule_read}
 use Rattle.hub_meaning.specs.Replies.{answer_to_query, answer_to_text, framed, message_refusal, query_refusal, refused, reply_to}
-use Rattle.hub_meaning.specs.Verdicts.{PatternsState, Refusal, built_rule, is_busy}
+use Rattle.hub_meaning.specs.Verdicts.{PatternsReport, Refusal, built_rule, is_busy}
 use Rattle.msg_replies.specs.Arriving.{Arrives, Reported}
 use Rattle.msg_replies.specs.Answering.{AfterVerdict, AnswersMessage, AnswersQuery, asked_of}
 use Rattle.msg_replies.proofs.VerdictLaws.{no_verdict}
@@ -104,7 +104,7 @@ reply_refused now unsent log body fault refusal is = rw is refl
 
 -- ---- a message
 
-pub answers_accepted : (body : List ℕ) (unsent : ℕ) (msg : Msg) (core posted asked : Core) (patterns patterns' : PatternsState) (replies replies' : List ℕ) (old new : Reported) (result : Result (Unit {0}) Memory)
+pub answers_accepted : (body : List ℕ) (unsent : ℕ) (msg : Msg) (core posted asked : Core) (patterns patterns' : PatternsReport) (replies replies' : List ℕ) (old new : Reported) (result : Result (Unit {0}) Memory)
     → (first_fault body ≡ None) × (msg ≡ message_of (now_of core) body) → now_of posted ≡ now_of core → asked ≡ posted
     → ((arrivals : List Arrival) → Represents core arrivals → Arrives core posted arrivals (map Post msg.events) old new)
     → AnswersQuery (asked_of unsent msg.query) posted patterns patterns' replies replies' (λ log refusal. answer_to_query log unsent refusal msg.query) result
@@ -125,7 +125,7 @@ answers_accepted body unsent msg core posted asked patterns patterns' replies re
     }
 
 -- out of memory when the query of a message was answered
-pub answers_failed : (body : List ℕ) (unsent : ℕ) (msg : Msg) (core posted asked : Core) (patterns patterns' : PatternsState) (replies replies' : List ℕ) (old new : Reported) (result : Result (Unit {0}) Memory) (memory : Memory)
+pub answers_failed : (body : List ℕ) (unsent : ℕ) (msg : Msg) (core posted asked : Core) (patterns patterns' : PatternsReport) (replies replies' : List ℕ) (old new : Reported) (result : Result (Unit {0}) Memory) (memory : Memory)
     → (first_fault body ≡ None) × (msg ≡ message_of (now_of core) body)
     → AnswersQuery (asked_of unsent msg.query) posted patterns patterns' replies replies' (λ log refusal. answer_to_query log unsent refusal msg.query) result
     → AnswersMessage body unsent core asked patterns patterns' replies replies' old new (Err memory)
@@ -137,7 +137,7 @@ answers_failed body unsent msg core posted asked patterns patterns' replies repl
       answered = tt;
     }
 
-pub answers_refused : (body : List ℕ) (unsent : ℕ) (core : Core) (patterns : PatternsState) (replies replies' : List ℕ) (place : ℕ) (why : MsgWhy) (old : Reported) (result : Result (Unit {0}) Memory)
+pub answers_refused : (body : List ℕ) (unsent : ℕ) (core : Core) (patterns : PatternsReport) (replies replies' : List ℕ) (place : ℕ) (why : MsgWhy) (old : Reported) (result : Result (Unit {0}) Memory)
     → first_fault body ≡ Some (fault_at place why) → OnOk result (replies' ≡ replies ++ framed (refused (message_refusal place why)))
     → AnswersMessage body unsent core core patterns patterns replies replies' old old result
 answers_refused body unsent core patterns replies replies' place why old result read step =
@@ -154,7 +154,7 @@ answers_refused body unsent core patterns replies replies' place why old result 
     }
 
 -- out of memory before anything was said of the message
-pub answers_nothing : (body : List ℕ) (unsent : ℕ) (core core' : Core) (patterns : PatternsState) (replies replies' : List ℕ) (old new : Reported) (memory : Memory)
+pub answers_nothing : (body : List ℕ) (unsent : ℕ) (core core' : Core) (patterns : PatternsReport) (replies replies' : List ℕ) (old new : Reported) (memory : Memory)
     → AnswersMessage body unsent core core' patterns patterns replies replies' old new (Err memory)
 answers_nothing body unsent core core' patterns replies replies' old new memory = record {
   refusal = None;
@@ -171,7 +171,7 @@ says_fault (TooDeep place) answer other says = says
 says_fault NoMemory answer other says = absurd (other refl)
 
 -- a text that is not a query is refused
-pub answers_fault : (text : List ℕ) (fault : QueryFault) (core : Core) (patterns : PatternsState) (replies replies' : List ℕ) (result : Result (Unit {0}) Memory)
+pub answers_fault : (text : List ℕ) (fault : QueryFault) (core : Core) (patterns : PatternsReport) (replies replies' : List ℕ) (result : Result (Unit {0}) Memory)
     → Agrees (Err fault) (query_of text) → OnOk result (fault ≢ NoMemory) → OnOk result (replies' ≡ replies ++ framed (refused (query_refusal fault)))
     → AnswersQuery (rule_read (query_of text)) core patterns patterns replies replies' (λ log refusal. answer_to_text log refusal (query_of text)) result
 answers_fault text fault core patterns replies replies' (Ok done) says other wrote = record {

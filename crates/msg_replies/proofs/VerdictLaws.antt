@@ -6,7 +6,7 @@ use Rattle.std.proofs.lemmas.Option.{slice_get-get_or}
 use Rattle.list_laws.specs.Counts.{Rose}
 use Rattle.pred_eval.specs.Tree.{Tree}
 use Rattle.pred_eval.specs.Truth.{searches}
-use Rattle.hub_meaning.specs.Verdicts.{AfterVerdicts, PatternsState, Refusal, is_refused, refused_text, texts_refused}
+use Rattle.hub_meaning.specs.Verdicts.{AfterVerdicts, PatternsReport, Refusal, is_refused, refused_text, texts_refused}
 use Rattle.msg_replies.specs.Answering.{AfterVerdict}
 
 pub appended_nothing : {X : Type 0} (old : Option (List X)) → old ≡ option_map (λ texts. texts ++ []) old
@@ -18,10 +18,10 @@ pub appended_twice : {X : Type 0} (old : Option (List X)) (xs ys : List X)
 appended_twice None xs ys = refl
 appended_twice (Some texts) xs ys = ap Some (append_assoc texts xs ys)
 
-pub no_verdict : (asked : Option Tree) (state : PatternsState) → AfterVerdict asked None state state
+pub no_verdict : (asked : Option Tree) (state : PatternsReport) → AfterVerdict asked None state state
 no_verdict asked state = record { possible = tt; reported = appended_nothing state.refused; never_falls = omega arith; rose = λ refused. absurd (cc refused); still = λ _. refl }
 
-pub refused_verdict : (rule : Tree) (number : ℕ) (old new : PatternsState) → number < length (searches rule) → Rose old.refusals new.refusals → old.refusals ≤ new.refusals
+pub refused_verdict : (rule : Tree) (number : ℕ) (old new : PatternsReport) → number < length (searches rule) → Rose old.refusals new.refusals → old.refusals ≤ new.refusals
     → new.refused ≡ option_map (λ texts. texts ++ slice_index_or (searches rule) number [] ∷ []) old.refused
     → AfterVerdict (Some rule) (Some (record { number = number; text = slice_index_or (searches rule) number [] })) old new
 refused_verdict rule number old new within rose rises reported = record {
@@ -32,7 +32,7 @@ refused_verdict rule number old new within rose rises reported = record {
   still = λ none. absurd (cc none);
 }
 
-pub no_verdicts : (state : PatternsState) → AfterVerdicts state state []
+pub no_verdicts : (state : PatternsReport) → AfterVerdicts state state []
 no_verdicts state = record { reported = appended_nothing state.refused; never_falls = omega arith; rose = λ refused. absurd (cc refused); still = λ _. refl }
 
 texts_more : (verdicts : List (Option Refusal)) (last : Option Refusal) → texts_refused (verdicts ++ last ∷ []) ≡ texts_refused verdicts ++ option_to_list (option_map refused_text last)
@@ -67,7 +67,7 @@ still_both : (t u : Bool) (a b c : ℕ) → (t ≡ false → b ≡ a) → (u ≡
 still_both true u a b c first last neither = absurd (cc neither)
 still_both false u a b c first last neither = last neither ∙ first refl
 
-pub more_verdicts : (asked : Option Tree) (start mid new : PatternsState) (verdicts : List (Option Refusal)) (refusal : Option Refusal)
+pub more_verdicts : (asked : Option Tree) (start mid new : PatternsReport) (verdicts : List (Option Refusal)) (refusal : Option Refusal)
     → AfterVerdicts start mid verdicts → AfterVerdict asked refusal mid new → AfterVerdicts start new (verdicts ++ refusal ∷ [])
 more_verdicts asked start mid new verdicts refusal before last = record {
   reported = last.reported

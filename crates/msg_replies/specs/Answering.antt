@@ -1,7 +1,7 @@
 -- How one message is answered.
 use Rattle.std.specs.Prelude.{◌≡◌, ℕ, ◌≤◌, false, IsTrue, IfSome, OnOk, is_some, if◌then◌else◌, List, ◌++◌, Option, None, Result, option_and_then, option_map, option_to_list}
-use Rattle.hub_meaning.specs.event_core.declared.arrivals.Core.{Core}
-use Rattle.hub_meaning.specs.event_core.Core.{Represents, now_of, config_of, state_by}
+use Rattle.event_core.specs.declared.arrivals.Core.{Core}
+use Rattle.event_core.specs.Core.{Represents, now_of, config_of, state_by}
 use Rattle.index_log.specs.Live.{IndexLog}
 use Rattle.list_laws.specs.Counts.{Rose}
 use Rattle.list_laws.specs.declared.memory.Memory.{Memory}
@@ -11,11 +11,11 @@ use Rattle.stream_meaning.specs.Arrivals.{Arrival}
 use Rattle.riemann_msg.specs.declared.msg.QueryPart.{QueryPart}
 use Rattle.hub_meaning.specs.Messages.{posts_of, rule_of_query}
 use Rattle.hub_meaning.specs.Replies.{framed, reply_to}
-use Rattle.hub_meaning.specs.Verdicts.{IsOfRule, PatternsState, Refusal, built_rule, is_busy, refused_text}
+use Rattle.hub_meaning.specs.Verdicts.{IsOfRule, PatternsReport, Refusal, built_rule, is_busy, refused_text}
 use Rattle.msg_replies.specs.Arriving.{Arrives, Reported}
 
 -- the verdict on the patterns of a rule, where one was asked for
-pub record AfterVerdict (asked : Option Tree) (refusal : Option Refusal) (old new : PatternsState) : Type 0 where
+pub record AfterVerdict (asked : Option Tree) (refusal : Option Refusal) (old new : PatternsReport) : Type 0 where
   pub possible : IfSome refusal (IsOfRule asked)
   pub reported : new.refused ≡ option_map (λ texts. texts ++ option_to_list (option_map refused_text refusal)) old.refused
   pub never_falls : old.refusals ≤ new.refusals
@@ -27,7 +27,7 @@ abbrev pub asked_of : ℕ → Option QueryPart → Option Tree
 asked_of unsent query = if is_busy unsent then None else option_and_then rule_of_query query
 
 -- a query was answered by a reply that depends on the verdict on its patterns
-pub record AnswersQuery (asked : Option Tree) (core : Core) (patterns patterns' : PatternsState) (replies replies' : List ℕ)
+pub record AnswersQuery (asked : Option Tree) (core : Core) (patterns patterns' : PatternsReport) (replies replies' : List ℕ)
     (reply : IndexLog → Option Refusal → Msg) (result : Result (Unit {0}) Memory) : Type 0 where
   pub refusal : Option Refusal
   pub verdict : AfterVerdict asked refusal patterns patterns'
@@ -42,7 +42,7 @@ pub record Replies (body : List ℕ) (unsent : ℕ) (refusal : Option Refusal) (
       (record { body = body; refusal = refusal })
 
 -- a message was answered, where `unsent` bytes were unsent
-pub record AnswersMessage (body : List ℕ) (unsent : ℕ) (core core' : Core) (patterns patterns' : PatternsState) (replies replies' : List ℕ) (old new : Reported)
+pub record AnswersMessage (body : List ℕ) (unsent : ℕ) (core core' : Core) (patterns patterns' : PatternsReport) (replies replies' : List ℕ) (old new : Reported)
     (result : Result (Unit {0}) Memory) : Type 0 where
   pub refusal : Option Refusal
   pub verdict : AfterVerdict (built_rule (now_of core) unsent body) refusal patterns patterns'

@@ -1,8 +1,8 @@
 -- What arrives at the core, what it gives, and what is counted.
 use Rattle.std.specs.Prelude.{◌≡◌, ℕ, List, ◌++◌}
 use Rattle.ev_types.specs.declared.item.Notice.{Notice}
-use Rattle.hub_meaning.specs.event_core.declared.arrivals.Core.{Core}
-use Rattle.hub_meaning.specs.event_core.Core.{Heard, Represents, config_of}
+use Rattle.event_core.specs.declared.arrivals.Core.{Core}
+use Rattle.event_core.specs.Core.{Heard, Represents, config_of}
 use Rattle.stream_meaning.specs.Arrivals.{Arrival}
 
 -- the notices and the number of forks that were reported so far

@@ -5,6 +5,6 @@
 mod queries;
 mod replies;
 
+pub use event_core;
 pub use hub_meaning;
-pub use hub_meaning::event_core;
 pub use replies::{answer, refuse_length};

@@ -1,9 +1,9 @@
 ghost use Rattle.std.specs.Prelude.{◌≡◌, ◌≢◌, ◌^◌, ◌<◌, ◌≤◌, ◌++◌, ◌∷◌, [], false, filter, length, OnOk, IfOk, codes, Some, None, option_and_then, List};
 ghost use Rattle.std.specs.String.{string_bytes};
-ghost use Rattle.hub_meaning.specs.event_core.Core.{Represents, now_of, config_of, state_by};
+ghost use Rattle.event_core.specs.Core.{Represents, now_of, config_of, state_by};
 ghost use Rattle.hub_meaning.specs.Messages.{query_text, rule_of_query, rule_read};
 ghost use Rattle.hub_meaning.specs.Replies.{answer_to_query, answer_to_rule, answer_to_text, busy, found, framed, limited, over_limit, pattern_refusal, query_refusal, refused};
-ghost use Rattle.hub_meaning.specs.Verdicts.{is_busy, patterns_state};
+ghost use Rattle.hub_meaning.specs.Verdicts.{is_busy};
 ghost use Rattle.pred_eval.specs.Tree.{tree_of};
 ghost use Rattle.pred_eval.specs.Truth.{searches};
 ghost use Rattle.query_lang.specs.Answer.{query_of};
@@ -12,8 +12,8 @@ ghost use Rattle.msg_replies.specs.Answering.{AnswersQuery, asked_of};
 
 use crate::replies::{accept, put_frame, refuse};
 use ev_types::{Blob, Events, Memory};
+use event_core::Core;
 use framing::BODY_LIMIT;
-use hub_meaning::event_core::Core;
 use pred_eval::{BuildFault, Patterns, Pred, Rule};
 use query_lang::{MAX_BYTES, QueryFault, read_query};
 use riemann_msg::{Msg, QueryPart, msg_len};
@@ -33,11 +33,9 @@ pub(crate) fn answer_query<P: Patterns, G: Ledger>(
 ) -> Result<(), Memory>
     ensures same { OnOk result (core.new ≡ core.old) }
     ensures forks { steps.new.forks ≡ steps.old.forks }
-    ensures answers { AnswersQuery (asked_of unsent query.now) core.old
-        (patterns_state (P.refusals patterns.old) (P.refused patterns.old))
-        (patterns_state (P.refusals patterns.new) (P.refused patterns.new))
-        replies.old replies.new (λ log refusal.
-        answer_to_query log unsent refusal query.now) result }
+    ensures answers { AnswersQuery (asked_of unsent query.now) core.old (P.report patterns.old)
+        (P.report patterns.new) replies.old replies.new
+        (λ log refusal. answer_to_query log unsent refusal query.now) result }
 {
     match query {
         Some(query) => answer_part(alloc, query, unsent, core, patterns, replies, steps),
@@ -58,10 +56,8 @@ fn answer_part<P: Patterns, G: Ledger>(
     ensures same { OnOk result (core.new ≡ core.old) }
     ensures forks { steps.new.forks ≡ steps.old.forks }
     ensures answers { AnswersQuery (asked_of unsent (Some query.now)) core.old
-        (patterns_state (P.refusals patterns.old) (P.refused patterns.old))
-        (patterns_state (P.refusals patterns.new) (P.refused patterns.new))
-        replies.old replies.new (λ log refusal.
-        answer_to_query log unsent refusal (Some query.now)) result }
+        (P.report patterns.old) (P.report patterns.new) replies.old replies.new
+        (λ log refusal. answer_to_query log unsent refusal (Some query.now)) result }
 {
     if unsent >= BODY_LIMIT as usize {
         refuse_busy(alloc, unsent, replies)
@@ -90,11 +86,9 @@ fn answer_text<P: Patterns, G: Ledger>(
 ) -> Result<(), Memory>
     ensures same { OnOk result (core.new ≡ core.old) }
     ensures forks { steps.new.forks ≡ steps.old.forks }
-    ensures answers { AnswersQuery (rule_read (query_of text.now)) core.old
-        (patterns_state (P.refusals patterns.old) (P.refused patterns.old))
-        (patterns_state (P.refusals patterns.new) (P.refused patterns.new))
-        replies.old replies.new (λ log refusal.
-        answer_to_text log refusal (query_of text.now)) result }
+    ensures answers { AnswersQuery (rule_read (query_of text.now)) core.old (P.report patterns.old)
+        (P.report patterns.new) replies.old replies.new
+        (λ log refusal. answer_to_text log refusal (query_of text.now)) result }
 {
     match read_query(alloc, text) {
         Ok(rule) => answer_rule(alloc, rule, core, patterns, replies, steps),
@@ -113,10 +107,9 @@ fn answer_rule<P: Patterns, G: Ledger>(
     requires { length (searches (tree_of rule)) < 2 ^ 32 }
     ensures same { OnOk result (core.new ≡ core.old) }
     ensures forks { steps.new.forks ≡ steps.old.forks }
-    ensures answers { AnswersQuery (Some (tree_of rule)) core.old
-        (patterns_state (P.refusals patterns.old) (P.refused patterns.old))
-        (patterns_state (P.refusals patterns.new) (P.refused patterns.new))
-        replies.old replies.new (λ log refusal. answer_to_rule log refusal (tree_of rule)) result }
+    ensures answers { AnswersQuery (Some (tree_of rule)) core.old (P.report patterns.old)
+        (P.report patterns.new) replies.old replies.new
+        (λ log refusal. answer_to_rule log refusal (tree_of rule)) result }
 {
     match Pred::build(alloc, rule, patterns) {
         Ok(mut pred) => put_found(alloc, &mut pred, core, replies, steps),

@@ -1,8 +1,7 @@
 ghost use Rattle.std.specs.Prelude.{◌≡◌, ℕ, ◌^◌, ◌<◌, ◌++◌, ◌∷◌, [], length, map, OnOk, IfOk, codes, List, Some, None};
 ghost use Rattle.std.specs.String.{string_bytes};
-ghost use Rattle.hub_meaning.specs.event_core.Core.{Represents, now_of, config_of};
+ghost use Rattle.event_core.specs.Core.{Represents, now_of, config_of};
 ghost use Rattle.hub_meaning.specs.Replies.{accepted, framed, message_refusal, refused, reply_to_oversized, oversized};
-ghost use Rattle.hub_meaning.specs.Verdicts.{patterns_state};
 ghost use Rattle.riemann_msg.specs.Cleared.{AreCleared};
 ghost use Rattle.riemann_msg.specs.Spelling.{spelling};
 ghost use Rattle.stream_meaning.specs.Arrivals.{Arrival, Post};
@@ -11,8 +10,8 @@ ghost use Rattle.msg_replies.specs.Arriving.{Arrives, reported};
 
 use crate::queries::answer_query;
 use ev_types::{Blob, Event, Events, Memory, Notices, Text};
+use event_core::Core;
 use framing::BODY_LIMIT;
-use hub_meaning::event_core::Core;
 use pred_eval::Patterns;
 use riemann_msg::{Msg, MsgFault, MsgWhy, SpentEvents, msg_len, read_msg_into, write_msg};
 use std::alloc::{AllocError, Global};
@@ -33,10 +32,8 @@ pub fn answer<P: Patterns, G: Ledger>(
     notices: &mut Notices,
     steps: &mut Steps<G>,
 ) -> Result<(), Memory>
-    ensures { AnswersMessage body.now unsent core.old core.new
-        (patterns_state (P.refusals patterns.old) (P.refused patterns.old))
-        (patterns_state (P.refusals patterns.new) (P.refused patterns.new))
-        replies.old replies.new (reported notices.old steps.old.forks)
+    ensures { AnswersMessage body.now unsent core.old core.new (P.report patterns.old)
+        (P.report patterns.new) replies.old replies.new (reported notices.old steps.old.forks)
         (reported notices.new steps.new.forks) result }
 {
     let reused = mem::replace(spent, SpentEvents::fresh(alloc));

@@ -1,7 +1,5 @@
-ghost use Rattle.std.specs.Prelude.{◌≡◌, ◌+◌, ◌<◌, ◌≤◌, ◌++◌, length, min, OnOk, OnErr};
-ghost use Rattle.std.specs.Option.{option_map};
-ghost use Rattle.ports.specs.Counts.{Rose, greatest};
-ghost use Rattle.ports.specs.Writing.{Got, GotPrefix};
+ghost use Rattle.std.specs.Prelude.{◌≡◌, ◌<◌, ◌++◌, length, OnOk, OnErr};
+ghost use Rattle.ports.specs.Writing.{FailsToPut, Puts};
 ghost use Rattle.notice_sink.specs.Lines.{notice_line};
 ghost use Rattle.list_laws.specs.Prefix.{IsPrefix};
 ghost use Rattle.notice_sink.specs.declared.notice.LineFault.TheVariants.{Memory as out_of_memory};
@@ -56,19 +54,11 @@ impl NoticeWriter {
         notice: &Notice,
         sink: &mut O,
     ) -> Result<(), LineFault>
-        ensures ok { OnOk result
-            (Got (O.text sink.old) (notice_line notice.now) (O.text sink.new)) }
-        ensures counted { OnOk result (O.puts sink.new
-            ≡ option_map (λ n. min (n + 1) greatest) (O.puts sink.old)) }
-        ensures no_fault { OnOk result (O.faults sink.new ≡ O.faults sink.old) }
-        ensures front { result ≡ Err LineFault.SinkFault
-            → GotPrefix (O.text sink.old) (notice_line notice.now) (O.text sink.new) }
-        ensures uncounted { result ≡ Err LineFault.SinkFault →
-            O.puts sink.new ≡ O.puts sink.old }
-        ensures fault { result ≡ Err LineFault.SinkFault →
-            Rose (O.faults sink.old) (O.faults sink.new) }
+        ensures puts { OnOk result
+            (Puts (O.report sink.old) (notice_line notice.now) (O.report sink.new)) }
+        ensures fails { result ≡ Err LineFault.SinkFault →
+            FailsToPut (O.report sink.old) (notice_line notice.now) (O.report sink.new) }
         ensures memory { result ≡ Err LineFault.Memory → sink.new ≡ sink.old }
-        ensures faults { O.faults sink.old ≤ O.faults sink.new }
     {
         let mut line = mem::replace(&mut self.line, Blob::fresh(alloc)).into_vec();
         line.clear();
@@ -98,15 +88,10 @@ fn put_line(alloc: Global, notice: &Notice, out: &mut Blob) -> Result<(), Memory
 /// Puts a line once.
 fn put_whole<O: Sink>(line: &[u8], sink: &mut O) -> Result<(), LineFault>
     requires { 0 < length line.now }
-    ensures ok { OnOk result (Got (O.text sink.old) line.now (O.text sink.new)) }
-    ensures counted { OnOk result (O.puts sink.new
-        ≡ option_map (λ n. min (n + 1) greatest) (O.puts sink.old)) }
-    ensures no_fault { OnOk result (O.faults sink.new ≡ O.faults sink.old) }
+    ensures puts { OnOk result (Puts (O.report sink.old) line.now (O.report sink.new)) }
+    ensures fails { OnErr result
+        (FailsToPut (O.report sink.old) line.now (O.report sink.new)) }
     ensures no_memory { result ≡ Err LineFault.Memory → ⊥ }
-    ensures front { OnErr result (GotPrefix (O.text sink.old) line.now (O.text sink.new)) }
-    ensures uncounted { OnErr result (O.puts sink.new ≡ O.puts sink.old) }
-    ensures fault { OnErr result (Rose (O.faults sink.old) (O.faults sink.new)) }
-    ensures faults { O.faults sink.old ≤ O.faults sink.new }
 {
     match sink.put(line) {
         Ok(()) => Ok(()),
@@ -117,17 +102,11 @@ fn put_whole<O: Sink>(line: &[u8], sink: &mut O) -> Result<(), LineFault>
 /// Writes the line of the notice to the sink, in one put. [`NoticeWriter`] does the same with a buffer that is used
 /// again.
 pub fn write_notice<O: Sink>(alloc: Global, notice: &Notice, sink: &mut O) -> Result<(), LineFault>
-    ensures ok { OnOk result (Got (O.text sink.old) (notice_line notice.now) (O.text sink.new)) }
-    ensures counted { OnOk result (O.puts sink.new
-        ≡ option_map (λ n. min (n + 1) greatest) (O.puts sink.old)) }
-    ensures no_fault { OnOk result (O.faults sink.new ≡ O.faults sink.old) }
-    ensures front { result ≡ Err LineFault.SinkFault
-        → GotPrefix (O.text sink.old) (notice_line notice.now) (O.text sink.new) }
-    ensures uncounted { result ≡ Err LineFault.SinkFault → O.puts sink.new ≡ O.puts sink.old }
-    ensures fault { result ≡ Err LineFault.SinkFault →
-        Rose (O.faults sink.old) (O.faults sink.new) }
+    ensures puts { OnOk result
+        (Puts (O.report sink.old) (notice_line notice.now) (O.report sink.new)) }
+    ensures fails { result ≡ Err LineFault.SinkFault →
+        FailsToPut (O.report sink.old) (notice_line notice.now) (O.report sink.new) }
     ensures memory { result ≡ Err LineFault.Memory → sink.new ≡ sink.old }
-    ensures faults { O.faults sink.old ≤ O.faults sink.new }
 {
     let mut writer = NoticeWriter::fresh(alloc);
     writer.write(alloc, notice, sink)?;

@@ -3,3 +3,4 @@ pub mod RuleLemmas
 pub mod MarkLemmas
 pub mod ScriptLemmas
 pub mod PieceLemmas
+pub mod CallLemmas

@@ -6,6 +6,7 @@ pub mod MemStore
 pub mod MemSink
 pub mod Links
 pub mod Playing
+pub mod Calls
 pub mod Tables
 pub mod Marks
 pub mod ScriptLinks

@@ -1,4 +1,4 @@
--- What a store holds, as far as it reports it, and what one read may answer.
+-- What a store reports of itself, and what one read may answer.
 use Rattle.std.specs.Prelude.{◌≡◌, ℕ, ◌+◌, ◌<◌, ◌≤◌, true, false, List, [], ◌∷◌, length, Option, Some}
 use Rattle.std.specs.Option.{ForSome}
 use Rattle.ports.specs.Counts.{Rose, RoseBy}
@@ -9,6 +9,16 @@ use Rattle.ports.specs.declared.store.StoreRead.{StoreRead}
 -- the file of a name: None where the store does not report it, Some None where there is no such file
 abbrev pub Content : Type 0
 Content = Option (Option (List ℕ))
+
+pub record StoreReport : Type 0 where
+  -- the file of each name
+  pub held : List ℕ → Content
+  -- the reads so far that did not answer out of memory, in order, where it reports them
+  pub reads : Option (List StoreRead)
+  -- how many bytes were taken from files
+  pub taken : ℕ
+  -- how many reads failed
+  pub faults : ℕ
 
 -- the store reports that the file holds these bytes
 abbrev pub IsHeld : Content → List ℕ → Type 0

@@ -1,5 +1,6 @@
 -- What links in memory hold while they play a script.
-use Rattle.std.specs.Prelude.{◌≡◌, ℕ, ◌≤◌, Bool, false, if◌then◌else◌, List, [], length, drop}
+use Rattle.std.specs.Prelude.{◌≡◌, ℕ, ◌≤◌, Bool, false, if◌then◌else◌, List, [], length, drop, Some}
+use Rattle.ports.specs.Calls.{LinksReport}
 use Rattle.ports.specs.Playing.{IsScriptedRun, SendRules, bytes_taken, playing}
 use Rattle.ports.specs.declared.entry.Entry.{Entry}
 use Rattle.ports.specs.declared.links.ListenAnswer.{ListenAnswer}
@@ -11,6 +12,9 @@ pub record ScriptedCalls : Type 0 where
   pub script : Script
   pub log : List Entry
   pub poisoned : Bool
+
+abbrev pub script_report : ScriptedCalls → LinksReport
+script_report links = record { log = Some links.log; script = Some links.script; faults = 0 }
 
 -- what a call of `listen` answers: the last reading, or, after a call that was out of memory, the same
 abbrev pub listen_answer : ScriptedCalls → ListenAnswer

@@ -10,11 +10,7 @@ pub struct CountSink {
 }
 
 impl Sink for CountSink {
-    ghost text = { λ _. None };
-
-    ghost puts = { λ sink. Some sink.puts };
-
-    ghost faults = { λ _. 0 };
+    ghost report = { λ sink. record { text = None; puts = Some sink.puts; faults = 0 } };
 
     fn put(&mut self, _bytes: &[u8]) -> Result<(), Failed> {
         self.puts = self.puts.saturating_add(1);

@@ -1,7 +1,7 @@
 ghost use Rattle.std.specs.Prelude.{◌≡◌, ◌<◌, ◌≤◌, [], ◌∷◌, false, true, if◌then◌else◌, length, MatchBool, Some};
+ghost use Rattle.ports.specs.Calls.{AddsCalls};
 ghost use Rattle.ports.specs.Counts.{Rose, count_after};
-ghost use Rattle.ports.specs.Links.{HasListenCause, HasNextCause, IsPieceWithin, IsWithin, MayClose, grown, is_failed_turn, is_memory_send, is_memory_turn, listen_entries, next_entries, send_entries};
-ghost use Rattle.ports.specs.Playing.{Plays};
+ghost use Rattle.ports.specs.Links.{HasListenCause, HasNextCause, IsPieceWithin, IsWithin, MayClose, is_failed_turn, is_memory_send, is_memory_turn, listen_entries, next_entries, send_entries};
 ghost use Rattle.ports.specs.ScriptLinks.{listen_answer};
 ghost use Rattle.ports.specs.declared.entry.Entry.TheVariants.{Close};
 
@@ -62,23 +62,15 @@ impl FaultLinks {
 }
 
 impl Links for FaultLinks {
-    ghost use Rattle.ports.specs.FaultLinks.{faults_after, is_chosen};
+    ghost use Rattle.ports.specs.FaultLinks.{fault_report, faults_after, is_chosen};
 
-    ghost log = { λ links. Some links.inner.log };
+    ghost report = { λ links. fault_report links };
 
-    ghost script = { λ links. Some links.inner.script };
-
-    ghost faults = { λ links. links.faults };
-
-    #[tactic(auto, using(crate::proofs::ScriptLemmas::listen_counts))]
+    #[tactic(auto, using(crate::proofs::ScriptLemmas::listen_counts, crate::proofs::CallLemmas::calls_counted, crate::proofs::CallLemmas::played_calls))]
     fn listen(&mut self, alloc: Global, address: &Text) -> ListenAnswer
-        ensures log { Some self.new.inner.log
-            ≡ grown (Some self.old.inner.log) (listen_entries address.now result) }
+        ensures adds { AddsCalls (fault_report self.old) (fault_report self.new)
+            (listen_entries address.now result) }
         ensures cause { HasListenCause self.old.faults self.new.faults result }
-        ensures faults { self.old.faults ≤ self.new.faults }
-        ensures script { self.new.inner.script ≡ self.old.inner.script }
-        ensures plays { Plays (Some self.old.inner.script) (Some self.old.inner.log) →
-            Plays (Some self.new.inner.script) (Some self.new.inner.log) }
 
         // More than links must report: which calls fail, what the inner links answer to the others, and the counts.
         ensures answer { result ≡ (if is_chosen self.old then ListenAnswer.Failed
@@ -95,17 +87,13 @@ impl Links for FaultLinks {
         self.inner.listen(alloc, address)
     }
 
-    #[tactic(auto, using(crate::proofs::ScriptLemmas::next_counts))]
+    #[tactic(auto, using(crate::proofs::ScriptLemmas::next_counts, crate::proofs::CallLemmas::calls_counted, crate::proofs::CallLemmas::played_calls))]
     fn next(&mut self, alloc: Global, wants: &Wants, buf: &mut [u8]) -> Turn
         requires { length buf.old ≡ PIECE_LIMIT }
         ensures within { IsPieceWithin PIECE_LIMIT result.what }
-        ensures log { Some self.new.inner.log
-            ≡ grown (Some self.old.inner.log) (next_entries wants.now buf.new result) }
+        ensures adds { AddsCalls (fault_report self.old) (fault_report self.new)
+            (next_entries wants.now buf.new result) }
         ensures cause { HasNextCause self.old.faults self.new.faults result.what }
-        ensures faults { self.old.faults ≤ self.new.faults }
-        ensures script { self.new.inner.script ≡ self.old.inner.script }
-        ensures plays { Plays (Some self.old.inner.script) (Some self.old.inner.log) →
-            Plays (Some self.new.inner.script) (Some self.new.inner.log) }
 
         // More than links must report: which calls fail, what the inner links answer to the others, and the counts.
         ensures fails { is_failed_turn result.what ≡ is_chosen self.old }
@@ -123,14 +111,12 @@ impl Links for FaultLinks {
         self.inner.next(alloc, wants, buf)
     }
 
+    #[tactic(auto, using(crate::proofs::CallLemmas::calls_counted))]
     fn send(&mut self, alloc: Global, link: u64, bytes: &[u8]) -> SendAnswer
         requires { 0 < length bytes.now }
         ensures within { IsWithin (length bytes.now) result }
-        ensures log { Some self.new.inner.log
-            ≡ grown (Some self.old.inner.log) (send_entries link bytes.now result) }
-        ensures script { self.new.inner.script ≡ self.old.inner.script }
-        ensures plays { Plays (Some self.old.inner.script) (Some self.old.inner.log) →
-            Plays (Some self.new.inner.script) (Some self.new.inner.log) }
+        ensures adds { AddsCalls (fault_report self.old) (fault_report self.new)
+            (send_entries link bytes.now result) }
 
         // More than links must report: the inner links answer, and the call is not counted.
         ensures poison { self.old.inner.poisoned ≡ true → result ≡ SendAnswer.Memory }
@@ -142,13 +128,10 @@ impl Links for FaultLinks {
         self.inner.send(alloc, link, bytes)
     }
 
+    #[tactic(auto, using(crate::proofs::CallLemmas::calls_counted))]
     fn close(&mut self, link: u64)
         requires { MayClose (Some self.old.inner.log) link }
-        ensures log { Some self.new.inner.log
-            ≡ grown (Some self.old.inner.log) (Close link ∷ []) }
-        ensures script { self.new.inner.script ≡ self.old.inner.script }
-        ensures plays { Plays (Some self.old.inner.script) (Some self.old.inner.log) →
-            Plays (Some self.new.inner.script) (Some self.new.inner.log) }
+        ensures adds { AddsCalls (fault_report self.old) (fault_report self.new) (Close link ∷ []) }
 
         // More than links must report: the call is not counted.
         ensures poisoned { self.new.inner.poisoned ≡ self.old.inner.poisoned }

@@ -33,13 +33,12 @@ impl<'a, R: Files> FileStore<'a, R> {
 }
 
 impl<'a, R: Files> Store for FileStore<'a, R> {
-    ghost held = { λ _ _. None };
-
-    ghost reads = { λ _. None };
-
-    ghost taken = { λ store. store.taken };
-
-    ghost faults = { λ store. store.faults };
+    ghost report = { λ store. record {
+      held = λ _. None;
+      reads = None;
+      taken = store.taken;
+      faults = store.faults;
+    } };
 
     fn read(&mut self, alloc: Global, name: &Text, limit: u64) -> ReadAnswer {
         let mut bytes = Vec::new(alloc);

@@ -1,6 +1,6 @@
-ghost use Rattle.std.specs.Prelude.{◌≡◌, ◌<◌, ◌≤◌, [], ◌∷◌, length};
-ghost use Rattle.ports.specs.Links.{grown, listen_entries, next_entries, send_entries, HasListenCause, HasNextCause, IsPieceWithin, IsWithin, MayClose};
-ghost use Rattle.ports.specs.Playing.{Plays};
+ghost use Rattle.std.specs.Prelude.{◌≡◌, ◌<◌, [], ◌∷◌, length};
+ghost use Rattle.ports.specs.Calls.{AddsCalls};
+ghost use Rattle.ports.specs.Links.{listen_entries, next_entries, send_entries, HasListenCause, HasNextCause, IsPieceWithin, IsWithin, MayClose};
 
 use ev_types::{Items, Text};
 use std::alloc::Global;
@@ -10,61 +10,41 @@ pub const PIECE_LIMIT: usize = 65_536;
 
 /// The links to clients, and the clock. A turn is a reading of the clock, and what happened, if something did.
 pub trait Links {
-    ghost use Rattle.std.specs.Prelude.{ℕ, List, Option};
-    ghost use Rattle.ports.specs.declared.entry.Entry.{Entry};
+    ghost use Rattle.ports.specs.Calls.{LinksReport};
     ghost use Rattle.ports.specs.declared.entry.Entry.TheVariants.{Close};
-    ghost use Rattle.ports.specs.declared.script.Script.{Script};
 
-    /// Every call so far that did not answer out of memory, in order, with its arguments and its answer, where the
-    /// links report it.
-    ghost log: { Self → Option (List Entry) };
-
-    /// The script that the links play, where they play one. It never changes.
-    ghost script: { Self → Option Script };
-
-    /// The number of calls of [`Links::listen`] and [`Links::next`] that failed.
-    ghost faults: { Self → ℕ };
+    /// The calls so far, the script that the links play, where they play one, and the count of calls that failed.
+    ghost report: { Self → LinksReport };
 
     /// Starts to listen on `address`, a text `HOST:PORT`.
     fn listen(&mut self, alloc: Global, address: &Text) -> ListenAnswer
-        ensures log { log self.new ≡ grown (log self.old) (listen_entries address.now result) }
-        ensures cause { HasListenCause (faults self.old) (faults self.new) result }
-        ensures faults { faults self.old ≤ faults self.new }
-        ensures script { script self.new ≡ script self.old }
-        ensures plays { Plays (script self.old) (log self.old) →
-            Plays (script self.new) (log self.new) };
+        ensures adds { AddsCalls (report self.old) (report self.new)
+            (listen_entries address.now result) }
+        ensures cause { HasListenCause (report self.old).faults (report self.new).faults result };
 
     /// Waits for the next turn. `wants` has one want for each connected link, by rising number. The bytes of a read
     /// are the first ones of `buf`.
     fn next(&mut self, alloc: Global, wants: &Wants, buf: &mut [u8]) -> Turn
         requires { length buf.old ≡ PIECE_LIMIT }
         ensures within { IsPieceWithin PIECE_LIMIT result.what }
-        ensures log { log self.new ≡ grown (log self.old)
+        ensures adds { AddsCalls (report self.old) (report self.new)
             (next_entries wants.now buf.new result) }
-        ensures cause { HasNextCause (faults self.old) (faults self.new) result.what }
-        ensures faults { faults self.old ≤ faults self.new }
-        ensures script { script self.new ≡ script self.old }
-        ensures plays { Plays (script self.old) (log self.old) →
-            Plays (script self.new) (log self.new) };
+        ensures cause { HasNextCause (report self.old).faults (report self.new).faults
+            result.what };
 
     /// Offers the bytes to the link. A send that fails concerns that link alone, and is not a fault.
     fn send(&mut self, alloc: Global, link: u64, bytes: &[u8]) -> SendAnswer
         requires { 0 < length bytes.now }
         ensures within { IsWithin (length bytes.now) result }
-        ensures log { log self.new ≡ grown (log self.old) (send_entries link bytes.now result) }
-        ensures faults { faults self.new ≡ faults self.old }
-        ensures script { script self.new ≡ script self.old }
-        ensures plays { Plays (script self.old) (log self.old) →
-            Plays (script self.new) (log self.new) };
+        ensures adds { AddsCalls (report self.old) (report self.new)
+            (send_entries link bytes.now result) }
+        ensures no_fault { (report self.new).faults ≡ (report self.old).faults };
 
     /// Closes the link. It always succeeds and takes no memory.
     fn close(&mut self, link: u64)
-        requires { MayClose (log self.old) link }
-        ensures log { log self.new ≡ grown (log self.old) (Close link ∷ []) }
-        ensures faults { faults self.new ≡ faults self.old }
-        ensures script { script self.new ≡ script self.old }
-        ensures plays { Plays (script self.old) (log self.old) →
-            Plays (script self.new) (log self.new) };
+        requires { MayClose (report self.old).log link }
+        ensures adds { AddsCalls (report self.old) (report self.new) (Close link ∷ []) }
+        ensures no_fault { (report self.new).faults ≡ (report self.old).faults };
 }
 
 /// What [`Links::listen`] answers.

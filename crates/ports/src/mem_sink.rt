@@ -2,7 +2,7 @@ ghost use Rattle.std.specs.Prelude.{◌≡◌, ◌↔◌, ℕ, ◌+◌, ◌-◌,
 ghost use Rattle.std.specs.Option.{option_map};
 ghost use Rattle.std.specs.List.{list_any};
 ghost use Rattle.ports.specs.Counts.{Rose, count_after, greatest};
-ghost use Rattle.ports.specs.Writing.{Got, GotPrefix};
+ghost use Rattle.ports.specs.Writing.{FailsToPut, Puts};
 
 use crate::sink::{Failed, Sink};
 use ev_types::Memory;
@@ -61,24 +61,15 @@ impl MemSink {
 }
 
 impl Sink for MemSink {
-    ghost use Rattle.ports.specs.MemSink.{part_taken};
+    ghost use Rattle.ports.specs.MemSink.{mem_report, part_taken};
 
-    ghost text = { λ sink. Some sink.text.items };
-
-    ghost puts = { λ sink. Some sink.puts };
-
-    ghost faults = { λ sink. sink.faults };
+    ghost report = { λ sink. mem_report sink };
 
     fn put(&mut self, bytes: &[u8]) -> Result<(), Failed>
         requires { 0 < length bytes.now }
-        ensures all { OnOk result (self.new.text.items ≡ self.old.text.items ++ bytes.now) }
-        ensures counted { OnOk result (self.new.puts ≡ min (self.old.puts + 1) greatest) }
-        ensures no_fault { OnOk result (self.new.faults ≡ self.old.faults) }
-        ensures front { OnErr result (GotPrefix (Some self.old.text.items) bytes.now
-            (Some self.new.text.items)) }
-        ensures uncounted { OnErr result (self.new.puts ≡ self.old.puts) }
-        ensures fault { OnErr result (Rose self.old.faults self.new.faults) }
-        ensures faults { self.old.faults ≤ self.new.faults }
+        ensures puts { OnOk result (Puts (mem_report self.old) bytes.now (mem_report self.new)) }
+        ensures fails { OnErr result (FailsToPut (mem_report self.old) bytes.now
+            (mem_report self.new)) }
 
         // More than a sink must report: exactly what was written and counted.
         ensures part { self.new.text.items ≡ self.old.text.items

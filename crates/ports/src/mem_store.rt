@@ -60,13 +60,12 @@ impl MemStore {
 }
 
 impl Store for MemStore {
-    ghost held = { λ store name. Some (held_in store.files.items name) };
-
-    ghost reads = { λ store. Some store.reads };
-
-    ghost taken = { λ store. store.taken };
-
-    ghost faults = { λ store. store.faults };
+    ghost report = { λ store. record {
+      held = λ name. Some (held_in store.files.items name);
+      reads = Some store.reads;
+      taken = store.taken;
+      faults = store.faults;
+    } };
 
     fn read(&mut self, alloc: Global, name: &Text, limit: u64) -> ReadAnswer
         requires { limit < 2 ^ 63 }

@@ -1,5 +1,6 @@
 ghost use Rattle.std.specs.Prelude.{◌≡◌, ℕ, ◌+◌, ◌-◌, ◌<◌, ◌≤◌, [], ◌∷◌, ◌++◌, List, Some, false, true, length, drop, take, min, IfOk, OnOk, OnErr};
-ghost use Rattle.ports.specs.Links.{HasListenCause, HasNextCause, IsPieceWithin, IsWithin, MayClose, grown, is_failed_turn, is_memory_send, is_memory_turn, listen_entries, next_entries, piece_of, send_entries};
+ghost use Rattle.ports.specs.Calls.{AddsCalls};
+ghost use Rattle.ports.specs.Links.{HasListenCause, HasNextCause, IsPieceWithin, IsWithin, MayClose, is_failed_turn, is_memory_send, is_memory_turn, listen_entries, next_entries, piece_of, send_entries};
 ghost use Rattle.ports.specs.Playing.{Plays, bytes_taken, first_turn, from_turn, is_turn_answer, rule_after, rules_at_turn, send_answer, taken_by_send, with_rule};
 ghost use Rattle.ports.specs.Tables.{rules_in, taken_in};
 ghost use Rattle.ports.specs.declared.entry.Entry.TheVariants.{Listen, Next, Send, Close};
@@ -267,21 +268,15 @@ fn count_taken(answer: SendAnswer) -> usize
 }
 
 impl Links for ScriptLinks {
-    ghost use Rattle.ports.specs.ScriptLinks.{listen_answer};
+    ghost use Rattle.ports.specs.ScriptLinks.{listen_answer, script_report};
 
-    ghost log = { λ links. Some links.log };
+    ghost report = { λ links. script_report links };
 
-    ghost script = { λ links. Some links.script };
-
-    ghost faults = { λ _. 0 };
-
+    #[tactic(auto, using(crate::proofs::CallLemmas::no_calls))]
     fn listen(&mut self, _alloc: Global, address: &Text) -> ListenAnswer
-        ensures log { Some self.new.log
-            ≡ grown (Some self.old.log) (listen_entries address.now result) }
+        ensures adds { AddsCalls (script_report self.old) (script_report self.new)
+            (listen_entries address.now result) }
         ensures cause { HasListenCause 0 0 result }
-        ensures script { self.new.script ≡ self.old.script }
-        ensures plays { Plays (Some self.old.script) (Some self.old.log) →
-            Plays (Some self.new.script) (Some self.new.log) }
 
         // More than links must report: the answer, and that it poisons nothing.
         ensures answer { result ≡ listen_answer self.old }
@@ -297,15 +292,13 @@ impl Links for ScriptLinks {
         answer
     }
 
+    #[tactic(auto, using(crate::proofs::CallLemmas::played_calls))]
     fn next(&mut self, _alloc: Global, wants: &Wants, buf: &mut [u8]) -> Turn
         requires { length buf.old ≡ PIECE_LIMIT }
         ensures within { IsPieceWithin PIECE_LIMIT result.what }
-        ensures log { Some self.new.log
-            ≡ grown (Some self.old.log) (next_entries wants.now buf.new result) }
+        ensures adds { AddsCalls (script_report self.old) (script_report self.new)
+            (next_entries wants.now buf.new result) }
         ensures cause { HasNextCause 0 0 result.what }
-        ensures script { self.new.script ≡ self.old.script }
-        ensures plays { Plays (Some self.old.script) (Some self.old.log) →
-            Plays (Some self.new.script) (Some self.new.log) }
 
         // More than links must report: the call never fails, and one that was out of memory poisons the links.
         ensures no_fault { is_failed_turn result.what ≡ false }
@@ -321,14 +314,12 @@ impl Links for ScriptLinks {
         }
     }
 
+    #[tactic(auto, using(crate::proofs::CallLemmas::played_calls))]
     fn send(&mut self, alloc: Global, link: u64, bytes: &[u8]) -> SendAnswer
         requires { 0 < length bytes.now }
         ensures within { IsWithin (length bytes.now) result }
-        ensures log { Some self.new.log
-            ≡ grown (Some self.old.log) (send_entries link bytes.now result) }
-        ensures script { self.new.script ≡ self.old.script }
-        ensures plays { Plays (Some self.old.script) (Some self.old.log) →
-            Plays (Some self.new.script) (Some self.new.log) }
+        ensures adds { AddsCalls (script_report self.old) (script_report self.new)
+            (send_entries link bytes.now result) }
 
         // More than links must report: a call that was out of memory poisons the links.
         ensures poison { self.old.poisoned ≡ true → result ≡ SendAnswer.Memory }
@@ -342,10 +333,7 @@ impl Links for ScriptLinks {
 
     fn close(&mut self, link: u64)
         requires { MayClose (Some self.old.log) link }
-        ensures log { Some self.new.log ≡ grown (Some self.old.log) (Close link ∷ []) }
-        ensures script { self.new.script ≡ self.old.script }
-        ensures plays { Plays (Some self.old.script) (Some self.old.log) →
-            Plays (Some self.new.script) (Some self.new.log) }
+        ensures adds { AddsCalls (script_report self.old) (script_report self.new) (Close link ∷ []) }
 
         // More than links must report: it poisons nothing.
         ensures poisoned { self.new.poisoned ≡ self.old.poisoned }

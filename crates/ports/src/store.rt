@@ -7,32 +7,21 @@ use std::alloc::Global;
 
 /// Where files are read from.
 pub trait Store {
-    ghost use Rattle.std.specs.Prelude.{ℕ, List, Option};
-    ghost use Rattle.ports.specs.Reading.{Content};
-    ghost use Rattle.ports.specs.declared.store.StoreRead.{StoreRead};
+    ghost use Rattle.ports.specs.Reading.{StoreReport};
 
-    /// The file of a name, where the store reports it.
-    ghost held: { Self → List ℕ → Content };
-
-    /// The reads so far that did not answer out of memory, in order, where the store reports them.
-    ghost reads: { Self → Option (List StoreRead) };
-
-    /// How many bytes were taken from files so far.
-    ghost taken: { Self → ℕ };
-
-    /// How many reads failed so far.
-    ghost faults: { Self → ℕ };
+    /// What the files hold, the reads so far, and the counts of bytes taken and of reads that failed.
+    ghost report: { Self → StoreReport };
 
     /// Reads the whole file of that name, if it has at most `limit` bytes. The limit is less than 2^63.
     fn read(&mut self, alloc: Global, name: &Text, limit: u64) -> ReadAnswer
         requires { limit < 2 ^ 63 }
-        ensures held { held self.new ≡ held self.old }
-        ensures cause { HasCause (held self.old name.now) limit (faults self.old) (faults self.new)
-            (taken self.old) (taken self.new) result }
-        ensures reads { reads self.new ≡ option_map (λ made. made ++ reads_made name.now result)
-            (reads self.old) }
-        ensures taken { taken self.old ≤ taken self.new }
-        ensures faults { faults self.old ≤ faults self.new }
+        ensures held { (report self.new).held ≡ (report self.old).held }
+        ensures cause { HasCause ((report self.old).held name.now) limit (report self.old).faults (report self.new).faults
+            (report self.old).taken (report self.new).taken result }
+        ensures reads { (report self.new).reads ≡ option_map (λ made. made ++ reads_made name.now result)
+            (report self.old).reads }
+        ensures taken { (report self.old).taken ≤ (report self.new).taken }
+        ensures faults { (report self.old).faults ≤ (report self.new).faults }
         ensures memory { result ≡ ReadAnswer.Memory → self.new ≡ self.old };
 }
 

@@ -25,11 +25,7 @@ impl<W: Write> StreamSink<W> {
 }
 
 impl<W: Write> Sink for StreamSink<W> {
-    ghost text = { λ _. None };
-
-    ghost puts = { λ _. None };
-
-    ghost faults = { λ sink. sink.faults };
+    ghost report = { λ sink. record { text = None; puts = None; faults = sink.faults } };
 
     fn put(&mut self, bytes: &[u8]) -> Result<(), Failed>
         requires { 0 < length bytes.now }

@@ -1,5 +1,5 @@
 -- What the building of regular expressions answers, counts and records.
-use Rattle.std.specs.Prelude.{◌≡◌, ◌≢◌, ℕ, ◌<◌, List, [], ◌∷◌, length, map, slice_index_or, Result, Ok, Err}
+use Rattle.std.specs.Prelude.{◌≡◌, ◌≢◌, ℕ, ◌<◌, List, [], ◌∷◌, length, map, slice_index_or, Option, Result, Ok, Err}
 use denote.Ref.{Bor}
 use Rattle.list_laws.specs.Counts.{Rose}
 use Rattle.regex.specs.Failures.{IsPattern}
@@ -12,6 +12,13 @@ use Rattle.pred_eval.specs.declared.patterns.PatternAnswer.TheVariants.{Built, R
 use Rattle.pred_eval.specs.declared.patterns.BuildFault.{BuildFault}
 use Rattle.pred_eval.specs.declared.patterns.BuildFault.TheVariants.{Pattern, Memory as out_of_memory}
 use Rattle.pred_eval.specs.Search.{IsReadFrom}
+
+-- what the object that builds patterns reports of itself
+pub record PatternsReport : Type 0 where
+  -- how many texts were refused
+  pub refusals : ℕ
+  -- which, where they are known
+  pub refused : Option (List (List ℕ))
 
 -- This error of the crate `regex` is a cause to refuse the text: the grammar does not read it, or it is nested too deep,
 -- or it is a pattern, and its program is too big. Which patterns have too big a program is not said. That memory ran

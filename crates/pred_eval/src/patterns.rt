@@ -21,22 +21,19 @@ pub enum PatternAnswer {
 
 /// Where regular expressions are built.
 pub trait Patterns {
-    ghost use Rattle.std.specs.Prelude.{ℕ, List, Option};
+    ghost use Rattle.pred_eval.specs.Building.{PatternsReport};
 
-    /// How many texts were refused.
-    ghost refusals: { Self → ℕ };
-
-    /// The texts that were refused, where they are known.
-    ghost refused: { Self → Option (List (List ℕ)) };
+    /// How many texts were refused, and which, where they are known.
+    ghost report: { Self → PatternsReport };
 
     /// Builds the regular expression of the text. Only a refusal is counted and recorded, and one has a cause that is
     /// not memory.
     fn build(&mut self, alloc: Global, pattern: &Text) -> PatternAnswer
         ensures built { IsAnswerTo pattern.now result }
-        ensures counted { IsCounted (refusals self.old) (refusals self.new) result }
-        ensures reported { refused self.new ≡ option_map
-            (λ texts. texts ++ refused_by pattern.now result) (refused self.old) }
-        ensures refusals { refusals self.old ≤ refusals self.new };
+        ensures counted { IsCounted (report self.old).refusals (report self.new).refusals result }
+        ensures reported { (report self.new).refused ≡ option_map
+            (λ texts. texts ++ refused_by pattern.now result) (report self.old).refused }
+        ensures refusals { (report self.old).refusals ≤ (report self.new).refusals };
 }
 
 /// Builds by the crate `regex`. It counts refusals, up to the greatest number, and keeps no text.
@@ -46,9 +43,7 @@ pub struct RegexPatterns {
 }
 
 impl Patterns for RegexPatterns {
-    ghost refusals = { λ patterns. patterns.refusals };
-
-    ghost refused = { λ _. None };
+    ghost report = { λ patterns. record { refusals = patterns.refusals; refused = None } };
 
     fn build(&mut self, alloc: Global, pattern: &Text) -> PatternAnswer {
         let answer = read_regex(alloc, pattern);
@@ -67,9 +62,10 @@ pub struct ListPatterns {
 }
 
 impl Patterns for ListPatterns {
-    ghost refusals = { λ patterns. patterns.refusals };
-
-    ghost refused = { λ patterns. Some patterns.refused };
+    ghost report = { λ patterns. record {
+      refusals = patterns.refusals;
+      refused = Some patterns.refused;
+    } };
 
     fn build(&mut self, alloc: Global, pattern: &Text) -> PatternAnswer {
         let answer = read_regex(alloc, pattern);
@@ -142,12 +138,12 @@ pub fn build_all<P: Patterns>(
 ) -> Result<Vec<Regex>, BuildFault>
     requires { length texts.now < 2 ^ 32 }
     ensures built { IfOk result (λ regexes. AreReadFrom (texts_of texts.now) regexes.items) }
-    ensures cause { HasCause (texts_of texts.now) (P.refusals patterns.old)
-        (P.refusals patterns.new)
-        result }
-    ensures reported { P.refused patterns.new ≡ option_map
-        (λ refused. refused ++ refused_of (texts_of texts.now) result) (P.refused patterns.old) }
-    ensures refusals { P.refusals patterns.old ≤ P.refusals patterns.new }
+    ensures cause { HasCause (texts_of texts.now) (P.report patterns.old).refusals
+        (P.report patterns.new).refusals result }
+    ensures reported { (P.report patterns.new).refused ≡
+        option_map (λ refused. refused ++ refused_of (texts_of texts.now) result)
+        (P.report patterns.old).refused }
+    ensures refusals { (P.report patterns.old).refusals ≤ (P.report patterns.new).refusals }
 {
     let mut built = Vec::new(alloc);
     let mut number: u32 = 0;

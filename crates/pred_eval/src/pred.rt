@@ -48,13 +48,12 @@ impl Pred {
     ) -> Result<Pred, BuildFault>
         requires { length (searches (tree_of rule)) < 2 ^ 32 }
         ensures rule { IfOk result (λ pred. pred ≡ tree_of rule) }
-        ensures cause { HasCause (searches (tree_of rule)) (P.refusals patterns.old)
-            (P.refusals patterns.new)
-            result }
-        ensures reported { P.refused patterns.new ≡ option_map
-            (λ texts. texts ++ refused_of (searches (tree_of rule)) result)
-            (P.refused patterns.old) }
-        ensures refusals { P.refusals patterns.old ≤ P.refusals patterns.new }
+        ensures cause { HasCause (searches (tree_of rule)) (P.report patterns.old).refusals
+            (P.report patterns.new).refusals result }
+        ensures reported { (P.report patterns.new).refused ≡
+            option_map (λ texts. texts ++ refused_of (searches (tree_of rule)) result)
+            (P.report patterns.old).refused }
+        ensures refusals { (P.report patterns.old).refusals ≤ (P.report patterns.new).refusals }
     {
         let patterns = build_patterns(alloc, &rule, patterns)?;
         Ok(Pred { rule, patterns })
@@ -130,13 +129,12 @@ fn build_patterns<P: Patterns>(
     requires { length (searches (tree_of rule.now)) < 2 ^ 32 }
     ensures built { IfOk result (λ regexes. AreReadFrom
         (searches (tree_of rule.now)) regexes.items) }
-    ensures cause { HasCause (searches (tree_of rule.now)) (P.refusals patterns.old)
-        (P.refusals patterns.new)
-        result }
-    ensures reported { P.refused patterns.new ≡ option_map
-        (λ texts. texts ++ refused_of (searches (tree_of rule.now)) result)
-        (P.refused patterns.old) }
-    ensures refusals { P.refusals patterns.old ≤ P.refusals patterns.new }
+    ensures cause { HasCause (searches (tree_of rule.now)) (P.report patterns.old).refusals
+        (P.report patterns.new).refusals result }
+    ensures reported { (P.report patterns.new).refused ≡
+        option_map (λ texts. texts ++ refused_of (searches (tree_of rule.now)) result)
+        (P.report patterns.old).refused }
+    ensures refusals { (P.report patterns.old).refusals ≤ (P.report patterns.new).refusals }
 {
     let mut texts = Vec::new(alloc);
     append_texts(alloc, rule, &mut texts)?;

@@ -1,7 +1,8 @@
 -- What is known once a script was played, from what its run and the lines of the links say.
 use Rattle.std.proofs.Common.{◌≡◌, ℕ, List, inr}
 use Rattle.file_run.specs.command_io.Endings.{IsComplete}
-use Rattle.file_run.specs.command_io.Reports.{Reports, SinkReport}
+use Rattle.ports.specs.Writing.{SinkReport}
+use Rattle.file_run.specs.command_io.Reports.{Reports}
 use Rattle.file_run.specs.command_io.declared.ending.Ending.{Ending}
 use Rattle.file_run.specs.command_io.declared.ending.Ending.TheVariants.{Finished, ConfigRefused, Unread, OverLimit, BytesLeft, WriteFailed, LinksFailed, ScriptRefused, OutOfMemory}
 use Rattle.file_run.specs.command_setup.Setups.{run_report_of}

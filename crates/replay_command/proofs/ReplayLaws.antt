@@ -2,17 +2,19 @@
 use Rattle.std.proofs.Common.{◌≡◌, ℕ, ◌≤◌, List, length, inl, inr, subst, arith}
 use Rattle.std.specs.Prelude.{Ok}
 use Rattle.file_run.specs.command_io.Endings.{IsDoneOrMemory, status_of}
-use Rattle.file_run.specs.command_io.Reports.{LinksReport, Reports, SinkReport, StoreReport, reports}
+use Rattle.ports.specs.Calls.{LinksReport}
+use Rattle.ports.specs.Writing.{SinkReport}
+use Rattle.file_run.specs.command_io.Reports.{Reports, reports}
 use Rattle.file_run.specs.command_io.declared.ending.Ending.{Ending}
 use Rattle.file_run.specs.command_io.declared.ending.Ending.TheVariants.{Finished, ConfigRefused, Unread, OverLimit, BytesLeft, WriteFailed, LinksFailed, ScriptRefused, OutOfMemory}
 use Rattle.file_run.specs.command_io.declared.limits.TheConstants.{CONFIG_LIMIT, FILE_LIMIT}
 use Rattle.file_run.specs.command_io.declared.status.Status.TheVariants.{ReadFault, SinkFault, LinkFault}
 use Rattle.file_run.proofs.CommandSetupSetupLaws.{refused_for_memory, refused_not_linked, refused_not_written, refused_rose}
 use Rattle.file_run.specs.command_setup.Setups.{SetsUp}
-use Rattle.file_run.specs.hub_meaning.Verdicts.{PatternsState}
+use Rattle.file_run.specs.hub_meaning.Verdicts.{PatternsReport}
 use Rattle.file_run.specs.hub_run.declared.setup.Setup.{Setup}
 use Rattle.ports.specs.Counts.{IsStill, Rose}
-use Rattle.ports.specs.Reading.{Content, IsHeld}
+use Rattle.ports.specs.Reading.{Content, IsHeld, StoreReport}
 use Rattle.ports.specs.declared.script.Script.{Script}
 use Rattle.script_text.specs.Scripts.{script_of}
 use Rattle.file_run.specs.sexp_config.declared.config.Config.{Config}
@@ -25,7 +27,7 @@ use Rattle.replay_command.specs.Scripts.{RefusesScript}
 
 -- what the store reported does not matter once the script was read
 play_since : (setup : Setup) (script : Script) (store mid store' : StoreReport) (links : LinksReport) (out out' err err' : SinkReport)
-    (patterns patterns' : PatternsState) (forks forks' : ℕ) (ending : Ending)
+    (patterns patterns' : PatternsReport) (forks forks' : ℕ) (ending : Ending)
     → PlayEnds setup script (reports mid links out err patterns forks) (reports store' links out' err' patterns' forks') ending
     → PlayEnds setup script (reports store links out err patterns forks) (reports store' links out' err' patterns' forks') ending
 play_since setup script store mid store' links out out' err err' patterns patterns' forks forks' Finished ends =
@@ -53,7 +55,7 @@ play_since setup script store mid store' links out out' err err' patterns patter
 
 -- the configuration was accepted, and then the script was refused or played
 pub replay_ended : (config script read : Content) (setup : Setup) (store mid store' : StoreReport) (links : LinksReport) (out out' err err' : SinkReport)
-    (patterns between patterns' : PatternsState) (forks forks' : ℕ) (ending : Ending) → SetsUp config setup → mid.faults ≡ store.faults
+    (patterns between patterns' : PatternsReport) (forks forks' : ℕ) (ending : Ending) → SetsUp config setup → mid.faults ≡ store.faults
     → store.taken ≤ mid.taken → between ≡ patterns → read ≡ script
     → ScriptEnds setup read (reports mid links out err between forks) (reports store' links out' err' patterns' forks') ending
     → ReplayEnds config script (reports store links out err patterns forks) (reports store' links out' err' patterns' forks') ending

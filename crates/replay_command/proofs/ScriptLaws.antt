@@ -4,7 +4,6 @@ use Rattle.std.specs.Prelude.{Option, Result, Ok, Err, IfErr}
 use Rattle.file_run.proofs.CommandIoEndingLaws.{reported_of}
 use Rattle.file_run.specs.command_io.Endings.{IsComplete, status_of}
 use Rattle.file_run.specs.command_io.Files.{ForHeld, ReadMore, good_read}
-use Rattle.file_run.specs.command_io.Reports.{StoreReport}
 use Rattle.file_run.specs.command_io.declared.ending.Ending.{Ending}
 use Rattle.file_run.specs.command_io.declared.ending.Ending.TheVariants.{Finished, ConfigRefused, Unread, OverLimit, BytesLeft, WriteFailed, LinksFailed, ScriptRefused, OutOfMemory}
 use Rattle.file_run.specs.command_io.declared.limits.TheConstants.{FILE_LIMIT}
@@ -12,7 +11,7 @@ use Rattle.file_run.specs.command_io.declared.status.Status.TheVariants.{ReadFau
 use Rattle.file_run.proofs.OtherLaws.{file_refused_for_memory, file_refused_since, file_rose}
 use Rattle.file_run.specs.Files.{IsFile, OtherReads, ReadsOther, RefusesFile}
 use Rattle.ports.specs.Counts.{IsStill, Rose}
-use Rattle.ports.specs.Reading.{Content, IsHeld}
+use Rattle.ports.specs.Reading.{Content, IsHeld, StoreReport}
 use Rattle.ports.specs.declared.script.Script.{Script}
 use Rattle.ports.specs.declared.store.StoreRead.{StoreRead}
 use Rattle.script_text.specs.Scripts.{script_of}

@@ -1,10 +1,9 @@
 -- What is known once the script was played.
 use Rattle.std.specs.Prelude.{◌≡◌, ℕ, List}
-use Rattle.file_run.specs.command_io.Reports.{SinkReport}
 use Rattle.file_run.specs.command_io.declared.ending.Ending.{Ending}
 use Rattle.file_run.specs.command_io.declared.ending.Ending.TheVariants.{Finished, WriteFailed, OutOfMemory}
 use Rattle.ports.specs.Counts.{Rose}
-use Rattle.ports.specs.Writing.{Got, GotPrefix}
+use Rattle.ports.specs.Writing.{Got, GotPrefix, SinkReport}
 
 -- the lines were written, or a prefix of them
 abbrev pub WritesLines : List ℕ → SinkReport → SinkReport → Ending → Type 0

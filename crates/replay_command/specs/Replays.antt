@@ -1,7 +1,7 @@
 -- What `replay CONFIG SCRIPT` promises.
 use Rattle.std.specs.Prelude.{◌≡◌, ℕ, ◌≤◌, ◌⊎◌, List, [], ◌∷◌, length, Option, Ok, Err}
 use Rattle.file_run.specs.command_io.Endings.{HasNoConfig, IsComplete, IsDoneOrMemory, ReadsFiles, Says, status_of}
-use Rattle.file_run.specs.command_io.Reports.{IsIdle, Reports, SinkReport}
+use Rattle.file_run.specs.command_io.Reports.{IsIdle, Reports}
 use Rattle.file_run.specs.command_io.declared.ending.Ending.{Ending}
 use Rattle.file_run.specs.command_io.declared.ending.Ending.TheVariants.{Finished, WriteFailed, OutOfMemory}
 use Rattle.file_run.specs.command_io.declared.limits.TheConstants.{CONFIG_LIMIT, FILE_LIMIT}
@@ -15,7 +15,7 @@ use Rattle.file_run.specs.hub_run.declared.setup.Setup.{Setup}
 use Rattle.link_lines.specs.LinkLines.{link_lines}
 use Rattle.ports.specs.Counts.{IsStill, Rose}
 use Rattle.ports.specs.Reading.{Content, IsHeld}
-use Rattle.ports.specs.Writing.{Got, GotPrefix}
+use Rattle.ports.specs.Writing.{Got, GotPrefix, SinkReport}
 use Rattle.ports.specs.declared.entry.Entry.{Entry}
 use Rattle.ports.specs.declared.script.Script.{Script}
 use Rattle.script_text.specs.Scripts.{script_of}

@@ -1,12 +1,11 @@
 -- What is known of a script that was read, or could not be.
 use Rattle.std.specs.Prelude.{◌≡◌, ℕ, ◌≤◌, List, length, Ok, Err}
 use Rattle.file_run.specs.command_io.Files.{ForHeld}
-use Rattle.file_run.specs.command_io.Reports.{StoreReport}
 use Rattle.file_run.specs.command_io.declared.ending.Ending.{Ending}
 use Rattle.file_run.specs.command_io.declared.ending.Ending.TheVariants.{ScriptRefused, OutOfMemory}
 use Rattle.file_run.specs.command_io.declared.limits.TheConstants.{FILE_LIMIT}
 use Rattle.file_run.specs.Files.{RefusesFile}
-use Rattle.ports.specs.Reading.{Content}
+use Rattle.ports.specs.Reading.{Content, StoreReport}
 use Rattle.ports.specs.declared.script.Script.{Script}
 use Rattle.script_text.specs.Scripts.{script_of}
 

@@ -1,9 +1,10 @@
 ghost use Rattle.std.specs.Prelude.{◌≡◌, ◌≢◌, ◌≤◌, [], ◌∷◌};
 ghost use Rattle.std.specs.Option.{ForSome};
 ghost use Rattle.file_run.specs.command_io.Endings.{HasNoConfig, HasNoLine, IsComplete, IsRefusal, ReadsFiles, status_of};
-ghost use Rattle.file_run.specs.command_io.Reports.{LinksReport, SinkReport, reports, sink_report, store_report};
+ghost use Rattle.ports.specs.Calls.{LinksReport};
+ghost use Rattle.ports.specs.Writing.{SinkReport};
+ghost use Rattle.file_run.specs.command_io.Reports.{reports};
 ghost use Rattle.file_run.specs.Files.{OtherReads, ReadCounts};
-ghost use Rattle.file_run.specs.hub_meaning.Verdicts.{patterns_state};
 ghost use Rattle.ports.specs.Counts.{Rose};
 ghost use Rattle.replay_command.specs.Replays.{ReplayEnds, Replays, ScriptEnds};
 
@@ -44,22 +45,16 @@ pub fn replay<S: Store, O: Sink, E: Sink, P: Patterns, G: Ledger>(
     patterns: &mut P,
     steps: &mut Steps<G>,
 ) -> Status
-    ensures promise { (links : LinksReport) → Replays config.now script.now
-        (reports (store_report (S.held store.old) (S.reads store.old) (S.taken store.old)
-        (S.faults store.old)) links
-        (sink_report (O.text out.old) (O.puts out.old) (O.faults out.old))
-        (sink_report (E.text err.old) (E.puts err.old) (E.faults err.old))
-        (patterns_state (P.refusals patterns.old) (P.refused patterns.old)) steps.old.forks)
-        (reports (store_report (S.held store.new) (S.reads store.new) (S.taken store.new)
-        (S.faults store.new)) links
-        (sink_report (O.text out.new) (O.puts out.new) (O.faults out.new))
-        (sink_report (E.text err.new) (E.puts err.new) (E.faults err.new))
-        (patterns_state (P.refusals patterns.new) (P.refused patterns.new)) steps.new.forks)
-        (patterns.new ≡ patterns.old) result }
+    ensures promise { (links : LinksReport) →
+        Replays config.now script.now
+        (reports (S.report store.old) links (O.report out.old) (E.report err.old)
+        (P.report patterns.old) steps.old.forks)
+        (reports (S.report store.new) links (O.report out.new) (E.report err.new)
+        (P.report patterns.new) steps.new.forks) (patterns.new ≡ patterns.old) result }
     ensures read_fault { result ≡ Status.ReadFault →
-        Rose (S.faults store.old) (S.faults store.new) }
+        Rose (S.report store.old).faults (S.report store.new).faults }
     ensures sink_fault { result ≡ Status.SinkFault →
-        Rose (O.faults out.old) (O.faults out.new) }
+        Rose (O.report out.old).faults (O.report out.new).faults }
     ensures links_work { result ≢ Status.LinkFault }
     ensures untouched { IsRefusal result → out.new ≡ out.old }
     ensures no_line { HasNoLine result → err.new ≡ err.old }
@@ -79,21 +74,15 @@ fn replay_files<S: Store, O: Sink, P: Patterns, G: Ledger>(
     steps: &mut Steps<G>,
 ) -> Ending
     ensures ends { (links : LinksReport) (err err' : SinkReport) →
-        ReplayEnds (S.held store.old config.now) (S.held store.old script.now)
-        (reports (store_report (S.held store.old) (S.reads store.old) (S.taken store.old)
-        (S.faults store.old)) links
-        (sink_report (O.text out.old) (O.puts out.old) (O.faults out.old)) err
-        (patterns_state (P.refusals patterns.old) (P.refused patterns.old)) steps.old.forks)
-        (reports (store_report (S.held store.new) (S.reads store.new) (S.taken store.new)
-        (S.faults store.new)) links
-        (sink_report (O.text out.new) (O.puts out.new) (O.faults out.new)) err'
-        (patterns_state (P.refusals patterns.new) (P.refused patterns.new)) steps.new.forks)
-        result }
+        ReplayEnds ((S.report store.old).held config.now) ((S.report store.old).held script.now)
+        (reports (S.report store.old) links (O.report out.old) err (P.report patterns.old)
+        steps.old.forks) (reports (S.report store.new) links (O.report out.new) err'
+        (P.report patterns.new) steps.new.forks) result }
     ensures reads { ReadsFiles (config.now ∷ (script.now ∷ []))
-        (ReadCounts (S.held store.old config.now) result) (S.reads store.old)
-        (S.reads store.new) result }
-    ensures quiet { IsComplete result → (S.faults store.new ≡ S.faults store.old) ×
-        (O.faults out.new ≡ O.faults out.old) }
+        (ReadCounts ((S.report store.old).held config.now) result) (S.report store.old).reads
+        (S.report store.new).reads result }
+    ensures quiet { IsComplete result → ((S.report store.new).faults ≡ (S.report store.old).faults)
+        × ((O.report out.new).faults ≡ (O.report out.old).faults) }
     ensures untouched { IsRefusal (status_of result) → out.new ≡ out.old }
     ensures unasked { HasNoConfig result → patterns.new ≡ patterns.old }
 {
@@ -116,19 +105,14 @@ fn replay_script<S: Store, O: Sink, P: Patterns, G: Ledger>(
     requires interval { ForSome setup.expiry (λ set. (1 ≤ set.interval) ×
         (set.interval ≤ 604800)) }
     ensures ends { (links : LinksReport) (err err' : SinkReport) →
-        ScriptEnds setup (S.held store.old script.now)
-        (reports (store_report (S.held store.old) (S.reads store.old) (S.taken store.old)
-        (S.faults store.old)) links
-        (sink_report (O.text out.old) (O.puts out.old) (O.faults out.old)) err
-        (patterns_state (P.refusals patterns.old) (P.refused patterns.old)) steps.old.forks)
-        (reports (store_report (S.held store.new) (S.reads store.new) (S.taken store.new)
-        (S.faults store.new)) links
-        (sink_report (O.text out.new) (O.puts out.new) (O.faults out.new)) err'
-        (patterns_state (P.refusals patterns.new) (P.refused patterns.new)) steps.new.forks)
+        ScriptEnds setup ((S.report store.old).held script.now)
+        (reports (S.report store.old) links (O.report out.old) err (P.report patterns.old)
+        steps.old.forks) (reports (S.report store.new) links (O.report out.new) err'
+        (P.report patterns.new) steps.new.forks) result }
+    ensures reads { OtherReads script.now (S.report store.old).reads (S.report store.new).reads
         result }
-    ensures reads { OtherReads script.now (S.reads store.old) (S.reads store.new) result }
-    ensures quiet { IsComplete result → (S.faults store.new ≡ S.faults store.old) ×
-        (O.faults out.new ≡ O.faults out.old) }
+    ensures quiet { IsComplete result → ((S.report store.new).faults ≡ (S.report store.old).faults)
+        × ((O.report out.new).faults ≡ (O.report out.old).faults) }
     ensures untouched { IsRefusal (status_of result) → out.new ≡ out.old }
     ensures asked { HasNoConfig result → ⊥ }
 {

@@ -1,9 +1,11 @@
 ghost use Rattle.std.specs.Prelude.{◌≡◌, ◌≤◌, [], Ok, IfErr, IfOk, OnOk};
 ghost use Rattle.std.specs.Option.{ForSome};
 ghost use Rattle.file_run.specs.command_io.Endings.{HasNoConfig, IsComplete};
-ghost use Rattle.file_run.specs.command_io.Reports.{LinksReport, SinkReport, StoreReport, reports, sink_report, store_report};
+ghost use Rattle.ports.specs.Calls.{LinksReport};
+ghost use Rattle.ports.specs.Writing.{SinkReport};
+ghost use Rattle.ports.specs.Reading.{StoreReport};
+ghost use Rattle.file_run.specs.command_io.Reports.{reports};
 ghost use Rattle.file_run.specs.Files.{IsAfterRun, ReadsOther};
-ghost use Rattle.file_run.specs.hub_meaning.Verdicts.{patterns_state};
 ghost use Rattle.link_lines.specs.LinkLines.{link_lines};
 ghost use Rattle.replay_command.specs.Playing.{WritesLines};
 ghost use Rattle.replay_command.specs.Replays.{PlayEnds};
@@ -27,16 +29,15 @@ pub(crate) fn fetch_script<S: Store>(
     name: &Text,
     store: &mut S,
 ) -> Result<ScriptLinks, Ending>
-    ensures script { IfOk result (λ links. IsScript (S.held store.old name.now) links.script) }
+    ensures script { IfOk result
+        (λ links. IsScript ((S.report store.old).held name.now) links.script) }
     ensures begins { IfOk result (λ links. links.log ≡ []) }
-    ensures refused { IfErr result (λ ending. RefusesScript (S.held store.old name.now)
-        (store_report (S.held store.old) (S.reads store.old) (S.taken store.old)
-        (S.faults store.old))
-        (store_report (S.held store.new) (S.reads store.new) (S.taken store.new)
-        (S.faults store.new)) ending) }
-    ensures reads { ReadsOther name.now (S.reads store.old) (S.reads store.new) result }
+    ensures refused { IfErr result (λ ending. RefusesScript ((S.report store.old).held name.now)
+        (S.report store.old) (S.report store.new) ending) }
+    ensures reads { ReadsOther name.now (S.report store.old).reads (S.report store.new).reads
+        result }
     ensures asked { IfErr result (λ ending. HasNoConfig ending → ⊥) }
-    ensures quiet { OnOk result (S.faults store.new ≡ S.faults store.old) }
+    ensures quiet { OnOk result ((S.report store.new).faults ≡ (S.report store.old).faults) }
 {
     match read_other(alloc, name, store) {
         Ok(text) => read_text(alloc, text.as_slice()),
@@ -72,12 +73,10 @@ pub(crate) fn play<O: Sink, P: Patterns, G: Ledger>(
     requires begins { links.log ≡ [] }
     ensures ends { (store store' : StoreReport) (given : LinksReport) (err err' : SinkReport) →
         PlayEnds setup links.script
-        (reports store given (sink_report (O.text out.old) (O.puts out.old) (O.faults out.old))
-        err (patterns_state (P.refusals patterns.old) (P.refused patterns.old)) steps.old.forks)
-        (reports store' given (sink_report (O.text out.new) (O.puts out.new) (O.faults out.new))
-        err' (patterns_state (P.refusals patterns.new) (P.refused patterns.new)) steps.new.forks)
+        (reports store given (O.report out.old) err (P.report patterns.old) steps.old.forks)
+        (reports store' given (O.report out.new) err' (P.report patterns.new) steps.new.forks)
         result }
-    ensures quiet { IsComplete result → O.faults out.new ≡ O.faults out.old }
+    ensures quiet { IsComplete result → (O.report out.new).faults ≡ (O.report out.old).faults }
     ensures after { IsAfterRun result }
 {
     match run_script(alloc, setup, &mut links, out, patterns, steps) {
@@ -91,9 +90,8 @@ pub(crate) fn play<O: Sink, P: Patterns, G: Ledger>(
 /// Writes what each link was sent.
 fn write_links<O: Sink>(alloc: Global, links: &ScriptLinks, out: &mut O) -> Ending
     ensures after { IsAfterRun result }
-    ensures writes { WritesLines (link_lines links.now.script links.now.log)
-        (sink_report (O.text out.old) (O.puts out.old) (O.faults out.old))
-        (sink_report (O.text out.new) (O.puts out.new) (O.faults out.new)) result }
+    ensures writes { WritesLines (link_lines links.now.script links.now.log) (O.report out.old)
+        (O.report out.new) result }
 {
     match write_link_lines(alloc, links, out) {
         Ok(()) => Ending::Finished,

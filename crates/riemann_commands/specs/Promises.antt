@@ -3,13 +3,13 @@ use Rattle.std.specs.Prelude.{◌≡◌, ◌≢◌, ◌↔◌, ◌⊎◌, ℕ, L
 use Rattle.check_command.specs.Checks.{Checks}
 use Rattle.command_io.specs.Endings.{GotLineOf, HasNoLine, IsRefusal}
 use Rattle.command_io.specs.Lines.{usage_line}
-use Rattle.command_io.specs.Reports.{Reports, SinkReport}
+use Rattle.command_io.specs.Reports.{Reports}
 use Rattle.command_io.specs.declared.status.Status.{Status}
 use Rattle.command_io.specs.declared.status.Status.TheVariants.{Done, Usage, ReadFault, SinkFault, LinkFault, Memory}
 use Rattle.feed_command.specs.Feeds.{Feeds}
 use Rattle.load_command.specs.Loads.{Loads}
 use Rattle.ports.specs.Counts.{Rose}
-use Rattle.ports.specs.Writing.{Got}
+use Rattle.ports.specs.Writing.{Got, SinkReport}
 use Rattle.replay_command.specs.Replays.{Replays}
 use Rattle.serve_command.specs.Serves.{Serves}
 use Rattle.riemann_commands.specs.Commands.{IsCommand}

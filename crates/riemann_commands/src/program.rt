@@ -1,8 +1,7 @@
 ghost use Rattle.std.specs.Prelude.{◌≡◌, ◌≢◌, IfOk};
 ghost use Rattle.command_io.specs.Endings.{GotLineOf};
 ghost use Rattle.command_io.specs.Lines.{memory_line, usage_line};
-ghost use Rattle.command_io.specs.Reports.{links_report, reports, sink_report, store_report};
-ghost use Rattle.hub_meaning.specs.Verdicts.{patterns_state};
+ghost use Rattle.command_io.specs.Reports.{reports};
 ghost use Rattle.ports.specs.Counts.{Rose};
 ghost use Rattle.ports.specs.Writing.{Got};
 ghost use Rattle.riemann_commands.specs.Promises.{IsNoOption, Promises, WritesText, help_words, sameness, version_words};
@@ -76,33 +75,21 @@ pub fn run<S: Store, L: Links, O: Sink, E: Sink, P: Patterns, G: Ledger>(
     patterns: &mut P,
     steps: &mut Steps<G>,
 ) -> Status
-    ensures command { IfOk arguments (λ given. IsNoOption given.items → Promises given.items
-        (reports (store_report (S.held store.old) (S.reads store.old) (S.taken store.old)
-        (S.faults store.old)) (links_report (L.log links.old) (L.faults links.old))
-        (sink_report (O.text out.old) (O.puts out.old) (O.faults out.old))
-        (sink_report (E.text err.old) (E.puts err.old) (E.faults err.old))
-        (patterns_state (P.refusals patterns.old) (P.refused patterns.old)) steps.old.forks)
-        (reports (store_report (S.held store.new) (S.reads store.new) (S.taken store.new)
-        (S.faults store.new)) (links_report (L.log links.new) (L.faults links.new))
-        (sink_report (O.text out.new) (O.puts out.new) (O.faults out.new))
-        (sink_report (E.text err.new) (E.puts err.new) (E.faults err.new))
-        (patterns_state (P.refusals patterns.new) (P.refused patterns.new)) steps.new.forks)
+    ensures command { IfOk arguments (λ given. IsNoOption given.items →
+        Promises given.items (reports (S.report store.old) (L.report links.old) (O.report out.old)
+        (E.report err.old) (P.report patterns.old) steps.old.forks)
+        (reports (S.report store.new) (L.report links.new) (O.report out.new) (E.report err.new)
+        (P.report patterns.new) steps.new.forks)
         (sameness (store.new ≡ store.old) (links.new ≡ links.old) (out.new ≡ out.old)
         (err.new ≡ err.old) (patterns.new ≡ patterns.old) (steps.new ≡ steps.old)) result) }
-    ensures help { IfOk arguments (λ given. given.items ≡ help_words → WritesText HELP.now
-        (sink_report (O.text out.old) (O.puts out.old) (O.faults out.old))
-        (sink_report (O.text out.new) (O.puts out.new) (O.faults out.new)) result) }
-    ensures version { IfOk arguments (λ given. given.items ≡ version_words → WritesText VERSION.now
-        (sink_report (O.text out.old) (O.puts out.old) (O.faults out.old))
-        (sink_report (O.text out.new) (O.puts out.new) (O.faults out.new)) result) }
-    ensures not_utf8 { arguments ≡ Err ArgumentsFault.NotUtf8 →
-        (result ≡ Status.Usage) × GotLineOf usage_line
-        (sink_report (E.text err.old) (E.puts err.old) (E.faults err.old))
-        (sink_report (E.text err.new) (E.puts err.new) (E.faults err.new)) }
-    ensures memory { arguments ≡ Err ArgumentsFault.Memory →
-        (result ≡ Status.Memory) × GotLineOf memory_line
-        (sink_report (E.text err.old) (E.puts err.old) (E.faults err.old))
-        (sink_report (E.text err.new) (E.puts err.new) (E.faults err.new)) }
+    ensures help { IfOk arguments (λ given. given.items ≡ help_words →
+        WritesText HELP.now (O.report out.old) (O.report out.new) result) }
+    ensures version { IfOk arguments (λ given. given.items ≡ version_words →
+        WritesText VERSION.now (O.report out.old) (O.report out.new) result) }
+    ensures not_utf8 { arguments ≡ Err ArgumentsFault.NotUtf8 → (result ≡ Status.Usage) ×
+        GotLineOf usage_line (E.report err.old) (E.report err.new) }
+    ensures memory { arguments ≡ Err ArgumentsFault.Memory → (result ≡ Status.Memory) ×
+        GotLineOf memory_line (E.report err.old) (E.report err.new) }
 {
     match arguments {
         Ok(arguments) => match arguments.as_slice() {
@@ -123,9 +110,10 @@ pub fn run<S: Store, L: Links, O: Sink, E: Sink, P: Patterns, G: Ledger>(
 
 /// Writes the text of `--help` or `--version`.
 fn put_text<O: Sink>(out: &mut O, text: &str) -> Status
-    ensures done { result ≡ Status.Done → Got (O.text out.old) text.now (O.text out.new) }
+    ensures done { result ≡ Status.Done →
+        Got (O.report out.old).text text.now (O.report out.new).text }
     ensures fault { result ≢ Status.Done → (result ≡ Status.SinkFault) ×
-        Rose (O.faults out.old) (O.faults out.new) }
+        Rose (O.report out.old).faults (O.report out.new).faults }
 {
     match put_all(out, text.as_bytes()) {
         Ok(()) => Status::Done,

@@ -2,9 +2,8 @@ ghost use Rattle.std.specs.Prelude.{◌≡◌, ◌≢◌, ◌↔◌, ◌⊎◌};
 ghost use Rattle.check_command.specs.Checks.{Checks};
 ghost use Rattle.command_io.specs.Endings.{GotLineOf, HasNoLine, IsRefusal};
 ghost use Rattle.command_io.specs.Lines.{usage_line};
-ghost use Rattle.command_io.specs.Reports.{links_report, reports, sink_report, store_report};
+ghost use Rattle.command_io.specs.Reports.{reports};
 ghost use Rattle.feed_command.specs.Feeds.{Feeds};
-ghost use Rattle.hub_meaning.specs.Verdicts.{patterns_state};
 ghost use Rattle.load_command.specs.Loads.{Loads};
 ghost use Rattle.ports.specs.Counts.{Rose};
 ghost use Rattle.replay_command.specs.Replays.{Replays};
@@ -51,11 +50,9 @@ pub fn riemann<S: Store, L: Links, O: Sink, E: Sink, P: Patterns, G: Ledger>(
     // What holds of all commands. The status is `Usage` exactly where no command matches the arguments.
     ensures usage { (result ≡ Status.Usage) ↔ IsUsage words.now }
     ensures command { result ≢ Status.Usage → IsCommand words.now }
-    ensures idle { result ≡ Status.Usage →
-        (store.new ≡ store.old) × (links.new ≡ links.old) ×
-        (patterns.new ≡ patterns.old) × (steps.new ≡ steps.old) × GotLineOf usage_line
-        (sink_report (E.text err.old) (E.puts err.old) (E.faults err.old))
-        (sink_report (E.text err.new) (E.puts err.new) (E.faults err.new)) }
+    ensures idle { result ≡ Status.Usage → (store.new ≡ store.old) × (links.new ≡ links.old) ×
+        (patterns.new ≡ patterns.old) × (steps.new ≡ steps.old) ×
+        GotLineOf usage_line (E.report err.old) (E.report err.new) }
     ensures untouched { IsRefusal result → (out.new ≡ out.old) × (links.new ≡ links.old) }
     // If memory runs out, only commands that write notices to `out` have written to it.
     ensures memory { result ≡ Status.Memory → OnReplay words.now (λ config script. ⊥) →
@@ -64,75 +61,41 @@ pub fn riemann<S: Store, L: Links, O: Sink, E: Sink, P: Patterns, G: Ledger>(
     ensures no_line { HasNoLine result → OnFeed words.now (λ config file. ⊥) →
         err.new ≡ err.old }
     ensures read_fault { result ≡ Status.ReadFault →
-        Rose (S.faults store.old) (S.faults store.new) }
+        Rose (S.report store.old).faults (S.report store.new).faults }
     ensures sink_fault { result ≡ Status.SinkFault →
-        Rose (O.faults out.old) (O.faults out.new) ⊎ Rose (E.faults err.old) (E.faults err.new) }
+        Rose (O.report out.old).faults (O.report out.new).faults ⊎ Rose (E.report err.old).faults
+        (E.report err.new).faults }
     ensures link_fault { result ≡ Status.LinkFault →
-        Rose (L.faults links.old) (L.faults links.new) }
+        Rose (L.report links.old).faults (L.report links.new).faults }
 
     // What each command promises. Where it ran a server, that has the lines of its notices, and that the notices of each
     // host are its own (`Runs.antt` and `Apart.antt` of `hub_run`). The equality is for the record's fact that no pattern
     // was asked for.
     ensures feed { OnFeed words.now (λ config file. Feeds config file
-        (reports (store_report (S.held store.old) (S.reads store.old) (S.taken store.old)
-        (S.faults store.old)) (links_report (L.log links.old) (L.faults links.old))
-        (sink_report (O.text out.old) (O.puts out.old) (O.faults out.old))
-        (sink_report (E.text err.old) (E.puts err.old) (E.faults err.old))
-        (patterns_state (P.refusals patterns.old) (P.refused patterns.old)) steps.old.forks)
-        (reports (store_report (S.held store.new) (S.reads store.new) (S.taken store.new)
-        (S.faults store.new)) (links_report (L.log links.new) (L.faults links.new))
-        (sink_report (O.text out.new) (O.puts out.new) (O.faults out.new))
-        (sink_report (E.text err.new) (E.puts err.new) (E.faults err.new))
-        (patterns_state (P.refusals patterns.new) (P.refused patterns.new)) steps.new.forks)
-        (patterns.new ≡ patterns.old) result) }
+        (reports (S.report store.old) (L.report links.old) (O.report out.old) (E.report err.old)
+        (P.report patterns.old) steps.old.forks)
+        (reports (S.report store.new) (L.report links.new) (O.report out.new) (E.report err.new)
+        (P.report patterns.new) steps.new.forks) (patterns.new ≡ patterns.old) result) }
     ensures check { OnCheck words.now (λ config. Checks config
-        (reports (store_report (S.held store.old) (S.reads store.old) (S.taken store.old)
-        (S.faults store.old)) (links_report (L.log links.old) (L.faults links.old))
-        (sink_report (O.text out.old) (O.puts out.old) (O.faults out.old))
-        (sink_report (E.text err.old) (E.puts err.old) (E.faults err.old))
-        (patterns_state (P.refusals patterns.old) (P.refused patterns.old)) steps.old.forks)
-        (reports (store_report (S.held store.new) (S.reads store.new) (S.taken store.new)
-        (S.faults store.new)) (links_report (L.log links.new) (L.faults links.new))
-        (sink_report (O.text out.new) (O.puts out.new) (O.faults out.new))
-        (sink_report (E.text err.new) (E.puts err.new) (E.faults err.new))
-        (patterns_state (P.refusals patterns.new) (P.refused patterns.new)) steps.new.forks)
-        (patterns.new ≡ patterns.old) result) }
+        (reports (S.report store.old) (L.report links.old) (O.report out.old) (E.report err.old)
+        (P.report patterns.old) steps.old.forks)
+        (reports (S.report store.new) (L.report links.new) (O.report out.new) (E.report err.new)
+        (P.report patterns.new) steps.new.forks) (patterns.new ≡ patterns.old) result) }
     ensures replay { OnReplay words.now (λ config script. Replays config script
-        (reports (store_report (S.held store.old) (S.reads store.old) (S.taken store.old)
-        (S.faults store.old)) (links_report (L.log links.old) (L.faults links.old))
-        (sink_report (O.text out.old) (O.puts out.old) (O.faults out.old))
-        (sink_report (E.text err.old) (E.puts err.old) (E.faults err.old))
-        (patterns_state (P.refusals patterns.old) (P.refused patterns.old)) steps.old.forks)
-        (reports (store_report (S.held store.new) (S.reads store.new) (S.taken store.new)
-        (S.faults store.new)) (links_report (L.log links.new) (L.faults links.new))
-        (sink_report (O.text out.new) (O.puts out.new) (O.faults out.new))
-        (sink_report (E.text err.new) (E.puts err.new) (E.faults err.new))
-        (patterns_state (P.refusals patterns.new) (P.refused patterns.new)) steps.new.forks)
-        (patterns.new ≡ patterns.old) result) }
+        (reports (S.report store.old) (L.report links.old) (O.report out.old) (E.report err.old)
+        (P.report patterns.old) steps.old.forks)
+        (reports (S.report store.new) (L.report links.new) (O.report out.new) (E.report err.new)
+        (P.report patterns.new) steps.new.forks) (patterns.new ≡ patterns.old) result) }
     ensures serve { OnServe words.now (λ config turns. Serves config turns
-        (reports (store_report (S.held store.old) (S.reads store.old) (S.taken store.old)
-        (S.faults store.old)) (links_report (L.log links.old) (L.faults links.old))
-        (sink_report (O.text out.old) (O.puts out.old) (O.faults out.old))
-        (sink_report (E.text err.old) (E.puts err.old) (E.faults err.old))
-        (patterns_state (P.refusals patterns.old) (P.refused patterns.old)) steps.old.forks)
-        (reports (store_report (S.held store.new) (S.reads store.new) (S.taken store.new)
-        (S.faults store.new)) (links_report (L.log links.new) (L.faults links.new))
-        (sink_report (O.text out.new) (O.puts out.new) (O.faults out.new))
-        (sink_report (E.text err.new) (E.puts err.new) (E.faults err.new))
-        (patterns_state (P.refusals patterns.new) (P.refused patterns.new)) steps.new.forks)
-        (patterns.new ≡ patterns.old) result) }
+        (reports (S.report store.old) (L.report links.old) (O.report out.old) (E.report err.old)
+        (P.report patterns.old) steps.old.forks)
+        (reports (S.report store.new) (L.report links.new) (O.report out.new) (E.report err.new)
+        (P.report patterns.new) steps.new.forks) (patterns.new ≡ patterns.old) result) }
     ensures load { OnLoad words.now (λ config count start. Loads config count start
-        (reports (store_report (S.held store.old) (S.reads store.old) (S.taken store.old)
-        (S.faults store.old)) (links_report (L.log links.old) (L.faults links.old))
-        (sink_report (O.text out.old) (O.puts out.old) (O.faults out.old))
-        (sink_report (E.text err.old) (E.puts err.old) (E.faults err.old))
-        (patterns_state (P.refusals patterns.old) (P.refused patterns.old)) steps.old.forks)
-        (reports (store_report (S.held store.new) (S.reads store.new) (S.taken store.new)
-        (S.faults store.new)) (links_report (L.log links.new) (L.faults links.new))
-        (sink_report (O.text out.new) (O.puts out.new) (O.faults out.new))
-        (sink_report (E.text err.new) (E.puts err.new) (E.faults err.new))
-        (patterns_state (P.refusals patterns.new) (P.refused patterns.new)) steps.new.forks)
-        (patterns.new ≡ patterns.old) result) }
+        (reports (S.report store.old) (L.report links.old) (O.report out.old) (E.report err.old)
+        (P.report patterns.old) steps.old.forks)
+        (reports (S.report store.new) (L.report links.new) (O.report out.new) (E.report err.new)
+        (P.report patterns.new) steps.new.forks) (patterns.new ≡ patterns.old) result) }
 {
     match command_of(words) {
         Some(Command::Feed { config, file }) => {

@@ -27,7 +27,7 @@ ending_of_run (Err Memory) = OutOfMemory
 -- the links were run on to this result, with notices written to the output
 abbrev pub RanOn : Setup → ℕ → Reports → Reports → Result Hub RunFault → Type 0
 RanOn setup turns old new result =
-    AddsRun old.links.log new.links.log (RunsTo setup turns (run_report_of old old.out) (run_report_of new new.out) result)
+    AddsRun old.links new.links (RunsTo setup turns (run_report_of old old.out) (run_report_of new new.out) result)
 
 -- What happened before it ended so. The content is that of the configuration's file. Where nothing was run, no link was
 -- called.

@@ -1,8 +1,8 @@
 ghost use Rattle.std.specs.Prelude.{◌≡◌, [], ◌∷◌};
-ghost use Rattle.command_setup.specs.hub_meaning.Verdicts.{patterns_state};
 ghost use Rattle.ports.specs.Counts.{Rose};
 ghost use Rattle.command_setup.specs.command_io.Endings.{HasNoConfig, HasNoLine, IsComplete, IsReadOnce, IsRefusal, ReadsFiles, status_of};
-ghost use Rattle.command_setup.specs.command_io.Reports.{SinkReport, links_report, reports, sink_report, store_report};
+ghost use Rattle.ports.specs.Writing.{SinkReport};
+ghost use Rattle.command_setup.specs.command_io.Reports.{reports};
 ghost use Rattle.serve_command.specs.Serves.{ServeEnds, Serves, ending_of_run};
 
 use command_setup::command_io::{Ending, Status, report};
@@ -40,23 +40,16 @@ pub fn serve<S: Store, L: Links, O: Sink, E: Sink, P: Patterns, G: Ledger>(
     steps: &mut Steps<G>,
 ) -> Status
     ensures promise { Serves config.now turns
-        (reports (store_report (S.held store.old) (S.reads store.old) (S.taken store.old)
-        (S.faults store.old)) (links_report (L.log links.old) (L.faults links.old))
-        (sink_report (O.text out.old) (O.puts out.old) (O.faults out.old))
-        (sink_report (E.text err.old) (E.puts err.old) (E.faults err.old))
-        (patterns_state (P.refusals patterns.old) (P.refused patterns.old)) steps.old.forks)
-        (reports (store_report (S.held store.new) (S.reads store.new) (S.taken store.new)
-        (S.faults store.new)) (links_report (L.log links.new) (L.faults links.new))
-        (sink_report (O.text out.new) (O.puts out.new) (O.faults out.new))
-        (sink_report (E.text err.new) (E.puts err.new) (E.faults err.new))
-        (patterns_state (P.refusals patterns.new) (P.refused patterns.new)) steps.new.forks)
-        (patterns.new ≡ patterns.old) result }
+        (reports (S.report store.old) (L.report links.old) (O.report out.old) (E.report err.old)
+        (P.report patterns.old) steps.old.forks)
+        (reports (S.report store.new) (L.report links.new) (O.report out.new) (E.report err.new)
+        (P.report patterns.new) steps.new.forks) (patterns.new ≡ patterns.old) result }
     ensures read_fault { result ≡ Status.ReadFault →
-        Rose (S.faults store.old) (S.faults store.new) }
+        Rose (S.report store.old).faults (S.report store.new).faults }
     ensures sink_fault { result ≡ Status.SinkFault →
-        Rose (O.faults out.old) (O.faults out.new) }
+        Rose (O.report out.old).faults (O.report out.new).faults }
     ensures link_fault { result ≡ Status.LinkFault →
-        Rose (L.faults links.old) (L.faults links.new) }
+        Rose (L.report links.old).faults (L.report links.new).faults }
     ensures untouched { IsRefusal result → (out.new ≡ out.old) × (links.new ≡ links.old) }
     ensures no_line { HasNoLine result → err.new ≡ err.old }
 {
@@ -75,20 +68,16 @@ fn serve_links<S: Store, L: Links, O: Sink, P: Patterns, G: Ledger>(
     patterns: &mut P,
     steps: &mut Steps<G>,
 ) -> Ending
-    ensures ends { (err err' : SinkReport) → ServeEnds (S.held store.old config.now) turns
-        (reports (store_report (S.held store.old) (S.reads store.old) (S.taken store.old)
-        (S.faults store.old)) (links_report (L.log links.old) (L.faults links.old))
-        (sink_report (O.text out.old) (O.puts out.old) (O.faults out.old)) err
-        (patterns_state (P.refusals patterns.old) (P.refused patterns.old)) steps.old.forks)
-        (reports (store_report (S.held store.new) (S.reads store.new) (S.taken store.new)
-        (S.faults store.new)) (links_report (L.log links.new) (L.faults links.new))
-        (sink_report (O.text out.new) (O.puts out.new) (O.faults out.new)) err'
-        (patterns_state (P.refusals patterns.new) (P.refused patterns.new)) steps.new.forks)
-        result }
-    ensures reads { ReadsFiles (config.now ∷ []) (IsReadOnce result) (S.reads store.old)
-        (S.reads store.new) result }
-    ensures quiet { IsComplete result → (S.faults store.new ≡ S.faults store.old) ×
-        (L.faults links.new ≡ L.faults links.old) × (O.faults out.new ≡ O.faults out.old) }
+    ensures ends { (err err' : SinkReport) → ServeEnds ((S.report store.old).held config.now) turns
+        (reports (S.report store.old) (L.report links.old) (O.report out.old) err
+        (P.report patterns.old) steps.old.forks)
+        (reports (S.report store.new) (L.report links.new) (O.report out.new) err'
+        (P.report patterns.new) steps.new.forks) result }
+    ensures reads { ReadsFiles (config.now ∷ []) (IsReadOnce result) (S.report store.old).reads
+        (S.report store.new).reads result }
+    ensures quiet { IsComplete result → ((S.report store.new).faults ≡ (S.report store.old).faults)
+        × ((L.report links.new).faults ≡ (L.report links.old).faults) ×
+        ((O.report out.new).faults ≡ (O.report out.old).faults) }
     ensures untouched { IsRefusal (status_of result) → (out.new ≡ out.old) ×
         (links.new ≡ links.old) }
     ensures unasked { HasNoConfig result → patterns.new ≡ patterns.old }

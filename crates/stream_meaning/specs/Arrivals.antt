@@ -88,3 +88,17 @@ state_after plan expiry start arrivals = state_from plan expiry arrivals (record
 -- the notices given over these arrivals
 abbrev pub notices_of : StreamTrees → Option Expiry → ℕ → List Arrival → List Notice
 notices_of plan expiry start arrivals = notices_among (outputs_of plan (state_after plan expiry start arrivals).history)
+
+-- the streams that arrivals come to, with their index: the plan, how expired events are looked for, and the first moment
+pub record CoreConfig : Type 0 where
+  pub plan : StreamTrees
+  pub expiry : Option Expiry
+  pub start : ℕ
+
+-- the state after these arrivals
+abbrev pub state_by : CoreConfig → List Arrival → CoreState
+state_by config arrivals = state_after config.plan config.expiry config.start arrivals
+
+-- the notices given over them
+abbrev pub notices_by : CoreConfig → List Arrival → List Notice
+notices_by config arrivals = notices_of config.plan config.expiry config.start arrivals

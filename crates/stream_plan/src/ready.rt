@@ -72,12 +72,12 @@ pub fn build_plan<P: Patterns>(
 ) -> Result<ReadyPlan, BuildFault>
     requires { length (plan_patterns plan) < 2 ^ 32 }
     ensures plan { IfOk result (λ ready. ready ≡ plan) }
-    ensures cause { HasCause (plan_patterns plan) (P.refusals patterns.old)
-        (P.refusals patterns.new)
-        result }
-    ensures reported { P.refused patterns.new ≡ option_map
-        (λ texts. texts ++ refused_of (plan_patterns plan) result) (P.refused patterns.old) }
-    ensures refusals { P.refusals patterns.old ≤ P.refusals patterns.new }
+    ensures cause { HasCause (plan_patterns plan) (P.report patterns.old).refusals
+        (P.report patterns.new).refusals result }
+    ensures reported { (P.report patterns.new).refused ≡
+        option_map (λ texts. texts ++ refused_of (plan_patterns plan) result)
+        (P.report patterns.old).refused }
+    ensures refusals { (P.report patterns.old).refusals ≤ (P.report patterns.new).refusals }
 {
     let plan = plan.into_plan();
     let patterns = build_patterns(alloc, &plan, patterns)?;
@@ -92,12 +92,12 @@ fn build_patterns<P: Patterns>(
     requires { length (plan_patterns (plan_tree plan.now)) < 2 ^ 32 }
     ensures built { IfOk result
         (λ regexes. AreReadFrom (plan_patterns (plan_tree plan.now)) regexes.items) }
-    ensures cause { HasCause (plan_patterns (plan_tree plan.now)) (P.refusals patterns.old)
-        (P.refusals patterns.new) result }
-    ensures reported { P.refused patterns.new ≡ option_map
-        (λ texts. texts ++ refused_of (plan_patterns (plan_tree plan.now)) result)
-        (P.refused patterns.old) }
-    ensures refusals { P.refusals patterns.old ≤ P.refusals patterns.new }
+    ensures cause { HasCause (plan_patterns (plan_tree plan.now)) (P.report patterns.old).refusals
+        (P.report patterns.new).refusals result }
+    ensures reported { (P.report patterns.new).refused ≡
+        option_map (λ texts. texts ++ refused_of (plan_patterns (plan_tree plan.now)) result)
+        (P.report patterns.old).refused }
+    ensures refusals { (P.report patterns.old).refusals ≤ (P.report patterns.new).refusals }
 {
     let mut texts = Vec::new(alloc);
     append_streams(alloc, &plan.streams, &mut texts)?;

@@ -6,7 +6,7 @@ use Rattle.conn_core.proofs.lines.write_lines.Given as goal
 
 abbrev pub invariant-loop-notice : goal.invariant-loop-notice
 invariant-loop-notice g l = record {
-  got : Got (g.O.Sink.text l.fn.sink) (lines_of (take l.notice-index l.notices)) (g.O.Sink.text l.sink);
-  puts : CountedPuts (g.O.Sink.puts l.fn.sink) l.notice-index (g.O.Sink.puts l.sink);
-  faults : g.O.Sink.faults l.sink ≡ g.O.Sink.faults l.fn.sink;
+  got : Got (g.O.Sink.report l.fn.sink).text (lines_of (take l.notice-index l.notices)) (g.O.Sink.report l.sink).text;
+  puts : CountedPuts (g.O.Sink.report l.fn.sink).puts l.notice-index (g.O.Sink.report l.sink).puts;
+  faults : (g.O.Sink.report l.sink).faults ≡ (g.O.Sink.report l.fn.sink).faults;
 }

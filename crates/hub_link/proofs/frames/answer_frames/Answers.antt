@@ -1,5 +1,4 @@
 use Rattle.std.proofs.lemmas.Result.{err_from_is_err_and}
-use Rattle.msg_replies.specs.hub_meaning.Verdicts.{patterns_state}
 use Rattle.msg_replies.specs.Arriving.{reported}
 use Rattle.hub_link.proofs.HearLaws.{so_far_end, so_far_failed, so_far_next, so_far_nothing}
 use Rattle.hub_link.proofs.frames.answer_frames.Goals as goal
@@ -11,9 +10,9 @@ pub frames-preserved : goal.frames-preserved
 frames-preserved g c =
     so_far_next c.args.input.now c.frames.input c.answer_first.new.input c.args.unsent.now c.frames.unsent c.answer_first.new.unsent
     c.args.core.now c.frames.core c.answer_first.new.core
-    (patterns_state (g.P.Patterns.refusals c.args.patterns.now) (g.P.Patterns.refused c.args.patterns.now))
-    (patterns_state (g.P.Patterns.refusals c.frames.patterns) (g.P.Patterns.refused c.frames.patterns))
-    (patterns_state (g.P.Patterns.refusals c.answer_first.new.patterns) (g.P.Patterns.refused c.answer_first.new.patterns))
+    (g.P.Patterns.report c.args.patterns.now)
+    (g.P.Patterns.report c.frames.patterns)
+    (g.P.Patterns.report c.answer_first.new.patterns)
     (reported c.args.notices.now c.args.steps.now.forks) (reported c.frames.notices c.frames.steps.forks) (reported c.answer_first.new.notices c.answer_first.new.steps.forks)
     _ c.if-not-was_whole.false c.frames.invariant c.in_ok-was_whole.ensures
 
@@ -21,9 +20,9 @@ pub returns-then-not-was_whole-clause-frames : goal.returns-then-not-was_whole-c
 returns-then-not-was_whole-clause-frames g c =
     so_far_end c.args.input.now c.frames.input c.answer_first.new.input c.args.unsent.now c.frames.unsent c.answer_first.new.unsent
     c.args.core.now c.frames.core c.answer_first.new.core
-    (patterns_state (g.P.Patterns.refusals c.args.patterns.now) (g.P.Patterns.refused c.args.patterns.now))
-    (patterns_state (g.P.Patterns.refusals c.frames.patterns) (g.P.Patterns.refused c.frames.patterns))
-    (patterns_state (g.P.Patterns.refusals c.answer_first.new.patterns) (g.P.Patterns.refused c.answer_first.new.patterns))
+    (g.P.Patterns.report c.args.patterns.now)
+    (g.P.Patterns.report c.frames.patterns)
+    (g.P.Patterns.report c.answer_first.new.patterns)
     (reported c.args.notices.now c.args.steps.now.forks) (reported c.frames.notices c.frames.steps.forks) (reported c.answer_first.new.notices c.answer_first.new.steps.forks)
     _ c.if-not-was_whole.true c.frames.invariant c.in_ok-was_whole.ensures
 
@@ -32,8 +31,8 @@ returns-in_err-was_whole-clause-frames g c =
     let p = err_from_is_err_and c.from_residual.result c.from_residual.ensures.1 in
     rw p.1 (so_far_failed c.args.input.now c.frames.input c.answer_first.new.input c.args.unsent.now c.frames.unsent c.answer_first.new.unsent
     c.args.core.now c.frames.core c.answer_first.new.core
-    (patterns_state (g.P.Patterns.refusals c.args.patterns.now) (g.P.Patterns.refused c.args.patterns.now))
-    (patterns_state (g.P.Patterns.refusals c.frames.patterns) (g.P.Patterns.refused c.frames.patterns))
-    (patterns_state (g.P.Patterns.refusals c.answer_first.new.patterns) (g.P.Patterns.refused c.answer_first.new.patterns))
+    (g.P.Patterns.report c.args.patterns.now)
+    (g.P.Patterns.report c.frames.patterns)
+    (g.P.Patterns.report c.answer_first.new.patterns)
     (reported c.args.notices.now c.args.steps.now.forks) (reported c.frames.notices c.frames.steps.forks) (reported c.answer_first.new.notices c.answer_first.new.steps.forks)
     p.0 c.frames.invariant c.in_err-was_whole.ensures)

@@ -1,7 +1,5 @@
 use Rattle.std.proofs.Common.{refl, ◌∙◌, arith}
 use Rattle.std.proofs.lemmas.Result.{err_from_is_err_and}
-use Rattle.conn_core.specs.Turning.{sink_got}
-use Rattle.conn_core.specs.hub_meaning.Verdicts.{patterns_state}
 use Rattle.hub_run.specs.Runs.{run_report}
 use Rattle.hub_run.proofs.LoopLaws.{is_stopped, not_last, so_far_at_limit, so_far_failed, so_far_more, so_far_nothing, so_far_stopped}
 use Rattle.hub_run.proofs.server.take_turns.Goals as goal
@@ -9,23 +7,21 @@ use Rattle.hub_run.proofs.server.take_turns.Goals as goal
 pub loop-taken-init : goal.loop-taken-init
 loop-taken-init g c = record {
   whole = c.requires.whole;
-  so_far = so_far_nothing (g.L.Links.log c.args.links.now) c.args.hub.now
-      (run_report (patterns_state (g.P.Patterns.refusals c.args.patterns.now) (g.P.Patterns.refused c.args.patterns.now)) c.args.steps.now.forks (sink_got (g.O.Sink.text c.args.sink.now) (g.O.Sink.puts c.args.sink.now)))
+  so_far = so_far_nothing (g.L.Links.report c.args.links.now) c.args.hub.now
+      (run_report (g.P.Patterns.report c.args.patterns.now) c.args.steps.now.forks (g.O.Sink.report c.args.sink.now))
       c.requires.known;
   links_still = refl;
   sink_still = refl;
-  script_is = refl;
-  plays = λ plays. plays;
 }
 
 pub loop-taken-preserved : goal.loop-taken-preserved
 loop-taken-preserved g c =
-    let log = g.L.Links.log c.args.links.now in
-    let log' = g.L.Links.log c.loop-taken.links in
-    let old = run_report (patterns_state (g.P.Patterns.refusals c.args.patterns.now) (g.P.Patterns.refused c.args.patterns.now)) c.args.steps.now.forks (sink_got (g.O.Sink.text c.args.sink.now) (g.O.Sink.puts c.args.sink.now)) in
-    let mid = run_report (patterns_state (g.P.Patterns.refusals c.loop-taken.patterns) (g.P.Patterns.refused c.loop-taken.patterns)) c.loop-taken.steps.forks (sink_got (g.O.Sink.text c.loop-taken.sink) (g.O.Sink.puts c.loop-taken.sink)) in
-    let log'' = g.L.Links.log c.take_turn.new.links in
-    let new = run_report (patterns_state (g.P.Patterns.refusals c.take_turn.new.patterns) (g.P.Patterns.refused c.take_turn.new.patterns)) c.take_turn.new.steps.forks (sink_got (g.O.Sink.text c.take_turn.new.sink) (g.O.Sink.puts c.take_turn.new.sink)) in
+    let log = g.L.Links.report c.args.links.now in
+    let log' = g.L.Links.report c.loop-taken.links in
+    let old = run_report (g.P.Patterns.report c.args.patterns.now) c.args.steps.now.forks (g.O.Sink.report c.args.sink.now) in
+    let mid = run_report (g.P.Patterns.report c.loop-taken.patterns) c.loop-taken.steps.forks (g.O.Sink.report c.loop-taken.sink) in
+    let log'' = g.L.Links.report c.take_turn.new.links in
+    let new = run_report (g.P.Patterns.report c.take_turn.new.patterns) c.take_turn.new.steps.forks (g.O.Sink.report c.take_turn.new.sink) in
     let turn = c.in_ok-turn.turn in
     record {
       whole = omega (arith, c.take_turn.auto.buf, c.loop-taken.invariant.whole);
@@ -33,38 +29,36 @@ loop-taken-preserved g c =
           turn (not_last c.is_last.result turn c.is_last.ensures c.if-is_last.false) c.in_ok-turn.ensures.known c.in_ok-turn.ensures.takes;
       links_still = c.in_ok-turn.ensures.links_quiet (λ is. absurd (cc is)) ∙ c.loop-taken.invariant.links_still;
       sink_still = c.in_ok-turn.ensures.sink_quiet (λ is. absurd (cc is)) ∙ c.loop-taken.invariant.sink_still;
-      script_is = c.in_ok-turn.ensures.script ∙ c.loop-taken.invariant.script_is;
-      plays = λ plays. c.in_ok-turn.ensures.plays (c.loop-taken.invariant.plays plays);
     }
 
 pub returns-then-is_last-clause-takes : goal.returns-then-is_last-clause-takes
 returns-then-is_last-clause-takes g c =
-    let log = g.L.Links.log c.args.links.now in
-    let log' = g.L.Links.log c.loop-taken.links in
-    let old = run_report (patterns_state (g.P.Patterns.refusals c.args.patterns.now) (g.P.Patterns.refused c.args.patterns.now)) c.args.steps.now.forks (sink_got (g.O.Sink.text c.args.sink.now) (g.O.Sink.puts c.args.sink.now)) in
-    let mid = run_report (patterns_state (g.P.Patterns.refusals c.loop-taken.patterns) (g.P.Patterns.refused c.loop-taken.patterns)) c.loop-taken.steps.forks (sink_got (g.O.Sink.text c.loop-taken.sink) (g.O.Sink.puts c.loop-taken.sink)) in
-    let log'' = g.L.Links.log c.take_turn.new.links in
-    let new = run_report (patterns_state (g.P.Patterns.refusals c.take_turn.new.patterns) (g.P.Patterns.refused c.take_turn.new.patterns)) c.take_turn.new.steps.forks (sink_got (g.O.Sink.text c.take_turn.new.sink) (g.O.Sink.puts c.take_turn.new.sink)) in
+    let log = g.L.Links.report c.args.links.now in
+    let log' = g.L.Links.report c.loop-taken.links in
+    let old = run_report (g.P.Patterns.report c.args.patterns.now) c.args.steps.now.forks (g.O.Sink.report c.args.sink.now) in
+    let mid = run_report (g.P.Patterns.report c.loop-taken.patterns) c.loop-taken.steps.forks (g.O.Sink.report c.loop-taken.sink) in
+    let log'' = g.L.Links.report c.take_turn.new.links in
+    let new = run_report (g.P.Patterns.report c.take_turn.new.patterns) c.take_turn.new.steps.forks (g.O.Sink.report c.take_turn.new.sink) in
     let turn = c.in_ok-turn.turn in
     so_far_stopped log log' log'' c.args.hub.now c.loop-taken.hub c.take_turn.new.hub old mid new c.loop-taken._taken c.loop-taken.invariant.so_far
     c.args.turns (omega arith) turn (is_stopped c.is_last.result turn c.is_last.ensures c.if-is_last.true) c.in_ok-turn.ensures.takes
 
 pub returns-in_err-turn-clause-takes : goal.returns-in_err-turn-clause-takes
 returns-in_err-turn-clause-takes g c =
-    let log = g.L.Links.log c.args.links.now in
-    let log' = g.L.Links.log c.loop-taken.links in
-    let old = run_report (patterns_state (g.P.Patterns.refusals c.args.patterns.now) (g.P.Patterns.refused c.args.patterns.now)) c.args.steps.now.forks (sink_got (g.O.Sink.text c.args.sink.now) (g.O.Sink.puts c.args.sink.now)) in
-    let mid = run_report (patterns_state (g.P.Patterns.refusals c.loop-taken.patterns) (g.P.Patterns.refused c.loop-taken.patterns)) c.loop-taken.steps.forks (sink_got (g.O.Sink.text c.loop-taken.sink) (g.O.Sink.puts c.loop-taken.sink)) in
-    let log'' = g.L.Links.log c.take_turn.new.links in
-    let new = run_report (patterns_state (g.P.Patterns.refusals c.take_turn.new.patterns) (g.P.Patterns.refused c.take_turn.new.patterns)) c.take_turn.new.steps.forks (sink_got (g.O.Sink.text c.take_turn.new.sink) (g.O.Sink.puts c.take_turn.new.sink)) in
+    let log = g.L.Links.report c.args.links.now in
+    let log' = g.L.Links.report c.loop-taken.links in
+    let old = run_report (g.P.Patterns.report c.args.patterns.now) c.args.steps.now.forks (g.O.Sink.report c.args.sink.now) in
+    let mid = run_report (g.P.Patterns.report c.loop-taken.patterns) c.loop-taken.steps.forks (g.O.Sink.report c.loop-taken.sink) in
+    let log'' = g.L.Links.report c.take_turn.new.links in
+    let new = run_report (g.P.Patterns.report c.take_turn.new.patterns) c.take_turn.new.steps.forks (g.O.Sink.report c.take_turn.new.sink) in
     let p = err_from_is_err_and c.from_residual.result c.from_residual.ensures.1 in
     rw (p.1, p.2) (so_far_failed log log' log'' c.args.hub.now c.loop-taken.hub c.take_turn.new.hub old mid new c.loop-taken._taken c.loop-taken.invariant.so_far
     c.args.turns (omega arith) _ c.in_err-turn.ensures.takes)
 
 pub returns-clause-takes : goal.returns-clause-takes
 returns-clause-takes g c =
-    let log = g.L.Links.log c.args.links.now in
-    let log' = g.L.Links.log c.loop-taken.links in
-    let old = run_report (patterns_state (g.P.Patterns.refusals c.args.patterns.now) (g.P.Patterns.refused c.args.patterns.now)) c.args.steps.now.forks (sink_got (g.O.Sink.text c.args.sink.now) (g.O.Sink.puts c.args.sink.now)) in
-    let mid = run_report (patterns_state (g.P.Patterns.refusals c.loop-taken.patterns) (g.P.Patterns.refused c.loop-taken.patterns)) c.loop-taken.steps.forks (sink_got (g.O.Sink.text c.loop-taken.sink) (g.O.Sink.puts c.loop-taken.sink)) in
+    let log = g.L.Links.report c.args.links.now in
+    let log' = g.L.Links.report c.loop-taken.links in
+    let old = run_report (g.P.Patterns.report c.args.patterns.now) c.args.steps.now.forks (g.O.Sink.report c.args.sink.now) in
+    let mid = run_report (g.P.Patterns.report c.loop-taken.patterns) c.loop-taken.steps.forks (g.O.Sink.report c.loop-taken.sink) in
     so_far_at_limit log log' c.args.hub.now c.loop-taken.hub old mid c.loop-taken._taken c.args.turns (omega arith) c.loop-taken.invariant.so_far

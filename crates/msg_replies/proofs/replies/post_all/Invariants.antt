@@ -1,6 +1,6 @@
 use Rattle.std.proofs.Common.{◌≡◌, List, drop, map, pos, replicate, take}
 use Rattle.ev_types.specs.Set.{event_at}
-use Rattle.hub_meaning.specs.event_core.Core.{Represents, now_of}
+use Rattle.event_core.specs.Core.{Represents, now_of}
 use Rattle.stream_meaning.specs.Arrivals.{Arrival, Post}
 use Rattle.msg_replies.specs.Arriving.{Arrives, reported}
 use Rattle.msg_replies.proofs.replies.post_all.Given as goal

@@ -8,5 +8,5 @@ loop-text-preserved g c = record {
       c.loop-text.invariant.built c.in-Built.ensures.built c.in_ok-push-in-Built.ensures.items;
   number = ap (λ n. n + 1) c.loop-text.invariant.number;
   counted = c.in-Built.ensures.counted ∙ c.loop-text.invariant.counted;
-  reported = c.in-Built.ensures.reported ∙ nothing_reported (g.P.Patterns.refused c.loop-text.patterns) ∙ c.loop-text.invariant.reported;
+  reported = c.in-Built.ensures.reported ∙ nothing_reported (g.P.Patterns.report c.loop-text.patterns).refused ∙ c.loop-text.invariant.reported;
 }

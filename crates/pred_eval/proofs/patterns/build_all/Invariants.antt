@@ -7,6 +7,6 @@ abbrev pub invariant-loop-text : goal.invariant-loop-text
 invariant-loop-text g l = record {
   built : AreReadFrom (take l.text-index (texts_of l.texts)) l.built.items;
   number : l.number ≡ l.text-index;
-  counted : g.P.Patterns.refusals l.patterns ≡ g.P.Patterns.refusals l.fn.patterns;
-  reported : g.P.Patterns.refused l.patterns ≡ g.P.Patterns.refused l.fn.patterns;
+  counted : (g.P.Patterns.report l.patterns).refusals ≡ (g.P.Patterns.report l.fn.patterns).refusals;
+  reported : (g.P.Patterns.report l.patterns).refused ≡ (g.P.Patterns.report l.fn.patterns).refused;
 }

@@ -1,5 +1,4 @@
 use Rattle.std.proofs.Common.{refl}
-use Rattle.file_run.specs.command_io.Reports.{links_report, sink_report}
 use Rattle.std.specs.Prelude.{None}
 use Rattle.replay_command.proofs.ReplayLaws.{replay_complete, replay_not_linked, replay_read_rose, replay_sink_rose}
 use Rattle.replay_command.proofs.command.replay.Goals as goal
@@ -16,20 +15,20 @@ returns-clause-promise g c = λ links. record {
   quiet = c.replay_files-ending.ensures.quiet;
   complete = λ text lines read played holds is fits holds_lines is_script lines_fit reads_still out_still still.
       rw c.report.ensures.status (replay_complete _ _ _ _ text lines read played c.replay_files-ending.result (c.replay_files-ending.ensures.ends links
-      (sink_report None None 0) (sink_report None None 0)) holds is fits holds_lines is_script lines_fit reads_still out_still still);
+      (record { text = None; puts = None; faults = 0 }) (record { text = None; puts = None; faults = 0 })) holds is fits holds_lines is_script lines_fit reads_still out_still still);
 }
 
 pub returns-clause-read_fault : goal.returns-clause-read_fault
 returns-clause-read_fault g c = λ e.
-    replay_read_rose _ _ _ _ c.replay_files-ending.result (c.replay_files-ending.ensures.ends (links_report None 0) (sink_report None None 0) (sink_report None None 0))
+    replay_read_rose _ _ _ _ c.replay_files-ending.result (c.replay_files-ending.ensures.ends (record { log = None; script = None; faults = 0 }) (record { text = None; puts = None; faults = 0 }) (record { text = None; puts = None; faults = 0 }))
     (rw c.report.ensures.status at e)
 
 pub returns-clause-sink_fault : goal.returns-clause-sink_fault
 returns-clause-sink_fault g c = λ e.
-    replay_sink_rose _ _ _ _ c.replay_files-ending.result (c.replay_files-ending.ensures.ends (links_report None 0) (sink_report None None 0) (sink_report None None 0))
+    replay_sink_rose _ _ _ _ c.replay_files-ending.result (c.replay_files-ending.ensures.ends (record { log = None; script = None; faults = 0 }) (record { text = None; puts = None; faults = 0 }) (record { text = None; puts = None; faults = 0 }))
     (rw c.report.ensures.status at e)
 
 pub returns-clause-links_work : goal.returns-clause-links_work
 returns-clause-links_work g c = λ e.
-    replay_not_linked _ _ _ _ c.replay_files-ending.result (c.replay_files-ending.ensures.ends (links_report None 0) (sink_report None None 0) (sink_report None None 0))
+    replay_not_linked _ _ _ _ c.replay_files-ending.result (c.replay_files-ending.ensures.ends (record { log = None; script = None; faults = 0 }) (record { text = None; puts = None; faults = 0 }) (record { text = None; puts = None; faults = 0 }))
     (rw c.report.ensures.status at e)

@@ -1,14 +1,12 @@
 use Rattle.std.proofs.Common.{ap}
 use Rattle.replay_command.proofs.ReplayLaws.{replay_ended}
 use Rattle.file_run.proofs.OtherLaws.{both_read}
-use Rattle.file_run.specs.command_io.Reports.{store_report}
 use Rattle.replay_command.proofs.command.replay_files.Goals as goal
 
 pub returns-in-Ok-clause-ends : goal.returns-in-Ok-clause-ends
 returns-in-Ok-clause-ends g c = λ links err err'.
     replay_ended _ _ _ c.in-Ok.setup _
-    (store_report (g.S.Store.held c.fetch_setup.new.store) (g.S.Store.reads c.fetch_setup.new.store) (g.S.Store.taken c.fetch_setup.new.store)
-    (g.S.Store.faults c.fetch_setup.new.store))
+    (g.S.Store.report c.fetch_setup.new.store)
     _ links _ _ err err' _ _ _ _ _ c.replay_script.result c.in-Ok.ensures.setup c.in-Ok.ensures.quiet c.in-Ok.ensures.taken c.in-Ok.ensures.same
     (ap (λ held. held c.args.script.now) c.in-Ok.ensures.held) (c.replay_script.ensures.ends links err err')
 

@@ -1,5 +1,4 @@
 use Rattle.hub_link.proofs.AddedLaws.{added_weaken}
-use Rattle.hub_link.specs.hub_meaning.Verdicts.{patterns_state}
 use Rattle.hub_link.specs.msg_replies.Arriving.{reported}
 use Rattle.conn_core.specs.Occurring.{OccursFrom}
 use Rattle.conn_core.specs.Reaching.{Changes, links_after}
@@ -11,15 +10,12 @@ pub returns-in_default : goal.returns-in_default
 returns-in_default g c =
     let hub = c.args.self.now in
     let hub' : Hub = record hub { table = c.change.new.table } in
-    let patterns = patterns_state (g.P.Patterns.refusals c.args.patterns.now) (g.P.Patterns.refused c.args.patterns.now) in
+    let patterns = g.P.Patterns.report c.args.patterns.now in
     let before = reported c.args.notices.now c.args.steps.now.forks in
     record {
       known = c.change.ensures.known;
-      occurs = added_weaken (g.L.Links.log c.args.links.now) (g.L.Links.log c.change.new.links) (Changes (links_after c.args.what) hub.table c.change.new.table c.change.result)
+      occurs = added_weaken (g.L.Links.report c.args.links.now) (g.L.Links.report c.change.new.links) (Changes (links_after c.args.what) hub.table c.change.new.table c.change.result)
           (OccursFrom c.args.what c.args.piece.now hub hub' patterns patterns before before c.change.result)
           (λ run changes. occurs_changed c.args.what c.args.piece.now hub c.change.new.table patterns before c.change.result run (readless c.args.what c.in_default.not-Read) changes)
           c.change.ensures.changes;
-      faults = c.change.ensures.faults;
-      script = c.change.ensures.script;
-      plays = c.change.ensures.plays;
     }

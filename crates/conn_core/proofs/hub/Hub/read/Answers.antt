@@ -3,7 +3,6 @@ use Rattle.std.proofs.lemmas.List.{get_or_read, length-set}
 use Rattle.std.proofs.lemmas.Result.{err_from_is_err_and}
 use Rattle.hub_link.specs.declared.link.HubLink.{HubLink}
 use Rattle.hub_link.proofs.AddedLaws.{added_nothing, added_weaken}
-use Rattle.hub_link.specs.hub_meaning.Verdicts.{patterns_state}
 use Rattle.link_table.specs.Kept.{Kept}
 use Rattle.hub_link.specs.msg_replies.Arriving.{reported}
 use Rattle.ports.specs.declared.links.What.TheVariants.{Read}
@@ -28,9 +27,9 @@ settle-requires-clause-at g c =
 pub returns-in_default-clause-occurs : goal.returns-in_default-clause-occurs
 returns-in_default-clause-occurs g c count =
     let hub = c.args.self.now in
-    let patterns = patterns_state (g.P.Patterns.refusals c.args.patterns.now) (g.P.Patterns.refused c.args.patterns.now) in
+    let patterns = g.P.Patterns.report c.args.patterns.now in
     let before = reported c.args.notices.now c.args.steps.now.forks in
-    added_nothing (g.L.Links.log c.args.links.now) (OccursFrom (Read c.args.number count) c.args.piece.now hub hub patterns patterns before before (Ok tt))
+    added_nothing (g.L.Links.report c.args.links.now) (OccursFrom (Read c.args.number count) c.args.piece.now hub hub patterns patterns before before (Ok tt))
     (occurs_absent c.args.number count c.args.piece.now hub patterns before c.in_default.ensures)
 
 pub returns-in_err-hear-clause-occurs : goal.returns-in_err-hear-clause-occurs
@@ -42,11 +41,11 @@ returns-in_err-hear-clause-occurs g c count =
     let value' = c.hear.new.self in
     let table' : Kept HubLink = record hub.table { values = set hub.table.values place value' } in
     let hub' : Hub = record hub { core = c.hear.new.core; table = table'; spent = c.hear.new.spent } in
-    let patterns = patterns_state (g.P.Patterns.refusals c.args.patterns.now) (g.P.Patterns.refused c.args.patterns.now) in
-    let patterns' = patterns_state (g.P.Patterns.refusals c.hear.new.patterns) (g.P.Patterns.refused c.hear.new.patterns) in
+    let patterns = g.P.Patterns.report c.args.patterns.now in
+    let patterns' = g.P.Patterns.report c.hear.new.patterns in
     let before = reported c.args.notices.now c.args.steps.now.forks in
     let after = reported c.hear.new.notices c.hear.new.steps.forks in
-    rw p.1 (added_nothing (g.L.Links.log c.args.links.now) (OccursFrom (Read c.args.number count) c.args.piece.now hub hub' patterns patterns' before after (Err p.0))
+    rw p.1 (added_nothing (g.L.Links.report c.args.links.now) (OccursFrom (Read c.args.number count) c.args.piece.now hub hub' patterns patterns' before after (Err p.0))
     (occurs_unheard c.args.number count place c.args.piece.now hub c.hear.new.core value value' patterns patterns' before after c.in-Some.ensures
     (λ other. sym (get_or_read hub.table.values place value c.in-Some.ensures.within c.value_mut.ensures.value other))
     hub' (Err c.in_err-hear.field-0.0) (Err p.0) refl c.in_err-hear.ensures.hears))
@@ -60,11 +59,11 @@ returns-in_err-settle-clause-occurs g c count =
     let value' = c.hear.new.self in
     let table' : Kept HubLink = record hub.table { values = set hub.table.values place value' } in
     let hub' : Hub = record hub { core = c.hear.new.core; table = c.settle.new.table; spent = c.hear.new.spent } in
-    let patterns = patterns_state (g.P.Patterns.refusals c.args.patterns.now) (g.P.Patterns.refused c.args.patterns.now) in
-    let patterns' = patterns_state (g.P.Patterns.refusals c.hear.new.patterns) (g.P.Patterns.refused c.hear.new.patterns) in
+    let patterns = g.P.Patterns.report c.args.patterns.now in
+    let patterns' = g.P.Patterns.report c.hear.new.patterns in
     let before = reported c.args.notices.now c.args.steps.now.forks in
     let after = reported c.hear.new.notices c.hear.new.steps.forks in
-    rw p.1 (added_weaken (g.L.Links.log c.args.links.now) (g.L.Links.log c.settle.new.links) (Settles table' c.settle.new.table c.args.number place (Err p.0))
+    rw p.1 (added_weaken (g.L.Links.report c.args.links.now) (g.L.Links.report c.settle.new.links) (Settles table' c.settle.new.table c.args.number place (Err p.0))
     (OccursFrom (Read c.args.number count) c.args.piece.now hub hub' patterns patterns' before after (Err p.0))
     (λ run settles. occurs_heard c.args.number count place c.args.piece.now hub c.hear.new.core value value' patterns patterns' before after c.in-Some.ensures
     (λ other. sym (get_or_read hub.table.values place value c.in-Some.ensures.within c.value_mut.ensures.value other))
@@ -79,11 +78,11 @@ returns-clause-occurs g c count =
     let value' = c.hear.new.self in
     let table' : Kept HubLink = record hub.table { values = set hub.table.values place value' } in
     let hub' : Hub = record hub { core = c.hear.new.core; table = c.settle.new.table; spent = c.hear.new.spent } in
-    let patterns = patterns_state (g.P.Patterns.refusals c.args.patterns.now) (g.P.Patterns.refused c.args.patterns.now) in
-    let patterns' = patterns_state (g.P.Patterns.refusals c.hear.new.patterns) (g.P.Patterns.refused c.hear.new.patterns) in
+    let patterns = g.P.Patterns.report c.args.patterns.now in
+    let patterns' = g.P.Patterns.report c.hear.new.patterns in
     let before = reported c.args.notices.now c.args.steps.now.forks in
     let after = reported c.hear.new.notices c.hear.new.steps.forks in
-    added_weaken (g.L.Links.log c.args.links.now) (g.L.Links.log c.settle.new.links) (Settles table' c.settle.new.table c.args.number place (Ok tt))
+    added_weaken (g.L.Links.report c.args.links.now) (g.L.Links.report c.settle.new.links) (Settles table' c.settle.new.table c.args.number place (Ok tt))
     (OccursFrom (Read c.args.number count) c.args.piece.now hub hub' patterns patterns' before after (Ok tt))
     (λ run settles. occurs_heard c.args.number count place c.args.piece.now hub c.hear.new.core value value' patterns patterns' before after c.in-Some.ensures
     (λ other. sym (get_or_read hub.table.values place value c.in-Some.ensures.within c.value_mut.ensures.value other))

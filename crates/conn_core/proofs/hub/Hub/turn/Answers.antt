@@ -4,29 +4,28 @@ use Rattle.ev_types.specs.declared.item.Notice.{Notice}
 use Rattle.hub_link.specs.event_core.Core.{Represents, now_of}
 use Rattle.hub_link.proofs.AddedLaws.{added_nothing, added_weaken}
 use Rattle.hub_link.specs.hub_meaning.Clock.{next_moment}
-use Rattle.hub_link.specs.hub_meaning.Verdicts.{patterns_state}
 use Rattle.hub_link.specs.msg_replies.Arriving.{Arrives, reported}
 use Rattle.notice_sink.specs.Lines.{lines_of}
 use Rattle.ports.specs.Writing.{GotPrefix}
 use Rattle.stream_meaning.specs.Arrivals.{Arrival, Elapsed}
 use Rattle.conn_core.specs.Occurring.{OccursFrom}
-use Rattle.conn_core.specs.Turning.{GotFirstLines, GotLines, TurnsFrom, sink_got}
+use Rattle.conn_core.specs.Turning.{GotFirstLines, GotLines, TurnsFrom}
 use Rattle.conn_core.specs.declared.hub.Hub.{Hub}
 use Rattle.conn_core.proofs.KnownLaws.{opened_by}
 use Rattle.conn_core.proofs.TurnLaws.{no_sink, passed_at, turn_is, turns_reported, turns_unfinished, turns_unpassed}
 use Rattle.conn_core.proofs.hub.Hub.turn.Goals as goal
 
 pub occur-requires-clause-opened : goal.occur-requires-clause-opened
-occur-requires-clause-opened g c = opened_by (g.L.Links.log c.args.links.now) c.args.turn c.requires.answered
+occur-requires-clause-opened g c = opened_by (g.L.Links.report c.args.links.now).log c.args.turn c.requires.answered
 
 pub returns-in_err-pass-clause-turns : goal.returns-in_err-pass-clause-turns
 returns-in_err-pass-clause-turns g c =
     let p = err_from_is_err_and c.from_residual.result c.from_residual.ensures.1 in
     let hub = c.args.self.now in
     let hub' : Hub = record hub { core = c.pass.new.core } in
-    let patterns = patterns_state (g.P.Patterns.refusals c.args.patterns.now) (g.P.Patterns.refused c.args.patterns.now) in
-    let text = sink_got (g.O.Sink.text c.args.sink.now) (g.O.Sink.puts c.args.sink.now) in
-    rw p.1 (added_nothing (g.L.Links.log c.args.links.now)
+    let patterns = g.P.Patterns.report c.args.patterns.now in
+    let text = g.O.Sink.report c.args.sink.now in
+    rw p.1 (added_nothing (g.L.Links.report c.args.links.now)
     (TurnsFrom c.args.turn c.args.piece.now hub hub' patterns patterns c.args.steps.now.forks c.pass.new.steps.forks text text (Err p.0))
     (λ config steps follows. turns_unpassed c.args.turn c.args.piece.now hub config steps (turn_is c.args.turn.what c.requires.failed c.requires.memory) follows
     hub' patterns c.args.steps.now.forks c.pass.new.steps.forks text (Err p.0) refl (no_sink p.0 (Err p.0) refl p.2)))
@@ -37,15 +36,15 @@ returns-in_err-occur-clause-turns g c =
     let hub = c.args.self.now in
     let one : Hub = record hub { core = c.pass.new.core } in
     let hub' = c.occur.new.self in
-    let patterns = patterns_state (g.P.Patterns.refusals c.args.patterns.now) (g.P.Patterns.refused c.args.patterns.now) in
-    let patterns' = patterns_state (g.P.Patterns.refusals c.occur.new.patterns) (g.P.Patterns.refused c.occur.new.patterns) in
-    let text = sink_got (g.O.Sink.text c.args.sink.now) (g.O.Sink.puts c.args.sink.now) in
+    let patterns = g.P.Patterns.report c.args.patterns.now in
+    let patterns' = g.P.Patterns.report c.occur.new.patterns in
+    let text = g.O.Sink.report c.args.sink.now in
     let forks = c.args.steps.now.forks in
     let forks' = c.occur.new.steps.forks in
     let middle = reported c.pass.new.notices c.pass.new.steps.forks in
     let after = reported c.occur.new.notices forks' in
     let failure = c.occur.result in
-    rw p.1 (added_weaken (g.L.Links.log c.args.links.now) (g.L.Links.log c.occur.new.links)
+    rw p.1 (added_weaken (g.L.Links.report c.args.links.now) (g.L.Links.report c.occur.new.links)
     (OccursFrom c.args.turn.what c.args.piece.now one hub' patterns patterns' middle after (Err c.in_err-occur.field-0.0))
     (TurnsFrom c.args.turn c.args.piece.now hub hub' patterns patterns' forks forks' text text (Err p.0))
     (λ run occurs config steps follows.
@@ -60,10 +59,10 @@ returns-in_err-write_lines-clause-turns g c =
     let hub = c.args.self.now in
     let one : Hub = record hub { core = c.pass.new.core } in
     let hub' = c.occur.new.self in
-    let patterns = patterns_state (g.P.Patterns.refusals c.args.patterns.now) (g.P.Patterns.refused c.args.patterns.now) in
-    let patterns' = patterns_state (g.P.Patterns.refusals c.occur.new.patterns) (g.P.Patterns.refused c.occur.new.patterns) in
-    let text = sink_got (g.O.Sink.text c.args.sink.now) (g.O.Sink.puts c.args.sink.now) in
-    let text' = sink_got (g.O.Sink.text c.write_lines.new.sink) (g.O.Sink.puts c.write_lines.new.sink) in
+    let patterns = g.P.Patterns.report c.args.patterns.now in
+    let patterns' = g.P.Patterns.report c.occur.new.patterns in
+    let text = g.O.Sink.report c.args.sink.now in
+    let text' = g.O.Sink.report c.write_lines.new.sink in
     let forks = c.args.steps.now.forks in
     let forks' = c.occur.new.steps.forks in
     let middle = reported c.pass.new.notices c.pass.new.steps.forks in
@@ -72,7 +71,7 @@ returns-in_err-write_lines-clause-turns g c =
     let first_lines = subst (λ (ns : List Notice). GotFirstLines text ns text') c.as_slice.ensures c.in_err-write_lines.ensures.first_lines in
     let arrives = subst (λ (ns : List Notice). (arrivals : List Arrival) → Represents hub.core arrivals
     → Arrives hub.core c.pass.new.core arrivals (replicate (next_moment (now_of hub.core) c.args.turn.secs - now_of hub.core) Elapsed) (reported ns forks) middle) c.fresh-notices.ensures c.in_ok-pass.ensures.arrives in
-    rw p.1 (added_weaken (g.L.Links.log c.args.links.now) (g.L.Links.log c.occur.new.links)
+    rw p.1 (added_weaken (g.L.Links.report c.args.links.now) (g.L.Links.report c.occur.new.links)
     (OccursFrom c.args.turn.what c.args.piece.now one hub' patterns patterns' middle (reported notices forks') (Ok tt))
     (TurnsFrom c.args.turn c.args.piece.now hub hub' patterns patterns' forks forks' text text' (Err p.0))
     (λ run occurs config steps follows.
@@ -86,10 +85,10 @@ returns-clause-turns g c =
     let hub = c.args.self.now in
     let one : Hub = record hub { core = c.pass.new.core } in
     let hub' = c.occur.new.self in
-    let patterns = patterns_state (g.P.Patterns.refusals c.args.patterns.now) (g.P.Patterns.refused c.args.patterns.now) in
-    let patterns' = patterns_state (g.P.Patterns.refusals c.occur.new.patterns) (g.P.Patterns.refused c.occur.new.patterns) in
-    let text = sink_got (g.O.Sink.text c.args.sink.now) (g.O.Sink.puts c.args.sink.now) in
-    let text' = sink_got (g.O.Sink.text c.write_lines.new.sink) (g.O.Sink.puts c.write_lines.new.sink) in
+    let patterns = g.P.Patterns.report c.args.patterns.now in
+    let patterns' = g.P.Patterns.report c.occur.new.patterns in
+    let text = g.O.Sink.report c.args.sink.now in
+    let text' = g.O.Sink.report c.write_lines.new.sink in
     let forks = c.args.steps.now.forks in
     let forks' = c.occur.new.steps.forks in
     let middle = reported c.pass.new.notices c.pass.new.steps.forks in
@@ -97,7 +96,7 @@ returns-clause-turns g c =
     let lines = subst (λ (ns : List Notice). GotLines text ns text') c.as_slice.ensures c.in_ok-write_lines.ensures.all in
     let arrives = subst (λ (ns : List Notice). (arrivals : List Arrival) → Represents hub.core arrivals
     → Arrives hub.core c.pass.new.core arrivals (replicate (next_moment (now_of hub.core) c.args.turn.secs - now_of hub.core) Elapsed) (reported ns forks) middle) c.fresh-notices.ensures c.in_ok-pass.ensures.arrives in
-    added_weaken (g.L.Links.log c.args.links.now) (g.L.Links.log c.occur.new.links)
+    added_weaken (g.L.Links.report c.args.links.now) (g.L.Links.report c.occur.new.links)
     (OccursFrom c.args.turn.what c.args.piece.now one hub' patterns patterns' middle (reported notices forks') (Ok tt))
     (TurnsFrom c.args.turn c.args.piece.now hub hub' patterns patterns' forks forks' text text' (Ok tt))
     (λ run occurs config steps follows.

@@ -11,7 +11,8 @@ note-requires g c = within_all c.front.result.now c.args.self.now.unsent c.send-
 pub returns-clause-sends : goal.returns-clause-sends
 returns-clause-sends g c = record {
   run = send_entries (number_of c.args.self.now) c.front.result.now c.send-answer.result;
-  grew = c.send-answer.ensures.log;
+  grew = c.send-answer.ensures.adds;
+  no_fault = c.send-answer.ensures.no_fault;
   calls = send_calls (number_of c.args.self.now) c.front.result.now c.send-answer.result;
   holds = sends_answered c.args.self.now c.note.new.self c.front.result.now c.send-answer.result c.requires c.front.ensures.prefix
       (c.front.ensures.some (some_left c.args.self.now c.requires)) c.send-answer.ensures.within c.note.ensures.represents;

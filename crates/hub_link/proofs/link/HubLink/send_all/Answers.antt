@@ -4,35 +4,18 @@ use Rattle.hub_link.proofs.SendLaws.{all_sent}
 use Rattle.hub_link.proofs.link.HubLink.send_all.Goals as goal
 
 pub sends-init : goal.sends-init
-sends-init g c = sent_nothing _ _ _ c.args.self.now
+sends-init g c = sent_nothing (g.L.Links.report c.args.links.now) c.args.self.now
 
 pub sends-preserved : goal.sends-preserved
 sends-preserved g c =
-    sent_more (g.L.Links.log c.args.links.now) (g.L.Links.log c.sends.links) (g.L.Links.log c.send.new.links)
-    (g.L.Links.faults c.args.links.now) (g.L.Links.faults c.sends.links) (g.L.Links.faults c.send.new.links)
-    (g.L.Links.script c.args.links.now) (g.L.Links.script c.sends.links) (g.L.Links.script c.send.new.links)
-    c.args.self.now c.sends.self c.send.new.self c.sends.invariant (record {
-      number = c.send.ensures.number;
-      sends = c.send.ensures.sends;
-      faults_are = c.send.ensures.faults;
-      script_is = c.send.ensures.script;
-      plays = c.send.ensures.plays;
-    })
+    sent_more (g.L.Links.report c.args.links.now) (g.L.Links.report c.sends.links) (g.L.Links.report c.send.new.links)
+    c.args.self.now c.sends.self c.send.new.self c.sends.invariant (record { number = c.send.ensures.number; sends = c.send.ensures.sends })
 
 pub returns-in_err-send-clause-sends : goal.returns-in_err-send-clause-sends
 returns-in_err-send-clause-sends g c =
-    let all : SentSoFar (g.L.Links.log c.args.links.now) (g.L.Links.log c.send.new.links) (g.L.Links.faults c.args.links.now) (g.L.Links.faults c.send.new.links)
-    (g.L.Links.script c.args.links.now) (g.L.Links.script c.send.new.links) c.args.self.now c.send.new.self =
-    sent_more (g.L.Links.log c.args.links.now) (g.L.Links.log c.sends.links) (g.L.Links.log c.send.new.links)
-    (g.L.Links.faults c.args.links.now) (g.L.Links.faults c.sends.links) (g.L.Links.faults c.send.new.links)
-    (g.L.Links.script c.args.links.now) (g.L.Links.script c.sends.links) (g.L.Links.script c.send.new.links)
-    c.args.self.now c.sends.self c.send.new.self c.sends.invariant (record {
-      number = c.send.ensures.number;
-      sends = c.send.ensures.sends;
-      faults_are = c.send.ensures.faults;
-      script_is = c.send.ensures.script;
-      plays = c.send.ensures.plays;
-    }) in
+    let all : SentSoFar (g.L.Links.report c.args.links.now) (g.L.Links.report c.send.new.links) c.args.self.now c.send.new.self =
+    sent_more (g.L.Links.report c.args.links.now) (g.L.Links.report c.sends.links) (g.L.Links.report c.send.new.links)
+    c.args.self.now c.sends.self c.send.new.self c.sends.invariant (record { number = c.send.ensures.number; sends = c.send.ensures.sends }) in
     all.sends
 
 pub returns-clause-sent : goal.returns-clause-sent
