@@ -17,7 +17,15 @@ use Rattle.command_io.specs.Endings.{IsComplete, status_of}
 use Rattle.command_io.specs.Fetches.{IsFetchFault, ending_of_fetch}
 use Rattle.command_io.proofs.ConfigLaws.{config_not_refused}
 use Rattle.command_io.proofs.EndingLaws.{not_over}
-use Rattle.command_setup.specs.Setups.{RefusesSetup}
+use Rattle.command_io.specs.Accepting.{IsAccepted, RefusesSetup}
+use Rattle.command_setup.specs.Setups.{SetsUp}
+use Rattle.hub_run.specs.declared.setup.Setup.{Setup}
+
+-- what is set up was accepted
+pub accepted : (content : Content) (setup : Setup) → SetsUp content setup → IsAccepted content
+accepted content setup sets bytes reported =
+    let held = sets bytes reported in
+    (held.0, held.1, (held.2.0, (held.2.1.0, held.2.1.1, held.2.1.2.0)))
 
 pub refuses_fetch : (content : Content) (store store' : StoreReport) (patterns : PatternsReport) (fault : FetchFault)
     → IsFetchFault content store.faults store'.faults store.taken store'.taken fault → RefusesSetup content store store' patterns patterns (ending_of_fetch fault)

@@ -1,22 +1,19 @@
--- What a configuration says that a server is run with, and why a command has no such configuration.
-use Rattle.std.specs.Prelude.{◌≡◌, ℕ, ◌+◌, List, ◌++◌, codes, Result, Ok, Err}
+-- What a configuration says that a server is run with.
+use Rattle.std.specs.Prelude.{◌≡◌, ℕ, List, ◌++◌, codes, Result, Ok, Err}
 use Rattle.std.specs.Fmt.{decimal}
 use Rattle.hub_run.specs.hub_meaning.Verdicts.{PatternsReport}
 use Rattle.hub_run.specs.Runs.{RunReport, run_report}
 use Rattle.hub_run.specs.declared.setup.Setup.{Setup}
-use Rattle.ports.specs.Counts.{Rose, RoseBy}
-use Rattle.ports.specs.Reading.{Content, IsOverLimit, StoreReport}
+use Rattle.ports.specs.Reading.{Content}
 use Rattle.command_io.specs.sexp_config.declared.config.Config.{Config}
 use Rattle.stream_plan.specs.Ready.{plan_patterns}
 use Rattle.command_io.specs.Building.{AreBuilt, IsRefusedPattern}
-use Rattle.command_io.specs.Configs.{ForConfig, RefusesConfig}
+use Rattle.command_io.specs.Configs.{ForConfig}
 use Rattle.ports.specs.Writing.{SinkReport}
 use Rattle.command_io.specs.Reports.{Reports}
 use Rattle.command_io.specs.declared.ending.ConfigRefusal.TheVariants.{Pattern}
 use Rattle.command_io.specs.declared.ending.Ending.{Ending}
-use Rattle.command_io.specs.declared.ending.Ending.TheVariants.{ConfigRefused, Unread, OverLimit, OutOfMemory}
-use Rattle.command_io.specs.declared.ending.Source.TheVariants.{ConfigFile}
-use Rattle.command_io.specs.declared.limits.TheConstants.{CONFIG_LIMIT}
+use Rattle.command_io.specs.declared.ending.Ending.TheVariants.{ConfigRefused, OutOfMemory}
 
 -- where a server listens
 abbrev pub address_text : List ℕ → ℕ → List ℕ
@@ -29,15 +26,6 @@ setup_of config = record { address = address_text config.host config.port; plan 
 -- the file is a configuration whose patterns were built, and this is what its server is run with
 abbrev pub SetsUp : Content → Setup → Type 0
 SetsUp content setup = ForConfig content (λ config. AreBuilt config.plan × (setup ≡ setup_of config))
-
--- Why a command has no such configuration, from what the store and the builder of patterns report before and after.
-abbrev pub RefusesSetup : Content → StoreReport → StoreReport → PatternsReport → PatternsReport → Ending → Type 0
-RefusesSetup content store store' patterns patterns' (ConfigRefused refusal) = RefusesConfig content patterns patterns' refusal
-RefusesSetup content store store' patterns patterns' (Unread ConfigFile) = Rose store.faults store'.faults × (patterns' ≡ patterns)
-RefusesSetup content store store' patterns patterns' (OverLimit ConfigFile) =
-    IsOverLimit content CONFIG_LIMIT × RoseBy (CONFIG_LIMIT + 1) store.taken store'.taken × (patterns' ≡ patterns)
-RefusesSetup content store store' patterns patterns' OutOfMemory = patterns' ≡ patterns
-RefusesSetup content store store' patterns patterns' _ = ⊥
 
 -- what changes in a run whose notice lines go to this sink
 abbrev pub run_report_of : Reports → SinkReport → RunReport

@@ -3,7 +3,8 @@ ghost use Rattle.command_io.specs.sexp_config.Expiry.{IsInterval};
 ghost use Rattle.stream_plan.specs.Ready.{plan_patterns};
 ghost use Rattle.command_io.specs.Endings.{HasNoConfig, IsReadOnce, ReadsFiles};
 ghost use Rattle.command_io.specs.Files.{ReadMore, good_read};
-ghost use Rattle.command_setup.specs.Setups.{MakesSetup, RefusesSetup, SetsUp, address_text};
+ghost use Rattle.command_io.specs.Accepting.{RefusesSetup};
+ghost use Rattle.command_setup.specs.Setups.{MakesSetup, SetsUp, address_text};
 
 use command_io::sexp_config::Config;
 use command_io::{CONFIG_LIMIT, ConfigRefusal, Ending, build_ready, fetch_config};

@@ -3,7 +3,7 @@ use Rattle.std.proofs.Common.{◌≡◌, ℕ, List, [], ◌∷◌, length, refl,
 use Rattle.file_run.specs.command_io.Reports.{Reports}
 use Rattle.file_run.specs.command_io.declared.ending.Ending.{Ending}
 use Rattle.file_run.specs.command_io.declared.ending.Ending.TheVariants.{Finished, ConfigRefused, Unread, OverLimit, BytesLeft, WriteFailed, LinksFailed, ScriptRefused, OutOfMemory}
-use Rattle.file_run.specs.command_setup.Setups.{run_report_of}
+use Rattle.command_setup.specs.Setups.{run_report_of}
 use Rattle.file_run.specs.Runs.{RunsWhole}
 use Rattle.framing.specs.Frames.{partial}
 use Rattle.file_run.specs.hub_meaning.Runs.{state_after}

@@ -9,8 +9,8 @@ use Rattle.file_run.specs.command_io.declared.ending.Ending.{Ending}
 use Rattle.file_run.specs.command_io.declared.ending.Ending.TheVariants.{Finished, ConfigRefused, Unread, OverLimit, BytesLeft, WriteFailed, LinksFailed, ScriptRefused, OutOfMemory}
 use Rattle.file_run.specs.command_io.declared.limits.TheConstants.{CONFIG_LIMIT, FILE_LIMIT}
 use Rattle.file_run.specs.command_io.declared.status.Status.TheVariants.{ReadFault, SinkFault, LinkFault}
-use Rattle.file_run.proofs.CommandSetupSetupLaws.{refused_for_memory, refused_not_linked, refused_not_written, refused_rose}
-use Rattle.file_run.specs.command_setup.Setups.{SetsUp}
+use Rattle.command_setup.proofs.SetupLaws.{refused_for_memory, refused_not_linked, refused_not_written, refused_rose}
+use Rattle.command_setup.specs.Setups.{SetsUp}
 use Rattle.file_run.proofs.OtherLaws.{file_refused_for_memory, file_refused_since, file_rose}
 use Rattle.file_run.specs.Files.{RefusesFile}
 use Rattle.framing.specs.Frames.{partial}

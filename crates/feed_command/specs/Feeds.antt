@@ -7,7 +7,8 @@ use Rattle.file_run.specs.command_io.declared.ending.Ending.TheVariants.{Finishe
 use Rattle.file_run.specs.command_io.declared.limits.TheConstants.{CONFIG_LIMIT, FILE_LIMIT}
 use Rattle.file_run.specs.command_io.declared.status.Status.{Status}
 use Rattle.file_run.specs.command_io.declared.status.Status.TheVariants.{Done, Memory, Truncated}
-use Rattle.file_run.specs.command_setup.Setups.{RefusesSetup, SetsUp, run_report_of}
+use Rattle.file_run.specs.command_io.Accepting.{RefusesSetup}
+use Rattle.command_setup.specs.Setups.{SetsUp, run_report_of}
 use Rattle.file_run.specs.conn_core.declared.hub.Hub.{Hub}
 use Rattle.file_run.specs.Files.{IsFile, ReadCounts, RefusesFile}
 use Rattle.file_run.specs.Runs.{RunsScript, most_turns}

@@ -10,7 +10,7 @@ ghost use Rattle.ports.specs.Counts.{Rose};
 use crate::serve::serve_bytes;
 use ev_types::Text;
 use file_run::command_io::{Ending, Status, report};
-use file_run::command_setup::fetch_setup;
+use command_setup::fetch_setup;
 use file_run::hub_run::Setup;
 use file_run::read_other;
 use ports::{Sink, Store};

@@ -1,4 +1,3 @@
 pub mod OtherLaws
 pub mod PlayLaws
-pub use Rattle.command_setup.proofs.CommandIoEndingLaws
-pub use Rattle.command_setup.proofs.SetupLaws as CommandSetupSetupLaws
+pub use Rattle.command_io.proofs.EndingLaws as CommandIoEndingLaws

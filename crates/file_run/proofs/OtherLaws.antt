@@ -1,21 +1,20 @@
 -- What a command read of its two files, from what one read after another answered.
 use Rattle.std.proofs.Common.{◌≡◌, ℕ, suc, ◌≤◌, List, [], ◌∷◌, length, map, take, refl, ap, ◌∙◌, arith}
 use Rattle.std.specs.Prelude.{Option}
-use Rattle.command_setup.proofs.CommandIoSinks.{appended_twice}
-use Rattle.command_setup.specs.command_io.Endings.{HasNoConfig, HaveFailed, IsComplete, IsReadOnce, IsRefusal, ReadsFiles, status_of}
-use Rattle.command_setup.specs.command_io.Files.{IsFileFault, LastFailed, ReadMore, bad_read, good_read, read_name, reads_of_fault}
-use Rattle.command_setup.specs.command_io.Fetches.{ending_of_file}
-use Rattle.command_setup.specs.command_io.declared.ending.Ending.{Ending}
-use Rattle.command_setup.specs.command_io.declared.ending.Ending.TheVariants.{Finished, ConfigRefused, Unread, OverLimit, BytesLeft, WriteFailed, LinksFailed, ScriptRefused, OutOfMemory}
-use Rattle.command_setup.specs.command_io.declared.ending.Source.TheVariants.{ConfigFile, OtherFile}
-use Rattle.command_setup.specs.command_io.declared.limits.TheConstants.{FILE_LIMIT}
-use Rattle.command_setup.specs.command_io.declared.read.FileFault.{FileFault}
-use Rattle.command_setup.specs.command_io.declared.read.FileFault.TheVariants as file
-use Rattle.command_setup.specs.command_io.declared.status.Status.TheVariants.{ReadFault}
-use Rattle.command_setup.proofs.CommandIoEndingLaws.{not_over}
-use Rattle.command_setup.specs.Setups.{RefusesSetup, SetsUp}
-use Rattle.command_setup.specs.hub_meaning.Verdicts.{PatternsReport}
-use Rattle.command_setup.specs.hub_run.declared.setup.Setup.{Setup}
+use Rattle.command_io.proofs.Sinks.{appended_twice}
+use Rattle.command_io.specs.Accepting.{IsAccepted, RefusesSetup}
+use Rattle.command_io.specs.Endings.{HasNoConfig, HaveFailed, IsComplete, IsReadOnce, IsRefusal, ReadsFiles, status_of}
+use Rattle.command_io.specs.Files.{IsFileFault, LastFailed, ReadMore, bad_read, good_read, read_name, reads_of_fault}
+use Rattle.command_io.specs.Fetches.{ending_of_file}
+use Rattle.command_io.specs.declared.ending.Ending.{Ending}
+use Rattle.command_io.specs.declared.ending.Ending.TheVariants.{Finished, ConfigRefused, Unread, OverLimit, BytesLeft, WriteFailed, LinksFailed, ScriptRefused, OutOfMemory}
+use Rattle.command_io.specs.declared.ending.Source.TheVariants.{ConfigFile, OtherFile}
+use Rattle.command_io.specs.declared.limits.TheConstants.{FILE_LIMIT}
+use Rattle.command_io.specs.declared.read.FileFault.{FileFault}
+use Rattle.command_io.specs.declared.read.FileFault.TheVariants as file
+use Rattle.command_io.specs.declared.status.Status.TheVariants.{ReadFault}
+use Rattle.command_io.proofs.EndingLaws.{not_over}
+use Rattle.hub_run.specs.hub_meaning.Verdicts.{PatternsReport}
 use Rattle.ports.specs.Counts.{IsStill, Rose}
 use Rattle.ports.specs.Reading.{Content, IsHeld, StoreReport}
 use Rattle.ports.specs.declared.store.StoreRead.{StoreRead}
@@ -148,29 +147,29 @@ failed_after name LinksFailed made failed = (refl, failed)
 failed_after name (ScriptRefused line) made failed = (refl, failed)
 failed_after name OutOfMemory made failed = (refl, failed)
 
-counted_after : (content : Content) (ending : Ending) (count : ℕ) (setup : Setup) → SetsUp content setup → IsOtherCount ending count
+counted_after : (content : Content) (ending : Ending) (count : ℕ) → IsAccepted content → IsOtherCount ending count
     → ReadCounts content ending (suc count)
-counted_after content Finished count setup sets counted = (ap suc counted, λ _. (setup, sets))
-counted_after content (ConfigRefused refusal) count setup sets counted = absurd counted
-counted_after content (Unread ConfigFile) count setup sets counted = absurd counted
-counted_after content (Unread OtherFile) count setup sets counted = (ap suc counted, λ _. (setup, sets))
-counted_after content (OverLimit ConfigFile) count setup sets counted = absurd counted
-counted_after content (OverLimit OtherFile) count setup sets counted = (ap suc counted, λ _. (setup, sets))
-counted_after content (BytesLeft left) count setup sets counted = (ap suc counted, λ _. (setup, sets))
-counted_after content WriteFailed count setup sets counted = (ap suc counted, λ _. (setup, sets))
-counted_after content LinksFailed count setup sets counted = (ap suc counted, λ _. (setup, sets))
-counted_after content (ScriptRefused line) count setup sets counted = (ap suc counted, λ _. (setup, sets))
-counted_after content OutOfMemory count setup sets counted = (tt, λ _. (setup, sets))
+counted_after content Finished count accepted counted = (ap suc counted, λ _. accepted)
+counted_after content (ConfigRefused refusal) count accepted counted = absurd counted
+counted_after content (Unread ConfigFile) count accepted counted = absurd counted
+counted_after content (Unread OtherFile) count accepted counted = (ap suc counted, λ _. accepted)
+counted_after content (OverLimit ConfigFile) count accepted counted = absurd counted
+counted_after content (OverLimit OtherFile) count accepted counted = (ap suc counted, λ _. accepted)
+counted_after content (BytesLeft left) count accepted counted = (ap suc counted, λ _. accepted)
+counted_after content WriteFailed count accepted counted = (ap suc counted, λ _. accepted)
+counted_after content LinksFailed count accepted counted = (ap suc counted, λ _. accepted)
+counted_after content (ScriptRefused line) count accepted counted = (ap suc counted, λ _. accepted)
+counted_after content OutOfMemory count accepted counted = (tt, λ _. accepted)
 
 -- the configuration was accepted, and then the other file was read
-pub both_read : (old mid new : Option (List StoreRead)) (config other : List ℕ) (content : Content) (ending : Ending) (setup : Setup)
-    → ReadMore (good_read config ∷ []) old mid → SetsUp content setup → OtherReads other mid new ending
+pub both_read : (old mid new : Option (List StoreRead)) (config other : List ℕ) (content : Content) (ending : Ending)
+    → ReadMore (good_read config ∷ []) old mid → IsAccepted content → OtherReads other mid new ending
     → ReadsFiles (config ∷ (other ∷ [])) (ReadCounts content ending) old new ending
-both_read old mid new config other content ending setup first sets second = record {
+both_read old mid new config other content ending first accepted second = record {
   made = good_read config ∷ second.made;
   grew = second.grew ∙ (rw first (appended_twice old (good_read config ∷ []) second.made));
   named = ap (λ names. config ∷ names) second.named;
-  counted = counted_after content ending (length second.made) setup sets second.counted;
+  counted = counted_after content ending (length second.made) accepted second.counted;
   failed = failed_after config ending second.made second.failed;
 }
 

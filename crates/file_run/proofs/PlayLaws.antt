@@ -1,10 +1,10 @@
 -- The calls that one run made of links that were not called before.
 use Rattle.std.proofs.Common.{◌≡◌, List, [], refl, sym, subst}
 use Rattle.std.specs.Prelude.{Some, Result}
-use Rattle.command_setup.specs.conn_core.declared.hub.Hub.{Hub}
-use Rattle.command_setup.specs.hub_run.Runs.{AddsRun, RunReport, RunsTo}
-use Rattle.command_setup.specs.hub_run.declared.fault.RunFault.{RunFault}
-use Rattle.command_setup.specs.hub_run.declared.setup.Setup.{Setup}
+use Rattle.hub_run.specs.conn_core.declared.hub.Hub.{Hub}
+use Rattle.hub_run.specs.Runs.{AddsRun, RunReport, RunsTo}
+use Rattle.hub_run.specs.declared.fault.RunFault.{RunFault}
+use Rattle.hub_run.specs.declared.setup.Setup.{Setup}
 use Rattle.ports.specs.Calls.{LinksReport}
 use Rattle.ports.specs.Playing.{IsScriptedRun, Plays}
 use Rattle.ports.specs.ScriptLinks.{ScriptedCalls, script_report}

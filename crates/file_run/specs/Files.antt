@@ -1,13 +1,12 @@
 -- What a command reads: its configuration, and then its other file.
 use Rattle.std.specs.Prelude.{◌≡◌, ℕ, ◌+◌, ◌≤◌, List, [], ◌∷◌, length, Option, Result, Ok, Err}
-use Rattle.command_setup.specs.command_io.Endings.{ReadsFiles, of_source}
-use Rattle.command_setup.specs.command_io.Files.{ForHeld, ReadMore, good_read}
-use Rattle.command_setup.specs.command_io.declared.ending.Ending.{Ending}
-use Rattle.command_setup.specs.command_io.declared.ending.Ending.TheVariants.{Finished, ConfigRefused, Unread, OverLimit, BytesLeft, WriteFailed, OutOfMemory}
-use Rattle.command_setup.specs.command_io.declared.ending.Source.TheVariants.{ConfigFile, OtherFile}
-use Rattle.command_setup.specs.command_io.declared.limits.TheConstants.{FILE_LIMIT}
-use Rattle.command_setup.specs.Setups.{SetsUp}
-use Rattle.command_setup.specs.hub_run.declared.setup.Setup.{Setup}
+use Rattle.command_io.specs.Endings.{ReadsFiles, of_source}
+use Rattle.command_io.specs.Files.{ForHeld, ReadMore, good_read}
+use Rattle.command_io.specs.declared.ending.Ending.{Ending}
+use Rattle.command_io.specs.declared.ending.Ending.TheVariants.{Finished, ConfigRefused, Unread, OverLimit, BytesLeft, WriteFailed, OutOfMemory}
+use Rattle.command_io.specs.declared.ending.Source.TheVariants.{ConfigFile, OtherFile}
+use Rattle.command_io.specs.declared.limits.TheConstants.{FILE_LIMIT}
+use Rattle.command_io.specs.Accepting.{IsAccepted}
 use Rattle.ports.specs.Counts.{Rose, RoseBy}
 use Rattle.ports.specs.Reading.{Content, IsOverLimit, StoreReport}
 use Rattle.ports.specs.declared.store.StoreRead.{StoreRead}
@@ -57,4 +56,4 @@ IsReadCount _ count = count ≡ 2
 
 -- the second one is read only where the configuration was accepted
 abbrev pub ReadCounts : Content → Ending → ℕ → Type 0
-ReadCounts config ending count = IsReadCount ending count × (2 ≤ count → (setup : Setup) × SetsUp config setup)
+ReadCounts config ending count = IsReadCount ending count × (2 ≤ count → IsAccepted config)

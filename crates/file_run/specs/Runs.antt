@@ -1,9 +1,9 @@
 -- Runs of a server over links that play a script.
 use Rattle.std.specs.Prelude.{ℕ, ◌-◌, ◌^◌, List, Result, Ok}
-use Rattle.command_setup.specs.conn_core.declared.hub.Hub.{Hub}
-use Rattle.command_setup.specs.hub_run.Runs.{RunReport, RunsTo}
-use Rattle.command_setup.specs.hub_run.declared.fault.RunFault.{RunFault}
-use Rattle.command_setup.specs.hub_run.declared.setup.Setup.{Setup}
+use Rattle.hub_run.specs.conn_core.declared.hub.Hub.{Hub}
+use Rattle.hub_run.specs.Runs.{RunReport, RunsTo}
+use Rattle.hub_run.specs.declared.fault.RunFault.{RunFault}
+use Rattle.hub_run.specs.declared.setup.Setup.{Setup}
 use Rattle.ports.specs.Playing.{IsScriptedRun}
 use Rattle.ports.specs.declared.entry.Entry.{Entry}
 use Rattle.ports.specs.declared.script.Script.{Script}

@@ -4,7 +4,9 @@
 mod read;
 mod run;
 
-pub use command_setup;
-pub use command_setup::{command_io, conn_core, hub_meaning, hub_run, sexp_config};
+pub use command_io;
+pub use command_io::sexp_config;
+pub use hub_run;
+pub use hub_run::{conn_core, hub_meaning};
 pub use read::read_other;
 pub use run::run_script;

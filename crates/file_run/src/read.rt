@@ -1,8 +1,8 @@
 ghost use Rattle.std.specs.Prelude.{◌≡◌, ◌≤◌, IfErr, IfOk, OnOk};
-ghost use Rattle.command_setup.specs.command_io.Endings.{HasNoConfig};
+ghost use Rattle.command_io.specs.Endings.{HasNoConfig};
 ghost use Rattle.file_run.specs.Files.{IsFile, ReadsOther, RefusesFile};
 
-use command_setup::command_io::{Ending, FILE_LIMIT, Source, read_file};
+use command_io::{Ending, FILE_LIMIT, Source, read_file};
 use ev_types::{Blob, Text};
 use ports::Store;
 use std::alloc::Global;

@@ -1,10 +1,10 @@
 ghost use Rattle.std.specs.Prelude.{◌≡◌, ◌≢◌, ◌≤◌, [], Err, IfErr, OnOk};
 ghost use Rattle.std.specs.Option.{ForSome};
-ghost use Rattle.command_setup.specs.hub_run.Runs.{run_report};
+ghost use Rattle.hub_run.specs.Runs.{run_report};
 ghost use Rattle.ports.specs.Counts.{Rose};
 ghost use Rattle.file_run.specs.Runs.{RunsScript, RunsWhole};
 
-use command_setup::hub_run::{RunFault, Setup, run};
+use hub_run::{RunFault, Setup, run};
 use ports::{ScriptLinks, Sink};
 use pred_eval::Patterns;
 use std::alloc::Global;

@@ -1,6 +1,6 @@
 -- What a run over a load comes to, from what its parts say.
-use Rattle.std.proofs.Common.{◌≡◌, ℕ, zero, suc, ◌+◌, ◌<◌, List, [], ◌∷◌, ◌++◌, length, refl, sym, ap, ◌∙◌, subst, inl, arith}
-use Rattle.std.specs.Prelude.{min, None, Option, Some, Result, Ok, Err}
+use Rattle.std.proofs.Common.{◌≡◌, ℕ, zero, suc, ◌+◌, List, [], ◌++◌, length, refl, ap, ◌∙◌, subst, inl, arith}
+use Rattle.std.specs.Prelude.{min, Some, Ok, Err}
 use Rattle.command_setup.specs.conn_core.Hub.{core_of}
 use Rattle.command_setup.specs.conn_core.Turning.{CountedPuts, puts_after}
 use Rattle.command_setup.specs.conn_core.declared.hub.Hub.{Hub}

@@ -13,7 +13,8 @@ use Rattle.command_setup.specs.command_io.declared.limits.TheConstants.{CONFIG_L
 use Rattle.command_setup.specs.command_io.declared.status.Status.{Status}
 use Rattle.command_setup.specs.command_io.Endings.{HasNoConfig, IsComplete, IsDoneOrMemory, IsReadOnce, ReadsFiles, Says, status_of}
 use Rattle.command_setup.specs.command_io.Reports.{IsIdle, Reports}
-use Rattle.command_setup.specs.Setups.{RefusesSetup, SetsUp}
+use Rattle.command_setup.specs.command_io.Accepting.{RefusesSetup}
+use Rattle.command_setup.specs.Setups.{SetsUp}
 use Rattle.load_command.specs.Summaries.{IsCutOff, IsPlayed, summary_line}
 use Rattle.load_command.specs.declared.summary.Summary.{Summary}
 

@@ -1,5 +1,5 @@
 -- What a load comes to.
-use Rattle.std.specs.Prelude.{◌≡◌, ℕ, List, [], ◌∷◌, ◌++◌, codes, length, min, None, Some, Result, Ok, Err}
+use Rattle.std.specs.Prelude.{◌≡◌, ℕ, List, [], ◌∷◌, ◌++◌, codes, length, min, None, Some, Err}
 use Rattle.std.specs.Fmt.{decimal}
 use Rattle.command_setup.specs.conn_core.declared.hub.Hub.{Hub}
 use Rattle.command_setup.specs.event_core.Core.{CoreConfig, state_by}

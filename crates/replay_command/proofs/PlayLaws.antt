@@ -5,7 +5,7 @@ use Rattle.ports.specs.Writing.{SinkReport}
 use Rattle.file_run.specs.command_io.Reports.{Reports}
 use Rattle.file_run.specs.command_io.declared.ending.Ending.{Ending}
 use Rattle.file_run.specs.command_io.declared.ending.Ending.TheVariants.{Finished, ConfigRefused, Unread, OverLimit, BytesLeft, WriteFailed, LinksFailed, ScriptRefused, OutOfMemory}
-use Rattle.file_run.specs.command_setup.Setups.{run_report_of}
+use Rattle.command_setup.specs.Setups.{run_report_of}
 use Rattle.file_run.specs.Runs.{RunsWhole}
 use Rattle.file_run.specs.hub_run.declared.setup.Setup.{Setup}
 use Rattle.link_lines.specs.LinkLines.{link_lines}

@@ -6,7 +6,8 @@ use Rattle.file_run.specs.command_io.declared.ending.Ending.{Ending}
 use Rattle.file_run.specs.command_io.declared.ending.Ending.TheVariants.{Finished, WriteFailed, OutOfMemory}
 use Rattle.file_run.specs.command_io.declared.limits.TheConstants.{CONFIG_LIMIT, FILE_LIMIT}
 use Rattle.file_run.specs.command_io.declared.status.Status.{Status}
-use Rattle.file_run.specs.command_setup.Setups.{RefusesSetup, SetsUp, run_report_of}
+use Rattle.file_run.specs.command_io.Accepting.{RefusesSetup}
+use Rattle.command_setup.specs.Setups.{SetsUp, run_report_of}
 use Rattle.file_run.specs.Files.{ReadCounts}
 use Rattle.file_run.specs.Runs.{RunsScript, RunsWhole}
 use Rattle.file_run.specs.hub_run.declared.fault.RunFault.{RunFault}

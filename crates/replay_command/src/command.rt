@@ -11,7 +11,7 @@ ghost use Rattle.replay_command.specs.Replays.{ReplayEnds, Replays, ScriptEnds};
 use crate::play::{fetch_script, play};
 use ev_types::Text;
 use file_run::command_io::{Ending, Status, report};
-use file_run::command_setup::fetch_setup;
+use command_setup::fetch_setup;
 use file_run::hub_run::Setup;
 use ports::{Sink, Store};
 use pred_eval::Patterns;

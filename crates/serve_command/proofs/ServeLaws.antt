@@ -18,7 +18,8 @@ use Rattle.command_setup.specs.command_io.Endings.{HasNoConfig, IsComplete, IsDo
 use Rattle.command_setup.specs.command_io.Files.{ReadMore, good_read}
 use Rattle.command_setup.specs.command_io.Reports.{IsIdle, Reports as Reporting}
 use Rattle.command_setup.proofs.CommandIoReadLaws.{read_alone}
-use Rattle.command_setup.specs.Setups.{RefusesSetup, SetsUp}
+use Rattle.command_setup.specs.command_io.Accepting.{RefusesSetup}
+use Rattle.command_setup.specs.Setups.{SetsUp}
 use Rattle.command_setup.proofs.SetupLaws.{refused_for_memory, refused_rose}
 use Rattle.serve_command.specs.Serves.{RanOn, ServeEnds, ending_of_run}
 

@@ -15,7 +15,8 @@ use Rattle.command_setup.specs.command_io.declared.limits.TheConstants.{CONFIG_L
 use Rattle.command_setup.specs.command_io.declared.status.Status.{Status}
 use Rattle.command_setup.specs.command_io.Endings.{HasNoConfig, IsComplete, IsDoneOrMemory, IsReadOnce, ReadsFiles, Says, status_of}
 use Rattle.command_setup.specs.command_io.Reports.{IsIdle, Reports}
-use Rattle.command_setup.specs.Setups.{RefusesSetup, SetsUp, run_report_of}
+use Rattle.command_setup.specs.command_io.Accepting.{RefusesSetup}
+use Rattle.command_setup.specs.Setups.{SetsUp, run_report_of}
 
 -- how it ends after such a run
 abbrev pub ending_of_run : Result Hub RunFault → Ending

@@ -1,3 +1,4 @@
+use Rattle.command_setup.proofs.SetupLaws.{accepted}
 use Rattle.file_run.proofs.OtherLaws.{both_read}
 use Rattle.feed_command.proofs.FeedLaws.{feed_ended}
 use Rattle.feed_command.proofs.command.feed_files.Goals as goal
@@ -15,4 +16,4 @@ returns-in-Ok-clause-ends g c = λ links.
 pub returns-in-Ok-clause-reads : goal.returns-in-Ok-clause-reads
 returns-in-Ok-clause-reads g c =
     both_read (g.S.Store.report c.args.store.now).reads (g.S.Store.report c.fetch_setup.new.store).reads (g.S.Store.report c.feed_file.new.store).reads c.args.config.now c.args.file.now
-    ((g.S.Store.report c.args.store.now).held c.args.config.now) c.feed_file.result c.in-Ok.setup c.in-Ok.ensures.read c.in-Ok.ensures.setup c.feed_file.ensures.reads
+    ((g.S.Store.report c.args.store.now).held c.args.config.now) c.feed_file.result c.in-Ok.ensures.read (accepted _ _ c.in-Ok.ensures.setup) c.feed_file.ensures.reads

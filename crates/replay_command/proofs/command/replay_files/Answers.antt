@@ -1,5 +1,6 @@
 use Rattle.std.proofs.Common.{ap}
 use Rattle.replay_command.proofs.ReplayLaws.{replay_ended}
+use Rattle.command_setup.proofs.SetupLaws.{accepted}
 use Rattle.file_run.proofs.OtherLaws.{both_read}
 use Rattle.replay_command.proofs.command.replay_files.Goals as goal
 
@@ -12,5 +13,5 @@ returns-in-Ok-clause-ends g c = λ links err err'.
 
 pub returns-in-Ok-clause-reads : goal.returns-in-Ok-clause-reads
 returns-in-Ok-clause-reads g c =
-    both_read _ _ _ c.args.config.now c.args.script.now _ c.replay_script.result c.in-Ok.setup c.in-Ok.ensures.read c.in-Ok.ensures.setup
-    c.replay_script.ensures.reads
+    both_read _ _ _ c.args.config.now c.args.script.now _ c.replay_script.result c.in-Ok.ensures.read
+    (accepted _ _ c.in-Ok.ensures.setup) c.replay_script.ensures.reads
