@@ -1,5 +1,5 @@
 -- What is known of open sockets.
-use Rattle.std.specs.Prelude.{◌≡◌, ℕ, nat_eq, Bool, true, false, is_some, Option, Some, None}
+use Rattle.std.specs.Prelude.{◌≡◌, ℕ, nat_eq, Bool, true, is_some, Option, Some, None}
 use Rattle.std.specs.HashMap.{get}
 use Rattle.mio_links.specs.declared.sockets.Sockets.{Sockets}
 

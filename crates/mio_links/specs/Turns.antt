@@ -1,7 +1,7 @@
 -- What the turns of real links say.
 use Rattle.std.specs.Prelude.{◌≡◌, ℕ, ◌+◌, ⊤}
 use Rattle.ports.specs.declared.links.What.{What}
-use Rattle.ports.specs.declared.links.What.TheVariants.{Idle, Opened, Read, Ended, Broken, Room, Stopped, Failed, Memory}
+use Rattle.ports.specs.declared.links.What.TheVariants.{Opened, Read, Ended, Broken, Room, Stopped, Failed, Memory}
 
 -- a turn of a server that goes on
 abbrev pub IsGiven : What → Type 0

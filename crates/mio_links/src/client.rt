@@ -22,6 +22,10 @@ pub(crate) struct Client {
     blocked: bool,
     // There may be room since then.
     roomy: bool,
+    // Urgent data was reported. A read stops where it was, and leaves the bytes after it.
+    urgent: bool,
+    /// The reading of the clock at its last turn.
+    pub heard: u64,
     /// Where it waits for its next turn.
     pub waiting: Waiting,
 }
@@ -38,8 +42,8 @@ pub(crate) enum Waiting {
 }
 
 impl Client {
-    /// A client of which nothing was reported yet.
-    pub(crate) fn fresh(stream: TcpStream) -> Client {
+    /// A client of which nothing was reported yet, and which was accepted at this reading of the clock.
+    pub(crate) fn fresh(stream: TcpStream, secs: u64) -> Client {
         Client {
             stream,
             readable: false,
@@ -47,6 +51,8 @@ impl Client {
             failed: false,
             blocked: false,
             roomy: false,
+            urgent: false,
+            heard: secs,
             waiting: Waiting::Nowhere,
         }
     }
@@ -58,6 +64,9 @@ impl Client {
         }
         if event.is_read_closed() || event.is_error() {
             self.ending = true;
+        }
+        if event.is_priority() {
+            self.urgent = true;
         }
         if event.is_readable() || self.ending {
             self.readable = true;
@@ -117,8 +126,9 @@ impl Client {
                 Some(What::Ended { link })
             }
             Ok(count) => {
-                // A short read has emptied the socket. What comes later is reported anew.
-                self.readable = count == PIECE_LIMIT || self.ending;
+                // A short read has emptied the socket, but for one that stopped at urgent data. What comes later is
+                // reported anew.
+                self.readable = count == PIECE_LIMIT || self.ending || self.urgent;
                 Some(What::Read { link, count })
             }
             Err(error) => match error.kind() {

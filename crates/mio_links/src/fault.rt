@@ -1,3 +1,5 @@
+ghost use Rattle.std.specs.Prelude.{◌≡◌};
+
 use std::alloc::{AllocError, AllocFailed};
 use std::io;
 
@@ -11,12 +13,20 @@ pub(crate) enum LinksFault {
 }
 
 impl From<AllocError> for LinksFault {
+    ghost use Rattle.mio_links.specs.declared.fault.LinksFault.TheVariants.{Memory};
+
+    ghost from_gives = { λ _ fault. fault ≡ Memory };
+
     fn from(_error: AllocError) -> LinksFault {
         LinksFault::Memory
     }
 }
 
 impl<T: Drop> From<AllocFailed<T>> for LinksFault {
+    ghost use Rattle.mio_links.specs.declared.fault.LinksFault.TheVariants.{Memory};
+
+    ghost from_gives = { λ _ fault. fault ≡ Memory };
+
     fn from(_error: AllocFailed<T>) -> LinksFault {
         LinksFault::Memory
     }

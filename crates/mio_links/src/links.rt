@@ -1,4 +1,4 @@
-ghost use Rattle.std.specs.Prelude.{◌≡◌, ◌≢◌, ◌+◌, ◌<◌, ◌≤◌, [], ◌∷◌, length, IfOk, OnErr};
+ghost use Rattle.std.specs.Prelude.{◌≡◌, ◌≢◌, ◌+◌, ◌<◌, ◌≤◌, [], ◌∷◌, length, nat_lt, if◌then◌else◌, IfOk, OnErr};
 ghost use Rattle.ports.specs.Calls.{AddsCalls};
 ghost use Rattle.ports.specs.Links.{HasListenCause, HasNextCause, IsPieceWithin, IsWithin, listen_entries, next_entries, send_entries};
 ghost use Rattle.ports.specs.declared.entry.Entry.TheVariants.{Close};
@@ -6,6 +6,7 @@ ghost use Rattle.mio_links.specs.Turns.{CountsOpened, IsGiven, OfLink, OpensAt};
 ghost use Rattle.mio_links.specs.Sockets.{IsOpenOn};
 
 use crate::fault::LinksFault;
+use crate::readings::Readings;
 use crate::sockets::Sockets;
 use ev_types::{Memory, Text};
 use mio::Events;
@@ -17,12 +18,16 @@ use std::time::{Clock, SystemTime, UNIX_EPOCH};
 // How many sources the system reports at once, at most.
 const EVENTS_AT_ONCE: usize = 256;
 
+// How many milliseconds a turn waits at most.
+const LONGEST_WAIT: u64 = 100;
+
 /// The links to clients over TCP, and the system's clock. They do not report their calls. Links are numbered from 0 in
 /// the order in which they open, and no turn is [`What::Stopped`].
 #[derive(Drop)]
 pub struct MioLinks<'a, R: Net + Clock> {
     rt: &'a R,
     events: Events,
+    readings: Readings,
     /// The sockets of the last call of [`Links::listen`] that succeeded.
     pub sockets: Option<Sockets>,
     /// How many links opened so far.
@@ -40,13 +45,14 @@ impl<'a, R: Net + Clock> MioLinks<'a, R> {
         Ok(MioLinks {
             rt,
             events: Events::with_capacity(alloc, EVENTS_AT_ONCE)?,
+            readings: Readings::first(0),
             sockets: None,
             opened: 0,
             faults: 0,
         })
     }
 
-    /// The next turn but for its time, or why none can be given.
+    /// The next turn but for its time, which is the last reading, or why none can be given.
     fn found(&mut self, wants: &Wants, buf: &mut [u8]) -> Result<What, LinksFault>
         requires { length buf.old ≡ PIECE_LIMIT }
         ensures within { IfOk result (IsPieceWithin PIECE_LIMIT) }
@@ -62,7 +68,9 @@ impl<'a, R: Net + Clock> MioLinks<'a, R> {
         let Some(next_link) = self.opened.checked_add(1) else {
             return Err(LinksFault::Failed);
         };
-        let what = sockets.next(self.opened, wants, buf, &mut self.events)?;
+        sockets.refill(wants, &mut self.events, longest_wait(&self.readings))?;
+        self.readings.take(seconds(self.rt));
+        let what = sockets.next(self.opened, self.readings.last, wants, buf)?;
         self.opened = opened_after(self.opened, next_link, what);
         Ok(what)
     }
@@ -106,8 +114,9 @@ impl<'a, R: Net + Clock> Links for MioLinks<'a, R> {
         match Sockets::open(self.rt, alloc, address) {
             Ok(sockets) => {
                 self.sockets = Some(sockets);
+                self.readings = Readings::first(seconds(self.rt));
                 ListenAnswer::Ready {
-                    secs: seconds(self.rt),
+                    secs: self.readings.last,
                 }
             }
             Err(LinksFault::Failed) => {
@@ -134,7 +143,7 @@ impl<'a, R: Net + Clock> Links for MioLinks<'a, R> {
     {
         let what = self.what(wants, buf);
         Turn {
-            secs: seconds(self.rt),
+            secs: self.readings.last,
             what,
         }
     }
@@ -179,6 +188,18 @@ fn opened_after(opened: u64, next: u64, what: What) -> u64
     match what {
         What::Opened { .. } => next,
         _ => opened,
+    }
+}
+
+/// How many milliseconds the next turn waits for something to happen, at most. A server that is far from the clock is not
+/// kept waiting.
+fn longest_wait(readings: &Readings) -> u64
+    ensures { result ≡ (if nat_lt (readings.now.reached + 3600) readings.now.last then 0 else 100) }
+{
+    if readings.are_ahead() {
+        0
+    } else {
+        LONGEST_WAIT
     }
 }
 

@@ -1,3 +1,5 @@
+ghost use Rattle.std.specs.Prelude.{◌≡◌, IfErr};
+
 use crate::client::{Client, Waiting};
 use crate::fault::LinksFault;
 use ports::Want;
@@ -53,7 +55,9 @@ impl Queue {
     }
 
     /// Adds a source at the end.
-    pub(crate) fn push(&mut self, source: Source) -> Result<(), LinksFault> {
+    pub(crate) fn push(&mut self, source: Source) -> Result<(), LinksFault>
+        ensures { IfErr result (λ fault. fault ≡ LinksFault.Memory) }
+    {
         self.sources.push_back(source)?;
         Ok(())
     }

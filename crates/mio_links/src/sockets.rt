@@ -1,7 +1,11 @@
-ghost use Rattle.std.specs.Prelude.{◌≡◌, length, true, IfOk, IfSome, OnOk};
+ghost use Rattle.std.specs.Prelude.{◌≡◌, ℕ, length, true, Option, Some, IfErr, IfNone, IfOk, IfSome, OnOk};
+ghost use Rattle.std.specs.IoError.{raw_os_error};
+ghost use Rattle.std.specs.Option.{ForSome};
 ghost use Rattle.ports.specs.Links.{IsPieceWithin, IsWithin};
+ghost use Rattle.mio_links.specs.Refusals.{IsOfListener};
 ghost use Rattle.mio_links.specs.Turns.{IsGiven, IsOn, OfLink, OpensAt};
 
+use crate::accept::{Refusal, refusal_of};
 use crate::client::{Client, Waiting};
 use crate::fault::LinksFault;
 use crate::queue::{Queue, Source};
@@ -20,8 +24,18 @@ use std::time::Duration;
 // The token of the listener. That of a link is its number.
 const LISTENER: Token = Token(usize::MAX);
 
-// How many milliseconds a turn waits at most.
-const LONGEST_WAIT: u64 = 100;
+// How many links are served at once.
+const LINKS_AT_ONCE: usize = 256;
+
+// From how many seconds of silence on a link is given up where another client needs its place.
+const LONG_SILENCE: u64 = 600;
+
+/// A link, and the reading of the clock at its last turn.
+#[derive(Clone, Copy, Debug, PartialEq, Eq)]
+pub(crate) struct Heard {
+    pub link: u64,
+    pub secs: u64,
+}
 
 /// A socket that listens, and those of the links that were opened on it and not closed since.
 #[derive(Drop)]
@@ -30,12 +44,17 @@ pub struct Sockets {
     listener: TcpListener,
     // Whether the listener is in the queue.
     listening: bool,
+    // The listener has to be asked again once the system was asked what is ready: something was lacking.
+    lacking: bool,
+    // A connection that was accepted, and waits for another link to be closed.
+    arrived: Option<TcpStream>,
     clients: HashMap<u64, Client>,
     queue: Queue,
 }
 
 impl Sockets {
     ghost use Rattle.mio_links.specs.Sockets.{has_link};
+    ghost use Rattle.mio_links.specs.Silence.{AreNoLonger, GivesUp, IsGivenUp, IsNoLonger, NoneIsGivenUp, heard_of};
 
     /// Listens on the first address of `HOST:PORT` on which it can. A host's name is looked up.
     pub(crate) fn open<R: Net>(
@@ -51,19 +70,35 @@ impl Sockets {
             poll,
             listener,
             listening: false,
+            lacking: false,
+            arrived: None,
             clients: HashMap::new(alloc),
             queue: Queue::fresh(alloc),
         })
     }
 
-    /// Gives the next turn. The system is asked only where each source that it reported before was served. The next
-    /// link that opens gets the number `next_link`.
+    /// Asks the system what is ready, where each source that it reported before was served. It waits for at most `wait`
+    /// milliseconds.
+    pub(crate) fn refill(
+        &mut self,
+        wants: &Wants,
+        events: &mut Events,
+        wait: u64,
+    ) -> Result<(), LinksFault> {
+        if self.queue.left() == 0 {
+            self.ask(wants, events, wait)?;
+        }
+        Ok(())
+    }
+
+    /// Gives the next turn, at the reading `secs` of the clock, by what the system reported. The next link that opens
+    /// gets the number `next_link`.
     pub(crate) fn next(
         &mut self,
         next_link: u64,
+        secs: u64,
         wants: &Wants,
         buf: &mut [u8],
-        events: &mut Events,
     ) -> Result<What, LinksFault>
         requires { length buf.old ≡ PIECE_LIMIT }
         ensures within { IfOk result (IsPieceWithin PIECE_LIMIT) }
@@ -72,14 +107,11 @@ impl Sockets {
             (λ what. OfLink what (λ link. has_link self.new link ≡ true)) }
         ensures opens { IfOk result (OpensAt next_link) }
     {
-        if self.queue.left() == 0 {
-            self.ask(wants, events)?;
-        }
         for _ in 0..self.queue.left() {
             let Some(source) = self.queue.take() else {
                 break;
             };
-            if let Some(what) = self.serve(source, next_link, wants, buf)? {
+            if let Some(what) = self.serve(source, next_link, secs, wants, buf)? {
                 return Ok(what);
             }
         }
@@ -87,16 +119,16 @@ impl Sockets {
     }
 
     /// Asks the system what is ready, and begins a round with it.
-    fn ask(&mut self, wants: &Wants, events: &mut Events) -> Result<(), LinksFault> {
+    fn ask(&mut self, wants: &Wants, events: &mut Events, wait: u64) -> Result<(), LinksFault> {
         self.release(wants)?;
-        let wait = if self.queue.is_empty() {
-            LONGEST_WAIT
-        } else {
-            0
-        };
+        let wait = if self.queue.is_empty() { wait } else { 0 };
         self.poll.poll(events, Some(Duration::from_millis(wait)))?;
         for event in &*events {
             self.note(event)?;
+        }
+        if self.lacking {
+            self.lacking = false;
+            self.queue_listener()?;
         }
         self.queue.begin_round();
         Ok(())
@@ -133,7 +165,9 @@ impl Sockets {
         Ok(())
     }
 
-    fn queue_listener(&mut self) -> Result<(), LinksFault> {
+    fn queue_listener(&mut self) -> Result<(), LinksFault>
+        ensures { IfErr result (λ fault. fault ≡ LinksFault.Memory) }
+    {
         if !self.listening {
             self.listening = true;
             self.queue.push(Source::Listener)?;
@@ -147,6 +181,7 @@ impl Sockets {
         &mut self,
         source: Source,
         next_link: u64,
+        secs: u64,
         wants: &Wants,
         buf: &mut [u8],
     ) -> Result<Option<What>, LinksFault>
@@ -159,11 +194,11 @@ impl Sockets {
     {
         match source {
             Source::Listener => {
-                let found = self.accept(next_link)?;
+                let found = self.accept(next_link, secs, wants)?;
                 Ok(found)
             }
             Source::Link(link) => {
-                let found = self.serve_link(link, wants, buf)?;
+                let found = self.serve_link(link, secs, wants, buf)?;
                 Ok(found)
             }
         }
@@ -174,6 +209,7 @@ impl Sockets {
     fn serve_link(
         &mut self,
         link: u64,
+        secs: u64,
         wants: &Wants,
         buf: &mut [u8],
     ) -> Result<Option<What>, LinksFault>
@@ -189,49 +225,140 @@ impl Sockets {
         };
         let want = want_of(wants, link);
         let what = client.turn(link, &want, buf);
+        if what.is_some() {
+            client.heard = secs;
+        }
         self.queue.enter(client, &want)?;
         Ok(what)
     }
 
-    /// The same of the listener. A connection that was given up before it was accepted does not count.
-    fn accept(&mut self, next_link: u64) -> Result<Option<What>, LinksFault>
+    /// The same of the listener. Where as many links are connected as are served at once, one that was silent for long
+    /// has to go first.
+    fn accept(
+        &mut self,
+        next_link: u64,
+        secs: u64,
+        wants: &Wants,
+    ) -> Result<Option<What>, LinksFault>
         ensures within { IfOk result (λ found. IfSome found (IsPieceWithin PIECE_LIMIT)) }
         ensures given { IfOk result (λ found. IfSome found IsGiven) }
         ensures link { IfOk result (λ found. IfSome found (λ what.
             OfLink what (λ link. has_link self.new link ≡ true))) }
         ensures opens { IfOk result (λ found. IfSome found (OpensAt next_link)) }
+        ensures gives_up { IfOk result (λ found. IfSome found (GivesUp self.new wants.now secs)) }
     {
         self.listening = false;
+        let Some(stream) = self.arrival()? else {
+            return Ok(None);
+        };
+        self.queue_listener()?;
+        if let Some(silent) = self.given_up(secs, wants) {
+            self.arrived = Some(stream);
+            return Ok(Some(What::Broken { link: silent.link }));
+        }
+        if self.welcome(stream, next_link, secs)? {
+            return Ok(Some(What::Opened { link: next_link }));
+        }
+        Ok(None)
+    }
+
+    /// The connection that was accepted before, or the next one that the system gives.
+    fn arrival(&mut self) -> Result<Option<TcpStream>, LinksFault> {
+        if let Some(stream) = self.arrived.take() {
+            return Ok(Some(stream));
+        }
         match self.listener.accept() {
-            Ok((stream, _)) => {
-                self.queue_listener()?;
-                self.welcome(stream, next_link)?;
-                Ok(Some(What::Opened { link: next_link }))
+            Ok((stream, _)) => Ok(Some(stream)),
+            Err(error) => {
+                self.note_refusal(&error)?;
+                Ok(None)
             }
-            Err(error) => match error.kind() {
-                ErrorKind::WouldBlock => Ok(None),
-                ErrorKind::ConnectionAborted | ErrorKind::Interrupted => {
-                    self.queue_listener()?;
-                    Ok(None)
-                }
-                _ => Err(LinksFault::Failed),
-            },
         }
     }
 
-    /// Takes in a connection as the link of this number.
-    fn welcome(&mut self, mut stream: TcpStream, link: u64) -> Result<(), LinksFault>
-        ensures { OnOk result (has_link self.new link ≡ true) }
+    /// Keeps when the listener has to be asked again. An error without a number of the system is of one connection.
+    fn note_refusal(&mut self, error: &io::Error) -> Result<(), LinksFault>
+        ensures failed { IfErr result (λ fault. fault ≡ LinksFault.Failed →
+            IsOfListener (raw_os_error error.now)) }
+        ensures goes_on { OnOk result (¬ IsOfListener (raw_os_error error.now)) }
+    {
+        let Some(code) = error.raw_os_error() else {
+            return self.queue_listener();
+        };
+        match refusal_of(code.unsigned_abs()) {
+            Refusal::NoneWaits => Ok(()),
+            Refusal::OneConnection => self.queue_listener(),
+            Refusal::Lack => {
+                self.lacking = true;
+                Ok(())
+            }
+            Refusal::Listener => Err(LinksFault::Failed),
+        }
+    }
+
+    /// The link that has to go so that another client is served: the one that was silent longest, if it was silent for
+    /// long and all places are taken.
+    fn given_up(&self, secs: u64, wants: &Wants) -> Option<Heard>
+        ensures some { IfSome result (IsGivenUp self.now wants.now secs) }
+        ensures none { IfNone result (NoneIsGivenUp self.now wants.now secs) }
+    {
+        if wants.len() < LINKS_AT_ONCE {
+            return None;
+        }
+        let silent = self.longest_silent(wants.as_slice())?;
+        if secs.saturating_sub(silent.secs) < LONG_SILENCE {
+            return None;
+        }
+        Some(silent)
+    }
+
+    /// The link of these that is open and was silent longest.
+    fn longest_silent(&self, wants: &[Want]) -> Option<Heard>
+        ensures heard { IfSome result (λ heard. heard_of self.now heard.link ≡ Some heard.secs) }
+        ensures longest { AreNoLonger self.now wants.now result }
+    {
+        let mut found = None;
+        for want in wants {
+            found = self.longer_silent(found, want.link);
+        }
+        found
+    }
+
+    /// The link, if it is open and was silent longer than the one that was found, and else that one.
+    fn longer_silent(&self, found: Option<Heard>, link: u64) -> Option<Heard>
+        requires { ForSome found (λ heard. heard_of self.now heard.link ≡ Some heard.secs) }
+        ensures heard { IfSome result (λ heard. heard_of self.now heard.link ≡ Some heard.secs) }
+        ensures no_longer { IsNoLonger result (heard_of self.now link) }
+        ensures others { (secs : Option ℕ) → IsNoLonger found secs → IsNoLonger result secs }
+    {
+        let Some(client) = self.clients.get(&link) else {
+            return found;
+        };
+        match found {
+            Some(found) if found.secs <= client.heard => Some(found),
+            _ => Some(Heard {
+                link,
+                secs: client.heard,
+            }),
+        }
+    }
+
+    /// Takes in a connection as the link of this number. A socket that the system can't watch is closed.
+    fn welcome(&mut self, mut stream: TcpStream, link: u64, secs: u64) -> Result<bool, LinksFault>
+        ensures { IfOk result (λ is_in. is_in ≡ true → has_link self.new link ≡ true) }
     {
         // Replies are short, and do not wait for one another. A connection that is over already refuses this.
         let _ = stream.set_nodelay(true);
-        self.poll.registry().register(
+        let registered = self.poll.registry().register(
             &mut stream,
             Token(link as usize),
-            Interest::READABLE | Interest::WRITABLE,
-        )?;
-        self.clients.insert(link, Client::fresh(stream))?;
-        Ok(())
+            Interest::READABLE | Interest::WRITABLE | Interest::PRIORITY,
+        );
+        if registered.is_err() {
+            return Ok(false);
+        }
+        self.clients.insert(link, Client::fresh(stream, secs))?;
+        Ok(true)
     }
 
     /// Offers the bytes to the link. A link that is not open takes none.
