@@ -108,7 +108,7 @@ one_more first (r ∷ entries) run gate entry text (more, begins, others) is_ope
   one_more false entries more gate entry text others is_open (subst (λ (b : Bool). Spells b entry text) (sym (next_false entries)) spells),
 )
 
-not_empty : (entries : List TurnRecord) (entry : TurnRecord) → is_empty (entries ++ entry ∷ []) ≡ false
+pub not_empty : (entries : List TurnRecord) (entry : TurnRecord) → is_empty (entries ++ entry ∷ []) ≡ false
 not_empty [] entry = refl
 not_empty (r ∷ entries) entry = refl
 

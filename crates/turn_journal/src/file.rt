@@ -1,0 +1,111 @@
+ghost use Rattle.std.specs.Prelude.{◌≡◌, ◌+◌, ◌<◌, ◌∷◌, ◌++◌, [], true, length, IfOk, OnOk};
+ghost use Rattle.std.specs.Option.{ForSome};
+ghost use Rattle.disk_port.specs.Calls.{HasCause};
+ghost use Rattle.journal_format.specs.Limits.{journal_limit};
+ghost use Rattle.turn_journal.specs.Loading.{IsLoaded};
+ghost use Rattle.turn_journal.specs.Standing.{Adds, IsNext, IsReady, LeavesOneOrBoth, StandsWith};
+
+use crate::append::append_on;
+use crate::fault::JournalFault;
+use crate::load::load_on;
+use disk_port::{Disk, DiskError};
+use ev_types::{Blob, Memory};
+use std::alloc::Global;
+
+/// A journal on a disk that is lent. Contracts see the disk, the place of the closed gate and whether a record is before
+/// it.
+#[derive(Drop)]
+pub struct JournalFile<'a, D: Disk> {
+    pub disk: &'a mut D,
+    /// The place of the closed gate, to which the next record goes.
+    pub gate: u64,
+    pub has_record: bool,
+    // The record that is written, and a closed gate.
+    bytes: Vec<u8>,
+}
+
+impl<'a, D: Disk> JournalFile<'a, D> {
+    /// The journal whose closed gate is at that place of the disk's file.
+    pub fn over(alloc: Global, disk: &'a mut D, gate: u64, has_record: bool) -> JournalFile<'a, D>
+        ensures disk { result.disk.now ≡ disk.entry.now }
+        ensures same { result.disk.ghost_name ≡ disk.entry.ghost_name }
+        ensures gate { result.gate ≡ gate }
+        ensures has_record { result.has_record ≡ has_record }
+    {
+        JournalFile {
+            disk,
+            gate,
+            has_record,
+            bytes: Vec::new(alloc),
+        }
+    }
+
+    /// Syncs, and finds the journal in the disk's file. It gives its bytes too, and writes nothing. What is known after an
+    /// error [`load_on`] says.
+    pub fn load(alloc: Global, disk: &'a mut D) -> Result<(JournalFile<'a, D>, Blob), JournalFault>
+        ensures ok { IfOk result (λ loaded. ForSome (D.report disk.entry.now).past (λ past.
+            IsLoaded past (record { gate = loaded.0.gate; has_record = loaded.0.has_record })
+            loaded.1)) }
+        ensures ready { IfOk result (λ loaded. IsReady (D.report loaded.0.disk.now).past
+            loaded.0.gate loaded.0.has_record) }
+        ensures same { IfOk result (λ loaded.
+            loaded.0.disk.ghost_name ≡ disk.entry.ghost_name) }
+    {
+        match load_on(alloc, disk) {
+            Ok((found, bytes)) => {
+                let file = JournalFile::over(alloc, disk, found.gate, found.has_record);
+                Ok((file, bytes))
+            }
+            Err(fault) => Err(fault),
+        }
+    }
+
+    /// Adds the record that the bytes spell. It is the first one of a journal exactly where it is that of a `listen`.
+    /// After an error this value is not used again, and a crash leaves the journal of before, or that journal with the
+    /// record.
+    pub fn append(&mut self, alloc: Global, bytes: &[u8]) -> Result<(), DiskError>
+        requires next { IsNext self.old.has_record bytes.now }
+        requires room { self.old.gate + length bytes.now + 1 < journal_limit }
+        requires ready { IsReady (D.report self.old.disk.now).past self.old.gate
+            self.old.has_record }
+        // Once it has answered Ok, every crash leaves the journal with the record.
+        ensures ok { OnOk result ((adds : Adds (D.report self.old.disk.now).past self.old.gate
+            self.old.has_record bytes.now) →
+            StandsWith adds (D.report self.new.disk.now).past self.new.gate self.new.has_record) }
+        ensures ready { OnOk result (IsReady (D.report self.new.disk.now).past self.new.gate
+            self.new.has_record) }
+        // A crash at any moment leaves the journal of before, or that journal with the record whole.
+        ensures any_moment { (adds : Adds (D.report self.old.disk.now).past self.old.gate
+            self.old.has_record bytes.now) →
+            LeavesOneOrBoth adds (D.report self.new.disk.now).past }
+        ensures place { OnOk result (self.new.gate ≡ self.old.gate + length bytes.now + 1) }
+        ensures has_record { OnOk result (self.new.has_record ≡ true) }
+        ensures opened { (D.report self.new.disk.now).opened
+            ≡ (D.report self.old.disk.now).opened }
+        ensures cause { HasCause (D.report self.old.disk.now).faults
+            (D.report self.new.disk.now).faults result }
+        ensures same { self.new.disk.ghost_name ≡ self.old.disk.ghost_name }
+    {
+        if self.fill(bytes).is_err() {
+            return Err(DiskError::Memory);
+        }
+        append_on(alloc, self.disk, self.gate, self.bytes.as_slice())?;
+        self.gate += self.bytes.len() as u64;
+        self.has_record = true;
+        Ok(())
+    }
+
+    /// Makes the record and a closed gate ready to be written.
+    fn fill(&mut self, bytes: &[u8]) -> Result<(), Memory>
+        ensures bytes { OnOk result (self.new.bytes.items ≡ bytes.now ++ 0 ∷ []) }
+        ensures disk { self.new.disk.now ≡ self.old.disk.now }
+        ensures same { self.new.disk.ghost_name ≡ self.old.disk.ghost_name }
+        ensures gate { self.new.gate ≡ self.old.gate }
+        ensures has_record { self.new.has_record ≡ self.old.has_record }
+    {
+        self.bytes.clear();
+        self.bytes.extend_from_slice(bytes)?;
+        self.bytes.push(0)?;
+        Ok(())
+    }
+}
