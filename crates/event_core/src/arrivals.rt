@@ -94,6 +94,8 @@ impl Core {
         ensures entries { (arrivals : List Arrival) → Represents self.old arrivals
             → VisitedFor (config_of self.old) arrivals (replicate (to - now_of self.old) Elapsed)
             steps.old.entries steps.new.entries }
+        ensures began { (arrivals : List Arrival) → Represents self.old arrivals
+            → steps.new.began ≡ steps.old.began }
         ensures poisoned { IsTrue (is_poisoned self.old) → IsErr result }
         ensures sound { OnOk result (is_poisoned self.new ≡ false) }
         ensures err { OnErr result (IsTrue (is_poisoned self.new)) }
@@ -128,6 +130,8 @@ impl Core {
         ensures entries { (arrivals : List Arrival) → Represents self.old arrivals
             → VisitedFor (config_of self.old) arrivals (Post event ∷ [])
             steps.old.entries steps.new.entries }
+        ensures began { (arrivals : List Arrival) → Represents self.old arrivals
+            → steps.new.began ≡ steps.old.began }
         ensures poisoned { IsTrue (is_poisoned self.old) → IsErr result }
         ensures sound { OnOk result (is_poisoned self.new ≡ false) }
         ensures err { OnErr result (IsTrue (is_poisoned self.new)) }
@@ -156,6 +160,8 @@ impl Core {
         ensures entries { (arrivals : List Arrival) → Represents self.old arrivals
             → VisitedFor (config_of self.old) arrivals (Post event.old ∷ [])
             steps.old.entries steps.new.entries }
+        ensures began { (arrivals : List Arrival) → Represents self.old arrivals
+            → steps.new.began ≡ steps.old.began }
         ensures poisoned { IsTrue (is_poisoned self.old) → IsErr result }
         ensures sound { OnOk result (is_poisoned self.new ≡ false) }
         ensures err { OnErr result (IsTrue (is_poisoned self.new)) }
@@ -188,6 +194,7 @@ impl Core {
             → out.new ≡ out.old ++ matching_events pred.old
             (state_by (config_of self.old) arrivals).log) }
         ensures forks { steps.new.forks ≡ steps.old.forks }
+        ensures began { steps.new.began ≡ steps.old.began }
         ensures entries { (arrivals : List Arrival) → Represents self.old arrivals
             → steps.new.entries ≤ steps.old.entries + length (visited pred.old
             (live_events (state_by (config_of self.old) arrivals).log)) }

@@ -71,6 +71,8 @@ impl IndexedStreams {
             → Visited (plan_of self.old) state
             (entered (plan_of self.old) (In (One event.old)) state)
             steps.old.entries steps.new.entries }
+        ensures began { (state : CoreState) → Holds self.old state →
+            moment_of state.history ≡ now → steps.new.began ≡ steps.old.began }
         ensures prefix { IsPrefix out.old out.new }
     {
         let is_write_due = self
@@ -102,6 +104,8 @@ impl IndexedStreams {
             moment_of state.history + 1 ≡ now
             → Visited (plan_of self.old) state (entered (plan_of self.old) Tick state)
             steps.old.entries steps.new.entries }
+        ensures began { (state : CoreState) → Holds self.old state →
+            moment_of state.history + 1 ≡ now → steps.new.began ≡ steps.old.began }
         ensures prefix { IsPrefix out.old out.new }
     {
         self.tree.tick(alloc, now, &mut self.outputs, steps)?;
@@ -133,6 +137,8 @@ impl IndexedStreams {
             (streamed (plan_of self.old) (map (λ event. expired_copy keep.now event now) expired)
             state)
             steps.old.entries steps.new.entries }
+        ensures began { (state : CoreState) → Holds self.old state →
+            moment_of state.history ≡ now → steps.new.began ≡ steps.old.began }
         ensures prefix { IsPrefix out.old out.new }
     {
         for event in expired.into_vec() {
@@ -162,6 +168,8 @@ impl IndexedStreams {
             moment_of state.history ≡ now
             → Visited (plan_of self.old) state (fed_back (plan_of self.old) keep.now state)
             steps.old.entries steps.new.entries }
+        ensures began { (state : CoreState) → Holds self.old state →
+            moment_of state.history ≡ now → steps.new.began ≡ steps.old.began }
         ensures prefix { IsPrefix out.old out.new }
     {
         let mut expired = Events::fresh(alloc);
@@ -192,6 +200,8 @@ impl IndexedStreams {
             → begun state.history ≡ clock.now.start
             → Visited (plan_of self.old) state (swept (plan_of self.old) clock.now.expiry state)
             steps.old.entries steps.new.entries }
+        ensures began { (state : CoreState) → Holds self.old state →
+            moment_of state.history ≡ now → steps.new.began ≡ steps.old.began }
         ensures prefix { IsPrefix out.old out.new }
     {
         let Some(expiry) = &clock.expiry else {
@@ -227,6 +237,8 @@ impl IndexedStreams {
             → Visited (plan_of self.old) state
             (arrived (plan_of self.old) clock.now.expiry Elapsed state)
             steps.old.entries steps.new.entries }
+        ensures began { (state : CoreState) → Holds self.old state →
+            moment_of state.history + 1 ≡ now → steps.new.began ≡ steps.old.began }
         ensures prefix { IsPrefix out.old out.new }
     {
         self.tick(alloc, now, out, steps)?;
@@ -260,6 +272,10 @@ impl IndexedStreams {
             (state_from (plan_of self.old) clock.now.expiry
             (replicate (to - clock.now.moment) Elapsed) state)
             steps.old.entries steps.new.entries }
+        ensures began { (state : CoreState) → Holds self.old state →
+            moment_of state.history ≡ clock.now.moment
+            → begun state.history ≡ clock.now.start
+            → steps.new.began ≡ steps.old.began }
         ensures prefix { IsPrefix out.old out.new }
     {
         for now in clock.moment..to {
@@ -282,6 +298,7 @@ impl IndexedStreams {
             → out.new ≡ out.old ++ matching_events pred.old state.log) }
         ensures prefix { OnErr result (IsPrefix out.old out.new) }
         ensures forks { steps.new.forks ≡ steps.old.forks }
+        ensures began { steps.new.began ≡ steps.old.began }
         ensures visited { (state : CoreState) → Holds self.old state →
             steps.new.entries ≤ steps.old.entries
             + length (visited pred.old (live_events state.log)) }

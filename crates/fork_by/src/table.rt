@@ -1,7 +1,6 @@
 ghost use Rattle.std.specs.Prelude.{◌≡◌, ◌+◌, ◌<◌, ◌≤◌, ◌++◌, [], ◌∷◌, length, None, slice_index_or, IfOk, IfSome, OnOk, OnErr, IsOk};
 ghost use Rattle.std.specs.Borrow.{sem};
 ghost use Rattle.list_laws.specs.Prefix.{IsPrefix};
-ghost use Rattle.step_count.specs.Count.{one_more, more_by};
 ghost use Rattle.tick_schedule.specs.Queue.{Sets, due_ids, due_later, IsNext};
 ghost use Rattle.fork_by.specs.Table.{fork_keys, fork_list, fork_dues, key_number, IsTable, SameForks, LendsFork};
 
@@ -82,8 +81,7 @@ impl<F: Drop> ForkTable<F> {
         ensures value { result.now ≡ slice_index_or (fork_list self.old) number result.now }
         ensures forks { steps.new.forks ≡ steps.old.forks + 1 }
         ensures entries { steps.new.entries ≡ steps.old.entries }
-        ensures forks_reported { G.forks steps.new.ledger ≡ one_more (G.forks steps.old.ledger) }
-        ensures entries_reported { G.entries steps.new.ledger ≡ G.entries steps.old.ledger }
+        ensures began { steps.new.began ≡ steps.old.began }
     {
         steps.enter_fork();
         &mut self.forks[number]
@@ -118,8 +116,6 @@ impl<F: Drop> ForkTable<F> {
         ensures later { OnOk result (fork_dues self.new ≡ due_later now (fork_dues self.old)) }
         ensures entries { OnOk result (steps.new.entries
             ≡ steps.old.entries + length (due_ids now (fork_dues self.old))) }
-        ensures entries_reported { OnOk result (G.entries steps.new.ledger
-            ≡ more_by (length (due_ids now (fork_dues self.old))) (G.entries steps.old.ledger)) }
 
         // Where nothing is due it takes no memory.
         ensures quiet { due_ids now (fork_dues self.old) ≡ [] → IsOk result }
@@ -129,7 +125,7 @@ impl<F: Drop> ForkTable<F> {
             (due_ids now (fork_dues self.old)) }
         ensures at_least { steps.old.entries ≤ steps.new.entries }
         ensures forks { steps.new.forks ≡ steps.old.forks }
-        ensures forks_reported { G.forks steps.new.ledger ≡ G.forks steps.old.ledger }
+        ensures began { steps.new.began ≡ steps.old.began }
         ensures same { SameForks self.old self.new }
         ensures table { IsTable self.old → IsTable self.new }
     {

@@ -1,6 +1,5 @@
 ghost use Rattle.std.specs.Prelude.{◌≡◌, ◌+◌, ◌<◌, ◌≤◌, [], ◌↔◌, IsTrue, IsOk, Some, None, IfOk, OnErr, OnOk};
 ghost use Rattle.std.specs.Borrow.{sem};
-ghost use Rattle.step_count.specs.Count.{one_more};
 ghost use Rattle.linked_slots.specs.Table.{value_at, count_of, IsLive, Changes};
 
 use list_laws::Memory;
@@ -72,9 +71,7 @@ impl<T: Drop> StepTable<T> {
         ensures value { value_at self.now.values number ≡ Some result.now }
         ensures forks { steps.new.forks ≡ steps.old.forks }
         ensures entries { steps.new.entries ≡ steps.old.entries + 1 }
-        ensures forks_reported { G.forks steps.new.ledger ≡ G.forks steps.old.ledger }
-        ensures entries_reported { G.entries steps.new.ledger
-            ≡ one_more (G.entries steps.old.ledger) }
+        ensures began { steps.new.began ≡ steps.old.began }
     {
         steps.visit_entry();
         &self.values[number]
@@ -87,9 +84,7 @@ impl<T: Drop> StepTable<T> {
         ensures value { value_at self.old.values number ≡ Some result.now }
         ensures forks { steps.new.forks ≡ steps.old.forks }
         ensures entries { steps.new.entries ≡ steps.old.entries + 1 }
-        ensures forks_reported { G.forks steps.new.ledger ≡ G.forks steps.old.ledger }
-        ensures entries_reported { G.entries steps.new.ledger
-            ≡ one_more (G.entries steps.old.ledger) }
+        ensures began { steps.new.began ≡ steps.old.began }
     {
         steps.visit_entry();
         &mut self.values[number]

@@ -3,7 +3,6 @@ ghost use Rattle.list_laws.specs.Prefix.{IsPrefix};
 ghost use Rattle.ev_types.specs.declared.event.Event.{Event as StoredEvent};
 ghost use Rattle.ev_types.specs.Expiry.{is_expired};
 ghost use Rattle.index_log.specs.Live.{IndexLog, Reap, Write};
-ghost use Rattle.step_count.specs.Count.{more_by, one_more};
 ghost use Rattle.std.specs.Borrow.{sem};
 ghost use Rattle.live_index.specs.Index.{Represents, event_at, visited};
 ghost use Rattle.pred_eval.specs.Truth.{holds};
@@ -105,9 +104,7 @@ impl LiveIndex {
         ensures forks { steps.new.forks ≡ steps.old.forks }
         ensures entries { steps.new.entries ≤ steps.old.entries
             + 2 * length (filter (is_expired now) self.old.events) }
-        ensures forks_reported { G.forks steps.new.ledger ≡ G.forks steps.old.ledger }
-        ensures entries_reported { OnOk result (G.entries steps.new.ledger
-            ≡ more_by (steps.new.entries - steps.old.entries) (G.entries steps.old.ledger)) }
+        ensures began { steps.new.began ≡ steps.old.began }
     {
         if self.poisoned {
             return Err(Memory);
@@ -138,9 +135,7 @@ impl LiveIndex {
             + length (visited pred.old self.old.events)) }
         ensures entries { steps.new.entries ≤ steps.old.entries
             + length (visited pred.old self.old.events) }
-        ensures forks_reported { G.forks steps.new.ledger ≡ G.forks steps.old.ledger }
-        ensures entries_reported { OnOk result (G.entries steps.new.ledger
-            ≡ more_by (length (visited pred.old self.old.events)) (G.entries steps.old.ledger)) }
+        ensures began { steps.new.began ≡ steps.old.began }
     {
         if self.poisoned {
             return Err(Memory);
@@ -164,11 +159,7 @@ impl LiveIndex {
         ensures found { IsSome result → steps.new.entries ≡ steps.old.entries + 1 }
         ensures absent { IsNone result → steps.new.entries ≡ steps.old.entries }
         ensures entries { steps.new.entries ≤ steps.old.entries + 1 }
-        ensures forks_reported { G.forks steps.new.ledger ≡ G.forks steps.old.ledger }
-        ensures found_reported { IsSome result →
-            G.entries steps.new.ledger ≡ one_more (G.entries steps.old.ledger) }
-        ensures absent_reported { IsNone result →
-            G.entries steps.new.ledger ≡ G.entries steps.old.ledger }
+        ensures began { steps.new.began ≡ steps.old.began }
     {
         if self.poisoned {
             return None;

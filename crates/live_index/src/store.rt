@@ -5,7 +5,6 @@ ghost use Rattle.ev_types.specs.Expiry.{is_expired, is_late, is_over};
 ghost use Rattle.ev_types.specs.declared.event.Event.{Event as StoredEvent};
 ghost use Rattle.key_map.specs.Keys.{number_at, Numbers};
 ghost use Rattle.linked_slots.specs.Table.{value_at};
-ghost use Rattle.step_count.specs.Count.{more_by, one_more};
 ghost use Rattle.tick_schedule.specs.Queue.{due_ids, IsRising, Sets};
 ghost use Rattle.pred_eval.specs.Host.{asked_host, NeedsHost};
 ghost use Rattle.pred_eval.specs.Truth.{holds};
@@ -212,11 +211,7 @@ impl Store {
         ensures found { IsSome result → steps.new.entries ≡ steps.old.entries + 1 }
         ensures absent { IsNone result → steps.new.entries ≡ steps.old.entries }
         ensures entries { steps.new.entries ≤ steps.old.entries + 1 }
-        ensures forks_reported { G.forks steps.new.ledger ≡ G.forks steps.old.ledger }
-        ensures found_reported { IsSome result →
-            G.entries steps.new.ledger ≡ one_more (G.entries steps.old.ledger) }
-        ensures absent_reported { IsNone result →
-            G.entries steps.new.ledger ≡ G.entries steps.old.ledger }
+        ensures began { steps.new.began ≡ steps.old.began }
     {
         let number = self.numbers.get(host, service)?;
         Some(self.events.read(number, steps))
@@ -252,9 +247,7 @@ impl Store {
         ensures forks { steps.new.forks ≡ steps.old.forks }
         ensures entries { steps.new.entries ≤ steps.old.entries
             + length (filter (is_expired now) (events_in self.old.numbers self.old.events.values)) }
-        ensures forks_reported { G.forks steps.new.ledger ≡ G.forks steps.old.ledger }
-        ensures entries_reported { OnOk result (G.entries steps.new.ledger
-            ≡ more_by (steps.new.entries - steps.old.entries) (G.entries steps.old.ledger)) }
+        ensures began { steps.new.began ≡ steps.old.began }
     {
         let mut numbers = Ids::fresh(alloc);
         self.due.take_due(alloc, now, &mut numbers, steps)?;
@@ -282,10 +275,7 @@ impl Store {
             + length (visited pred.old (events_in self.now.numbers self.now.events.values))) }
         ensures entries { steps.new.entries ≤ steps.old.entries
             + length (visited pred.old (events_in self.now.numbers self.now.events.values)) }
-        ensures forks_reported { G.forks steps.new.ledger ≡ G.forks steps.old.ledger }
-        ensures entries_reported { OnOk result (G.entries steps.new.ledger
-            ≡ more_by (length (visited pred.old (events_in self.now.numbers self.now.events.values)))
-            (G.entries steps.old.ledger)) }
+        ensures began { steps.new.began ≡ steps.old.began }
     {
         let numbers = self.numbers_for(alloc, pred)?;
         copy_at(alloc, &self.events, numbers.as_slice(), pred, out, steps)?;
@@ -396,9 +386,7 @@ fn copy_at<G: Ledger>(
     ensures forks { steps.new.forks ≡ steps.old.forks }
     ensures counted { OnOk result (steps.new.entries ≡ steps.old.entries + length numbers.now) }
     ensures entries { steps.new.entries ≤ steps.old.entries + length numbers.now }
-    ensures forks_reported { G.forks steps.new.ledger ≡ G.forks steps.old.ledger }
-    ensures entries_reported { OnOk result (G.entries steps.new.ledger
-        ≡ more_by (length numbers.now) (G.entries steps.old.ledger)) }
+    ensures began { steps.new.began ≡ steps.old.began }
 {
     for number in numbers {
         let event = events.read(*number, steps);

@@ -26,3 +26,11 @@ count_on n m known before after next was is =
 -- none was counted
 pub count_same : (n m : ℕ) (known before after : Option ℕ) → m ≡ n → before ≡ more_by n known → after ≡ before → after ≡ more_by m known
 count_same n m known before after same was is = is ∙ was ∙ sym (ap (λ m. more_by m known) same)
+
+more_add : (n m : ℕ) (known : Option ℕ) → more_by (n + m) known ≡ more_by n (more_by m known)
+more_add zero m known = let same : zero + m ≡ m = omega arith in ap (λ k. more_by k known) same
+more_add (suc n) m known = let next : suc n + m ≡ suc (n + m) = omega arith in ap (λ k. more_by k known) next ∙ ap one_more (more_add n m known)
+
+-- what was counted between two moments of one count
+pub between : (n m later : ℕ) (known before after : Option ℕ) → before ≡ more_by m known → after ≡ more_by later known → later ≡ n + m → after ≡ more_by n before
+between n m later known before after was is count = is ∙ ap (λ k. more_by k known) count ∙ more_add n m known ∙ ap (more_by n) (sym was)

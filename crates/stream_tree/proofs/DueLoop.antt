@@ -120,6 +120,7 @@ module _ {G : Type 0} (patterns : List Regex) (start moment : ℕ) (a : List Out
   pub record Taken : Type 0 where
     pub forks : t'.forks ≡ t.forks
     pub entries : t'.entries ≡ t.entries + length numbers
+    pub began : t'.began ≡ t.began
 
   -- what was performed since then is all that was performed
   all_performed : (keys : List (List Value)) (received : List Value → History) (b : List Output) (u : StepCount G) → Taken → Performs a t' b u (Given_to keys received numbers) →
@@ -129,6 +130,7 @@ module _ {G : Type 0} (patterns : List Regex) (start moment : ℕ) (a : List Out
         outputs = p.outputs ∙ ap (λ (l : List Output). a ++ l) (sym counts.0);
         forks = omega (arith, p.forks, taken.forks, counts.2);
         entries = omega (arith, p.entries, taken.entries, counts.1);
+        began = p.began ∙ taken.began;
       }
 
   part_performed : (keys : List (List Value)) (received : List Value → History) (b : List Output) (u : StepCount G) → Taken → PerformsPart a t' b u (Given_to keys received numbers) →
@@ -141,6 +143,7 @@ module _ {G : Type 0} (patterns : List Regex) (start moment : ℕ) (a : List Out
         entries = omega (arith, p.entries, taken.entries, counts.1);
         no_fewer_forks = omega (arith, p.no_fewer_forks, taken.forks);
         no_fewer_entries = omega (arith, p.no_fewer_entries, taken.entries);
+        began = p.began ∙ taken.began;
       }
 
   pub loop_ends : (i : ℕ) (forks : ForkTable Forest) (b : List Output) (u : StepCount G) → length numbers ≤ i → Taken → LoopRan i forks b u → DueRuns patterns start moment a t b u streams first forks
@@ -174,8 +177,8 @@ module _ {G : Type 0} (patterns : List Regex) (start moment : ℕ) (a : List Out
       }
 
   -- the numbers were not taken
-  pub due_stop : (steps : StepCount G) → steps.forks ≡ t.forks → steps.entries ≤ t.entries + length numbers → t.entries ≤ steps.entries → (numbers ≡ [] → ⊥) → DueStops patterns start moment a t a steps streams first
-  due_stop steps forks_same at_most at_least some texts keys received from ranges represents comes =
+  pub due_stop : (steps : StepCount G) → steps.forks ≡ t.forks → steps.entries ≤ t.entries + length numbers → t.entries ≤ steps.entries → steps.began ≡ t.began → (numbers ≡ [] → ⊥) → DueStops patterns start moment a t a steps streams first
+  due_stop steps forks_same at_most at_least goes_on some texts keys received from ranges represents comes =
       let Means : Meaning = ForestRepresents texts streams in
       let counts = entered_as_given (λ n. plan_effects streams (received (get_or keys n []) ▸ Tick)) numbers in
       let due = flat_map (λ n. Due ∷ plan_effects streams (received (get_or keys n []) ▸ Tick)) numbers in record {
@@ -186,6 +189,7 @@ module _ {G : Type 0} (patterns : List Regex) (start moment : ℕ) (a : List Out
           entries = omega (arith, at_most, counts.1);
           no_fewer_forks = omega (arith, forks_same);
           no_fewer_entries = at_least;
+          began = goes_on;
         });
         busy = λ tick none. some (none_due streams Means keys received moment ranges (now received comes) first represents none);
       }

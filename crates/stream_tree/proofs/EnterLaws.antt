@@ -60,7 +60,7 @@ moment_small : (start moment : ℕ) (h : History) (x : Entry) → ComesAt start 
 moment_small start moment h x comes = subst (λ (m : ℕ). m ≤ 2 ^ 40) (sym comes.comes) comes.small
 
 module _ {G : Type 0} (patterns : List Regex) (start moment : ℕ) (s : Stream) (streams : List Stream) (is : streams ≡ (out-Stream s).children.items) (number : ℕ) (forks : ForkTable Forest) (fork : Forest) (x : Entry)
-    (here : fork ≡ get_or (fork_list forks) number fork) (a b : List Output) (t t' u : StepCount G) (entered : t'.forks ≡ t.forks + 1) (visited : t'.entries ≡ t.entries) where
+    (here : fork ≡ get_or (fork_list forks) number fork) (a b : List Output) (t t' u : StepCount G) (entered : t'.forks ≡ t.forks + 1) (visited : t'.entries ≡ t.entries) (goes_on : t'.began ≡ t.began) where
   trees : list_trees streams ≡ children_of (opened s)
   trees = ap list_trees is ∙ sym (children_of-opened s)
 
@@ -71,7 +71,7 @@ module _ {G : Type 0} (patterns : List Regex) (start moment : ℕ) (s : Stream) 
 
   -- the entry that is given to the fork counts one
   counted : (es : List Effect) → Performs a t' b u es → Performs a t b u (Given ∷ es)
-  counted es p = record { outputs = p.outputs; forks = omega (arith, p.forks, entered); entries = omega (arith, p.entries, visited) }
+  counted es p = record { outputs = p.outputs; forks = omega (arith, p.forks, entered); entries = omega (arith, p.entries, visited); began = p.began ∙ goes_on }
 
   performed : (h : History) → Performs a t' b u (plan_effects (list_trees streams) (h ▸ x)) → Performs a t b u (Given ∷ plan_effects (children_of (opened s)) (h ▸ x))
   performed h p = subst (λ (ts : StreamTrees). Performs a t b u (Given ∷ plan_effects ts (h ▸ x))) trees (counted (plan_effects (list_trees streams) (h ▸ x)) p)
@@ -105,6 +105,7 @@ module _ {G : Type 0} (patterns : List Regex) (start moment : ℕ) (s : Stream) 
         entries = omega (arith, part.entries, visited);
         no_fewer_forks = omega (arith, part.no_fewer_forks, entered);
         no_fewer_entries = omega (arith, part.no_fewer_entries, visited);
+        began = part.began ∙ goes_on;
       })
 
 -- there is no such fork

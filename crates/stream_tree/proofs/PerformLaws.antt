@@ -83,13 +83,14 @@ acted (Some fields) effects = []
 
 module _ {G : Type 0} where
   pub grew_none : (out : List Output) (steps : StepCount G) → Performs out steps out steps []
-  grew_none out steps = record { outputs = sym (append-nil out); forks = omega arith; entries = omega arith }
+  grew_none out steps = record { outputs = sym (append-nil out); forks = omega arith; entries = omega arith; began = refl }
 
   pub grew_then : (a b c : List Output) (s t u : StepCount G) (xs ys : List Effect) → Performs a s b t xs → Performs b t c u ys → Performs a s c u (xs ++ ys)
   grew_then a b c s t u xs ys p q = record {
     outputs = q.outputs ∙ ap (λ (l : List Output). l ++ outputs_among ys) p.outputs ∙ append_assoc a (outputs_among xs) (outputs_among ys) ∙ ap (λ (l : List Output). a ++ l) (sym (outputs_among-append xs ys));
     forks = omega (arith, p.forks, q.forks, due-append xs ys, given-append xs ys);
     entries = omega (arith, p.entries, q.entries, due-append xs ys);
+    began = q.began ∙ p.began;
   }
 
   -- ---- where the call stopped
@@ -102,6 +103,7 @@ module _ {G : Type 0} where
     entries = omega arith;
     no_fewer_forks = omega arith;
     no_fewer_entries = omega arith;
+    began = refl;
   }
 
   pub part_more : (a b : List Output) (s t : StepCount G) (xs ys : List Effect) → PerformsPart a s b t xs → PerformsPart a s b t (xs ++ ys)
@@ -113,6 +115,7 @@ module _ {G : Type 0} where
     entries = omega (arith, p.entries, due-append xs ys);
     no_fewer_forks = p.no_fewer_forks;
     no_fewer_entries = p.no_fewer_entries;
+    began = p.began;
   }
 
   pub part_then : (a b c : List Output) (s t u : StepCount G) (xs ys : List Effect) → Performs a s b t xs → PerformsPart b t c u ys → PerformsPart a s c u (xs ++ ys)
@@ -125,6 +128,7 @@ module _ {G : Type 0} where
     entries = omega (arith, p.entries, q.entries, due-append xs ys);
     no_fewer_forks = omega (arith, p.forks, q.no_fewer_forks);
     no_fewer_entries = omega (arith, p.entries, q.no_fewer_entries);
+    began = q.began ∙ p.began;
   }
 
   pub stops_more : (a b : List Output) (s t : StepCount G) (x : Entry) (xs ys : List Effect) → Stops a s b t x xs → Stops a s b t x (xs ++ ys)
@@ -142,6 +146,7 @@ module _ {G : Type 0} where
         outputs = said ∙ ap (λ (l : List Output). a ++ l) (sym (own_said kind h x));
         forks = omega (arith, counts.0, counts.1);
         entries = omega (arith, counts.0);
+        began = refl;
       }
   own_grew kind h x a b s (Some fields) is said =
       subst (λ (out : List Output). Performs a s out s []) (sym (said ∙ ap (λ (l : List Output). a ++ l) (forks_say_nothing kind h x is) ∙ append-nil a)) (grew_none a s)
@@ -164,4 +169,5 @@ module _ {G : Type 0} where
     entries = omega arith;
     no_fewer_forks = omega arith;
     no_fewer_entries = omega arith;
+    began = refl;
   }

@@ -31,11 +31,12 @@ abbrev pub with_write : Bool → Event → List Output → List Output
 with_write is_write_due event outputs = if is_write_due then outputs ++ Write event ∷ [] else outputs
 
 -- The effects are performed in order, and counted: a fork is entered where it is due and where an item comes to it, and
--- an entry is visited for each fork that is due.
+-- an entry is visited for each fork that is due. The count goes on from where it began, so its ledger counts the same.
 pub record Performs {G : Type 0} (old : List Output) (before : StepCount G) (new : List Output) (after : StepCount G) (effects : List Effect) : Type 0 where
   pub outputs : new ≡ old ++ outputs_among effects
   pub forks : after.forks ≡ before.forks + (due_among effects + given_among effects)
   pub entries : after.entries ≡ before.entries + due_among effects
+  pub began : after.began ≡ before.began
 
 -- A part of the effects is performed: a prefix of the outputs is put after what was there, no more is counted than for all
 -- of the effects, and no count falls.
@@ -46,3 +47,4 @@ pub record PerformsPart {G : Type 0} (old : List Output) (before : StepCount G) 
   pub entries : after.entries ≤ before.entries + due_among effects
   pub no_fewer_forks : before.forks ≤ after.forks
   pub no_fewer_entries : before.entries ≤ after.entries
+  pub began : after.began ≡ before.began

@@ -4,6 +4,7 @@ ghost use Rattle.std.specs.List.{flat_map, take_while};
 ghost use Rattle.std.specs.List.Sorted.{IsStrictlySortedBy};
 ghost use Rattle.std.specs.Map.{keys_of};
 ghost use Rattle.std.specs.Ordering.{nat_cmp};
+ghost use Rattle.slab.specs.Slab.{HasRoomFor};
 ghost use Rattle.tick_schedule.specs.Lists.{AddsAt, AreListedBy, HaveIds, IsFirst, ListChange, Removes, RemovesAt, id_at, ids_of, list_at};
 ghost use Rattle.tick_schedule.specs.Numbers.{AreNumbered, IsFirstNumber, IsListOf, Relists, list_under, list_with, lists_of, number_at};
 
@@ -146,7 +147,8 @@ fn first_moment(numbers: &BTreeMap<u64, usize>) -> Option<u64>
     }
 }
 
-/// Makes a list for the moment, which has none, with the id in it. The answer is its number.
+/// Makes a list for the moment, which has none, with the id in it. The answer is its number: that of the list that was
+/// removed last, if it is still free. Room for one more list is taken only where there is none.
 fn open(
     alloc: Global,
     numbers: &mut BTreeMap<u64, usize>,
@@ -164,6 +166,8 @@ fn open(
     ensures err { OnErr result (lists_of numbers.new.entries lists.new.slots
         ≡ lists_of numbers.old.entries lists.old.slots) }
     ensures same { OnErr result (numbers.new.entries ≡ numbers.old.entries) }
+    ensures number { IfOk result (λ list. list ≡ lists.old.vacant_key) }
+    ensures room { HasRoomFor lists.old 1 → lists.new.capacity ≡ lists.old.capacity }
 {
     let ids = IdList::of(alloc, id)?;
     lists.reserve(1)?;
@@ -171,7 +175,7 @@ fn open(
     Ok(lists.insert_reserved(DueList { moment, ids }))
 }
 
-/// Removes the moment's list, which has this number and no ids.
+/// Removes the moment's list, which has this number and no ids. The next list that is made has the number again.
 fn close(numbers: &mut BTreeMap<u64, usize>, lists: &mut Slab<DueList>, moment: u64, list: usize)
     requires numbered { AreNumbered numbers.old.entries lists.old.slots }
     requires number { number_at moment numbers.old.entries ≡ Some list }
@@ -180,6 +184,9 @@ fn close(numbers: &mut BTreeMap<u64, usize>, lists: &mut Slab<DueList>, moment: 
         (lists_of numbers.old.entries lists.old.slots)
         (lists_of numbers.new.entries lists.new.slots)
         moment None }
+    ensures free { lists.new.vacant_key ≡ list }
+    ensures room { HasRoomFor lists.new 1 }
+    ensures capacity { lists.new.capacity ≡ lists.old.capacity }
 {
     numbers.remove(&moment);
     lists.remove(list);

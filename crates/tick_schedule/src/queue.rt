@@ -3,7 +3,6 @@ ghost use Rattle.std.specs.List.{list_any};
 ghost use Rattle.list_laws.specs.Prefix.{IsPrefix};
 ghost use Rattle.std.specs.Ordering.{nat_cmp};
 ghost use Rattle.std.specs.BTreeMap.{is_at};
-ghost use Rattle.step_count.specs.Count.{more_by};
 ghost use Rattle.tick_schedule.specs.Moments.{moment_in, moments_from};
 ghost use Rattle.tick_schedule.specs.Queue.{IsRising, Sets, due_ids, due_later, without, IsNext};
 ghost use Rattle.tick_schedule.specs.Schedule.{IsTied, IsTiedBut};
@@ -96,8 +95,6 @@ impl DueQueue {
         ensures later { OnOk result (self.new ≡ due_later now self.old) }
         ensures entries { OnOk result (steps.new.entries
             ≡ steps.old.entries + length (due_ids now self.old)) }
-        ensures entries_reported { OnOk result (G.entries steps.new.ledger
-            ≡ more_by (length (due_ids now self.old)) (G.entries steps.old.ledger)) }
 
         // Where nothing is due it takes no memory.
         ensures quiet { due_ids now self.old ≡ [] → IsOk result }
@@ -107,7 +104,7 @@ impl DueQueue {
         ensures at_most { steps.new.entries ≤ steps.old.entries + length (due_ids now self.old) }
         ensures at_least { steps.old.entries ≤ steps.new.entries }
         ensures forks { steps.new.forks ≡ steps.old.forks }
-        ensures forks_reported { G.forks steps.new.ledger ≡ G.forks steps.old.ledger }
+        ensures began { steps.new.began ≡ steps.old.began }
     {
         if !self.is_due(now) {
             return Ok(());
@@ -157,13 +154,11 @@ fn push_all<G: Ledger>(
 ) -> Result<(), Memory>
     ensures ids { OnOk result (out.new ≡ out.old ++ ids.now.keys) }
     ensures entries { OnOk result (steps.new.entries ≡ steps.old.entries + length ids.now.keys) }
-    ensures entries_reported { OnOk result (G.entries steps.new.ledger
-        ≡ more_by (length ids.now.keys) (G.entries steps.old.ledger)) }
     ensures prefix { OnErr result (IsPrefix out.old out.new) }
     ensures at_most { steps.new.entries ≤ steps.old.entries + length ids.now.keys }
     ensures at_least { steps.old.entries ≤ steps.new.entries }
     ensures forks { steps.new.forks ≡ steps.old.forks }
-    ensures forks_reported { G.forks steps.new.ledger ≡ G.forks steps.old.ledger }
+    ensures began { steps.new.began ≡ steps.old.began }
 {
     for id in ids {
         steps.visit_entry();

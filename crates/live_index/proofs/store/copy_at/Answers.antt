@@ -1,6 +1,5 @@
-use Rattle.std.proofs.Common.{◌+◌, refl, arith, ap, ◌∙◌}
+use Rattle.std.proofs.Common.{arith, ap, ◌∙◌}
 use Rattle.pred_eval.specs.Truth.{holds}
-use Rattle.step_count.proofs.CountLaws.{count_on}
 use Rattle.live_index.proofs.CopyLaws.{copied_on}
 use Rattle.live_index.proofs.store.copy_at.Goals as goal
 
@@ -14,7 +13,5 @@ loop-number-preserved g c =
           before.copied c.in_ok-copy_one.ensures.ok c.loop-number-test.true c.read-event.ensures.value;
       forks = c.read-event.ensures.forks ∙ before.forks;
       entries = omega (arith, c.read-event.ensures.entries, before.entries);
-      forks_reported = c.read-event.ensures.forks_reported ∙ before.forks_reported;
-      entries_reported = count_on i (i + 1) (g.G.Ledger.entries c.args.steps.now.ledger) (g.G.Ledger.entries c.loop-number.steps.ledger) (g.G.Ledger.entries c.read-event.new.steps.ledger)
-          refl before.entries_reported c.read-event.ensures.entries_reported;
+      began = c.read-event.ensures.began ∙ before.began;
     }

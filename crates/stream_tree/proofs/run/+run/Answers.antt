@@ -47,14 +47,14 @@ run_branch-returns-in_err-run_forest-in-Otherwise-clause-stops g t c =
 
 pub run_due-returns-in_err-due_forks-clause-stops : goal.run_due-returns-in_err-due_forks-clause-stops
 run_due-returns-in_err-due_forks-clause-stops g t c =
-    on_error c.from_residual.result (due_stop c.args.context.now.patterns.now c.args.context.now.start c.args.context.now.moment c.args.out.now c.args.steps.now c.args.steps.now (children_of (opened c.args.stream.now)) c.args.forks.now c.due_forks.new.steps c.due_forks.ensures.forks c.due_forks.ensures.at_most c.due_forks.ensures.at_least
+    on_error c.from_residual.result (due_stop c.args.context.now.patterns.now c.args.context.now.start c.args.context.now.moment c.args.out.now c.args.steps.now c.args.steps.now (children_of (opened c.args.stream.now)) c.args.forks.now c.due_forks.new.steps c.due_forks.ensures.forks c.due_forks.ensures.at_most c.due_forks.ensures.at_least c.due_forks.ensures.began
     (λ none. let bad = c.in_err-due_forks.ensures.quiet none in cc))
 
 pub run_due-loop-number-init : goal.run_due-loop-number-init
 run_due-loop-number-init g t c =
     record {
       ran = loop_begins c.args.context.now.patterns.now c.args.context.now.start c.args.context.now.moment c.args.out.now c.args.steps.now c.due_forks.new.steps (children_of (opened c.args.stream.now)) c.args.forks.now c.due_forks.new.self c.due_forks.ensures.table c.due_forks.ensures.same c.in_ok-due_forks.ensures.later;
-      taken = record { forks = c.due_forks.ensures.forks; entries = c.in_ok-due_forks.ensures.entries };
+      taken = record { forks = c.due_forks.ensures.forks; entries = c.in_ok-due_forks.ensures.entries; began = c.due_forks.ensures.began };
       numbers = c.as_slice-number-items.ensures ∙ c.in_ok-due_forks.ensures.numbers ∙ ap (λ (l : List ℕ). l ++ (due_ids c.args.context.now.moment (fork_dues c.args.forks.now))) c.fresh-numbers.ensures;
       prefix = extends_none c.args.out.now;
     }
@@ -130,15 +130,15 @@ run_forest-returns-clause-runs g t c =
 
 pub run_fork-returns-in_err-run_forest-clause-stops : goal.run_fork-returns-in_err-run_forest-clause-stops
 run_fork-returns-in_err-run_forest-clause-stops g t c =
-    on_error c.from_residual.result (fork_stops c.args.context.now.patterns.now c.args.context.now.start c.args.context.now.moment c.args.stream.now c.deref.result.now c.deref.ensures.value c.args.number c.args.forks.now c.enter-fork.result.now c.args.entry.now c.enter-fork.ensures.value c.args.out.now c.run_forest.new.out c.args.steps.now c.enter-fork.new.steps c.run_forest.new.steps c.enter-fork.ensures.forks c.enter-fork.ensures.entries c.in_err-run_forest.ensures.stops)
+    on_error c.from_residual.result (fork_stops c.args.context.now.patterns.now c.args.context.now.start c.args.context.now.moment c.args.stream.now c.deref.result.now c.deref.ensures.value c.args.number c.args.forks.now c.enter-fork.result.now c.args.entry.now c.enter-fork.ensures.value c.args.out.now c.run_forest.new.out c.args.steps.now c.enter-fork.new.steps c.run_forest.new.steps c.enter-fork.ensures.forks c.enter-fork.ensures.entries c.enter-fork.ensures.began c.in_err-run_forest.ensures.stops)
 
 pub run_fork-returns-in_err-set_due-clause-stops : goal.run_fork-returns-in_err-set_due-clause-stops
 run_fork-returns-in_err-set_due-clause-stops g t c =
-    on_error c.from_residual-in_err-set_due.result (fork_unset c.args.context.now.patterns.now c.args.context.now.start c.args.context.now.moment c.args.stream.now c.deref.result.now c.deref.ensures.value c.args.number c.args.forks.now c.enter-fork.result.now c.args.entry.now c.enter-fork.ensures.value c.args.out.now c.run_forest.new.out c.args.steps.now c.enter-fork.new.steps c.run_forest.new.steps c.enter-fork.ensures.forks c.enter-fork.ensures.entries c.run_forest.new.forest c.in_ok-run_forest.ensures.runs)
+    on_error c.from_residual-in_err-set_due.result (fork_unset c.args.context.now.patterns.now c.args.context.now.start c.args.context.now.moment c.args.stream.now c.deref.result.now c.deref.ensures.value c.args.number c.args.forks.now c.enter-fork.result.now c.args.entry.now c.enter-fork.ensures.value c.args.out.now c.run_forest.new.out c.args.steps.now c.enter-fork.new.steps c.run_forest.new.steps c.enter-fork.ensures.forks c.enter-fork.ensures.entries c.enter-fork.ensures.began c.run_forest.new.forest c.in_ok-run_forest.ensures.runs)
 
 pub run_fork-returns-clause-runs : goal.run_fork-returns-clause-runs
 run_fork-returns-clause-runs g t c =
-    fork_runs c.args.context.now.patterns.now c.args.context.now.start c.args.context.now.moment c.args.stream.now c.deref.result.now c.deref.ensures.value c.args.number c.args.forks.now c.enter-fork.result.now c.args.entry.now c.enter-fork.ensures.value c.args.out.now c.run_forest.new.out c.args.steps.now c.enter-fork.new.steps c.run_forest.new.steps c.enter-fork.ensures.forks c.enter-fork.ensures.entries c.run_forest.new.forest c.set_due.new.self c.forest_due-due.result c.in_ok-run_forest.ensures.runs
+    fork_runs c.args.context.now.patterns.now c.args.context.now.start c.args.context.now.moment c.args.stream.now c.deref.result.now c.deref.ensures.value c.args.number c.args.forks.now c.enter-fork.result.now c.args.entry.now c.enter-fork.ensures.value c.args.out.now c.run_forest.new.out c.args.steps.now c.enter-fork.new.steps c.run_forest.new.steps c.enter-fork.ensures.forks c.enter-fork.ensures.entries c.enter-fork.ensures.began c.run_forest.new.forest c.set_due.new.self c.forest_due-due.result c.in_ok-run_forest.ensures.runs
     (due_same c.deref-2.result.now c.deref.result.now (nodes_of c.run_forest.new.forest) c.forest_due-due.result (c.deref-2.ensures.value ∙ sym c.deref.ensures.value) c.forest_due-due.ensures)
     c.set_due.ensures.same c.set_due.ensures.table c.in_ok-set_due.ensures.ok
 

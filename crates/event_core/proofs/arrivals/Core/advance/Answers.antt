@@ -35,3 +35,13 @@ returns-in_err-pass-clause-entries g c = λ arrivals before.
     let config = config_of c.args.self.now in
     longer-visited config arrivals (replicate (c.args.to - c.args.self.now.clock.moment) Elapsed) c.args.steps.now.entries c.pass.new.steps.entries
     (c.pass.ensures.visited (state_by config arrivals) before.holds (sym before.now) (begins config arrivals))
+
+pub returns-clause-began : goal.returns-clause-began
+returns-clause-began g c = λ arrivals before.
+    let config = config_of c.args.self.now in
+    c.pass.ensures.began (state_by config arrivals) before.holds (sym before.now) (begins config arrivals)
+
+pub returns-in_err-pass-clause-began : goal.returns-in_err-pass-clause-began
+returns-in_err-pass-clause-began g c = λ arrivals before.
+    let config = config_of c.args.self.now in
+    c.pass.ensures.began (state_by config arrivals) before.holds (sym before.now) (begins config arrivals)

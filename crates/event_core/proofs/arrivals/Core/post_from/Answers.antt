@@ -30,3 +30,11 @@ returns-in_err-item-clause-entries g c = λ arrivals before.
     let config = config_of c.args.self.now in
     longer-visited config arrivals (Post c.args.event.now ∷ []) c.args.steps.now.entries c.item.new.steps.entries
     (c.item.ensures.visited (state_by config arrivals) before.holds (sym before.now))
+
+pub returns-clause-began : goal.returns-clause-began
+returns-clause-began g c = λ arrivals before.
+    c.item.ensures.began (state_by (config_of c.args.self.now) arrivals) before.holds (sym before.now)
+
+pub returns-in_err-item-clause-began : goal.returns-in_err-item-clause-began
+returns-in_err-item-clause-began g c = λ arrivals before.
+    c.item.ensures.began (state_by (config_of c.args.self.now) arrivals) before.holds (sym before.now)

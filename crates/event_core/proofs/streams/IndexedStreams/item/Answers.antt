@@ -45,3 +45,18 @@ pub returns-in_err-is_write_due-clause-visited : goal.returns-in_err-is_write_du
 returns-in_err-is_write_due-clause-visited g c = λ state holds at.
     let entries = (c.in_err-is_write_due.ensures.part state.history holds.history at).entries in
     visited-entry (plan_of c.args.self.now) (In (One c.args.event.now)) state c.args.steps.now.entries c.offer.new.steps.entries (omega (arith, entries))
+
+pub returns-then-not-is_write_due-clause-began : goal.returns-then-not-is_write_due-clause-began
+returns-then-not-is_write_due-clause-began g c = λ state holds at. (c.in_ok-is_write_due.ensures.grew state.history holds.history at).began
+
+pub returns-clause-began : goal.returns-clause-began
+returns-clause-began g c = λ state holds at. (c.in_ok-is_write_due.ensures.grew state.history holds.history at).began
+
+pub returns-in_err-handle-clause-began : goal.returns-in_err-handle-clause-began
+returns-in_err-handle-clause-began g c = λ state holds at. (c.in_ok-is_write_due.ensures.grew state.history holds.history at).began
+
+pub returns-in_err-put-clause-began : goal.returns-in_err-put-clause-began
+returns-in_err-put-clause-began g c = λ state holds at. (c.in_ok-is_write_due.ensures.grew state.history holds.history at).began
+
+pub returns-in_err-is_write_due-clause-began : goal.returns-in_err-is_write_due-clause-began
+returns-in_err-is_write_due-clause-began g c = λ state holds at. (c.in_err-is_write_due.ensures.part state.history holds.history at).began

@@ -14,3 +14,4 @@ invariant-loop-now g l =
     × ((more : List Notice) × (l.out ≡ l.fn.out ++ more))
     × ((state : CoreState) → Holds l.fn.self state → moment_of state.history ≡ l.clock.moment → begun state.history ≡ l.clock.start
     → Visited (plan_of l.fn.self) state (state_from (plan_of l.fn.self) l.clock.expiry (replicate (l.now - l.clock.moment) Elapsed) state) l.fn.steps.entries l.steps.entries)
+    × ((state : CoreState) → Holds l.fn.self state → moment_of state.history ≡ l.clock.moment → begun state.history ≡ l.clock.start → l.steps.began ≡ l.fn.steps.began)

@@ -36,3 +36,13 @@ returns-in_err-stream_again-clause-visited g c = λ state holds at.
 pub returns-in_err-reap-clause-visited : goal.returns-in_err-reap-clause-visited
 returns-in_err-reap-clause-visited g c = λ state holds at.
     fed_back-part (plan_of c.args.self.now) c.args.keep.now c.args.now state c.args.self.now.index.events c.args.steps.now.entries c.reap.new.steps.entries at holds.log.live c.reap.ensures.entries
+
+pub returns-clause-began : goal.returns-clause-began
+returns-clause-began g c = λ state holds at.
+    let log = subst (λ (t : ℕ). Represents c.reap.new.self (state.log ++ Reap t ∷ [])) (sym at) (c.in_ok-reap.ensures.ok state.log holds.log) in
+    c.stream_again.ensures.began (with_reap state) (record { history = holds.history; log = log; outputs = holds.outputs }) at ∙ c.reap.ensures.began
+
+pub returns-in_err-stream_again-clause-began : goal.returns-in_err-stream_again-clause-began
+returns-in_err-stream_again-clause-began g c = λ state holds at.
+    let log = subst (λ (t : ℕ). Represents c.reap.new.self (state.log ++ Reap t ∷ [])) (sym at) (c.in_ok-reap.ensures.ok state.log holds.log) in
+    c.stream_again.ensures.began (with_reap state) (record { history = holds.history; log = log; outputs = holds.outputs }) at ∙ c.reap.ensures.began

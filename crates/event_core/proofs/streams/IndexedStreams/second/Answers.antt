@@ -1,3 +1,4 @@
+use Rattle.std.proofs.Common.{◌∙◌}
 use Rattle.stream_meaning.specs.Arrivals.{entered}
 use Rattle.stream_meaning.specs.declared.entry.Entry.TheVariants.{Tick}
 use Rattle.event_core.specs.Streams.{plan_of}
@@ -34,3 +35,13 @@ returns-in_err-sweep-clause-visited g c = λ state holds at begins.
 pub returns-in_err-tick-clause-visited : goal.returns-in_err-tick-clause-visited
 returns-in_err-tick-clause-visited g c = λ state holds at begins.
     second-part (plan_of c.args.self.now) c.args.clock.now.expiry state c.args.steps.now.entries c.tick.new.steps.entries (c.tick.ensures.visited state holds at)
+
+pub returns-clause-began : goal.returns-clause-began
+returns-clause-began g c = λ state holds at.
+    let first = c.in_ok-tick.ensures.moved state holds at in
+    c.sweep.ensures.began (entered (plan_of c.args.self.now) Tick state) first.holds at ∙ c.tick.ensures.began state holds at
+
+pub returns-in_err-sweep-clause-began : goal.returns-in_err-sweep-clause-began
+returns-in_err-sweep-clause-began g c = λ state holds at.
+    let first = c.in_ok-tick.ensures.moved state holds at in
+    c.sweep.ensures.began (entered (plan_of c.args.self.now) Tick state) first.holds at ∙ c.tick.ensures.began state holds at

@@ -31,6 +31,10 @@ loop-event-preserved g c =
           c.loop-event.invariant.0 c.in_ok-copy.ensures (c.loop-event.invariant.3 state holds at)
           (c.item.ensures.visited (streamed plan copies state) first.holds (streamed-moment plan copies state now at)),
       rest-more done (into_iter_items c.loop-event.event-iterator) (into_iter_items c.next.new.self) c.args.expired c.in-Some.event c.loop-event.invariant.4 c.in-Some.ensures.steps.0,
+      λ state holds at.
+          let copies = map (λ e. expired_copy keep e now) done in
+          let first = c.loop-event.invariant.1 state holds at in
+          c.item.ensures.began (streamed plan copies state) first.holds (streamed-moment plan copies state now at) ∙ c.loop-event.invariant.5 state holds at,
     )
 
 pub returns-in_err-copy-clause-visited : goal.returns-in_err-copy-clause-visited
@@ -52,3 +56,10 @@ returns-in_err-item-clause-visited g c = λ state holds at.
     c.args.steps.now.entries c.loop-event.steps.entries c.item.new.steps.entries
     c.loop-event.invariant.0 c.in_ok-copy.ensures (c.loop-event.invariant.3 state holds at)
     (c.item.ensures.visited (streamed plan copies state) first.holds (streamed-moment plan copies state now at)))
+
+pub returns-in_err-item-clause-began : goal.returns-in_err-item-clause-began
+returns-in_err-item-clause-began g c = λ state holds at.
+    let plan = plan_of c.args.self.now in
+    let copies = map (λ e. expired_copy c.args.keep.now e c.args.now) c.loop-event.yielded in
+    let first = c.loop-event.invariant.1 state holds at in
+    c.item.ensures.began (streamed plan copies state) first.holds (streamed-moment plan copies state c.args.now at) ∙ c.loop-event.invariant.5 state holds at

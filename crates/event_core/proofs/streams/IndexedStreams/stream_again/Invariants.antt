@@ -17,3 +17,4 @@ invariant-loop-event g l =
     × ((state : CoreState) → Holds l.fn.self state → moment_of state.history ≡ l.now
     → Visited (plan_of l.fn.self) state (streamed (plan_of l.fn.self) (map (λ event. expired_copy l.keep event l.now) l.yielded) state) l.fn.steps.entries l.steps.entries)
     × (l.yielded ++ into_iter_items l.event-iterator ≡ l.fn.expired)
+    × ((state : CoreState) → Holds l.fn.self state → moment_of state.history ≡ l.now → l.steps.began ≡ l.fn.steps.began)

@@ -26,3 +26,12 @@ pub returns-in_err-tick-clause-visited : goal.returns-in_err-tick-clause-visited
 returns-in_err-tick-clause-visited g c = λ state holds at.
     let entries = (c.in_err-tick.ensures.part state.history holds.history at).entries in
     visited-entry (plan_of c.args.self.now) Tick state c.args.steps.now.entries c.tick.new.steps.entries (omega (arith, entries))
+
+pub returns-clause-began : goal.returns-clause-began
+returns-clause-began g c = λ state holds at. (c.in_ok-tick.ensures.grew state.history holds.history at).began
+
+pub returns-in_err-handle-clause-began : goal.returns-in_err-handle-clause-began
+returns-in_err-handle-clause-began g c = λ state holds at. (c.in_ok-tick.ensures.grew state.history holds.history at).began
+
+pub returns-in_err-tick-clause-began : goal.returns-in_err-tick-clause-began
+returns-in_err-tick-clause-began g c = λ state holds at. (c.in_err-tick.ensures.part state.history holds.history at).began

@@ -23,8 +23,6 @@ returns g c =
         found = c.get.ensures.found;
         absent = c.get.ensures.absent;
         entries = c.get.ensures.entries;
-        forks_reported = c.get.ensures.forks_reported;
-        found_reported = c.get.ensures.found_reported;
-        absent_reported = c.get.ensures.absent_reported;
+        began = c.get.ensures.began;
       },
     )

@@ -1,6 +1,5 @@
 use Rattle.std.proofs.Common.{ap, ◌∙◌, filter, length, ◌+◌, ◌++◌}
 use Rattle.pred_eval.specs.Truth.{holds}
-use Rattle.step_count.specs.Count.{more_by}
 use Rattle.live_index.specs.Index.{visited}
 use Rattle.live_index.proofs.StoreLaws.{not_poisoned}
 use Rattle.live_index.proofs.index.LiveIndex.search.Goals as goal
@@ -15,10 +14,4 @@ pub returns-clause-counted : goal.returns-clause-counted
 returns-clause-counted g c =
     c.in_ok-copy_matching.ensures.counted
     ∙ ap (λ events. c.args.steps.now.entries + length (visited c.args.pred.now events))
-    (not_poisoned c.self.inside.poisoned c.self.inside.store.numbers c.self.inside.store.events.values c.if-self.false ∙ ap (λ index. index.events) c.self.view_is)
-
-pub returns-clause-entries_reported : goal.returns-clause-entries_reported
-returns-clause-entries_reported g c =
-    c.in_ok-copy_matching.ensures.entries_reported
-    ∙ ap (λ events. more_by (length (visited c.args.pred.now events)) (g.G.Ledger.entries c.args.steps.now.ledger))
     (not_poisoned c.self.inside.poisoned c.self.inside.store.numbers c.self.inside.store.events.values c.if-self.false ∙ ap (λ index. index.events) c.self.view_is)

@@ -1,7 +1,6 @@
 use Rattle.std.proofs.Common.{arith, sym, ap, ◌∙◌, subst, ◌++◌, filter}
 use Rattle.pred_eval.specs.Host.{asked_host}
 use Rattle.pred_eval.specs.Truth.{holds}
-use Rattle.step_count.specs.Count.{more_by}
 use Rattle.live_index.specs.Store.{events_at, AreLive}
 use Rattle.live_index.proofs.HostLaws.{asked-count, asked-live, asked-search}
 use Rattle.live_index.proofs.store.Store.copy_matching.Goals as goal
@@ -35,10 +34,3 @@ returns-in_err-copy_at-clause-entries g c =
     let store = c.args.self.now in
     let count = asked-count store.numbers store.events.values c.requires.linked (asked_host c.args.pred.now) c.as_slice.result.now (c.as_slice.ensures ∙ c.in_ok-numbers.ensures.numbers) in
     omega (arith, count, c.copy_at.ensures.entries)
-
-pub returns-clause-entries_reported : goal.returns-clause-entries_reported
-returns-clause-entries_reported g c =
-    let store = c.args.self.now in
-    c.in_ok-copy_at.ensures.entries_reported
-    ∙ ap (λ n. more_by n (g.G.Ledger.entries c.args.steps.now.ledger))
-    (asked-count store.numbers store.events.values c.requires.linked (asked_host c.args.pred.now) c.as_slice.result.now (c.as_slice.ensures ∙ c.in_ok-numbers.ensures.numbers))

@@ -1,6 +1,5 @@
-use Rattle.std.proofs.Common.{◌≡◌, ◌-◌, ◌≤◌, ◌++◌, length, filter, arith, sym, ap, ◌∙◌, subst}
+use Rattle.std.proofs.Common.{◌≡◌, ◌≤◌, ◌++◌, length, filter, arith, sym, ap, ◌∙◌, subst}
 use Rattle.ev_types.specs.Expiry.{is_expired}
-use Rattle.step_count.specs.Count.{more_by}
 use Rattle.tick_schedule.specs.Queue.{IsRising, due_ids}
 use Rattle.live_index.specs.Store.{events_in, IsTaking, IsTimed}
 use Rattle.live_index.proofs.ReapLaws.{reap-gone, reap-kept, reap-timed, due-count}
@@ -65,9 +64,3 @@ returns-in_err-push_all-clause-entries g c =
     let count : length (due_ids c.args.now store.due) ≤ length (filter (is_expired c.args.now) (events_in store.numbers store.events.values)) =
     due-count c.args.now c.requires.now store.numbers store.events.values store.due c.requires.stored.linked c.requires.stored.timed c.requires.stored.ordered in
     omega (arith, count, c.take_due.ensures.at_most)
-
-pub returns-clause-entries_reported : goal.returns-clause-entries_reported
-returns-clause-entries_reported g c =
-    let start = c.args.steps.now in
-    let due : length (due_ids c.args.now c.args.self.now.due) ≡ c.take_due.new.steps.entries - start.entries = omega (arith, c.in_ok-take_due.ensures.entries) in
-    c.in_ok-take_due.ensures.entries_reported ∙ ap (λ n. more_by n (g.G.Ledger.entries start.ledger)) due
