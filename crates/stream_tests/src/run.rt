@@ -34,12 +34,12 @@ pub fn run_test<P: Patterns, G: Ledger>(
     requires few { length (plan_patterns config.plan) < 2 ^ 32 }
     requires interval { IsInterval config.expiry }
     ensures verdict { IfOk result (λ verdict. IsVerdictOn (core_of config) test.now verdict) }
-    ensures cause { HasCause (plan_patterns config.plan) (P.refusals patterns.old)
-        (P.refusals patterns.new) result }
-    ensures reported { P.refused patterns.new ≡ option_map
+    ensures cause { HasCause (plan_patterns config.plan) (P.report patterns.old).refusals
+        (P.report patterns.new).refusals result }
+    ensures reported { (P.report patterns.new).refused ≡ option_map
         (λ texts. texts ++ refused_of (plan_patterns config.plan) result)
-        (P.refused patterns.old) }
-    ensures refusals { P.refusals patterns.old ≤ P.refusals patterns.new }
+        (P.report patterns.old).refused }
+    ensures refusals { (P.report patterns.old).refusals ≤ (P.report patterns.new).refusals }
 {
     let plan = build_plan(alloc, config.plan, patterns)?;
     let notices = play(alloc, test.entries.as_slice(), plan, config.expiry, steps)?;
