@@ -1,0 +1,105 @@
+//! What tests show of configurations.
+
+use pred_eval::RegexPatterns;
+use sexp_config::read_config;
+use std::alloc::Global;
+use std::test::Fail;
+use step_count::{NoLedger, Steps};
+use stream_tests::{RunFault, Verdict, read_tests, run_test};
+
+/// A configuration, a test, and the verdict: `pass`, or the name and the number of the first item that differs.
+const ROWS: [(&str, &str, &str, u64); 12] = [
+    (
+        "(streams (changed :state (notice \"c\")))",
+        "(test \"t\" (event {:host \"a\" :state \"ok\"}) (tick 3) (event {:host \"a\" :state \"ok\"}) (expect \"c\" {:host \"a\" :state \"ok\" :time 0}))",
+        "pass",
+        0,
+    ),
+    (
+        "(streams (changed :state (notice \"c\")))",
+        "(test \"t\" (event {:host \"a\" :state \"ok\"}) (tick 3) (event {:host \"a\" :state \"ok\"}) (expect \"c\" {:host \"a\" :state \"ok\" :time 0} {:host \"a\" :state \"ok\" :time 3}))",
+        "c",
+        1,
+    ),
+    ("", "(test \"t\")", "pass", 0),
+    ("", "(test \"t\" (expect \"c\"))", "pass", 0),
+    ("", "(test \"t\" (expect \"c\" {:time 0}))", "c", 0),
+    (
+        "(streams (notice \"a\") (notice \"b\"))",
+        "(test \"t\" (event {}) (expect \"a\" {:time 0}) (expect \"b\"))",
+        "b",
+        0,
+    ),
+    (
+        "(streams (notice \"a\") (notice \"b\"))",
+        "(test \"t\" (event {}) (expect \"b\" {:time 1}) (expect \"a\"))",
+        "b",
+        0,
+    ),
+    (
+        "(streams (batch 2 5 (notice \"b\")))",
+        "(test \"t\" (event {:metric 1}) (tick 1) (event {:metric 2 :tags [\"x\"]}) (tick 9000) (expect \"b\" [{:metric 1 :time 0} {:time 1 :metric 2 :tags [\"x\"]}]))",
+        "pass",
+        0,
+    ),
+    (
+        "(streams (batch 2 5 (notice \"b\")))",
+        "(test \"t\" (event {:metric 1}) (tick 86400) (expect \"b\" {:metric 1 :time 0}))",
+        "b",
+        0,
+    ),
+    (
+        "(streams (notice \"n\"))",
+        "(test \"t\" (event {:owner \"me\" :host \"a\" :service \"s\" :description \"d\" :ttl 5}) (expect \"n\" {:time 0 :ttl 5 :description \"d\" :service \"s\" :host \"a\" :owner \"me\"}))",
+        "pass",
+        0,
+    ),
+    (
+        "(streams (notice \"n\"))",
+        "(test \"t\" (event {:a \"1\" :b \"2\"}) (expect \"n\" {:b \"2\" :a \"1\" :time 0}))",
+        "n",
+        0,
+    ),
+    (
+        "(periodically-expire 10) (streams index (expired (notice \"gone\")))",
+        "(test \"t\" (event {:host \"a\" :service \"b\" :ttl 5}) (tick 86400) (tick 86400) (expect \"gone\" {:host \"a\" :service \"b\" :state \"expired\" :time 10}))",
+        "pass",
+        0,
+    ),
+];
+
+/// The number of the first row whose verdict is another.
+fn first_other(alloc: Global) -> Result<Option<usize>, Fail> {
+    for (i, (config, tests, name, number)) in ROWS.iter().enumerate() {
+        let verdict = verdict_of(alloc, config, tests)?;
+        if !is_verdict(&verdict, name, *number) {
+            return Ok(Some(i));
+        }
+    }
+    Ok(None)
+}
+
+/// The verdict on the first test.
+fn verdict_of(alloc: Global, config: &str, tests: &str) -> Result<Verdict, Fail> {
+    let config = read_config(alloc, config.as_bytes())?;
+    let tests = read_tests(alloc, tests.as_bytes())?;
+    let mut patterns = RegexPatterns { refusals: 0 };
+    let mut steps = Steps::fresh(NoLedger);
+    match tests.as_slice().first() {
+        Some(test) => Ok(run_test(alloc, test, config, &mut patterns, &mut steps)?),
+        None => Ok(Verdict::Pass),
+    }
+}
+
+fn is_verdict(verdict: &Verdict, wanted: &str, count: u64) -> bool {
+    match verdict {
+        Verdict::Pass => wanted == "pass",
+        Verdict::Differs { name, number } => name.as_str() == wanted && *number == count,
+    }
+}
+
+#[test]
+fn tests_pass_or_differ(rt: HostRuntime) -> Result<(), Fail> {
+    assert_eq!(rt; first_other(rt.alloc())?, None);
+    Ok(())
+}
