@@ -9,9 +9,9 @@ ghost use Rattle.ports.specs.Counts.{Rose};
 ghost use Rattle.replay_command.specs.Replays.{ReplayEnds, Replays, ScriptEnds};
 
 use crate::play::{fetch_script, play};
+use command_setup::fetch_setup;
 use ev_types::Text;
 use file_run::command_io::{Ending, Status, report};
-use command_setup::fetch_setup;
 use file_run::hub_run::Setup;
 use ports::{Sink, Store};
 use pred_eval::Patterns;
