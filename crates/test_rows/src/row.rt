@@ -1,3 +1,5 @@
+use crate::line::RowFault;
+
 /// A row of a file.
 #[derive(Drop)]
 pub struct Row {
@@ -23,6 +25,16 @@ pub struct Field {
 pub struct Unread {
     pub line: u64,
     pub why: &'static str,
+}
+
+impl Field {
+    /// The value, where it is a text.
+    pub fn text(&self) -> Result<&str, RowFault> {
+        match str::from_utf8(self.value.as_slice()) {
+            Ok(text) => Ok(text),
+            Err(_) => Err(RowFault::Unreadable),
+        }
+    }
 }
 
 impl Row {

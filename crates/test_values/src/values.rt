@@ -1,17 +1,14 @@
 //! Rows of the fields of events, their values and their keys.
 
 use crate::events::{Named, find_event};
-use crate::row::{RowFault, said, split_word};
 use crate::shown::{event_line, put_event};
-use crate::spelled::read_number;
-use crate::tally::Tally;
 use ev_types::{
     Blob, Event, Events, Field, Fields, Item, KeepKey, KeepKeys, Key, Memory, Text, TextFault,
     Value, field_is, field_number, field_text, key_of, same_field,
 };
 use std::alloc::Global;
-use std::cmp::Ordering;
 use std::fmt::Write;
+use test_rows::{RowFault, read_number, said, split_word};
 
 /// How many bytes the longest prefix has that is a text.
 pub fn text_answer(alloc: Global, bytes: &[u8]) -> Result<Blob, RowFault> {
@@ -24,7 +21,7 @@ pub fn text_answer(alloc: Global, bytes: &[u8]) -> Result<Blob, RowFault> {
 }
 
 /// The value that the word spells: `nil`, a number, or a text in quotes.
-fn read_value(alloc: Global, word: &str) -> Result<Value, RowFault> {
+pub fn read_value(alloc: Global, word: &str) -> Result<Value, RowFault> {
     if word == "nil" {
         return Ok(Value::Nil);
     }
@@ -113,7 +110,7 @@ fn read_fields(alloc: Global, names: &str) -> Result<Fields, Memory> {
 }
 
 /// The key of the named event, by the fields that are named after it.
-fn read_key(alloc: Global, asked: &str, named: &[Named]) -> Result<Key, RowFault> {
+pub fn read_key(alloc: Global, asked: &str, named: &[Named]) -> Result<Key, RowFault> {
     let (name, fields) = asked.split_once(' ').unwrap_or((asked, ""));
     let event = find_event(named, name)?;
     let fields = read_fields(alloc, fields)?;
@@ -240,74 +237,4 @@ pub fn reborn_answer(alloc: Global, asked: &str, named: &[Named]) -> Result<Blob
     let keep = read_keep(alloc, names)?;
     let event = find_event(named, name)?.reborn(alloc, &keep, moment)?;
     Ok(said(event_line(alloc, &event)?))
-}
-
-/// Values, and keys, that a block lists in their order.
-#[derive(Drop)]
-pub struct Rising {
-    values: Vec<Value>,
-    keys: Vec<Key>,
-}
-
-impl Rising {
-    pub fn fresh(alloc: Global) -> Rising {
-        Rising {
-            values: Vec::new(alloc),
-            keys: Vec::new(alloc),
-        }
-    }
-
-    pub fn push_value(&mut self, alloc: Global, text: &str) -> Result<(), RowFault> {
-        let value = read_value(alloc, text)?;
-        self.values.push(value.copy(alloc)?)?;
-        Ok(())
-    }
-
-    pub fn push_key(&mut self, alloc: Global, named: &[Named], text: &str) -> Result<(), RowFault> {
-        self.keys.push(read_key(alloc, text, named)?)?;
-        Ok(())
-    }
-}
-
-/// Compares each two values, and each two keys.
-pub fn judge_rising(alloc: Global, rising: &Rising, tally: &mut Tally) -> Result<(), Memory> {
-    judge_items(alloc, rising.values.as_slice(), tally)?;
-    judge_items(alloc, rising.keys.as_slice(), tally)
-}
-
-fn judge_items<T: Ord>(alloc: Global, items: &[T], tally: &mut Tally) -> Result<(), Memory> {
-    for (place, item) in items.iter().enumerate() {
-        judge_item(alloc, place, item, items, tally)?;
-    }
-    Ok(())
-}
-
-/// Compares the item at the place with each item.
-fn judge_item<T: Ord>(
-    alloc: Global,
-    place: usize,
-    item: &T,
-    items: &[T],
-    tally: &mut Tally,
-) -> Result<(), Memory> {
-    for (other_place, other) in items.iter().enumerate() {
-        let places = (place, other_place);
-        judge_order(alloc, places, item.cmp(other), item == other, tally)?;
-    }
-    Ok(())
-}
-
-/// Compares the order of two with that of their places.
-fn judge_order(
-    alloc: Global,
-    places: (usize, usize),
-    order: Ordering,
-    same: bool,
-    tally: &mut Tally,
-) -> Result<(), Memory> {
-    let (i, k) = places;
-    let asked = format!(in alloc; "rising {i} {k}")?;
-    let wanted = format!(in alloc; "{:?} {}", i.cmp(&k), i == k)?;
-    let came = format!(in alloc; "{order:?} {same}")?;
-    tally.judge(asked.as_str(), wanted.as_bytes(), came.as_bytes())
 }

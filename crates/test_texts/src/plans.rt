@@ -2,13 +2,13 @@
 //! list of a name, of its numbers, of the sets in a map, of its children, and of a vector of the streams that get the
 //! rest.
 
-use crate::row::{RowFault, said};
 use ev_types::{Blob, Field, Fields, Fold, Memory, Set, Sets, Tags, Text, Value};
 use pred_eval::Rule;
 use sexp_read::{Form, Shape, read_forms};
 use std::alloc::Global;
 use std::fmt::Write;
 use stream_plan::{Kind, Plan, PlanFault, Stream, Streams, check_kinds};
+use test_rows::{RowFault, said};
 
 /// `ok` for a plan that is sound, or the path to the stream that is refused, and why.
 pub fn plan_answer(alloc: Global, text: &[u8]) -> Result<Blob, RowFault> {

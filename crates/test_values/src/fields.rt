@@ -1,11 +1,10 @@
 //! Rows of the fields of messages.
 
-use crate::row::{RowFault, said, split_word};
-use crate::spelled::{read_number, read_spelled};
 use ev_types::{Blob, Memory};
 use pb_wire::{FieldReader, Next, PutBody, put_field, put_tag_and_length, put_varint, varint_len};
 use std::alloc::Global;
 use std::fmt::Write;
+use test_rows::{RowFault, read_number, read_spelled, said, split_word};
 
 fn add_answer(line: &mut String, next: Next) -> Result<(), Memory> {
     match next {

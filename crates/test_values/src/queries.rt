@@ -1,14 +1,15 @@
 //! Rows of queries, and of the rules that they state.
 
-use crate::configs::{no_refusals, refused_pattern};
 use crate::events::Named;
-use crate::row::{RowFault, said};
-use crate::spelled::read_spelled;
-use ev_types::Blob;
-use pred_eval::{BuildFault, Patterns, Pred, RegexPatterns, Rule, is_wild, pattern_count};
+use crate::kinds::two_texts;
+use ev_types::{Blob, Memory, Texts};
+use pred_eval::{
+    BuildFault, ListPatterns, Patterns, Pred, RegexPatterns, Rule, is_wild, pattern_count,
+};
 use query_lang::{read_query, write_query};
 use std::alloc::Global;
 use std::fmt::Write;
+use test_rows::{RowFault, read_spelled, said};
 
 /// What is written of the rule that the text states, or why it states none.
 pub fn query_answer(alloc: Global, text: &[u8]) -> Result<Blob, RowFault> {
@@ -72,10 +73,28 @@ fn built_plainly(alloc: Global, rule: Rule) -> Result<String, RowFault> {
     Ok(format!(in alloc; "{ended}, and counted {}", patterns.refusals)?)
 }
 
+/// The text of the fault, the number of refusals, and the texts that were refused.
+fn refused_pattern(
+    alloc: Global,
+    fault: BuildFault,
+    patterns: &ListPatterns,
+) -> Result<String, Memory> {
+    let refusals = patterns.refusals;
+    let mut printed = format!(in alloc; "{fault}, {refusals} of")?;
+    for text in patterns.refused.as_slice() {
+        printed.push_str(" ")?;
+        printed.push_str(text.as_str())?;
+    }
+    Ok(printed)
+}
+
 /// What building the rule ends with in each of two ways. The second lists the texts that are refused.
 pub fn build_answer(alloc: Global, text: &[u8]) -> Result<Blob, RowFault> {
     let plain = built_plainly(alloc, rule_of(alloc, text)?)?;
-    let mut recorded = no_refusals(alloc);
+    let mut recorded = ListPatterns {
+        refusals: 0,
+        refused: Texts::fresh(alloc),
+    };
     let ended = match build(alloc, rule_of(alloc, text)?, &mut recorded) {
         Ok(_) => String::from_str(alloc, "built")?,
         Err(fault) => refused_pattern(alloc, fault, &recorded)?,
@@ -83,8 +102,9 @@ pub fn build_answer(alloc: Global, text: &[u8]) -> Result<Blob, RowFault> {
     Ok(said(format!(in alloc; "{plain} / {ended}")?))
 }
 
-/// Whether the pattern with percent signs matches the text.
-pub fn like_answer(alloc: Global, pattern: &str, text: &str) -> Result<Blob, RowFault> {
+/// Whether the first of two texts, a pattern with percent signs, matches the second.
+pub fn like_answer(alloc: Global, asked: &str) -> Result<Blob, RowFault> {
+    let (pattern, text) = two_texts(asked)?;
     let pattern = read_spelled(alloc, pattern)?;
     let text = read_spelled(alloc, text)?;
     let matches = is_wild(pattern.as_slice(), text.as_slice());

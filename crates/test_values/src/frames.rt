@@ -1,10 +1,9 @@
 //! Rows of frames.
 
-use crate::row::RowFault;
-use crate::spelled::read_spelled;
 use ev_types::{Blob, Memory};
 use frame_link::{FirstFrame, FrameLink, Taken};
 use std::alloc::Global;
+use test_rows::{RowFault, read_spelled};
 
 /// How many frames are taken of a link after each piece, at most.
 const MOST_FRAMES: u32 = 4;
@@ -58,9 +57,9 @@ fn read_all(alloc: Global, link: &mut FrameLink, bodies: &mut Blob) -> Result<()
 }
 
 /// The bodies that are read where they are in a link that gets the bytes, and how many bytes are left.
-pub fn read_frames_answer(alloc: Global, asked: &str) -> Result<Blob, RowFault> {
+pub fn read_frames_answer(alloc: Global, bytes: &[u8]) -> Result<Blob, RowFault> {
     let mut link = FrameLink::fresh(alloc);
-    link.push(alloc, read_spelled(alloc, asked)?.as_slice())?;
+    link.push(alloc, bytes)?;
     let mut bodies = Blob::fresh(alloc);
     read_all(alloc, &mut link, &mut bodies)?;
     let left = link.len();

@@ -1,6 +1,6 @@
 //! Texts in which bytes are spelled: `@<0a ff>` is the bytes of these hexadecimal digits, and `@(3 ab@)` is `ababab`.
 
-use crate::row::{RowFault, split_word};
+use crate::line::{RowFault, split_word};
 use ev_types::{Blob, Memory};
 use hex::FromHexError;
 use std::alloc::Global;
@@ -89,12 +89,13 @@ fn decode(alloc: Global, digits: &str) -> Result<Vec<u8>, RowFault> {
     }
 }
 
+/// The number that the digits of the word spell.
 pub fn read_number(word: &str) -> Result<u32, RowFault> {
     word.parse::<u32>().map_err(|_| RowFault::Unreadable)
 }
 
 /// Adds the bytes as a text of one line that spells them.
-pub fn put_spelled(out: &mut String, bytes: &[u8]) -> Result<(), Memory> {
+pub(crate) fn put_spelled(out: &mut String, bytes: &[u8]) -> Result<(), Memory> {
     for byte in bytes {
         put_byte(out, *byte)?;
     }

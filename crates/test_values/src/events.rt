@@ -1,11 +1,10 @@
 //! Events that a file of rows names.
 
-use crate::row::RowFault;
-use crate::spelled::read_spelled;
 use ev_types::{Blob, Event, Text};
 use pb_wire::{PutBody, put_field};
 use riemann_msg::read_msg;
 use std::alloc::Global;
+use test_rows::{RowFault, read_spelled};
 
 /// The moment at which messages are read.
 pub const NOW: u64 = 1_000;

@@ -1,15 +1,13 @@
-//! The lines of a file of rows.
+//! Rows of one line: what is asked, and after an arrow what is wanted.
 
 use ev_types::{Blob, Memory};
 use std::alloc::{AllocError, AllocFailed};
-use thiserror::Error;
 
 /// Why a row has no answer.
-#[derive(Clone, Copy, Debug, PartialEq, Eq, Error)]
+#[derive(Clone, Copy)]
 pub enum RowFault {
-    #[error("cannot be read")]
+    /// It cannot be read.
     Unreadable,
-    #[error("out of memory")]
     Memory,
 }
 
@@ -29,14 +27,6 @@ impl<T: Drop> From<AllocFailed<T>> for RowFault {
     fn from(_error: AllocFailed<T>) -> RowFault {
         RowFault::Memory
     }
-}
-
-/// The key of a line, and the text after it.
-pub fn split_key(line: &str) -> Result<(&str, &str), RowFault> {
-    let Some((key, text)) = line.split_once(':') else {
-        return Err(RowFault::Unreadable);
-    };
-    Ok((key, text.strip_prefix(' ').unwrap_or(text)))
 }
 
 /// What is asked, and what is wanted: what is before and after the last arrow.

@@ -2,10 +2,8 @@
 
 use crate::block::{Block, Filling, Gap};
 use crate::configs::{config_answer, written_again};
-use crate::row::RowFault;
-use crate::spelled::read_spelled;
-use crate::tally::Tally;
 use std::alloc::Global;
+use test_rows::{RowFault, Tally, read_spelled};
 
 /// Puts each filling of the block into each gap.
 pub fn judge_block(alloc: Global, block: &Block<'_>, tally: &mut Tally) -> Result<(), RowFault> {
@@ -86,7 +84,7 @@ fn judge_config(
     )?;
     let bytes = read_spelled(alloc, asked.as_str())?;
     let came = config_answer(alloc, bytes.as_slice())?;
-    tally.judge(asked.as_str(), wanted.as_bytes(), came.as_slice())?;
+    tally.judge("config", asked.as_str(), wanted.as_bytes(), came.as_slice())?;
     Ok(())
 }
 
@@ -103,6 +101,11 @@ fn judge_part(
     let text = read_spelled(alloc, asked.as_str())?;
     let canonical = read_spelled(alloc, wanted.as_str())?;
     let came = written_again(alloc, text.as_slice(), canonical.as_slice())?;
-    tally.judge(asked.as_str(), canonical.as_slice(), came.as_slice())?;
+    tally.judge(
+        "written",
+        asked.as_str(),
+        canonical.as_slice(),
+        came.as_slice(),
+    )?;
     Ok(())
 }

@@ -3,7 +3,6 @@
 ghost use Rattle.riemann_msg.specs.Cleared.{AreCleared};
 
 use crate::events::{NOW, Named, embedded};
-use crate::row::{RowFault, said};
 use crate::shown::{put_event, shown};
 use ev_types::{Blob, Event, Memory};
 use riemann_msg::{
@@ -12,6 +11,7 @@ use riemann_msg::{
 };
 use std::alloc::Global;
 use std::fmt::Write;
+use test_rows::{RowFault, said};
 
 /// Appends the message in one line: ok, error and query, and then each event after a bar.
 fn put_message(alloc: Global, line: &mut String, msg: &Msg) -> Result<(), Memory> {

@@ -1,11 +1,11 @@
 //! Rows of configurations.
 
-use crate::row::{RowFault, said};
 use ev_types::{Blob, Memory, Texts};
 use pred_eval::{BuildFault, ListPatterns};
 use sexp_config::{ConfigFault, read_config, write_config};
 use std::alloc::Global;
 use stream_plan::build_plan;
+use test_rows::{RowFault, said};
 
 /// `ok` for a configuration, or why the text is not one.
 pub fn config_answer(alloc: Global, text: &[u8]) -> Result<Blob, RowFault> {
@@ -66,7 +66,7 @@ pub fn patterns_answer(alloc: Global, text: &[u8]) -> Result<Blob, RowFault> {
     }
 }
 
-pub fn no_refusals(alloc: Global) -> ListPatterns {
+fn no_refusals(alloc: Global) -> ListPatterns {
     ListPatterns {
         refusals: 0,
         refused: Texts::fresh(alloc),
@@ -74,7 +74,7 @@ pub fn no_refusals(alloc: Global) -> ListPatterns {
 }
 
 /// The text of the fault, the number of refusals, and the texts that were refused.
-pub fn refused_pattern(
+fn refused_pattern(
     alloc: Global,
     fault: BuildFault,
     patterns: &ListPatterns,

@@ -1,7 +1,7 @@
 //! Blocks of texts with a gap, and of what is put into each gap.
 
-use crate::row::{RowFault, split_row};
 use std::alloc::Global;
+use test_rows::{RowFault, split_row};
 
 /// A text with a gap: what is before it, and what is after it.
 #[derive(Clone, Copy)]
@@ -32,9 +32,19 @@ pub struct Block<'a> {
 }
 
 /// The text with its gap, which is written `<>`.
-pub fn read_gap(text: &str) -> Result<Gap<'_>, RowFault> {
+fn read_gap(text: &str) -> Result<Gap<'_>, RowFault> {
     let (before, after) = text.split_once("<>").ok_or(RowFault::Unreadable)?;
     Ok(Gap { before, after })
+}
+
+fn misfit(text: &str) -> Result<Filling<'_>, RowFault> {
+    let (text, why) = split_row(text)?;
+    Ok(Filling::Misfit { text, why })
+}
+
+fn part(text: &str) -> Result<Filling<'_>, RowFault> {
+    let (text, canonical) = split_row(text)?;
+    Ok(Filling::Part { text, canonical })
 }
 
 impl<'a> Block<'a> {
@@ -51,27 +61,31 @@ impl<'a> Block<'a> {
         }
     }
 
-    /// Reads a line that says what is put into gaps, where it is one.
-    pub fn read_filling(&mut self, key: &str, text: &'a str) -> Result<bool, RowFault> {
-        if key == "common" {
-            let (text, why) = split_row(text)?;
-            self.common.push(Filling::Misfit { text, why })?;
-        } else if key == "misfit" {
-            let (text, why) = split_row(text)?;
-            self.fillings.push(Filling::Misfit { text, why })?;
-        } else if key == "fit" {
-            self.fillings.push(Filling::Fit { text })?;
-        } else if key == "part" {
-            let (text, canonical) = split_row(text)?;
-            self.fillings.push(Filling::Part { text, canonical })?;
-        } else if key == "same" {
-            self.fillings.push(Filling::Part {
+    /// Reads a line of a block, where it is one.
+    pub fn read_part(&mut self, key: &str, text: &'a str) -> Result<bool, RowFault> {
+        match key {
+            "around" => self.around = read_gap(text)?,
+            "heading" => self.heading = text,
+            "gap" => self.gaps.push(read_gap(text)?)?,
+            "common" => self.common.push(misfit(text)?)?,
+            _ => return self.read_filling(key, text),
+        }
+        Ok(true)
+    }
+
+    /// Reads a line that says what is put into the gaps, where it is one.
+    fn read_filling(&mut self, key: &str, text: &'a str) -> Result<bool, RowFault> {
+        let filling = match key {
+            "misfit" => misfit(text)?,
+            "fit" => Filling::Fit { text },
+            "part" => part(text)?,
+            "same" => Filling::Part {
                 text,
                 canonical: text,
-            })?;
-        } else {
-            return Ok(false);
-        }
+            },
+            _ => return Ok(false),
+        };
+        self.fillings.push(filling)?;
         Ok(true)
     }
 

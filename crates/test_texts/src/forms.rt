@@ -1,10 +1,10 @@
 //! Rows of s-expressions.
 
-use crate::row::{RowFault, said};
 use ev_types::{Blob, Memory};
 use sexp_read::{Form, SexpFault, Shape, read_forms, write_forms};
 use std::alloc::Global;
 use std::fmt::Write;
+use test_rows::{RowFault, said};
 
 /// Writes the forms in one way, each with its places and a blank after it.
 #[cycle(show)]

@@ -1,0 +1,31 @@
+//! Rows of tests of configurations, s-expressions and plans, from the files that the arguments name
+//! (`docs/TEST_ROWS.md`).
+#![tactic(auto)]
+
+mod block;
+mod configs;
+mod forms;
+mod gaps;
+mod kinds;
+mod plans;
+mod sheet;
+
+use crate::sheet::read_sheet;
+use std::rt::{Env, Files};
+use std::{env, fs, io};
+
+fn main(rt: HostRuntime) -> io::Result<()> {
+    for name in env::args(&rt)?.skip(1) {
+        print_file(&rt, name.as_str())?;
+    }
+    Ok(())
+}
+
+/// Prints what is found of the rows of the file.
+fn print_file<R: Files + Print + AllocGlobal>(rt: &R, name: &str) -> io::Result<()> {
+    let text = fs::read_to_string(rt, name)?;
+    match read_sheet(rt.alloc(), text.as_str()) {
+        Ok(tally) => tally.print(rt, name),
+        Err(_) => println!(rt; "{name}: out of memory"),
+    }
+}

@@ -1,0 +1,34 @@
+//! Rows of tests of messages, fields, frames, values and queries, from the files that the arguments name
+//! (`docs/TEST_ROWS.md`).
+#![tactic(auto)]
+
+mod events;
+mod fields;
+mod frames;
+mod kinds;
+mod messages;
+mod queries;
+mod rising;
+mod sheet;
+mod shown;
+mod values;
+
+use crate::sheet::read_sheet;
+use std::rt::{Env, Files};
+use std::{env, fs, io};
+
+fn main(rt: HostRuntime) -> io::Result<()> {
+    for name in env::args(&rt)?.skip(1) {
+        print_file(&rt, name.as_str())?;
+    }
+    Ok(())
+}
+
+/// Prints what is found of the rows of the file.
+fn print_file<R: Files + Print + AllocGlobal>(rt: &R, name: &str) -> io::Result<()> {
+    let text = fs::read_to_string(rt, name)?;
+    match read_sheet(rt.alloc(), text.as_str()) {
+        Ok(tally) => tally.print(rt, name),
+        Err(_) => println!(rt; "{name}: out of memory"),
+    }
+}

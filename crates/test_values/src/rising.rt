@@ -1,0 +1,78 @@
+//! Values and keys that a block lists in their order.
+
+use crate::events::Named;
+use crate::values::{read_key, read_value};
+use ev_types::{Key, Memory, Value};
+use std::alloc::Global;
+use std::cmp::Ordering;
+use test_rows::{RowFault, Tally};
+
+/// Values, and keys, that a block lists in their order.
+#[derive(Drop)]
+pub struct Rising {
+    values: Vec<Value>,
+    keys: Vec<Key>,
+}
+
+impl Rising {
+    pub fn fresh(alloc: Global) -> Rising {
+        Rising {
+            values: Vec::new(alloc),
+            keys: Vec::new(alloc),
+        }
+    }
+
+    pub fn push_value(&mut self, alloc: Global, text: &str) -> Result<(), RowFault> {
+        let value = read_value(alloc, text)?;
+        self.values.push(value.copy(alloc)?)?;
+        Ok(())
+    }
+
+    pub fn push_key(&mut self, alloc: Global, named: &[Named], text: &str) -> Result<(), RowFault> {
+        self.keys.push(read_key(alloc, text, named)?)?;
+        Ok(())
+    }
+}
+
+/// Compares each two values, and each two keys.
+pub fn judge_rising(alloc: Global, rising: &Rising, tally: &mut Tally) -> Result<(), Memory> {
+    judge_items(alloc, rising.values.as_slice(), tally)?;
+    judge_items(alloc, rising.keys.as_slice(), tally)
+}
+
+fn judge_items<T: Ord>(alloc: Global, items: &[T], tally: &mut Tally) -> Result<(), Memory> {
+    for (place, item) in items.iter().enumerate() {
+        judge_item(alloc, place, item, items, tally)?;
+    }
+    Ok(())
+}
+
+/// Compares the item at the place with each item.
+fn judge_item<T: Ord>(
+    alloc: Global,
+    place: usize,
+    item: &T,
+    items: &[T],
+    tally: &mut Tally,
+) -> Result<(), Memory> {
+    for (other_place, other) in items.iter().enumerate() {
+        let places = (place, other_place);
+        judge_order(alloc, places, item.cmp(other), item == other, tally)?;
+    }
+    Ok(())
+}
+
+/// Compares the order of two with that of their places.
+fn judge_order(
+    alloc: Global,
+    places: (usize, usize),
+    order: Ordering,
+    same: bool,
+    tally: &mut Tally,
+) -> Result<(), Memory> {
+    let (i, k) = places;
+    let asked = format!(in alloc; "{i} {k}")?;
+    let wanted = format!(in alloc; "{:?} {}", i.cmp(&k), i == k)?;
+    let came = format!(in alloc; "{order:?} {same}")?;
+    tally.judge("rising", asked.as_str(), wanted.as_bytes(), came.as_bytes())
+}
