@@ -21,7 +21,7 @@ const APART: [&str; 15] = [
     "(streams (by :host (by :state (with :state nil (notice \"n\")))))",
     "(streams (by :host (batch 2 5 (smap folds/sum (notice \"n\")))))",
     "(streams (by :host index) (by [:host :owner] (stable 5 :state index)))",
-    "(streams (default :ttl 60 index) (sdo (tag \"t\" (by :host (coalesce index)))))",
+    "(streams (default :ttl 60 index) (sdo (tag \"t\" (by :host (coalesce (notice \"n\"))))))",
     "(streams (where (service \"cpu\") (by :host (runs 2 :state index)) (else (notice \"n\"))))",
 ];
 
@@ -30,7 +30,7 @@ const MIXED: [&str; 11] = [
     "(streams (throttle 1 5 (notice \"n\")))",
     "(streams (by :host index) (throttle 1 5 (notice \"n\")))",
     "(streams (changed :state (by :host index)))",
-    "(streams (by :state (batch 2 5 index)))",
+    "(streams (by :state (batch 2 5 (notice \"n\"))))",
     "(streams (by :owner index))",
     "(streams (with :host \"a\" index))",
     "(streams (by :host (with :host \"a\" index)))",
