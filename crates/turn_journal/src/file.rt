@@ -12,8 +12,8 @@ use disk_port::{Disk, DiskError};
 use ev_types::{Blob, Memory};
 use std::alloc::Global;
 
-/// A journal on a disk that is lent. Contracts see the disk, the place of the closed gate and whether a record is before
-/// it.
+/// A journal on a disk that is lent. Contracts see the disk, the place of the closed gate and whether a record is
+/// before it.
 #[derive(Drop)]
 pub struct JournalFile<'a, D: Disk> {
     pub disk: &'a mut D,
@@ -40,8 +40,8 @@ impl<'a, D: Disk> JournalFile<'a, D> {
         }
     }
 
-    /// Syncs, and finds the journal in the disk's file. It gives its bytes too, and writes nothing. What is known after an
-    /// error [`load_on`] says.
+    /// Syncs, and finds the journal in the disk's file. It gives its bytes too, and writes nothing. What is known after
+    /// an error [`load_on`] says.
     pub fn load(alloc: Global, disk: &'a mut D) -> Result<(JournalFile<'a, D>, Blob), JournalFault>
         ensures ok { IfOk result (λ loaded. ForSome (D.report disk.entry.now).past (λ past.
             IsLoaded past (record { gate = loaded.0.gate; has_record = loaded.0.has_record })
