@@ -8,6 +8,8 @@ mod load;
 #[cfg(test)]
 mod notices;
 #[cfg(test)]
+mod silence;
+#[cfg(test)]
 mod sockets;
 #[cfg(test)]
 mod stores;

@@ -9,7 +9,7 @@ use std::test::Fail;
 use std::time::Clock;
 
 /// The server waits for all there is on the link of this number.
-fn all_of(link: u64) -> Want {
+pub(crate) fn all_of(link: u64) -> Want {
     Want {
         link,
         read: true,
@@ -36,7 +36,7 @@ fn listen_on<L: Links>(
 }
 
 /// Listens on the first port from 25000 on that is free, and gives its address.
-fn listen<L: Links>(alloc: Global, links: &mut L) -> Result<Option<String>, Fail> {
+pub(crate) fn listen<L: Links>(alloc: Global, links: &mut L) -> Result<Option<String>, Fail> {
     for port in 25_000u16..25_200 {
         let address = format!(in alloc; "127.0.0.1:{port}")?;
         if let ListenAnswer::Ready { .. } = listen_on(alloc, links, address.as_str())? {
@@ -59,7 +59,12 @@ fn connect<R: Net + Clock>(
 }
 
 /// The next turn that is not idle, of the next fifty.
-fn next_turn<L: Links>(alloc: Global, links: &mut L, wants: &Wants, buf: &mut [u8]) -> What {
+pub(crate) fn next_turn<L: Links>(
+    alloc: Global,
+    links: &mut L,
+    wants: &Wants,
+    buf: &mut [u8],
+) -> What {
     if buf.len() != PIECE_LIMIT {
         return What::Failed;
     }

@@ -1,0 +1,186 @@
+use crate::sockets::{all_of, listen, next_turn};
+use ev_types::Memory;
+use mio_links::{MioLinks, Readings, Refusal, refusal_of};
+use ports::{Links, Wants, What};
+use std::alloc::Global;
+use std::cell::Cell;
+use std::io;
+use std::io::Write;
+use std::net::{Net, SocketAddr, TcpStream};
+use std::test::Fail;
+use std::time::{Clock, Duration};
+
+/// The system's sockets, beside a clock that is set by hand.
+#[derive(Drop)]
+struct SetClock<'a, R: Net> {
+    rt: &'a R,
+    secs: Cell<u64>,
+}
+
+impl<'a, R: Net> Clock for SetClock<'a, R> {
+    fn monotonic(&self) -> io::Result<Duration> {
+        self.since_1970()
+    }
+
+    fn since_1970(&self) -> io::Result<Duration> {
+        Ok(Duration::from_secs(self.secs.get()))
+    }
+}
+
+impl<'a, R: Net> Net for SetClock<'a, R> {
+    type Stream = R::Stream;
+
+    type Listener = R::Listener;
+
+    fn bind(&self, addr: SocketAddr) -> io::Result<R::Listener> {
+        self.rt.bind(addr)
+    }
+
+    fn connect(&self, addr: SocketAddr) -> io::Result<R::Stream> {
+        self.rt.connect(addr)
+    }
+}
+
+/// The server waits for all there is on `count` links from 0 on, and not on the one that was left out.
+fn all_but(alloc: Global, count: u64, left_out: u64) -> Result<Wants, Memory> {
+    let mut wants = Wants::fresh(alloc);
+    for link in 0..count {
+        if link != left_out {
+            wants.push(alloc, all_of(link))?;
+        }
+    }
+    Ok(wants)
+}
+
+/// Connects 256 clients, each of which opens a link.
+fn fill<R: Net + Clock>(
+    rt: &R,
+    alloc: Global,
+    links: &mut MioLinks<'_, R>,
+    address: &str,
+    buf: &mut [u8],
+) -> Result<Vec<R::Stream>, Fail> {
+    let mut clients = Vec::new(alloc);
+    for link in 0..256u64 {
+        clients.push(TcpStream::connect(rt, address)?)?;
+        let wants = all_but(alloc, link, link)?;
+        let opened = What::Opened { link };
+        if next_turn(alloc, links, &wants, buf) != opened {
+            return Err(Fail::from("not opened"));
+        }
+    }
+    Ok(clients)
+}
+
+/// What the next turn is when one more client comes. Its link is closed again.
+fn one_more<R: Net + Clock>(
+    rt: &R,
+    alloc: Global,
+    links: &mut MioLinks<'_, R>,
+    address: &str,
+    wants: &Wants,
+    buf: &mut [u8],
+) -> Result<What, Fail> {
+    let client = TcpStream::connect(rt, address)?;
+    let what = next_turn(alloc, links, wants, buf);
+    links.close(256);
+    drop(client);
+    Ok(what)
+}
+
+/// Whether a link is given up for its silence after ten minutes, and not a second before.
+fn is_given_up<'b, R: Net>(
+    clock: &SetClock<'b, R>,
+    alloc: Global,
+    links: &mut MioLinks<'_, SetClock<'b, R>>,
+) -> Result<bool, Fail> {
+    let mut buf = vec![in alloc; 0; 65_536]?;
+    let buf = buf.as_mut_slice();
+    let address = listen(alloc, links)?.ok_or("no port")?;
+    let mut clients = fill(clock, alloc, links, address.as_str(), buf)?;
+    let wants = all_but(alloc, 256, 256)?;
+    clock.secs.set(599);
+    let before = one_more(clock, alloc, links, address.as_str(), &wants, buf)?;
+    clients.as_mut_slice()[0].write_all(b"x")?;
+    let heard = next_turn(alloc, links, &wants, buf);
+    clock.secs.set(600);
+    let late = TcpStream::connect(clock, address.as_str())?;
+    let broken = next_turn(alloc, links, &wants, buf);
+    links.close(1);
+    let wants = all_but(alloc, 256, 1)?;
+    let opened = next_turn(alloc, links, &wants, buf);
+    drop(late);
+    Ok(
+        before == What::Opened { link: 256 }
+            && heard == What::Read { link: 0, count: 1 }
+            && broken == What::Broken { link: 1 }
+            && opened == What::Opened { link: 257 },
+    )
+}
+
+#[test]
+fn the_link_that_was_silent_longest_makes_room(rt: HostRuntime) -> Result<(), Fail> {
+    let clock = SetClock {
+        rt: &rt,
+        secs: Cell::new(0),
+    };
+    let mut links = MioLinks::fresh(&clock, rt.alloc())?;
+    assert!(rt; is_given_up(&clock, rt.alloc(), &mut links)?);
+    Ok(())
+}
+
+/// Whether the system's numbers say so.
+fn are_refused(rows: &[(u32, Refusal)]) -> bool {
+    for row in rows {
+        if refusal_of(row.0) != row.1 {
+            return false;
+        }
+    }
+    true
+}
+
+#[test]
+fn only_a_failure_of_the_listener_ends_the_server(rt: HostRuntime) {
+    let rows = [
+        (1, Refusal::Lack),
+        (4, Refusal::OneConnection),
+        (9, Refusal::Listener),
+        (11, Refusal::NoneWaits),
+        (12, Refusal::Lack),
+        (22, Refusal::Listener),
+        (23, Refusal::Lack),
+        (24, Refusal::Lack),
+        (71, Refusal::OneConnection),
+        (103, Refusal::OneConnection),
+        (105, Refusal::Lack),
+        (113, Refusal::OneConnection),
+        (114, Refusal::Listener),
+    ];
+    assert!(rt; are_refused(&rows));
+}
+
+/// Whether the clock is far ahead after each of these readings, as given.
+fn are_ahead(first: u64, rows: &[(u64, bool)]) -> bool {
+    let mut readings = Readings::first(first);
+    for row in rows {
+        readings.take(row.0);
+        if readings.are_ahead() != row.1 {
+            return false;
+        }
+    }
+    true
+}
+
+#[test]
+fn a_turn_waits_unless_the_clock_is_over_an_hour_ahead(rt: HostRuntime) {
+    let rows = [
+        (3_600, false),
+        (10_800, false),
+        (10_801, false),
+        (18_002, true),
+        (18_002, false),
+        (5, false),
+        (u64::MAX, true),
+    ];
+    assert!(rt; are_ahead(0, &rows));
+}
