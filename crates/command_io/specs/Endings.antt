@@ -10,7 +10,7 @@ use Rattle.command_io.specs.declared.ending.Source.{Source}
 use Rattle.command_io.specs.declared.ending.Source.TheVariants.{ConfigFile, OtherFile}
 use Rattle.command_io.specs.declared.limits.TheConstants.{CONFIG_LIMIT, FILE_LIMIT}
 use Rattle.command_io.specs.declared.status.Status.{Status}
-use Rattle.command_io.specs.declared.status.Status.TheVariants.{Done, Usage, Config, ReadFault, SinkFault, LinkFault, Memory, Script, Truncated, TooLong}
+use Rattle.command_io.specs.declared.status.Status.TheVariants.{Done, Usage, Config, ReadFault, SinkFault, LinkFault, Memory, Script, Truncated, TooLong, Lines}
 use Rattle.command_io.specs.Files.{LastFailed, NoneFailed, ReadMore, read_name}
 use Rattle.command_io.specs.Lines.{left_line, links_line, memory_line, refusal_line, script_line, too_long_line, unread_line}
 
@@ -26,6 +26,7 @@ code_of Memory = 6
 code_of Script = 7
 code_of Truncated = 8
 code_of TooLong = 9
+code_of Lines = 10
 
 abbrev pub status_of : Ending → Status
 status_of Finished = Done

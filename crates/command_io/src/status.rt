@@ -24,6 +24,8 @@ pub enum Status {
     Truncated,
     /// A file is longer than its limit.
     TooLong,
+    /// Lines of the text that was converted were refused.
+    Lines,
 }
 
 impl Status {
@@ -44,6 +46,7 @@ impl Status {
             Status::Script => 7,
             Status::Truncated => 8,
             Status::TooLong => 9,
+            Status::Lines => 10,
         }
     }
 }

@@ -1,12 +1,14 @@
 -- A command that ran matches the arguments, and its status says so.
-use Rattle.std.proofs.Common.{◌≡◌, ℕ, List}
+use Rattle.std.proofs.Common.{◌≡◌, ℕ, List, Option, subst}
 use Rattle.command_io.specs.declared.ending.Ending.{Ending}
 use Rattle.command_io.specs.declared.ending.Ending.TheVariants.{Finished, ConfigRefused, Unread, OverLimit, BytesLeft, WriteFailed, LinksFailed, ScriptRefused, OutOfMemory}
 use Rattle.command_io.specs.declared.status.Status.{Status}
-use Rattle.command_io.specs.declared.status.Status.TheVariants.{Done, Usage, Config, ReadFault, SinkFault, LinkFault, Memory, Script, Truncated, TooLong}
+use Rattle.command_io.specs.declared.status.Status.TheVariants.{Done, Usage, Config, ReadFault, SinkFault, LinkFault, Memory, Script, Truncated, TooLong, Lines}
+use Rattle.command_io.specs.Reports.{Reports}
+use Rattle.graphite_command.specs.Converts.{ConvertEnds, Converts}
 use Rattle.command_io.specs.Endings.{IsRefusal, IsRefusalOrMemory, status_of}
 use Rattle.riemann_commands.specs.declared.command.Command.{Command}
-use Rattle.riemann_commands.specs.declared.command.Command.TheVariants.{Feed, Check, Replay, Serve, Load}
+use Rattle.riemann_commands.specs.declared.command.Command.TheVariants.{Feed, Check, Replay, Serve, Load, Graphite}
 use Rattle.riemann_commands.specs.Commands.{IsCommandOf}
 use Rattle.riemann_commands.specs.Words.{IsUsage}
 
@@ -30,6 +32,12 @@ named words (Check config) is usage = usage.1 config.now is
 named words (Replay config script) is usage = usage.2 config.now script.now is
 named words (Serve config turns) is usage = usage.3 config.now turns is
 named words (Load config count start) is usage = usage.4 config.now count start is
+named words (Graphite file host_part) is usage = usage.5 file.now host_part is
+
+-- the command that converts has an end of its own
+pub not_usage_converting : (file : List ℕ) (host_part : Option ℕ) (old new : Reports) (status : Status) → Converts file host_part old new status → status ≡ Usage → ⊥
+not_usage_converting file host_part old new status promise e =
+    let P : Status → Type 0 = λ s. ConvertEnds file host_part old new s in let ends = subst P e promise.ends in ends.2
 
 -- ---- what was not written
 
@@ -44,6 +52,7 @@ refusal_or_memory Memory refused = tt
 refusal_or_memory Script refused = refused
 refusal_or_memory Truncated refused = refused
 refusal_or_memory TooLong refused = refused
+refusal_or_memory Lines refused = refused
 
 pub out_of_memory : (status : Status) → status ≡ Memory → IsRefusalOrMemory status
 out_of_memory status e = rw e tt

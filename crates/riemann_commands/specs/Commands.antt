@@ -1,8 +1,8 @@
 -- The command that matches the arguments.
 use Rattle.std.specs.Prelude.{◌≡◌, ℕ, List}
 use Rattle.riemann_commands.specs.declared.command.Command.{Command}
-use Rattle.riemann_commands.specs.declared.command.Command.TheVariants.{Feed, Check, Replay, Serve, Load}
-use Rattle.riemann_commands.specs.Words.{IsLoad, IsServe, check_words, feed_words, replay_words}
+use Rattle.riemann_commands.specs.declared.command.Command.TheVariants.{Feed, Check, Replay, Serve, Load, Graphite}
+use Rattle.riemann_commands.specs.Words.{IsGraphite, IsLoad, IsServe, check_words, feed_words, replay_words}
 
 -- the arguments are those of the command
 abbrev pub IsCommandOf : List (List ℕ) → Command → Type 0
@@ -11,6 +11,7 @@ IsCommandOf words (Check config) = words ≡ check_words config.now
 IsCommandOf words (Replay config script) = words ≡ replay_words config.now script.now
 IsCommandOf words (Serve config turns) = IsServe words config.now turns
 IsCommandOf words (Load config count start) = IsLoad words config.now count start
+IsCommandOf words (Graphite file host_part) = IsGraphite words file.now host_part
 
 -- a command matches the arguments
 abbrev pub IsCommand : List (List ℕ) → Type 0

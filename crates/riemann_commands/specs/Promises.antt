@@ -7,13 +7,14 @@ use Rattle.command_io.specs.Reports.{Reports}
 use Rattle.command_io.specs.declared.status.Status.{Status}
 use Rattle.command_io.specs.declared.status.Status.TheVariants.{Done, Usage, ReadFault, SinkFault, LinkFault, Memory}
 use Rattle.feed_command.specs.Feeds.{Feeds}
+use Rattle.graphite_command.specs.Converts.{Converts}
 use Rattle.load_command.specs.Loads.{Loads}
 use Rattle.ports.specs.Counts.{Rose}
 use Rattle.ports.specs.Writing.{Got, SinkReport}
 use Rattle.replay_command.specs.Replays.{Replays}
 use Rattle.serve_command.specs.Serves.{Serves}
 use Rattle.riemann_commands.specs.Commands.{IsCommand}
-use Rattle.riemann_commands.specs.Words.{IsUsage, OnCheck, OnFeed, OnLoad, OnReplay, OnServe}
+use Rattle.riemann_commands.specs.Words.{IsUsage, OnCheck, OnFeed, OnGraphite, OnLoad, OnReplay, OnServe}
 
 -- the facts that each of the objects that were handed in is as it was
 pub record Sameness : Type 1 where
@@ -35,7 +36,9 @@ pub record Promises (words : List (List ℕ)) (old new : Reports) (same : Samene
   pub idle : status ≡ Usage → same.Store × same.Links × same.Patterns × same.Steps × GotLineOf usage_line old.err new.err
   pub untouched : IsRefusal status → same.Out × same.Links
   pub memory : status ≡ Memory → OnReplay words (λ config script. ⊥) → OnServe words (λ config turns. ⊥) → same.Out
-  pub no_line : HasNoLine status → OnFeed words (λ config file. ⊥) → same.Err
+  pub no_line : HasNoLine status → OnFeed words (λ config file. ⊥)
+      → OnGraphite words (λ file host_part. ⊥) → same.Err
+  pub done : status ≡ Done → OnFeed words (λ config file. ⊥) → same.Err
   pub read_fault : status ≡ ReadFault → Rose old.store.faults new.store.faults
   pub sink_fault : status ≡ SinkFault → Rose old.out.faults new.out.faults ⊎ Rose old.err.faults new.err.faults
   pub link_fault : status ≡ LinkFault → Rose old.links.faults new.links.faults
@@ -44,6 +47,7 @@ pub record Promises (words : List (List ℕ)) (old new : Reports) (same : Samene
   pub replay : OnReplay words (λ config script. Replays config script old new same.Patterns status)
   pub serve : OnServe words (λ config turns. Serves config turns old new same.Patterns status)
   pub load : OnLoad words (λ config count start. Loads config count start old new same.Patterns status)
+  pub graphite : OnGraphite words (λ file host_part. Converts file host_part old new status)
 
 -- ---- the options, which the program answers itself
 

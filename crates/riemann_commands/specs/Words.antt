@@ -1,5 +1,5 @@
 -- The arguments of the command line.
-use Rattle.std.specs.Prelude.{◌≡◌, ℕ, ◌≤◌, ◌⊎◌, List, [], ◌∷◌, codes, Some}
+use Rattle.std.specs.Prelude.{◌≡◌, ℕ, ◌≤◌, ◌⊎◌, List, [], ◌∷◌, length, codes, Option, Some, None}
 use Rattle.load_command.specs.declared.play.TheConstants.{EVENT_LIMIT}
 use Rattle.ports.specs.Counts.{greatest}
 use Rattle.script_text.specs.Words.{number_of}
@@ -36,6 +36,24 @@ pub record IsLoad (words : List (List ℕ)) (config : List ℕ) (count start : �
   pub few : count ≤ EVENT_LIMIT
   pub starts : number_of second ≡ Some start
 
+abbrev pub graphite_words : List ℕ → List (List ℕ)
+graphite_words file = codes "graphite" ∷ (file ∷ [])
+
+abbrev pub graphite_host_words : List ℕ → List ℕ → List (List ℕ)
+graphite_host_words file number = codes "graphite" ∷ (file ∷ (codes "--host" ∷ (number ∷ [])))
+
+-- 1 or 2 digits with a value from 1 to 64
+pub record IsHostPart (word : List ℕ) (part : ℕ) : Type 0 where
+  pub digits : number_of word ≡ Some part
+  pub short : length word ≤ 2
+  pub least : 1 ≤ part
+  pub most : part ≤ 64
+
+-- the arguments are `graphite FILE --host K` with this number, or `graphite FILE` and there is none
+abbrev pub IsGraphite : List (List ℕ) → List ℕ → Option ℕ → Type 0
+IsGraphite words file host_part = ((words ≡ graphite_words file) × (host_part ≡ None))
+    ⊎ ((number : List ℕ) × (part : ℕ) × (words ≡ graphite_host_words file number) × IsHostPart number part × (host_part ≡ Some part))
+
 -- ---- facts of the names, where the arguments are those of the command
 
 abbrev pub OnFeed : List (List ℕ) → (List ℕ → List ℕ → Type 0) → Type 0
@@ -53,7 +71,11 @@ OnServe words P = (config : List ℕ) (turns : ℕ) → IsServe words config tur
 abbrev pub OnLoad : List (List ℕ) → (List ℕ → ℕ → ℕ → Type 0) → Type 0
 OnLoad words P = (config : List ℕ) (count start : ℕ) → IsLoad words config count start → P config count start
 
+abbrev pub OnGraphite : List (List ℕ) → (List ℕ → Option ℕ → Type 0) → Type 0
+OnGraphite words P = (file : List ℕ) (host_part : Option ℕ) → IsGraphite words file host_part → P file host_part
+
 -- no command matches the arguments
 abbrev pub IsUsage : List (List ℕ) → Type 0
 IsUsage words = OnFeed words (λ config file. ⊥) × OnCheck words (λ config. ⊥)
     × OnReplay words (λ config script. ⊥) × OnServe words (λ config turns. ⊥) × OnLoad words (λ config count start. ⊥)
+    × OnGraphite words (λ file host_part. ⊥)

@@ -1,4 +1,4 @@
-ghost use Rattle.std.specs.Prelude.{◌≡◌, [], ◌∷◌, MatchOption};
+ghost use Rattle.std.specs.Prelude.{◌≡◌, [], ◌∷◌, codes, MatchOption};
 ghost use Rattle.riemann_commands.specs.Commands.{IsCommandOf};
 ghost use Rattle.riemann_commands.specs.Words.{IsUsage, load_words};
 
@@ -30,7 +30,18 @@ pub(crate) enum Command<'a> {
         count: u64,
         start: u64,
     },
+    /// The host is the part of this number of a path, from 1 to 64, if there is a number.
+    Graphite {
+        file: &'a Text,
+        host_part: Option<u32>,
+    },
 }
+
+/// The greatest number of the part of a path that is the host.
+const MOST_HOST_PART: u64 = 64;
+
+/// The most digits of that number.
+const HOST_PART_DIGITS: usize = 2;
 
 /// The command that matches the arguments.
 pub(crate) fn command_of<'a>(words: &'a [Text]) -> Option<Command<'a>>
@@ -45,16 +56,21 @@ pub(crate) fn command_of<'a>(words: &'a [Text]) -> Option<Command<'a>>
 }
 
 /// The command with one argument after its name.
-fn command_on_one<'a>(command: &'a Text, config: &'a Text) -> Option<Command<'a>>
-    ensures { MatchOption result (IsUsage (command.now ∷ (config.now ∷ [])))
-        (λ found. IsCommandOf (command.now ∷ (config.now ∷ [])) found) }
+fn command_on_one<'a>(command: &'a Text, name: &'a Text) -> Option<Command<'a>>
+    ensures { MatchOption result (IsUsage (command.now ∷ (name.now ∷ [])))
+        (λ found. IsCommandOf (command.now ∷ (name.now ∷ [])) found) }
 {
     if command.is(b"check") {
-        Some(Command::Check { config })
+        Some(Command::Check { config: name })
     } else if command.is(b"serve") {
         Some(Command::Serve {
-            config,
+            config: name,
             turns: u64::MAX,
+        })
+    } else if command.is(b"graphite") {
+        Some(Command::Graphite {
+            file: name,
+            host_part: None,
         })
     } else {
         None
@@ -93,6 +109,9 @@ fn command_on_three<'a>(
     if command.is(b"load") {
         return load_of(config, second, third);
     }
+    if command.is(b"graphite") {
+        return graphite_of(config, second, third);
+    }
     if !command.is(b"serve") || !second.is(b"--turns") {
         return None;
     }
@@ -116,5 +135,25 @@ fn load_of<'a>(config: &'a Text, count: &'a Text, start: &'a Text) -> Option<Com
         config,
         count,
         start,
+    })
+}
+
+/// The command `graphite` of this file, with an option and its number.
+fn graphite_of<'a>(file: &'a Text, option: &'a Text, number: &'a Text) -> Option<Command<'a>>
+    ensures { MatchOption result
+        (IsUsage (codes "graphite" ∷ (file.now ∷ (option.now ∷ (number.now ∷ [])))))
+        (λ found. IsCommandOf
+        (codes "graphite" ∷ (file.now ∷ (option.now ∷ (number.now ∷ [])))) found) }
+{
+    if !option.is(b"--host") || number.as_bytes().len() > HOST_PART_DIGITS {
+        return None;
+    }
+    let part = read_number(number.as_bytes())?;
+    if part == 0 || part > MOST_HOST_PART {
+        return None;
+    }
+    Some(Command::Graphite {
+        file,
+        host_part: Some(part as u32),
     })
 }

@@ -29,6 +29,8 @@ commands:
   serve CONFIG            serve clients; write the lines of notices
   serve CONFIG --turns N  the same, for at most N turns
   load CONFIG N START     serve a generated load of N events in memory; write what it came to
+  graphite FILE           convert lines of a path, a value and a time to frames
+  graphite FILE --host K  the same; part K of a path is the host
 
 options:
   --help                  write this text

@@ -4,18 +4,20 @@ ghost use Rattle.command_io.specs.Endings.{GotLineOf, HasNoLine, IsRefusal};
 ghost use Rattle.command_io.specs.Lines.{usage_line};
 ghost use Rattle.command_io.specs.Reports.{reports};
 ghost use Rattle.feed_command.specs.Feeds.{Feeds};
+ghost use Rattle.graphite_command.specs.Converts.{Converts};
 ghost use Rattle.load_command.specs.Loads.{Loads};
 ghost use Rattle.ports.specs.Counts.{Rose};
 ghost use Rattle.replay_command.specs.Replays.{Replays};
 ghost use Rattle.serve_command.specs.Serves.{Serves};
 ghost use Rattle.riemann_commands.specs.Commands.{IsCommand};
-ghost use Rattle.riemann_commands.specs.Words.{IsUsage, OnCheck, OnFeed, OnLoad, OnReplay, OnServe};
+ghost use Rattle.riemann_commands.specs.Words.{IsUsage, OnCheck, OnFeed, OnGraphite, OnLoad, OnReplay, OnServe};
 
 use crate::command::{Command, command_of};
 use check_command::check;
 use command_io::{Status, USAGE, put_line};
 use ev_types::Text;
 use feed_command::feed;
+use graphite_command::graphite;
 use load_command::load;
 use ports::{Links, Sink, Store};
 use pred_eval::Patterns;
@@ -34,6 +36,8 @@ use step_count::{Ledger, Steps};
 /// | `serve CONFIG` | runs a server over `links`; notice lines go to `out` |
 /// | `serve CONFIG --turns N` | the same, for at most N turns |
 /// | `load CONFIG N START` | runs a server over a generated load of N events; counts notices, and writes one line to `out` |
+/// | `graphite FILE` | converts lines after Graphite's plain text to frames, which go to `out`, and then a line for each that is refused to `err` |
+/// | `graphite FILE --host K` | the same, where part K of a path is the host |
 ///
 /// Patterns are built by `patterns`, and the forks that are entered are counted in `steps`. A status other than `Done` and
 /// `SinkFault` has a line on `err`, which is cut where a write to `err` fails.
@@ -57,8 +61,11 @@ pub fn riemann<S: Store, L: Links, O: Sink, E: Sink, P: Patterns, G: Ledger>(
     // If memory runs out, only commands that write notices to `out` have written to it.
     ensures memory { result ≡ Status.Memory → OnReplay words.now (λ config script. ⊥) →
         OnServe words.now (λ config turns. ⊥) → out.new ≡ out.old }
-    // Without a line of its own for the status, only `feed` writes to `err`, where its notices go.
+    // Without a line of its own for the status, only `feed` writes to `err`, where its notices go, and `graphite`, if it
+    // could not write a line for each refused one.
     ensures no_line { HasNoLine result → OnFeed words.now (λ config file. ⊥) →
+        OnGraphite words.now (λ file host_part. ⊥) → err.new ≡ err.old }
+    ensures done { result ≡ Status.Done → OnFeed words.now (λ config file. ⊥) →
         err.new ≡ err.old }
     ensures read_fault { result ≡ Status.ReadFault →
         Rose (S.report store.old).faults (S.report store.new).faults }
@@ -96,6 +103,11 @@ pub fn riemann<S: Store, L: Links, O: Sink, E: Sink, P: Patterns, G: Ledger>(
         (P.report patterns.old) steps.old.forks)
         (reports (S.report store.new) (L.report links.new) (O.report out.new) (E.report err.new)
         (P.report patterns.new) steps.new.forks) (patterns.new ≡ patterns.old) result) }
+    ensures graphite { OnGraphite words.now (λ file host_part. Converts file host_part
+        (reports (S.report store.old) (L.report links.old) (O.report out.old) (E.report err.old)
+        (P.report patterns.old) steps.old.forks)
+        (reports (S.report store.new) (L.report links.new) (O.report out.new) (E.report err.new)
+        (P.report patterns.new) steps.new.forks) result) }
 {
     match command_of(words) {
         Some(Command::Feed { config, file }) => {
@@ -119,6 +131,9 @@ pub fn riemann<S: Store, L: Links, O: Sink, E: Sink, P: Patterns, G: Ledger>(
         ) => load(
             alloc, config, count, start, store, out, err, patterns, steps,
         ),
+        Some(Command::Graphite { file, host_part }) => {
+            graphite(alloc, file, host_part, store, out, err)
+        }
         None => {
             put_line(err, &[USAGE]);
             Status::Usage

@@ -9,6 +9,7 @@ returns-in-Ok-clause-command g c = rw c.in-Ok.is (λ none. rw (sym c.as_slice.en
   untouched = c.riemann.ensures.untouched;
   memory = c.riemann.ensures.memory;
   no_line = c.riemann.ensures.no_line;
+  done = c.riemann.ensures.done;
   read_fault = c.riemann.ensures.read_fault;
   sink_fault = c.riemann.ensures.sink_fault;
   link_fault = c.riemann.ensures.link_fault;
@@ -17,4 +18,5 @@ returns-in-Ok-clause-command g c = rw c.in-Ok.is (λ none. rw (sym c.as_slice.en
   replay = c.riemann.ensures.replay;
   serve = c.riemann.ensures.serve;
   load = c.riemann.ensures.load;
+  graphite = c.riemann.ensures.graphite;
 }))

@@ -1,5 +1,5 @@
 use Rattle.std.proofs.Common.{refl}
-use Rattle.riemann_commands.proofs.CommandLaws.{named, not_usage, out_of_memory, refusal_or_memory}
+use Rattle.riemann_commands.proofs.CommandLaws.{named, not_usage, not_usage_converting, out_of_memory, refusal_or_memory}
 use Rattle.riemann_commands.proofs.server.riemann.Goals as goal
 
 pub returns-in-Some-Feed-clause-usage : goal.returns-in-Some-Feed-clause-usage
@@ -79,3 +79,25 @@ returns-in-Some-Serve-clause-memory g c = λ e not_replay not_serve. absurd (not
 
 pub returns-in-Some-Feed-clause-no_line : goal.returns-in-Some-Feed-clause-no_line
 returns-in-Some-Feed-clause-no_line g c = λ quiet not_feed. absurd (not_feed _ _ (rw c.in-Some-Feed.field-0-is at c.in-Some-Feed.ensures))
+
+pub returns-in-Some-Graphite-clause-usage : goal.returns-in-Some-Graphite-clause-usage
+returns-in-Some-Graphite-clause-usage g c =
+    let promise = c.graphite.ensures.promise (g.L.Links.report c.args.links.now) (g.P.Patterns.report c.args.patterns.now) c.args.steps.now.forks in
+    (λ e. absurd (not_usage_converting _ _ _ _ _ promise e), λ usage. absurd (named _ _ c.in-Some-Graphite.ensures usage))
+
+pub returns-in-Some-Graphite-clause-idle : goal.returns-in-Some-Graphite-clause-idle
+returns-in-Some-Graphite-clause-idle g c =
+    let promise = c.graphite.ensures.promise (g.L.Links.report c.args.links.now) (g.P.Patterns.report c.args.patterns.now) c.args.steps.now.forks in
+    λ e. absurd (not_usage_converting _ _ _ _ _ promise e)
+
+pub returns-in-Some-Graphite-clause-untouched : goal.returns-in-Some-Graphite-clause-untouched
+returns-in-Some-Graphite-clause-untouched g c = λ refused. (c.graphite.ensures.untouched (refusal_or_memory c.graphite.result refused), refl)
+
+pub returns-in-Some-Graphite-clause-memory : goal.returns-in-Some-Graphite-clause-memory
+returns-in-Some-Graphite-clause-memory g c = λ e not_replay not_serve. c.graphite.ensures.untouched (out_of_memory c.graphite.result e)
+
+pub returns-in-Some-Graphite-clause-no_line : goal.returns-in-Some-Graphite-clause-no_line
+returns-in-Some-Graphite-clause-no_line g c = λ quiet not_feed not_graphite. absurd (not_graphite _ _ (rw c.in-Some-Graphite.field-0-is at c.in-Some-Graphite.ensures))
+
+pub returns-in-None-clause-graphite : goal.returns-in-None-clause-graphite
+returns-in-None-clause-graphite g c = λ file host_part is. absurd (c.in-None.ensures.5 file host_part is)
