@@ -4,7 +4,7 @@
 The plain program below is written from docs/GRAPHITE.md alone, and takes its time. The files are drawn from fixed numbers,
 so that each run compares the same. It prints a line for each file, and ends with status 1 if one differs.
 
-graphite.py --rows: prints rows of tests for crates/test_parts/data/graphite.rows, drawn the same way.
+graphite.py --rows: prints rows of tests for crates/test_values/data/graphite.rows, drawn the same way.
 """
 
 import pathlib
@@ -178,12 +178,14 @@ def drawn_text(draw, count):
 
 
 def spelled(content):
-    """Bytes as rows spell them."""
-    shown = b""
-    for byte in content:
-        plain = 0x21 <= byte < 0x7F and byte not in b"@=>"
-        shown += bytes([byte]) if plain else b"@<%02x>" % byte
-    return shown.replace(b">@<", b" ").decode()
+    """Bytes as rows spell them. A blank is spelled as itself only within a text."""
+    shown = ""
+    for place, byte in enumerate(content):
+        beside = content[place - 1 : place + 2] if place else b""
+        plain = 0x21 <= byte < 0x7F and byte not in b"@>"
+        blank = byte == 0x20 and len(beside) == 3 and all(0x21 <= other < 0x7F for other in (beside[0], beside[2]))
+        shown += chr(byte) if plain or blank else f"@<{byte:02x}>"
+    return shown.replace(">@<", " ")
 
 
 def shown_event(said):
@@ -211,7 +213,8 @@ def text_row(text, host_part):
 
 def print_rows():
     draw = random.Random(40)
-    print("# Lines after Graphite's plain text, without a host part (0) or with one, drawn by checks/graphite.py --rows.")
+    print("# Lines after Graphite's plain text, without a host part (0) or with one, drawn by checks/graphite.py --rows: what a")
+    print("# plain program makes of them. An event in one line is as in messages.rows.")
     print()
     for _ in range(160):
         print(line_row(drawn_line(draw), draw.choice([0, 0, 1, 2, 3, 64])))

@@ -1,5 +1,6 @@
 -- A command that ran matches the arguments, and its status says so.
-use Rattle.std.proofs.Common.{◌≡◌, ℕ, List, Option, subst}
+use Rattle.std.proofs.Common.{◌≡◌, ℕ, ◌≤◌, List, Option, Some, None, sym, ◌∙◌, subst, arith, inl, inr}
+use Rattle.std.specs.Option.{ForSome}
 use Rattle.command_io.specs.declared.ending.Ending.{Ending}
 use Rattle.command_io.specs.declared.ending.Ending.TheVariants.{Finished, ConfigRefused, Unread, OverLimit, BytesLeft, WriteFailed, LinksFailed, ScriptRefused, OutOfMemory}
 use Rattle.command_io.specs.declared.status.Status.{Status}
@@ -10,7 +11,7 @@ use Rattle.command_io.specs.Endings.{IsRefusal, IsRefusalOrMemory, status_of}
 use Rattle.riemann_commands.specs.declared.command.Command.{Command}
 use Rattle.riemann_commands.specs.declared.command.Command.TheVariants.{Feed, Check, Replay, Serve, Load, Graphite}
 use Rattle.riemann_commands.specs.Commands.{IsCommandOf}
-use Rattle.riemann_commands.specs.Words.{IsUsage}
+use Rattle.riemann_commands.specs.Words.{IsGraphite, IsUsage}
 
 no_ending : (ending : Ending) → status_of ending ≡ Usage → ⊥
 no_ending Finished e = cc
@@ -38,6 +39,14 @@ named words (Graphite file host_part) is usage = usage.5 file.now host_part is
 pub not_usage_converting : (file : List ℕ) (host_part : Option ℕ) (old new : Reports) (status : Status) → Converts file host_part old new status → status ≡ Usage → ⊥
 not_usage_converting file host_part old new status promise e =
     let P : Status → Type 0 = λ s. ConvertEnds file host_part old new s in let ends = subst P e promise.ends in ends.2
+
+-- the part of a path that is the host has a number from 1 to 64
+pub host_part_within : (words : List (List ℕ)) (file : List ℕ) (host_part : Option ℕ) → IsGraphite words file host_part
+    → ForSome host_part (λ part. (1 ≤ part) × (part ≤ 64))
+host_part_within words file host_part (inl none) part e = let no : None ≡ Some part = sym none.1 ∙ e in cc
+host_part_within words file host_part (inr (number, first, are, is, some)) part e =
+    let least = is.least in let most = is.most in let both : Some first ≡ Some part = sym some ∙ e in let same : first ≡ part = cc in
+    (omega arith, omega arith)
 
 -- ---- what was not written
 

@@ -110,7 +110,7 @@ fn command_on_three<'a>(
         return load_of(config, second, third);
     }
     if command.is(b"graphite") {
-        return graphite_of(config, second, third);
+        return graphite_of(command, config, second, third);
     }
     if !command.is(b"serve") || !second.is(b"--turns") {
         return None;
@@ -139,11 +139,17 @@ fn load_of<'a>(config: &'a Text, count: &'a Text, start: &'a Text) -> Option<Com
 }
 
 /// The command `graphite` of this file, with an option and its number.
-fn graphite_of<'a>(file: &'a Text, option: &'a Text, number: &'a Text) -> Option<Command<'a>>
+fn graphite_of<'a>(
+    command: &'a Text,
+    file: &'a Text,
+    option: &'a Text,
+    number: &'a Text,
+) -> Option<Command<'a>>
+    requires { command.now ≡ codes "graphite" }
     ensures { MatchOption result
-        (IsUsage (codes "graphite" ∷ (file.now ∷ (option.now ∷ (number.now ∷ [])))))
+        (IsUsage (command.now ∷ (file.now ∷ (option.now ∷ (number.now ∷ [])))))
         (λ found. IsCommandOf
-        (codes "graphite" ∷ (file.now ∷ (option.now ∷ (number.now ∷ [])))) found) }
+        (command.now ∷ (file.now ∷ (option.now ∷ (number.now ∷ [])))) found) }
 {
     if !option.is(b"--host") || number.as_bytes().len() > HOST_PART_DIGITS {
         return None;

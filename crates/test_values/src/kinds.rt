@@ -1,7 +1,7 @@
 //! The kinds of rows of one line.
 
 use crate::events::Named;
-use crate::{fields, frames, messages, queries, values};
+use crate::{fields, frames, graphite, messages, queries, values};
 use ev_types::Blob;
 use list_laws::{is_prefix, window_of};
 use std::alloc::Global;
@@ -38,6 +38,8 @@ fn number_answer(
         "varint" => fields::varint_answer(alloc, asked),
         "tag-and-length" => fields::tag_answer(alloc, asked),
         "frames" => frames::frames_answer(alloc, asked),
+        "graphite" => graphite::text_answer(alloc, asked),
+        "graphite-line" => graphite::line_answer(alloc, asked),
         "like" => queries::like_answer(alloc, asked),
         "prefix" => prefix_answer(alloc, asked),
         "window" => window_answer(alloc, asked),

@@ -5,6 +5,7 @@
 mod events;
 mod fields;
 mod frames;
+mod graphite;
 mod kinds;
 mod messages;
 mod queries;

@@ -1,5 +1,5 @@
 use Rattle.std.proofs.Common.{refl}
-use Rattle.riemann_commands.proofs.CommandLaws.{named, not_usage, not_usage_converting, out_of_memory, refusal_or_memory}
+use Rattle.riemann_commands.proofs.CommandLaws.{host_part_within, named, not_usage, not_usage_converting, out_of_memory, refusal_or_memory}
 use Rattle.riemann_commands.proofs.server.riemann.Goals as goal
 
 pub returns-in-Some-Feed-clause-usage : goal.returns-in-Some-Feed-clause-usage
@@ -101,3 +101,6 @@ returns-in-Some-Graphite-clause-no_line g c = λ quiet not_feed not_graphite. ab
 
 pub returns-in-None-clause-graphite : goal.returns-in-None-clause-graphite
 returns-in-None-clause-graphite g c = λ file host_part is. absurd (c.in-None.ensures.5 file host_part is)
+
+pub graphite-requires : goal.graphite-requires
+graphite-requires g c = host_part_within _ _ _ (rw c.in-Some-Graphite.field-0-is at c.in-Some-Graphite.ensures)
