@@ -7,7 +7,7 @@ use Rattle.command_io.specs.declared.status.Status.{Status}
 use Rattle.command_io.specs.declared.status.Status.TheVariants.{Done, Usage, Config, ReadFault, SinkFault, LinkFault, Memory, Script, Truncated, TooLong, Lines}
 use Rattle.command_io.specs.Reports.{Reports}
 use Rattle.graphite_command.specs.Converts.{ConvertEnds, Converts}
-use Rattle.command_io.specs.Endings.{IsRefusal, IsRefusalOrMemory, status_of}
+use Rattle.command_io.specs.Endings.{HasNoLine, IsRefusal, IsRefusalOrMemory, status_of}
 use Rattle.riemann_commands.specs.declared.command.Command.{Command}
 use Rattle.riemann_commands.specs.declared.command.Command.TheVariants.{Feed, Check, Replay, Serve, Load, Graphite}
 use Rattle.riemann_commands.specs.Commands.{IsCommandOf}
@@ -65,3 +65,6 @@ refusal_or_memory Lines refused = refused
 
 pub out_of_memory : (status : Status) → status ≡ Memory → IsRefusalOrMemory status
 out_of_memory status e = rw e tt
+
+pub done_has_no_line : (status : Status) → status ≡ Done → HasNoLine status
+done_has_no_line status e = rw e tt

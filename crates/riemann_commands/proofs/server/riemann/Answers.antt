@@ -1,5 +1,5 @@
 use Rattle.std.proofs.Common.{refl}
-use Rattle.riemann_commands.proofs.CommandLaws.{host_part_within, named, not_usage, not_usage_converting, out_of_memory, refusal_or_memory}
+use Rattle.riemann_commands.proofs.CommandLaws.{done_has_no_line, host_part_within, named, not_usage, not_usage_converting, out_of_memory, refusal_or_memory}
 use Rattle.riemann_commands.proofs.server.riemann.Goals as goal
 
 pub returns-in-Some-Feed-clause-usage : goal.returns-in-Some-Feed-clause-usage
@@ -104,3 +104,18 @@ returns-in-None-clause-graphite g c = λ file host_part is. absurd (c.in-None.en
 
 pub graphite-requires : goal.graphite-requires
 graphite-requires g c = host_part_within _ _ _ (rw c.in-Some-Graphite.field-0-is at c.in-Some-Graphite.ensures)
+
+pub returns-in-Some-Feed-clause-done : goal.returns-in-Some-Feed-clause-done
+returns-in-Some-Feed-clause-done g c = λ e not_feed. absurd (not_feed _ _ (rw c.in-Some-Feed.field-0-is at c.in-Some-Feed.ensures))
+
+pub returns-in-Some-Check-clause-done : goal.returns-in-Some-Check-clause-done
+returns-in-Some-Check-clause-done g c = λ e not_feed. c.check.ensures.no_line (done_has_no_line c.check.result e)
+
+pub returns-in-Some-Replay-clause-done : goal.returns-in-Some-Replay-clause-done
+returns-in-Some-Replay-clause-done g c = λ e not_feed. c.replay.ensures.no_line (done_has_no_line c.replay.result e)
+
+pub returns-in-Some-Serve-clause-done : goal.returns-in-Some-Serve-clause-done
+returns-in-Some-Serve-clause-done g c = λ e not_feed. c.serve.ensures.no_line (done_has_no_line c.serve.result e)
+
+pub returns-in-Some-Load-clause-done : goal.returns-in-Some-Load-clause-done
+returns-in-Some-Load-clause-done g c = λ e not_feed. c.load.ensures.no_line (done_has_no_line c.load.result e)
