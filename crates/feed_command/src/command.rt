@@ -8,9 +8,9 @@ ghost use Rattle.file_run.specs.Files.{OtherReads, ReadCounts};
 ghost use Rattle.ports.specs.Counts.{Rose};
 
 use crate::serve::serve_bytes;
+use command_setup::fetch_setup;
 use ev_types::Text;
 use file_run::command_io::{Ending, Status, report};
-use command_setup::fetch_setup;
 use file_run::hub_run::Setup;
 use file_run::read_other;
 use ports::{Sink, Store};
