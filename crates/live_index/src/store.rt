@@ -75,7 +75,8 @@ impl Store {
 
     /// Moves the event, which is not over, into the store, in place of the one of its host and service.
     fn enter(&mut self, alloc: Global, event: &mut Event) -> Result<(), Memory>
-        requires stored { IsStored self.old.numbers self.old.events.values self.old.due self.old.count }
+        requires stored { IsStored self.old.numbers self.old.events.values
+            self.old.due self.old.count }
         requires current { is_over event.old ≡ false }
         ensures stored { OnOk result
             (IsStored self.new.numbers self.new.events.values self.new.due self.new.count) }
@@ -139,7 +140,8 @@ impl Store {
     /// Swaps an event with the one of this number, which is of the same host and service. Where both expire at the same
     /// moment it takes no memory.
     fn replace(&mut self, alloc: Global, number: usize, event: &mut Event) -> Result<(), Memory>
-        requires stored { IsStored self.old.numbers self.old.events.values self.old.due self.old.count }
+        requires stored { IsStored self.old.numbers self.old.events.values
+            self.old.due self.old.count }
         requires known { number_at (key_of event.old) self.old.numbers ≡ Some number }
         requires current { is_over event.old ≡ false }
         ensures stored { OnOk result
@@ -156,7 +158,8 @@ impl Store {
     /// Removes the event of this host and this service, if there is one.
     fn end(&mut self, host: Option<&Text>, service: Option<&Text>)
         requires { IsStored self.old.numbers self.old.events.values self.old.due self.old.count }
-        ensures stored { IsStored self.new.numbers self.new.events.values self.new.due self.new.count }
+        ensures stored { IsStored self.new.numbers self.new.events.values
+            self.new.due self.new.count }
         ensures absent { number_at (option_copied host.entry, option_copied service.entry)
             self.new.numbers ≡ None }
         ensures puts { Puts (option_copied host.entry, option_copied service.entry) None
@@ -172,7 +175,8 @@ impl Store {
 
     /// Adds the event, whose host and service have this hash and no event yet. It is moved out of `event`.
     fn put(&mut self, alloc: Global, hash: u64, event: &mut Event) -> Result<(), Memory>
-        requires stored { IsStored self.old.numbers self.old.events.values self.old.due self.old.count }
+        requires stored { IsStored self.old.numbers self.old.events.values
+            self.old.due self.old.count }
         requires absent { number_at (key_of event.old) self.old.numbers ≡ None }
         requires current { is_over event.old ≡ false }
         ensures stored { OnOk result
@@ -234,7 +238,8 @@ impl Store {
         out: &mut Events,
         steps: &mut Steps<G>,
     ) -> Result<(), Memory>
-        requires stored { IsStored self.old.numbers self.old.events.values self.old.due self.old.count }
+        requires stored { IsStored self.old.numbers self.old.events.values
+            self.old.due self.old.count }
         requires now { now ≤ 2 ^ 40 }
         ensures stored { OnOk result
             (IsStored self.new.numbers self.new.events.values self.new.due self.new.count) }

@@ -333,7 +333,8 @@ impl Links for ScriptLinks {
 
     fn close(&mut self, link: u64)
         requires { MayClose (Some self.old.log) link }
-        ensures adds { AddsCalls (script_report self.old) (script_report self.new) (Close link ∷ []) }
+        ensures adds { AddsCalls (script_report self.old) (script_report self.new)
+            (Close link ∷ []) }
 
         // More than links must report: it poisons nothing.
         ensures poisoned { self.new.poisoned ≡ self.old.poisoned }

@@ -16,10 +16,11 @@ pub trait Store {
     fn read(&mut self, alloc: Global, name: &Text, limit: u64) -> ReadAnswer
         requires { limit < 2 ^ 63 }
         ensures held { (report self.new).held ≡ (report self.old).held }
-        ensures cause { HasCause ((report self.old).held name.now) limit (report self.old).faults (report self.new).faults
+        ensures cause { HasCause ((report self.old).held name.now) limit
+            (report self.old).faults (report self.new).faults
             (report self.old).taken (report self.new).taken result }
-        ensures reads { (report self.new).reads ≡ option_map (λ made. made ++ reads_made name.now result)
-            (report self.old).reads }
+        ensures reads { (report self.new).reads
+            ≡ option_map (λ made. made ++ reads_made name.now result) (report self.old).reads }
         ensures taken { (report self.old).taken ≤ (report self.new).taken }
         ensures faults { (report self.old).faults ≤ (report self.new).faults }
         ensures memory { result ≡ ReadAnswer.Memory → self.new ≡ self.old };
