@@ -88,6 +88,15 @@ fn one_more<R: Net + Clock>(
     Ok(what)
 }
 
+/// The first client sends a byte.
+fn send_byte<S: Write>(clients: &mut [S]) -> Result<(), Fail> {
+    let Some(first) = clients.first_mut() else {
+        return Err(Fail::from("no client"));
+    };
+    first.write_all(b"x")?;
+    Ok(())
+}
+
 /// Whether a link is given up for its silence after ten minutes, and not a second before.
 fn is_given_up<'b, R: Net>(
     clock: &SetClock<'b, R>,
@@ -101,7 +110,7 @@ fn is_given_up<'b, R: Net>(
     let wants = all_but(alloc, 256, 256)?;
     clock.secs.set(599);
     let before = one_more(clock, alloc, links, address.as_str(), &wants, buf)?;
-    clients.as_mut_slice()[0].write_all(b"x")?;
+    send_byte(clients.as_mut_slice())?;
     let heard = next_turn(alloc, links, &wants, buf);
     clock.secs.set(600);
     let late = TcpStream::connect(clock, address.as_str())?;
