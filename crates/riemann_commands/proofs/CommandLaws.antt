@@ -1,5 +1,5 @@
 -- A command that ran matches the arguments, and its status says so.
-use Rattle.std.proofs.Common.{◌≡◌, ℕ, ◌≤◌, List, Option, Some, None, sym, ◌∙◌, subst, arith, inl, inr}
+use Rattle.std.proofs.Common.{◌≡◌, ℕ, ◌≤◌, List, Option, Some, None, ap, sym, ◌∙◌, subst, arith, inl, inr}
 use Rattle.std.specs.Option.{ForSome}
 use Rattle.command_io.specs.declared.ending.Ending.{Ending}
 use Rattle.command_io.specs.declared.ending.Ending.TheVariants.{Finished, ConfigRefused, Unread, OverLimit, BytesLeft, WriteFailed, LinksFailed, ScriptRefused, OutOfMemory}
@@ -11,7 +11,8 @@ use Rattle.command_io.specs.Endings.{HasNoLine, IsRefusal, IsRefusalOrMemory, st
 use Rattle.riemann_commands.specs.declared.command.Command.{Command}
 use Rattle.riemann_commands.specs.declared.command.Command.TheVariants.{Feed, Check, Replay, Serve, Load, Graphite}
 use Rattle.riemann_commands.specs.Commands.{IsCommandOf}
-use Rattle.riemann_commands.specs.Words.{IsGraphite, IsUsage}
+use Rattle.riemann_commands.specs.Words.{IsGraphite, IsUsage, graphite_host_words, graphite_words}
+use Rattle.script_text.specs.Words.{number_of}
 
 no_ending : (ending : Ending) → status_of ending ≡ Usage → ⊥
 no_ending Finished e = cc
@@ -47,6 +48,27 @@ host_part_within words file host_part (inl none) part e = let no : None ≡ Some
 host_part_within words file host_part (inr (number, first, are, is, some)) part e =
     let least = is.least in let most = is.most in let both : Some first ≡ Some part = sym some ∙ e in let same : first ≡ part = cc in
     (omega arith, omega arith)
+
+-- the arguments name one file, and one part of its paths or none
+pub same_converting : (words : List (List ℕ)) (file file' : List ℕ) (part part' : Option ℕ) → IsGraphite words file part → IsGraphite words file' part'
+    → (file ≡ file') × (part ≡ part')
+same_converting words file file' part part' (inl (are, none)) (inl (are', none')) =
+    let both : graphite_words file ≡ graphite_words file' = sym are ∙ are' in (cc, none ∙ sym none')
+same_converting words file file' part part' (inl (are, none)) (inr (number', first', are', is', some')) =
+    let both : graphite_words file ≡ graphite_host_words file' number' = sym are ∙ are' in cc
+same_converting words file file' part part' (inr (number, first, are, is, some)) (inl (are', none')) =
+    let both : graphite_host_words file number ≡ graphite_words file' = sym are ∙ are' in cc
+same_converting words file file' part part' (inr (number, first, are, is, some)) (inr (number', first', are', is', some')) =
+    let both : graphite_host_words file number ≡ graphite_host_words file' number' = sym are ∙ are' in
+    let named : number ≡ number' = cc in
+    let digits : Some first ≡ Some first' = sym is.digits ∙ (ap number_of named ∙ is'.digits) in
+    (cc, some ∙ (digits ∙ sym some'))
+
+pub converts_named : (words : List (List ℕ)) (file file' : List ℕ) (part part' : Option ℕ) (old new : Reports) (status : Status) → IsGraphite words file part
+    → Converts file part old new status → IsGraphite words file' part' → Converts file' part' old new status
+converts_named words file file' part part' old new status is promise is' =
+    let same = same_converting words file file' part part' is is' in
+    subst (λ (f : List ℕ). Converts f part' old new status) same.0 (subst (λ (p : Option ℕ). Converts file p old new status) same.1 promise)
 
 -- ---- what was not written
 

@@ -1,5 +1,5 @@
 use Rattle.std.proofs.Common.{refl}
-use Rattle.riemann_commands.proofs.CommandLaws.{done_has_no_line, host_part_within, named, not_usage, not_usage_converting, out_of_memory, refusal_or_memory}
+use Rattle.riemann_commands.proofs.CommandLaws.{converts_named, done_has_no_line, host_part_within, named, not_usage, not_usage_converting, out_of_memory, refusal_or_memory}
 use Rattle.riemann_commands.proofs.server.riemann.Goals as goal
 
 pub returns-in-Some-Feed-clause-usage : goal.returns-in-Some-Feed-clause-usage
@@ -119,3 +119,8 @@ returns-in-Some-Serve-clause-done g c = λ e not_feed. c.serve.ensures.no_line (
 
 pub returns-in-Some-Load-clause-done : goal.returns-in-Some-Load-clause-done
 returns-in-Some-Load-clause-done g c = λ e not_feed. c.load.ensures.no_line (done_has_no_line c.load.result e)
+
+pub returns-in-Some-Graphite-clause-graphite : goal.returns-in-Some-Graphite-clause-graphite
+returns-in-Some-Graphite-clause-graphite g c =
+    let promise = c.graphite.ensures.promise (g.L.Links.report c.args.links.now) (g.P.Patterns.report c.args.patterns.now) c.args.steps.now.forks in
+    λ file host_part is. converts_named _ _ _ _ _ _ _ _ (rw c.in-Some-Graphite.field-0-is at c.in-Some-Graphite.ensures) promise is
