@@ -1,8 +1,8 @@
 #!/usr/bin/env python3
 """graphite.py PROGRAM: compares `PROGRAM graphite` with a plain program, over random files.
 
-The plain program below is written from docs/GRAPHITE.md alone, and takes its time. The files are drawn from fixed numbers,
-so that each run compares the same. It prints a line for each file, and ends with status 1 if one differs.
+The plain program below shares no code with the server, and takes its time. The files are drawn from fixed numbers, so that
+each run compares the same. It prints a line for each file, and ends with status 1 if one differs.
 
 graphite.py --rows: prints rows of tests for crates/test_values/data/graphite.rows, drawn the same way.
 """
