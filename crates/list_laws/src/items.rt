@@ -82,7 +82,7 @@ impl<T: Drop> Items<T> {
     }
 
     /// Adds the item at the end. A list of large items takes room for one first, since most such lists have no more.
-    #[inline]
+    #[inline(always)]
     pub fn push(&mut self, _alloc: Global, item: T) -> Result<(), Memory>
         ensures ok { OnOk result (self.new ≡ self.old ++ item ∷ []) }
         ensures err { OnErr result (self.new ≡ self.old) }
