@@ -5,7 +5,7 @@ ghost use Rattle.ev_types.specs.declared.event.Event.{Event as StoredEvent};
 ghost use Rattle.ev_types.specs.declared.item.Notice.{Notice as StoredNotice};
 ghost use Rattle.index_log.specs.Live.{live_events};
 ghost use Rattle.stream_meaning.specs.Arrivals.{Arrival, Elapsed, Post, matching_events};
-ghost use Rattle.live_index.specs.Index.{visited};
+ghost use Rattle.live_index.specs.Index.{events_lent, visited};
 ghost use Rattle.event_core.specs.Core.{config_of, now_of, is_poisoned, state_by, Represents, Heard, VisitedFor};
 
 use crate::clock::Clock;
@@ -17,8 +17,8 @@ use step_count::{Ledger, Steps};
 use stream_plan::ReadyPlan;
 
 /// The streams of a plan, the index that they write to, and a clock of seconds. Every `interval` seconds the events that
-/// have expired are removed from the index, and a copy of each comes to the streams. After `Memory` a core is poisoned,
-/// and each later call that can answer `Memory` does.
+/// have expired are removed from the index, and a copy of each comes to the streams. After `Memory` of a call that may
+/// change it a core is poisoned, and each later call that can answer `Memory` does.
 #[derive(Drop)]
 pub struct Core {
     streams: IndexedStreams,
@@ -211,5 +211,34 @@ impl Core {
             return Err(Memory);
         }
         Ok(())
+    }
+
+    /// Appends the live events that meet the predicate, where they lie, in the order of [`Core::search`]. After `Memory`
+    /// the core is as it was, and `found` begins with what it had.
+    pub fn find<'a, G: Ledger>(
+        &'a self,
+        alloc: Global,
+        pred: &mut Pred,
+        found: &mut Vec<&'a Event>,
+        steps: &mut Steps<G>,
+    ) -> Result<(), Memory>
+        ensures pred { pred.new ≡ pred.old }
+        ensures found { OnOk result ((arrivals : List Arrival) → Represents self.now arrivals
+            → events_lent found.new.items ≡ events_lent found.old.items
+            ++ matching_events pred.old (state_by (config_of self.now) arrivals).log) }
+        ensures prefix { OnErr result (IsPrefix (events_lent found.old.items)
+            (events_lent found.new.items)) }
+        ensures forks { steps.new.forks ≡ steps.old.forks }
+        ensures began { steps.new.began ≡ steps.old.began }
+        ensures entries { (arrivals : List Arrival) → Represents self.now arrivals
+            → steps.new.entries ≤ steps.old.entries + length (visited pred.old
+            (live_events (state_by (config_of self.now) arrivals).log)) }
+        ensures at_least { steps.old.entries ≤ steps.new.entries }
+        ensures poisoned { IsTrue (is_poisoned self.now) → IsErr result }
+    {
+        if self.poisoned {
+            return Err(Memory);
+        }
+        self.streams.find(alloc, pred, found, steps)
     }
 }

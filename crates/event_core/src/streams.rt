@@ -8,7 +8,7 @@ ghost use Rattle.stream_meaning.specs.History.{since, begun, moment_of};
 ghost use Rattle.stream_meaning.specs.declared.entry.Entry.TheVariants.{Tick, Item as In};
 ghost use Rattle.stream_meaning.specs.Arrivals.{CoreState, Elapsed, entered, streamed, fed_back, swept, arrived, state_from, matching_events};
 ghost use Rattle.index_log.specs.Live.{live_events};
-ghost use Rattle.live_index.specs.Index.{visited};
+ghost use Rattle.live_index.specs.Index.{events_lent, visited};
 ghost use Rattle.event_core.specs.Streams.{plan_of, Holds, Moved, Visited};
 
 use crate::clock::Clock;
@@ -304,6 +304,31 @@ impl IndexedStreams {
             + length (visited pred.old (live_events state.log)) }
     {
         self.index.search(alloc, pred, out, steps)?;
+        Ok(())
+    }
+
+    /// Appends the live events that meet the predicate, where they lie, in the order of the index.
+    pub(crate) fn find<'a, G: Ledger>(
+        &'a self,
+        alloc: Global,
+        pred: &mut Pred,
+        found: &mut Vec<&'a Event>,
+        steps: &mut Steps<G>,
+    ) -> Result<(), Memory>
+        ensures pred { pred.new ≡ pred.old }
+        ensures found { OnOk result ((state : CoreState) → Holds self.now state
+            → events_lent found.new.items
+            ≡ events_lent found.old.items ++ matching_events pred.old state.log) }
+        ensures prefix { OnErr result (IsPrefix (events_lent found.old.items)
+            (events_lent found.new.items)) }
+        ensures forks { steps.new.forks ≡ steps.old.forks }
+        ensures began { steps.new.began ≡ steps.old.began }
+        ensures at_least { steps.old.entries ≤ steps.new.entries }
+        ensures visited { (state : CoreState) → Holds self.now state →
+            steps.new.entries ≤ steps.old.entries
+            + length (visited pred.old (live_events state.log)) }
+    {
+        self.index.find(alloc, pred, found, steps)?;
         Ok(())
     }
 

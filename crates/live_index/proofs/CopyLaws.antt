@@ -1,13 +1,16 @@
--- The copies of the events under the numbers so far.
+-- The events that are found under the numbers so far, and copies of events that are lent.
 use Rattle.std.proofs.Common.{◌≡◌, ℕ, ◌+◌, ◌<◌, Bool, true, false, cond, List, [], ◌∷◌, ◌++◌, filter, take, length, get_or, Option, None, Some, refl, sym, ap, ◌∙◌, append_assoc}
+use denote.Ref.{Bor}
+use Rattle.std.specs.Prelude.{Result, Ok, Err, OnErr}
 use Rattle.std.specs.Map.{values_of}
 use Rattle.std.specs.List.{AllByRecursion}
 use Rattle.std.specs.Option.{option_map, IsSome}
-use Rattle.std.proofs.lemmas.List.{take_more}
+use Rattle.std.proofs.lemmas.List.{map-append, take_more}
 use Rattle.std.proofs.lemmas.List.Elements.{All-from_recursion}
 use Rattle.ev_types.specs.declared.event.Event.{Event}
 use Rattle.key_map.specs.Keys.{IndexKey, Numbers}
 use Rattle.linked_slots.specs.Table.{value_at, IsLive}
+use Rattle.live_index.specs.Index.{events_lent}
 use Rattle.live_index.specs.Store.{key_of, also, events_at, AreLive, IsLinked}
 use Rattle.live_index.proofs.RowLaws.{HasKey, all_found}
 
@@ -35,7 +38,7 @@ copied-more p table ns i e lt at =
     ∙ filter-append p (events_at table (take i ns)) (events_at table (get_or ns i 0 ∷ []))
     ∙ ap (λ slot. filter p (events_at table (take i ns)) ++ filter p (also slot [])) at
 
--- one more number is visited: its event is read, and copied where it passes
+-- one more number is visited: its event is read, and found where it passes
 pub copied_on : (p p' : Event → Bool) (table : List (Option Event)) (ns : List ℕ) (i : ℕ) (e : Event) (start out out' : List Event) → p' ≡ p → out ≡ start ++ filter p (events_at table (take i ns))
     → out' ≡ out ++ filter p' (e ∷ []) → i < length ns → value_at table (get_or ns i 0) ≡ Some e → out' ≡ start ++ filter p (events_at table (take (i + 1) ns))
 copied_on p p' table ns i e start out out' same before now lt at =
@@ -43,6 +46,20 @@ copied_on p p' table ns i e start out out' same before now lt at =
     ∙ ap (λ p'. (start ++ filter p (events_at table (take i ns))) ++ filter p' (e ∷ [])) same
     ∙ append_assoc start (filter p (events_at table (take i ns))) (filter p (e ∷ []))
     ∙ ap (λ r. start ++ r) (sym (copied-more p table ns i e lt at))
+
+pub on_err : {T E P : Type 0} (result : Result T E) → P → OnErr result P
+on_err (Ok value) fact = tt
+on_err (Err fault) fact = fact
+
+-- one more event that is lent is copied
+pub lent_on : (events : List (Bor Event)) (i : ℕ) (event : Bor Event) (copy : Event) (start out out' : List Event) → i < length events → event ≡ get_or events i event → copy ≡ event.now
+    → out ≡ start ++ events_lent (take i events) → out' ≡ out ++ copy ∷ [] → out' ≡ start ++ events_lent (take (i + 1) events)
+lent_on events i event copy start out out' within is same before now =
+    now ∙ ap (λ out. out ++ copy ∷ []) before ∙ append_assoc start (events_lent (take i events)) (copy ∷ [])
+    ∙ ap (λ more. start ++ more)
+    (ap (λ e. events_lent (take i events) ++ e ∷ []) (same ∙ ap (λ (e : Bor Event). e.now) is)
+    ∙ sym (map-append (λ (e : Bor Event). e.now) (take i events) (get_or events i event ∷ []))
+    ∙ ap events_lent (sym (take_more events i event within)))
 
 some-is : (slot : Option Event) (k : IndexKey) → option_map key_of slot ≡ Some k → IsSome slot
 some-is None k h = absurd (cc)

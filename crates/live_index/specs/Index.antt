@@ -1,5 +1,6 @@
 -- What contracts see of an index, and the log that it represents.
-use Rattle.std.specs.Prelude.{◌≡◌, ◌&&◌, ℕ, Bool, false, List, filter, Option, None, Some}
+use Rattle.std.specs.Prelude.{◌≡◌, ◌&&◌, ℕ, Bool, false, List, filter, map, Option, None, Some}
+use denote.Ref.{Bor}
 use Rattle.std.specs.List.{find}
 use Rattle.std.specs.Ordering.{is_eq}
 use Rattle.ev_types.specs.declared.event.Event.{Event}
@@ -42,3 +43,7 @@ of_value (Some value) events = filter (is_of_value value) events
 -- the events that a search for a rule looks at: those of the host that the rule asks for, or all where it asks for none
 abbrev pub visited : Tree → List Event → List Event
 visited rule events = of_value (asked_host rule) events
+
+-- events that are lent from where they lie
+abbrev pub events_lent : List (Bor Event) → List Event
+events_lent = map (λ event. event.now)

@@ -4,7 +4,7 @@ ghost use Rattle.ev_types.specs.declared.event.Event.{Event as StoredEvent};
 ghost use Rattle.ev_types.specs.Expiry.{is_expired};
 ghost use Rattle.index_log.specs.Live.{IndexLog, Reap, Write};
 ghost use Rattle.std.specs.Borrow.{sem};
-ghost use Rattle.live_index.specs.Index.{Represents, event_at, visited};
+ghost use Rattle.live_index.specs.Index.{Represents, event_at, events_lent, visited};
 ghost use Rattle.pred_eval.specs.Truth.{holds};
 
 use crate::store::Store;
@@ -104,6 +104,7 @@ impl LiveIndex {
         ensures forks { steps.new.forks ≡ steps.old.forks }
         ensures entries { steps.new.entries ≤ steps.old.entries
             + 2 * length (filter (is_expired now) self.old.events) }
+        ensures at_least { steps.old.entries ≤ steps.new.entries }
         ensures began { steps.new.began ≡ steps.old.began }
     {
         if self.poisoned {
@@ -135,12 +136,43 @@ impl LiveIndex {
             + length (visited pred.old self.old.events)) }
         ensures entries { steps.new.entries ≤ steps.old.entries
             + length (visited pred.old self.old.events) }
+        ensures at_least { steps.old.entries ≤ steps.new.entries }
         ensures began { steps.new.began ≡ steps.old.began }
     {
         if self.poisoned {
             return Err(Memory);
         }
         self.store.copy_matching(alloc, pred, out, steps)?;
+        Ok(())
+    }
+
+    /// Appends the live events that meet the predicate, where they lie, in the order of the index. It looks at the events
+    /// that [`LiveIndex::search`] looks at, and counts as many entries. After `Memory` `found` begins with what it had.
+    pub fn find<'a, G: Ledger>(
+        &'a self,
+        alloc: Global,
+        pred: &mut Pred,
+        found: &mut Vec<&'a Event>,
+        steps: &mut Steps<G>,
+    ) -> Result<(), Memory>
+        ensures pred { pred.new ≡ pred.old }
+        ensures ok { OnOk result (events_lent found.new.items
+            ≡ events_lent found.old.items ++ filter (holds pred.old) self.now.events) }
+        ensures prefix { OnErr result (IsPrefix (events_lent found.old.items)
+            (events_lent found.new.items)) }
+        ensures poisoned { IsTrue self.now.poisoned → IsErr result }
+        ensures forks { steps.new.forks ≡ steps.old.forks }
+        ensures counted { OnOk result (steps.new.entries ≡ steps.old.entries
+            + length (visited pred.old self.now.events)) }
+        ensures entries { steps.new.entries ≤ steps.old.entries
+            + length (visited pred.old self.now.events) }
+        ensures at_least { steps.old.entries ≤ steps.new.entries }
+        ensures began { steps.new.began ≡ steps.old.began }
+    {
+        if self.poisoned {
+            return Err(Memory);
+        }
+        self.store.find(alloc, pred, found, steps)?;
         Ok(())
     }
 

@@ -8,7 +8,7 @@ ghost use Rattle.linked_slots.specs.Table.{value_at};
 ghost use Rattle.tick_schedule.specs.Queue.{due_ids, IsRising, Sets};
 ghost use Rattle.pred_eval.specs.Host.{asked_host, NeedsHost};
 ghost use Rattle.pred_eval.specs.Truth.{holds};
-ghost use Rattle.live_index.specs.Index.{visited};
+ghost use Rattle.live_index.specs.Index.{events_lent, visited};
 ghost use Rattle.live_index.specs.Store.{key_of, events_in, events_at, event_of, slot_of, is_by, AreLive, IsLinked, IsStored, IsTaking, Puts, numbers_of_value};
 
 use crate::hints::{Hints, hash_of};
@@ -252,6 +252,7 @@ impl Store {
         ensures forks { steps.new.forks ≡ steps.old.forks }
         ensures entries { steps.new.entries ≤ steps.old.entries
             + length (filter (is_expired now) (events_in self.old.numbers self.old.events.values)) }
+        ensures at_least { steps.old.entries ≤ steps.new.entries }
         ensures began { steps.new.began ≡ steps.old.began }
     {
         let mut numbers = Ids::fresh(alloc);
@@ -261,8 +262,7 @@ impl Store {
         Ok(())
     }
 
-    /// Appends copies of the events that meet the predicate, in order. It counts an entry for each event of the host that
-    /// the predicate asks for, or for each event where it asks for none.
+    /// Appends copies of the events that meet the predicate, in order. It counts what [`Store::find`] counts.
     pub(crate) fn copy_matching<G: Ledger>(
         &self,
         alloc: Global,
@@ -280,10 +280,39 @@ impl Store {
             + length (visited pred.old (events_in self.now.numbers self.now.events.values))) }
         ensures entries { steps.new.entries ≤ steps.old.entries
             + length (visited pred.old (events_in self.now.numbers self.now.events.values)) }
+        ensures at_least { steps.old.entries ≤ steps.new.entries }
+        ensures began { steps.new.began ≡ steps.old.began }
+    {
+        let mut found = Vec::new(alloc);
+        self.find(alloc, pred, &mut found, steps)?;
+        copy_all(alloc, found.as_slice(), out)
+    }
+
+    /// Appends the events that meet the predicate, where they lie, in order. It counts an entry for each event of the host
+    /// that the predicate asks for, or for each event where it asks for none.
+    pub(crate) fn find<'a, G: Ledger>(
+        &'a self,
+        alloc: Global,
+        pred: &mut Pred,
+        found: &mut Vec<&'a Event>,
+        steps: &mut Steps<G>,
+    ) -> Result<(), Memory>
+        requires { IsStored self.now.numbers self.now.events.values self.now.due self.now.count }
+        ensures same { pred.new ≡ pred.old }
+        ensures ok { OnOk result (events_lent found.new.items ≡ events_lent found.old.items
+            ++ filter (holds pred.old) (events_in self.now.numbers self.now.events.values)) }
+        ensures prefix { OnErr result (IsPrefix (events_lent found.old.items)
+            (events_lent found.new.items)) }
+        ensures forks { steps.new.forks ≡ steps.old.forks }
+        ensures counted { OnOk result (steps.new.entries ≡ steps.old.entries
+            + length (visited pred.old (events_in self.now.numbers self.now.events.values))) }
+        ensures entries { steps.new.entries ≤ steps.old.entries
+            + length (visited pred.old (events_in self.now.numbers self.now.events.values)) }
+        ensures at_least { steps.old.entries ≤ steps.new.entries }
         ensures began { steps.new.began ≡ steps.old.began }
     {
         let numbers = self.numbers_for(alloc, pred)?;
-        copy_at(alloc, &self.events, numbers.as_slice(), pred, out, steps)?;
+        find_at(alloc, &self.events, numbers.as_slice(), pred, found, steps)?;
         Ok(())
     }
 
@@ -374,39 +403,58 @@ impl Store {
     }
 }
 
-/// Appends copies of the events with these numbers that meet the predicate. It counts an entry for each number.
-fn copy_at<G: Ledger>(
+/// Appends the events with these numbers that meet the predicate, where they lie. It counts an entry for each number.
+fn find_at<'a, G: Ledger>(
     alloc: Global,
-    events: &StepTable<Event>,
+    events: &'a StepTable<Event>,
     numbers: &[usize],
     pred: &mut Pred,
-    out: &mut Events,
+    found: &mut Vec<&'a Event>,
     steps: &mut Steps<G>,
 ) -> Result<(), Memory>
     requires { AreLive events.now.values numbers.now }
     ensures same { pred.new ≡ pred.old }
-    ensures ok { OnOk result (out.new ≡ out.old
+    ensures ok { OnOk result (events_lent found.new.items ≡ events_lent found.old.items
         ++ filter (holds pred.old) (events_at events.now.values numbers.now)) }
-    ensures prefix { OnErr result (IsPrefix out.old out.new) }
+    ensures prefix { OnErr result (IsPrefix (events_lent found.old.items)
+        (events_lent found.new.items)) }
     ensures forks { steps.new.forks ≡ steps.old.forks }
     ensures counted { OnOk result (steps.new.entries ≡ steps.old.entries + length numbers.now) }
     ensures entries { steps.new.entries ≤ steps.old.entries + length numbers.now }
+    ensures at_least { steps.old.entries ≤ steps.new.entries }
     ensures began { steps.new.began ≡ steps.old.began }
 {
     for number in numbers {
         let event = events.read(*number, steps);
-        copy_one(alloc, event, pred, out)?;
+        find_one(alloc, event, pred, found)?;
     }
     Ok(())
 }
 
-/// Appends a copy of the event, where it meets the predicate.
-fn copy_one(alloc: Global, event: &Event, pred: &mut Pred, out: &mut Events) -> Result<(), Memory>
+/// Appends the event, where it meets the predicate.
+fn find_one<'a>(
+    alloc: Global,
+    event: &'a Event,
+    pred: &mut Pred,
+    found: &mut Vec<&'a Event>,
+) -> Result<(), Memory>
     ensures same { pred.new ≡ pred.old }
-    ensures ok { OnOk result (out.new ≡ out.old ++ filter (holds pred.old) (event.now ∷ [])) }
-    ensures err { OnErr result (out.new ≡ out.old) }
+    ensures ok { OnOk result (events_lent found.new.items ≡ events_lent found.old.items
+        ++ filter (holds pred.old) (event.now ∷ [])) }
+    ensures err { OnErr result (events_lent found.new.items ≡ events_lent found.old.items) }
 {
     if pred.holds(alloc, event)? {
+        found.push(event)?;
+    }
+    Ok(())
+}
+
+/// Appends copies of the events, in order.
+fn copy_all(alloc: Global, events: &[&Event], out: &mut Events) -> Result<(), Memory>
+    ensures ok { OnOk result (out.new ≡ out.old ++ events_lent events.now) }
+    ensures prefix { OnErr result (IsPrefix out.old out.new) }
+{
+    for event in events {
         out.push(alloc, event.copy(alloc)?)?;
     }
     Ok(())

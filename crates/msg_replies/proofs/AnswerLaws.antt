@@ -104,20 +104,20 @@ reply_refused now unsent log body fault refusal is = rw is refl
 
 -- ---- a message
 
-pub answers_accepted : (body : List ℕ) (unsent : ℕ) (msg : Msg) (core posted asked : Core) (patterns patterns' : PatternsReport) (replies replies' : List ℕ) (old new : Reported) (result : Result (Unit {0}) Memory)
-    → (first_fault body ≡ None) × (msg ≡ message_of (now_of core) body) → now_of posted ≡ now_of core → asked ≡ posted
+pub answers_accepted : (body : List ℕ) (unsent : ℕ) (msg : Msg) (core posted : Core) (patterns patterns' : PatternsReport) (replies replies' : List ℕ) (old new : Reported) (result : Result (Unit {0}) Memory)
+    → (first_fault body ≡ None) × (msg ≡ message_of (now_of core) body) → now_of posted ≡ now_of core
     → ((arrivals : List Arrival) → Represents core arrivals → Arrives core posted arrivals (map Post msg.events) old new)
     → AnswersQuery (asked_of unsent msg.query) posted patterns patterns' replies replies' (λ log refusal. answer_to_query log unsent refusal msg.query) result
-    → AnswersMessage body unsent core asked patterns patterns' replies replies' old new result
-answers_accepted body unsent msg core posted asked patterns patterns' replies replies' old new result read now same arrives query =
+    → AnswersMessage body unsent core posted patterns patterns' replies replies' old new result
+answers_accepted body unsent msg core posted patterns patterns' replies replies' old new result read now arrives query =
     let is : reading_of (now_of core) body ≡ Ok msg = reading_accepted (now_of core) body msg read.0 read.1 in
     let posts = posts_accepted (now_of core) body msg is in
     record {
       refusal = query.refusal;
       verdict = subst (λ (rule : Option Tree). AfterVerdict rule query.refusal patterns patterns') (sym (built_accepted (is_busy unsent) (now_of core) body msg is)) query.verdict;
       answered = on_ok result (λ answered arrivals holds. let comes = arrives arrivals holds in record {
-        arrives = rw (posts, same) comes;
-        now = ap now_of same ∙ now;
+        arrives = rw posts comes;
+        now = now;
         reply = rw (posts, reply_accepted (now_of core) unsent (state_by (config_of core) (arrivals ++ map Post msg.events)).log body msg query.refusal is)
             (subst (λ (config : CoreConfig). replies' ≡ replies ++ framed (answer_to_query (state_by config (arrivals ++ map Post msg.events)).log unsent query.refusal msg.query)) comes.config
             (answered (arrivals ++ map Post msg.events) comes.represents));
@@ -125,11 +125,11 @@ answers_accepted body unsent msg core posted asked patterns patterns' replies re
     }
 
 -- out of memory when the query of a message was answered
-pub answers_failed : (body : List ℕ) (unsent : ℕ) (msg : Msg) (core posted asked : Core) (patterns patterns' : PatternsReport) (replies replies' : List ℕ) (old new : Reported) (result : Result (Unit {0}) Memory) (memory : Memory)
+pub answers_failed : (body : List ℕ) (unsent : ℕ) (msg : Msg) (core posted : Core) (patterns patterns' : PatternsReport) (replies replies' : List ℕ) (old new : Reported) (result : Result (Unit {0}) Memory) (memory : Memory)
     → (first_fault body ≡ None) × (msg ≡ message_of (now_of core) body)
     → AnswersQuery (asked_of unsent msg.query) posted patterns patterns' replies replies' (λ log refusal. answer_to_query log unsent refusal msg.query) result
-    → AnswersMessage body unsent core asked patterns patterns' replies replies' old new (Err memory)
-answers_failed body unsent msg core posted asked patterns patterns' replies replies' old new result memory read query =
+    → AnswersMessage body unsent core posted patterns patterns' replies replies' old new (Err memory)
+answers_failed body unsent msg core posted patterns patterns' replies replies' old new result memory read query =
     let is : reading_of (now_of core) body ≡ Ok msg = reading_accepted (now_of core) body msg read.0 read.1 in
     record {
       refusal = query.refusal;

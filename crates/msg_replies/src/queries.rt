@@ -1,23 +1,26 @@
 ghost use Rattle.std.specs.Prelude.{◌≡◌, ◌≢◌, ◌^◌, ◌<◌, ◌≤◌, ◌++◌, ◌∷◌, [], false, filter, length, OnOk, IfOk, codes, Some, None, option_and_then, List};
 ghost use Rattle.std.specs.String.{string_bytes};
-ghost use Rattle.event_core.specs.Core.{Represents, now_of, config_of, state_by};
+ghost use Rattle.event_core.specs.Core.{Represents, config_of, state_by};
 ghost use Rattle.hub_meaning.specs.Messages.{query_text, rule_of_query, rule_read};
 ghost use Rattle.hub_meaning.specs.Replies.{answer_to_query, answer_to_rule, answer_to_text, busy, found, framed, limited, over_limit, pattern_refusal, query_refusal, refused};
 ghost use Rattle.hub_meaning.specs.Verdicts.{is_busy};
 ghost use Rattle.pred_eval.specs.Tree.{tree_of};
 ghost use Rattle.pred_eval.specs.Truth.{searches};
 ghost use Rattle.query_lang.specs.Answer.{query_of};
+ghost use Rattle.riemann_msg.specs.Reply.{events_lent};
+ghost use Rattle.riemann_msg.specs.Spelling.{spelling};
 ghost use Rattle.stream_meaning.specs.Arrivals.{Arrival, matching_events};
 ghost use Rattle.msg_replies.specs.Answering.{AnswersQuery, asked_of};
 
-use crate::replies::{accept, put_frame, refuse};
-use ev_types::{Blob, Events, Memory};
+use crate::replies::{accept, refuse};
+use ev_types::{Blob, Event, Memory};
 use event_core::Core;
 use framing::BODY_LIMIT;
 use pred_eval::{BuildFault, Patterns, Pred, Rule};
 use query_lang::{MAX_BYTES, QueryFault, read_query};
-use riemann_msg::{Msg, QueryPart, msg_len};
+use riemann_msg::{QueryPart, found_len, write_found};
 use std::alloc::{AllocError, Global};
+use std::mem;
 use step_count::{Ledger, Steps};
 
 /// Appends the reply to the query of a message that was accepted. `unsent` is how many bytes of earlier replies were not
@@ -26,14 +29,13 @@ pub(crate) fn answer_query<P: Patterns, G: Ledger>(
     alloc: Global,
     query: &Option<QueryPart>,
     unsent: usize,
-    core: &mut Core,
+    core: &Core,
     patterns: &mut P,
     replies: &mut Blob,
     steps: &mut Steps<G>,
 ) -> Result<(), Memory>
-    ensures same { OnOk result (core.new ≡ core.old) }
     ensures forks { steps.new.forks ≡ steps.old.forks }
-    ensures answers { AnswersQuery (asked_of unsent query.now) core.old (P.report patterns.old)
+    ensures answers { AnswersQuery (asked_of unsent query.now) core.now (P.report patterns.old)
         (P.report patterns.new) replies.old replies.new
         (λ log refusal. answer_to_query log unsent refusal query.now) result }
 {
@@ -48,14 +50,13 @@ fn answer_part<P: Patterns, G: Ledger>(
     alloc: Global,
     query: &QueryPart,
     unsent: usize,
-    core: &mut Core,
+    core: &Core,
     patterns: &mut P,
     replies: &mut Blob,
     steps: &mut Steps<G>,
 ) -> Result<(), Memory>
-    ensures same { OnOk result (core.new ≡ core.old) }
     ensures forks { steps.new.forks ≡ steps.old.forks }
-    ensures answers { AnswersQuery (asked_of unsent (Some query.now)) core.old
+    ensures answers { AnswersQuery (asked_of unsent (Some query.now)) core.now
         (P.report patterns.old) (P.report patterns.new) replies.old replies.new
         (λ log refusal. answer_to_query log unsent refusal (Some query.now)) result }
 {
@@ -79,14 +80,13 @@ fn text_of(query: &QueryPart) -> &[u8]
 fn answer_text<P: Patterns, G: Ledger>(
     alloc: Global,
     text: &[u8],
-    core: &mut Core,
+    core: &Core,
     patterns: &mut P,
     replies: &mut Blob,
     steps: &mut Steps<G>,
 ) -> Result<(), Memory>
-    ensures same { OnOk result (core.new ≡ core.old) }
     ensures forks { steps.new.forks ≡ steps.old.forks }
-    ensures answers { AnswersQuery (rule_read (query_of text.now)) core.old (P.report patterns.old)
+    ensures answers { AnswersQuery (rule_read (query_of text.now)) core.now (P.report patterns.old)
         (P.report patterns.new) replies.old replies.new
         (λ log refusal. answer_to_text log refusal (query_of text.now)) result }
 {
@@ -99,15 +99,14 @@ fn answer_text<P: Patterns, G: Ledger>(
 fn answer_rule<P: Patterns, G: Ledger>(
     alloc: Global,
     rule: Rule,
-    core: &mut Core,
+    core: &Core,
     patterns: &mut P,
     replies: &mut Blob,
     steps: &mut Steps<G>,
 ) -> Result<(), Memory>
     requires { length (searches (tree_of rule)) < 2 ^ 32 }
-    ensures same { OnOk result (core.new ≡ core.old) }
     ensures forks { steps.new.forks ≡ steps.old.forks }
-    ensures answers { AnswersQuery (Some (tree_of rule)) core.old (P.report patterns.old)
+    ensures answers { AnswersQuery (Some (tree_of rule)) core.now (P.report patterns.old)
         (P.report patterns.new) replies.old replies.new
         (λ log refusal. answer_to_rule log refusal (tree_of rule)) result }
 {
@@ -122,40 +121,64 @@ fn answer_rule<P: Patterns, G: Ledger>(
 fn put_found<G: Ledger>(
     alloc: Global,
     pred: &mut Pred,
-    core: &mut Core,
+    core: &Core,
     replies: &mut Blob,
     steps: &mut Steps<G>,
 ) -> Result<(), Memory>
-    ensures same { OnOk result (core.new ≡ core.old) }
     ensures forks { steps.new.forks ≡ steps.old.forks }
-    ensures found { OnOk result ((arrivals : List Arrival) → Represents core.old arrivals
+    ensures found { OnOk result ((arrivals : List Arrival) → Represents core.now arrivals
         → replies.new ≡ replies.old ++ framed
-        (limited (found (matching_events pred.old (state_by (config_of core.old) arrivals).log)))) }
+        (limited (found (matching_events pred.old (state_by (config_of core.now) arrivals).log)))) }
 {
-    let mut events = Events::fresh(alloc);
-    core.search(alloc, pred, &mut events, steps)?;
-    put_limited(alloc, events, replies)?;
-    Ok(())
+    let mut events = Vec::new(alloc);
+    core.find(alloc, pred, &mut events, steps)?;
+    put_limited(alloc, events.as_slice(), replies)
 }
 
-/// Appends a reply with these events, or that it would be too long.
+/// Appends a reply with these events, written from where they lie, or that it would be too long. The length is known before
+/// a byte is written.
 #[tactic(auto, using(crate::proofs::Lengths::limited_within, crate::proofs::Lengths::limited_over, crate::proofs::Lengths::over_limit_length))]
-fn put_limited(alloc: Global, events: Events, replies: &mut Blob) -> Result<(), Memory>
-    ensures { OnOk result (replies.new ≡ replies.old ++ framed (limited (found events))) }
+fn put_limited(alloc: Global, events: &[&Event], replies: &mut Blob) -> Result<(), Memory>
+    ensures { OnOk result (replies.new
+        ≡ replies.old ++ framed (limited (found (events_lent events.now)))) }
 {
-    let msg = Msg {
-        ok: Some(true),
-        error: None,
-        query: None,
-        events,
-    };
-    let size = msg_len(&msg)?;
+    let size = found_len(events)?;
     if size <= BODY_LIMIT as usize {
-        put_frame(alloc, &msg, size, replies)
+        put_events(alloc, events, size, replies)
     } else {
         let reason = over_limit(alloc, size)?;
         refuse(alloc, reason.as_str(), replies)
     }
+}
+
+/// Appends a reply with these events, whose spelling has `size` bytes.
+#[tactic(auto, unfolding(hub_meaning::specs::Replies::framed))]
+fn put_events(
+    alloc: Global,
+    events: &[&Event],
+    size: usize,
+    replies: &mut Blob,
+) -> Result<(), Memory>
+    requires size { size ≡ length (spelling (found (events_lent events.now))) }
+    requires fits { size < 2 ^ 32 }
+    ensures { OnOk result (replies.new ≡ replies.old ++ framed (found (events_lent events.now))) }
+{
+    let length = size as u32;
+    reserve(alloc, 4 + size, replies)?;
+    replies.append(alloc, &length.to_be_bytes())?;
+    write_found(alloc, events, replies)?;
+    Ok(())
+}
+
+/// Makes room for `count` more bytes, so that a long reply is not moved while it is written.
+fn reserve(alloc: Global, count: usize, replies: &mut Blob) -> Result<(), Memory>
+    ensures { replies.new ≡ replies.old }
+{
+    let mut bytes = mem::replace(replies, Blob::fresh(alloc)).into_vec();
+    let reserved = bytes.reserve(count);
+    *replies = Blob::from_vec(bytes);
+    reserved?;
+    Ok(())
 }
 
 #[tactic(auto, unfolding(hub_meaning::specs::Replies::over_limit))]

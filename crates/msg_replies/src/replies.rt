@@ -119,12 +119,7 @@ pub(crate) fn refuse(alloc: Global, reason: &str, replies: &mut Blob) -> Result<
 
 /// Appends a message whose spelling has this many bytes, in a frame.
 #[tactic(auto, unfolding(hub_meaning::specs::Replies::framed))]
-pub(crate) fn put_frame(
-    alloc: Global,
-    msg: &Msg,
-    size: usize,
-    replies: &mut Blob,
-) -> Result<(), Memory>
+fn put_frame(alloc: Global, msg: &Msg, size: usize, replies: &mut Blob) -> Result<(), Memory>
     requires size { size ≡ length (spelling msg.now) }
     requires fits { size < 2 ^ 32 }
     ensures { OnOk result (replies.new ≡ replies.old ++ framed msg.now) }

@@ -2,6 +2,7 @@
 use Rattle.std.proofs.Common.{◌≡◌, ℕ, ℤ, Bool, true, false, ◌+◌, ◌*◌, ◌<◌, ◌≤◌, List, [], ◌∷◌, length, get_or, take, Some, refl, ap, ◌∙◌, arith, length-append}
 use Rattle.std.proofs.lemmas.Bool.{lt-ltb}
 use Rattle.std.proofs.lemmas.List.{append-nil}
+use denote.Ref.{Bor}
 use Rattle.std.specs.Int.{w64, cast_unsigned, from_bool}
 use Rattle.ev_types.specs.declared.event.Attr.{Attr}
 use Rattle.ev_types.specs.declared.event.Event.{Event}
@@ -9,9 +10,10 @@ use Rattle.pb_wire.specs.Varint.{varint, spelled_within}
 use Rattle.pb_wire.specs.Spelling.{Varint, Eight, Bytes, Four, field_spelling, bytes_head}
 use Rattle.riemann_msg.specs.declared.msg.Msg.{Msg}
 use Rattle.riemann_msg.specs.declared.msg.QueryPart.{QueryPart}
+use Rattle.riemann_msg.specs.Reply.{events_lent, found}
 use Rattle.riemann_msg.specs.Ttl.{bits_of}
 use Rattle.riemann_msg.specs.Spelling.{optional, repeated, spelled, int64, sint64, zigzag, attribute_values, attribute_content, name_values, number_values, event_values, event_content, query_values, query_content, spelling}
-use Rattle.riemann_msg.proofs.Spelled.{embedded, next_tag, next_attribute, next_event, some_tags, some_attributes, some_events, message_spelled, event_spelled, names_spelled, numbers_spelled, attribute_spelled}
+use Rattle.riemann_msg.proofs.Spelled.{found_spelled, lent_at, lent_so_far, lent_within, embedded, next_tag, next_attribute, next_event, some_tags, some_attributes, some_events, message_spelled, event_spelled, names_spelled, numbers_spelled, attribute_spelled}
 
 pub short_varint : (value : ℕ) → value < 128 → varint value ≡ value ∷ []
 unfolding varint spelled_within
@@ -126,3 +128,20 @@ pub fewer_events : (events : List Event) (i : ℕ) (event : Event) → i < lengt
     → length (spelled (repeated 6 event_content (take i events))) + (1 + (length (varint (length (spelled (event_values event)))) + length (spelled (event_values event))))
     ≤ length (spelled (repeated 6 event_content events))
 fewer_events events i event inside is = omega (arith, some_events events i event inside is, small_head 6 (spelled (event_values event)) (omega arith))
+
+-- ---- events that are lent
+
+pub longer_lent : (events : List (Bor Event)) (i : ℕ) (event : Bor Event) → i < length events → event ≡ get_or events i event
+    → length (spelled (repeated 6 event_content (events_lent (take (i + 1) events)))) ≡ length (spelled (repeated 6 event_content (events_lent (take i events))))
+    + (1 + (length (varint (length (spelled (event_values event.now)))) + length (spelled (event_values event.now))))
+longer_lent events i event within is =
+    rw (lent_so_far events (i + 1), lent_so_far events i) (longer_events (events_lent events) i event.now (lent_within events i within) (lent_at events i event within is))
+
+pub fewer_lent : (events : List (Bor Event)) (i : ℕ) (event : Bor Event) → i < length events → event ≡ get_or events i event
+    → length (spelled (repeated 6 event_content (events_lent (take i events)))) + (1 + (length (varint (length (spelled (event_values event.now)))) + length (spelled (event_values event.now))))
+    ≤ length (spelled (repeated 6 event_content (events_lent events)))
+fewer_lent events i event within is =
+    rw (lent_so_far events i) (fewer_events (events_lent events) i event.now (lent_within events i within) (lent_at events i event within is))
+
+pub found_length : (events : List Event) → length (spelling (found events)) ≡ length (spelled (optional 2 (λ ok. Varint (from_bool ok)) (Some true))) + length (spelled (repeated 6 event_content events))
+found_length events = ap length (found_spelled events) ∙ length-append (spelled (optional 2 (λ ok. Varint (from_bool ok)) (Some true))) (spelled (repeated 6 event_content events))

@@ -1,7 +1,8 @@
 -- The bytes of fields are those of their parts, one after the other.
-use Rattle.std.proofs.Common.{◌≡◌, ℕ, ◌+◌, ◌*◌, ◌<◌, ◌≤◌, List, [], ◌∷◌, ◌++◌, length, length-append, get_or, take, drop, Some, refl, sym, ap, ◌∙◌, append_assoc, arith}
+use Rattle.std.proofs.Common.{◌≡◌, ℕ, ◌+◌, ◌*◌, ◌<◌, ◌≤◌, List, [], ◌∷◌, ◌++◌, length, length-append, get_or, take, drop, true, Some, refl, sym, ap, ◌∙◌, append_assoc, arith}
 use Rattle.std.proofs.lemmas.Grind.{flat_map-append}
-use Rattle.std.proofs.lemmas.List.{append-nil, take_more, map-append, take-append-drop}
+use Rattle.std.proofs.lemmas.List.{append-nil, get_or-map, length-map, take_more, take-map, map-append, take-append-drop}
+use denote.Ref.{Bor}
 use Rattle.std.specs.Int.{from_bool}
 use Rattle.ev_types.specs.declared.event.Attr.{Attr}
 use Rattle.ev_types.specs.declared.event.Event.{Event}
@@ -10,6 +11,7 @@ use Rattle.pb_wire.specs.Spelling.{Content, Varint, Eight, Bytes, Four, field_sp
 use Rattle.pb_wire.specs.ReadBack.{FieldValue, value_spelling}
 use Rattle.riemann_msg.specs.declared.msg.Msg.{Msg}
 use Rattle.riemann_msg.specs.declared.msg.QueryPart.{QueryPart}
+use Rattle.riemann_msg.specs.Reply.{events_lent, found}
 use Rattle.riemann_msg.specs.Ttl.{bits_of}
 use Rattle.riemann_msg.specs.Spelling.{field, optional, repeated, spelled, int64, sint64, attribute_values, attribute_content, name_values, number_values, event_values, event_content, query_values, query_content, message_values, spelling}
 
@@ -113,3 +115,23 @@ some_attributes attributes i attribute inside is = some_items 9 attribute_conten
 pub some_events : (events : List Event) (i : ℕ) (event : Event) → i < length events → event ≡ get_or events i event
     → length (spelled (repeated 6 event_content (take i events))) + length (field_spelling 6 (event_content event)) ≤ length (spelled (repeated 6 event_content events))
 some_events events i event inside is = some_items 6 event_content events i event inside is
+
+-- ---- events that are lent
+
+pub lent_within : (events : List (Bor Event)) (i : ℕ) → i < length events → i < length (events_lent events)
+lent_within events i within = omega (arith, length-map events (λ (e : Bor Event). e.now))
+
+pub lent_at : (events : List (Bor Event)) (i : ℕ) (event : Bor Event) → i < length events → event ≡ get_or events i event → event.now ≡ get_or (events_lent events) i event.now
+lent_at events i event within is = ap (λ (e : Bor Event). e.now) is ∙ sym (get_or-map (λ (e : Bor Event). e.now) events i event event.now within)
+
+pub lent_so_far : (events : List (Bor Event)) (i : ℕ) → events_lent (take i events) ≡ take i (events_lent events)
+lent_so_far events i = sym (take-map (λ (e : Bor Event). e.now) i events)
+
+pub next_lent : (events : List (Bor Event)) (i : ℕ) (event : Bor Event) → i < length events → event ≡ get_or events i event
+    → spelled (repeated 6 event_content (events_lent (take (i + 1) events)))
+    ≡ spelled (repeated 6 event_content (events_lent (take i events))) ++ (bytes_head 6 (length (spelled (event_values event.now))) ++ spelled (event_values event.now))
+next_lent events i event within is =
+    rw (lent_so_far events (i + 1), lent_so_far events i) (next_event (events_lent events) i event.now (lent_within events i within) (lent_at events i event within is))
+
+pub found_spelled : (events : List Event) → spelling (found events) ≡ spelled (optional 2 (λ ok. Varint (from_bool ok)) (Some true)) ++ spelled (repeated 6 event_content events)
+found_spelled events = message_spelled (found events)

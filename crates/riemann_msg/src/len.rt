@@ -185,7 +185,7 @@ fn metric_len(metric: Option<i64>) -> usize
 
 /// How many bytes the flag has with its tag, where there is one.
 #[tactic(auto, using(crate::proofs::Lengths::flag_length))]
-fn flag_len(flag: Option<bool>) -> usize
+pub(crate) fn flag_len(flag: Option<bool>) -> usize
     ensures { result ≡ length (spelled (optional 2 (λ ok. Varint (from_bool ok)) flag)) }
 {
     if flag.is_some() { 2 } else { 0 }
@@ -204,13 +204,13 @@ fn text_len(text: &Option<Text>) -> Result<usize, Memory>
 }
 
 /// How many bytes `len` bytes have with a tag of one byte and their length.
-fn embedded_len(len: usize) -> Result<usize, Memory>
+pub(crate) fn embedded_len(len: usize) -> Result<usize, Memory>
     ensures { Counts result (1 + (length (varint len) + len)) }
 {
     sum(1 + varint_len(len as u64), len)
 }
 
-fn sum(a: usize, b: usize) -> Result<usize, Memory>
+pub(crate) fn sum(a: usize, b: usize) -> Result<usize, Memory>
     ensures { Counts result (a + b) }
 {
     a.checked_add(b).ok_or(Memory)

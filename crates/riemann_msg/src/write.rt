@@ -30,7 +30,7 @@ pub fn write_msg(alloc: Global, msg: &Msg, out: &mut Blob) -> Result<(), Memory>
 }
 
 /// Appends the flag, where there is one.
-fn put_flag(alloc: Global, flag: Option<bool>, out: &mut Blob) -> Result<(), Memory>
+pub(crate) fn put_flag(alloc: Global, flag: Option<bool>, out: &mut Blob) -> Result<(), Memory>
     ensures ok { OnOk result (out.new
         ≡ out.old ++ spelled (optional 2 (λ ok. Varint (from_bool ok)) flag)) }
     ensures err { OnErr result (IsPrefix out.old out.new) }
@@ -81,7 +81,7 @@ fn put_events(alloc: Global, events: &[Event], out: &mut Blob) -> Result<(), Mem
 }
 
 /// Appends the fields of an event.
-fn put_event(alloc: Global, event: &Event, out: &mut Blob) -> Result<(), Memory>
+pub(crate) fn put_event(alloc: Global, event: &Event, out: &mut Blob) -> Result<(), Memory>
     ensures ok { OnOk result (out.new ≡ out.old ++ spelled (event_values event.now)) }
     ensures err { OnErr result (IsPrefix out.old out.new) }
 {

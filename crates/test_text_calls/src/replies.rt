@@ -1,5 +1,5 @@
 use ev_types::{Blob, Event, Events, Memory, Text};
-use riemann_msg::{Msg, QueryPart, msg_len, write_msg};
+use riemann_msg::{Msg, QueryPart, found_len, msg_len, write_found, write_msg};
 use std::alloc::Global;
 use std::test::Fail;
 
@@ -42,6 +42,22 @@ const WRITTEN: [&[u8]; 4] = [
     b"\x10\x00\x1a\x01x\x2a\x00",
     b"\x10\x01\x32\x02\x08\x01",
 ];
+
+/// Whether a reply that has the event of the time 1 twice is written so from where it lies, and counted so.
+fn is_lent(alloc: Global, wanted: &[u8]) -> Result<bool, Memory> {
+    let event = Event::at(alloc, 1);
+    let events = [&event, &event];
+    let mut out = Blob::fresh(alloc);
+    write_found(alloc, &events, &mut out)?;
+    Ok(out.as_slice() == wanted && found_len(&events)? == wanted.len())
+}
+
+#[test]
+fn events_are_written_from_where_they_lie(rt: HostRuntime) -> Result<(), Fail> {
+    let wanted = b"\x10\x01\x32\x02\x08\x01\x32\x02\x08\x01";
+    assert!(rt; is_lent(rt.alloc(), wanted)?);
+    Ok(())
+}
 
 #[test]
 fn replies_are_written(rt: HostRuntime) -> Result<(), Fail> {

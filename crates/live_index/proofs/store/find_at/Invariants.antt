@@ -1,12 +1,13 @@
 use Rattle.std.proofs.Common.{◌≡◌, ◌+◌, ◌++◌, filter, take}
 use Rattle.pred_eval.specs.Truth.{holds}
+use Rattle.live_index.specs.Index.{events_lent}
 use Rattle.live_index.specs.Store.{events_at}
-use Rattle.live_index.proofs.store.copy_at.Given as goal
+use Rattle.live_index.proofs.store.find_at.Given as goal
 
 abbrev pub invariant-loop-number : goal.invariant-loop-number
 invariant-loop-number g l = record {
   same : l.pred ≡ l.fn.pred;
-  copied : l.out ≡ l.fn.out ++ filter (holds l.fn.pred) (events_at l.events.values (take l.number-index l.numbers));
+  found : events_lent l.found.items ≡ events_lent l.fn.found.items ++ filter (holds l.fn.pred) (events_at l.events.values (take l.number-index l.numbers));
   forks : l.steps.forks ≡ l.fn.steps.forks;
   entries : l.steps.entries ≡ l.fn.steps.entries + l.number-index;
   began : l.steps.began ≡ l.fn.steps.began;

@@ -1,36 +1,37 @@
 use Rattle.std.proofs.Common.{arith, sym, ap, ◌∙◌, subst, ◌++◌, filter}
 use Rattle.pred_eval.specs.Host.{asked_host}
 use Rattle.pred_eval.specs.Truth.{holds}
+use Rattle.live_index.specs.Index.{events_lent}
 use Rattle.live_index.specs.Store.{events_at, AreLive}
 use Rattle.live_index.proofs.HostLaws.{asked-count, asked-live, asked-search}
-use Rattle.live_index.proofs.store.Store.copy_matching.Goals as goal
+use Rattle.live_index.proofs.store.Store.find.Goals as goal
 
-pub copy_at-requires : goal.copy_at-requires
-copy_at-requires g c =
+pub find_at-requires : goal.find_at-requires
+find_at-requires g c =
     let store = c.args.self.now in
     subst (AreLive store.events.values) (sym (c.as_slice.ensures ∙ c.in_ok-numbers.ensures.numbers)) (asked-live store.numbers store.events.values c.requires.linked (asked_host c.args.pred.now))
 
 pub returns-clause-ok : goal.returns-clause-ok
 returns-clause-ok g c =
     let store = c.args.self.now in
-    c.in_ok-copy_at.ensures.ok
-    ∙ ap (λ numbers. c.args.out.now ++ filter (holds c.args.pred.now) (events_at store.events.values numbers)) (c.as_slice.ensures ∙ c.in_ok-numbers.ensures.numbers)
-    ∙ ap (λ events. c.args.out.now ++ events) (asked-search store.numbers store.events.values c.requires.linked (holds c.args.pred.now) (asked_host c.args.pred.now) c.numbers_for.ensures.needs)
+    c.in_ok-find_at.ensures.ok
+    ∙ ap (λ numbers. events_lent c.args.found.now.items ++ filter (holds c.args.pred.now) (events_at store.events.values numbers)) (c.as_slice.ensures ∙ c.in_ok-numbers.ensures.numbers)
+    ∙ ap (λ events. events_lent c.args.found.now.items ++ events) (asked-search store.numbers store.events.values c.requires.linked (holds c.args.pred.now) (asked_host c.args.pred.now) c.numbers_for.ensures.needs)
 
 pub returns-clause-counted : goal.returns-clause-counted
 returns-clause-counted g c =
     let store = c.args.self.now in
     let count = asked-count store.numbers store.events.values c.requires.linked (asked_host c.args.pred.now) c.as_slice.result.now (c.as_slice.ensures ∙ c.in_ok-numbers.ensures.numbers) in
-    omega (arith, count, c.in_ok-copy_at.ensures.counted)
+    omega (arith, count, c.in_ok-find_at.ensures.counted)
 
 pub returns-clause-entries : goal.returns-clause-entries
 returns-clause-entries g c =
     let store = c.args.self.now in
     let count = asked-count store.numbers store.events.values c.requires.linked (asked_host c.args.pred.now) c.as_slice.result.now (c.as_slice.ensures ∙ c.in_ok-numbers.ensures.numbers) in
-    omega (arith, count, c.copy_at.ensures.entries)
+    omega (arith, count, c.find_at.ensures.entries)
 
-pub returns-in_err-copy_at-clause-entries : goal.returns-in_err-copy_at-clause-entries
-returns-in_err-copy_at-clause-entries g c =
+pub returns-in_err-find_at-clause-entries : goal.returns-in_err-find_at-clause-entries
+returns-in_err-find_at-clause-entries g c =
     let store = c.args.self.now in
     let count = asked-count store.numbers store.events.values c.requires.linked (asked_host c.args.pred.now) c.as_slice.result.now (c.as_slice.ensures ∙ c.in_ok-numbers.ensures.numbers) in
-    omega (arith, count, c.copy_at.ensures.entries)
+    omega (arith, count, c.find_at.ensures.entries)
