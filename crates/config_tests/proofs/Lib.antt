@@ -1,3 +1,10 @@
 pub mod MapLaws
-pub mod ReadLaws
+pub mod Refusals
+pub mod Rows
+pub mod MapsRead
+pub mod ItemsRead
 pub mod ShortLaws
+pub mod EntriesRead
+pub mod TestsRead
+pub mod ReadLaws
+pub mod AnswerLaws

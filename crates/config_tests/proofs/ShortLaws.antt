@@ -19,11 +19,11 @@ use Rattle.config_tests.specs.declared.word.EntryWord.TheVariants as word
 use Rattle.config_tests.specs.Events.{seconds_in, event_of, IsShort}
 use Rattle.config_tests.specs.Maps.{described_at}
 use Rattle.config_tests.specs.Entries.{no_entries, passed, posted, expected, within, count_at, with_tick, with_event, new_name, with_item, with_expect, entry_by, entry_looking, with_entry}
-use Rattle.config_tests.specs.Tests.{test_in, test_looking, with_test, test_from, read_without_names, tests_of, AreTestsOf}
+use Rattle.config_tests.specs.Tests.{test_in, test_looking, with_test, test_from, read_without_names, tests_of}
 use Rattle.config_tests.specs.Words.{entry_word, test_text}
 use Rattle.std.specs.Str.{bytes_eq}
 
-seconds-append : (entries more : List Entry) → seconds_in (entries ++ more) ≡ seconds_in entries + seconds_in more
+pub seconds-append : (entries more : List Entry) → seconds_in (entries ++ more) ≡ seconds_in entries + seconds_in more
 seconds-append [] more = omega arith
 seconds-append (one ∷ entries) more = omega (arith, seconds-append entries more)
 
@@ -120,10 +120,7 @@ without_names_good : (P : List Test → Type 0) (read : Result (List Test) Fault
 without_names_good P (Ok tests) good = good
 without_names_good P (Err fault) good = tt
 
-tests_short : (forms : FormTrees) (tests : List Test) → tests_of forms ≡ Ok tests → AllByRecursion IsShort tests
+pub tests_short : (forms : FormTrees) (tests : List Test) → tests_of forms ≡ Ok tests → AllByRecursion IsShort tests
 unfolding tests_of
 tests_short forms tests are =
     ok_read (AllByRecursion IsShort) (read_without_names (each with_test [] forms)) tests are (without_names_good (AllByRecursion IsShort) (each with_test [] forms) (tests_good forms))
-
-pub read_short : (text : List ℕ) (tests : List Test) → AreTestsOf text tests → AllByRecursion IsShort tests
-read_short text tests are = tests_short are.forms tests are.holds

@@ -1,7 +1,6 @@
--- How the entries of a test are read, step by step, and what each step refuses at which place.
-use Rattle.std.specs.Prelude.{ℕ, ◌+◌, nat_le, Bool, if◌then◌else◌, List, [], ◌∷◌, ◌++◌, Option, Some, None, Result, Ok, Err}
-use Rattle.std.specs.List.{list_any}
-use Rattle.std.specs.Str.{bytes_eq}
+-- How the entries of a test are read, step by step, and what each step refuses at which place. Which forms are entries is
+-- said by the grammar (`Grammar.antt`), and which fault is the first by a relation (`Faults.antt`), apart from these steps.
+use Rattle.std.specs.Prelude.{ℕ, ◌+◌, nat_le, if◌then◌else◌, List, [], ◌∷◌, ◌++◌, Option, Some, None, Result, Ok, Err}
 use Rattle.ev_types.specs.declared.event.Event.{Event}
 use Rattle.ev_types.specs.declared.field.Field.TheVariants.{Time}
 use Rattle.ev_types.specs.declared.item.Item.{Item}
@@ -20,6 +19,7 @@ use Rattle.config_tests.specs.declared.map.Described.{Described}
 use Rattle.config_tests.specs.declared.word.EntryWord.{EntryWord}
 use Rattle.config_tests.specs.declared.word.EntryWord.TheVariants as word
 use Rattle.config_tests.specs.Events.{event_of}
+use Rattle.config_tests.specs.Grammar.{has_expect}
 use Rattle.config_tests.specs.Maps.{described_at}
 use Rattle.config_tests.specs.Words.{entry_word}
 
@@ -88,9 +88,6 @@ item_at f = item_by f (argument_of [] f)
 
 abbrev pub with_item : List Item → FormTree → Result (List Item) Fault
 with_item items f = item_at f >>= λ item. Ok (items ++ item ∷ [])
-
-abbrev pub has_expect : List ℕ → List Expect → Bool
-has_expect name = list_any (λ expect. bytes_eq expect.name name)
 
 -- something is expected under each name once at most
 abbrev pub new_name : ℕ → List Expect → List ℕ → Result (List ℕ) Fault

@@ -1,5 +1,9 @@
 pub mod Words
+pub mod Limits
 pub mod Events
+pub mod Grammar
+pub mod Faults
 pub mod Maps
 pub mod Entries
 pub mod Tests
+pub mod Answer

@@ -1,6 +1,6 @@
--- How maps that describe an event are read, step by step, and what each step refuses at which place.
-use Rattle.std.specs.Prelude.{ℕ, Bool, if◌then◌else◌, List, [], ◌∷◌, ◌++◌, Option, Some, None, Result, Ok, Err}
-use Rattle.std.specs.Option.{is_some}
+-- How maps that describe an event are read, step by step, and what each step refuses at which place. Which forms are maps
+-- is said by the grammar, apart from these steps (`Grammar.antt`).
+use Rattle.std.specs.Prelude.{ℕ, if◌then◌else◌, List, [], ◌∷◌, ◌++◌, Option, Some, None, Result, Ok, Err}
 use Rattle.std.specs.Str.{bytes_eq}
 use Rattle.ev_types.specs.declared.field.Field.{Field}
 use Rattle.ev_types.specs.Names.{named_field}
@@ -8,31 +8,25 @@ use Rattle.sexp_read.specs.Tree.{FormTree, FormTrees, none, also}
 use Rattle.config_terms.specs.declared.fault.ConfigWhy.TheVariants as why
 use Rattle.config_terms.specs.Steps.{Fault, ◌>>=◌, start_of}
 use Rattle.config_terms.specs.Words.{tags_text}
-use Rattle.config_terms.specs.Arguments.{Argument, Keyword, taken, has_field, set_at, texts_at, vector_at, map_at}
+use Rattle.config_terms.specs.Arguments.{Argument, Keyword, taken, set_at, texts_at, vector_at, map_at}
 use Rattle.config_tests.specs.declared.map.Described.{Described}
 use Rattle.config_tests.specs.declared.map.MapKey.{MapKey}
 use Rattle.config_tests.specs.declared.map.MapKey.TheVariants as key
-
-abbrev pub nothing : Described
-nothing = record { sets = []; tags = None }
+use Rattle.config_tests.specs.Grammar.{nothing, has_key}
 
 -- ---- keys
 
-abbrev pub field_key : Option Field → Option MapKey
-field_key None = None
-field_key (Some field) = Some (key.Field field)
+abbrev pub key_of_field : Option Field → Option MapKey
+key_of_field None = None
+key_of_field (Some field) = Some (key.Field field)
 
 -- `:tags`, or a keyword that is a field
 abbrev pub key_in : Argument → Option MapKey
-key_in (Keyword name) = if bytes_eq name tags_text then Some key.Tags else field_key (named_field name)
+key_in (Keyword name) = if bytes_eq name tags_text then Some key.Tags else key_of_field (named_field name)
 key_in _ = None
 
 unfoldable pub key_at : FormTree → Result MapKey Fault
 key_at = taken key_in []
-
-abbrev pub has_key : MapKey → Described → Bool
-has_key (key.Field field) described = has_field field described.sets
-has_key key.Tags described = is_some described.tags
 
 abbrev pub new_key : ℕ → Described → MapKey → Result MapKey Fault
 new_key place described one = if has_key one described then Err (place, why.Twice) else Ok one

@@ -1,5 +1,5 @@
 -- How whole tests are read, and for what a text is refused that is not tests.
-use Rattle.std.specs.Prelude.{◌≡◌, ℕ, ◌⊎◌, if◌then◌else◌, List, [], ◌∷◌, ◌++◌, Some, Result, Ok, Err}
+use Rattle.std.specs.Prelude.{◌≡◌, ◌↔◌, ℕ, ◌⊎◌, if◌then◌else◌, List, [], ◌∷◌, ◌++◌, Some, Result, Ok, Err}
 use Rattle.std.specs.Str.{bytes_eq}
 use Rattle.sexp_read.specs.declared.fault.SexpFault.{SexpFault}
 use Rattle.sexp_read.specs.declared.fault.SexpFault.TheVariants as sexp_fault
@@ -7,6 +7,7 @@ use Rattle.sexp_read.specs.declared.fault.SexpWhy.{SexpWhy}
 use Rattle.sexp_read.specs.declared.fault.SexpWhy.TheVariants as sexp
 use Rattle.sexp_read.specs.Grammar.{IsForms, text_fault}
 use Rattle.sexp_read.specs.Tree.{FormTree, FormTrees}
+use Rattle.sexp_read.specs.Written.{bare_trees}
 use Rattle.config_terms.specs.declared.fault.ConfigFault.{ConfigFault}
 use Rattle.config_terms.specs.declared.fault.ConfigFault.TheVariants as config_fault
 use Rattle.config_terms.specs.declared.fault.ConfigWhy.{ConfigWhy}
@@ -19,6 +20,8 @@ use Rattle.config_tests.specs.declared.entry.Test.{Test}
 use Rattle.config_tests.specs.declared.fault.TestFault.{TestFault}
 use Rattle.config_tests.specs.declared.fault.TestFault.TheVariants.{Refused, Memory}
 use Rattle.config_tests.specs.Entries.{no_entries, with_entry}
+use Rattle.config_tests.specs.Faults.{HaveTestFault}
+use Rattle.config_tests.specs.Grammar.{AreTests}
 use Rattle.config_tests.specs.Words.{test_text}
 
 -- ---- tests
@@ -56,9 +59,18 @@ abbrev pub read_without_names : {A : Type 0} → Result A Fault → Result A Fau
 read_without_names (Ok a) = Ok a
 read_without_names (Err fault) = Err (fault.0, without_names fault.1)
 
--- What the forms of a text are read as, from left to right. The first refusal counts.
+-- What the forms of a text are read as, step by step. Which forms represent tests is said by the grammar, and which fault of
+-- the others is the first by a relation; that the steps keep to both are laws.
 unfoldable pub tests_of : FormTrees → Result (List Test) Fault
 tests_of forms = read_without_names (each with_test [] forms)
+
+-- forms are read as tests exactly where they represent these
+abbrev pub TestsAreRead : Type 0
+TestsAreRead = (forms : FormTrees) (tests : List Test) → AreTests (bare_trees forms) tests ↔ (tests_of forms ≡ Ok tests)
+
+-- and are refused exactly for the first fault that they have
+abbrev pub FaultsAreFirst : Type 0
+FaultsAreFirst = (forms : FormTrees) (place : ℕ) (why : ConfigWhy) → HaveTestFault forms (place, why) ↔ (tests_of forms ≡ Err (place, why))
 
 -- ---- texts
 
@@ -72,11 +84,11 @@ why_of sexp.Number = why.Number
 why_of sexp.Escape = why.Escape
 why_of sexp.Deep = why.Deep
 
--- the text is forms that are these tests
+-- the text is forms that represent these tests
 pub record AreTestsOf (text : List ℕ) (tests : List Test) : Type 0 where
   pub forms : FormTrees
   pub read : IsForms text forms
-  pub holds : tests_of forms ≡ Ok tests
+  pub holds : AreTests (bare_trees forms) tests
 
 -- the text is not forms, for this cause at the place
 pub record IsFormsFault (text : List ℕ) (place : ℕ) (why : ConfigWhy) : Type 0 where
@@ -84,11 +96,11 @@ pub record IsFormsFault (text : List ℕ) (place : ℕ) (why : ConfigWhy) : Type
   pub fault : text_fault text ≡ Some (place, cause)
   pub is : why_of cause ≡ why
 
--- the text is forms that are not tests, for this cause at the place
+-- the text is forms that are not tests, and this is the first fault that they have
 pub record IsReadingFault (text : List ℕ) (place : ℕ) (why : ConfigWhy) : Type 0 where
   pub forms : FormTrees
   pub read : IsForms text forms
-  pub fault : tests_of forms ≡ Err (place, why)
+  pub fault : HaveTestFault forms (place, why)
 
 abbrev pub IsTestsFault : List ℕ → ℕ → ConfigWhy → Type 0
 IsTestsFault text place why = IsFormsFault text place why ⊎ IsReadingFault text place why

@@ -5,6 +5,8 @@
 mod draft;
 mod entry;
 mod fault;
+mod law;
+mod limits;
 mod map;
 mod read;
 mod suite;
@@ -13,4 +15,6 @@ mod word;
 pub use draft::{MAX_SECONDS, MAX_TICK};
 pub use entry::{Entries, Entry, Expect, Expects, Test, Tests};
 pub use fault::TestFault;
+pub use law::{faults_are_first, tests_are_read, texts_have_one_answer};
+pub use limits::limits_are_numbers;
 pub use read::read_tests;

@@ -8,7 +8,8 @@ ghost use Rattle.config_terms.specs.Code.{argument_in};
 ghost use Rattle.config_terms.specs.Steps.{Gives, GivesAs};
 ghost use Rattle.config_terms.specs.Arguments.{has_field};
 ghost use Rattle.config_tests.specs.Events.{with_sets, with_tags, event_of};
-ghost use Rattle.config_tests.specs.Maps.{field_key, key_in as key_of, key_at as key_from, has_key, new_key_at as new_key_from, tags_at as tags_from, with_part, nothing, described_from as described_in, described_at as described_from_form};
+ghost use Rattle.config_tests.specs.Grammar.{nothing, has_key};
+ghost use Rattle.config_tests.specs.Maps.{key_of_field, key_in as key_of, key_at as key_from, new_key_at as new_key_from, tags_at as tags_from, with_part, described_from as described_in, described_at as described_from_form};
 
 use config_terms::{
     Argument, ConfigFault, ConfigWhy, argument_of, field_of, first, is, map_at, refused, set_at,
@@ -34,7 +35,7 @@ pub(crate) enum MapKey {
 }
 
 fn field_key(alloc: Global, name: &Text) -> Result<Option<MapKey>, Memory>
-    ensures { IfOk result (λ key. key ≡ field_key (named_field name.now)) }
+    ensures { IfOk result (λ key. key ≡ key_of_field (named_field name.now)) }
 {
     match field_of(alloc, name)? {
         Some(field) => Ok(Some(MapKey::Field(field))),

@@ -1,6 +1,7 @@
 use Rattle.std.proofs.Common.{◌≡◌, length}
 use Rattle.sexp_read.specs.Tree.{form_trees}
-use Rattle.config_tests.specs.Maps.{described_from, nothing}
+use Rattle.config_tests.specs.Grammar.{nothing}
+use Rattle.config_tests.specs.Maps.{described_from}
 use Rattle.config_tests.proofs.map.described_from.Given as goal
 
 abbrev pub invariant-entries : goal.invariant-entries
