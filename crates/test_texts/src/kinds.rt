@@ -1,6 +1,6 @@
 //! The kinds of rows of one line.
 
-use crate::{configs, forms, plans};
+use crate::{configs, forms, plans, suites};
 use ev_types::Blob;
 use std::alloc::Global;
 use test_rows::{RowFault, read_spelled};
@@ -20,6 +20,7 @@ fn text_answer(alloc: Global, kind: &str, text: &[u8], wanted: &[u8]) -> Result<
         "forms" => forms::forms_answer(alloc, text),
         "form-count" => forms::count_answer(alloc, text),
         "lines" => forms::lines_answer(alloc, text),
+        "tests" => suites::tests_answer(alloc, text),
         _ => Err(RowFault::Unreadable),
     }
 }

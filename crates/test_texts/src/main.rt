@@ -1,4 +1,4 @@
-//! Rows of tests of configurations, s-expressions and plans, from the files that the arguments name
+//! Rows of configurations, of tests of them, of s-expressions and of plans, from the files that the arguments name
 //! (`docs/TEST_ROWS.md`).
 #![tactic(auto)]
 
@@ -9,6 +9,7 @@ mod gaps;
 mod kinds;
 mod plans;
 mod sheet;
+mod suites;
 
 use crate::sheet::read_sheet;
 use std::rt::{Env, Files};
