@@ -1,0 +1,132 @@
+-- How a turn ends.
+use Rattle.std.proofs.Common.{◌≡◌, ◌≢◌, ℕ, ◌<◌, inl, inr, Bool, true, false, cond, not, ◌&&◌, List, [], ◌∷◌, ◌++◌, length, drop, Option, Some, None, refl, ap, sym, ◌∙◌, subst}
+use Rattle.std.specs.Prelude.{nat_lt}
+use Rattle.std.proofs.lemmas.Bool.{lt-ltb}
+use Rattle.ports.specs.declared.entry.Entry.{Entry}
+use Rattle.ports.specs.declared.links.Turn.{Turn}
+use Rattle.ports.specs.declared.links.Want.{Want}
+use Rattle.riemann_client.specs.Client.{Represents, link_of, stream_of}
+use Rattle.riemann_client.specs.Exchange.{Exchange, heard, progress_of, unsent, wants_on}
+use Rattle.riemann_client.specs.Sending.{IsSettled, KeepsReplies, Sends, SendsFrom, after_sends, link_to_send}
+use Rattle.riemann_client.specs.Turning.{Ends, GoesOn, GoesOnFrom, Hears, RunsOut, SettlesTo, TurnsFrom, TurnsTo, closing}
+use Rattle.riemann_client.specs.declared.client.Client.{Client}
+use Rattle.riemann_client.specs.declared.progress.Progress.{Progress}
+use Rattle.riemann_client.specs.declared.progress.Progress.TheVariants.{More, Whole, Unasked, Refused, Lost, Memory}
+
+-- ---- all requests are sent that are taken
+
+some_blocked : (gone blocked : Bool) (link : Option ℕ) (count number : ℕ) → cond (not gone && (not blocked && nat_lt 0 count)) link None ≡ None → gone ≡ false → link ≡ Some number
+    → 0 < count → blocked ≡ true
+some_blocked gone true link count number none works on some = refl
+some_blocked true false link count number none works on some = absurd (cc works)
+some_blocked false false link count number none works on some =
+    let is : nat_lt 0 count ≡ true = lt-ltb 0 count some in
+    let there : cond (nat_lt 0 count) link None ≡ link = ap (λ (t : Bool). cond t link None) is in
+    absurd (cc (none, there, on))
+
+settled_so : (client : Client) (exchange : Exchange) (stream : List ℕ) → stream_of client ≡ stream → link_to_send client ≡ None → client.gone ≡ false → Represents client exchange → IsSettled stream exchange
+settled_so client exchange stream same none works is some number on =
+    let left : drop client.requests.taken client.requests.stream ≡ unsent stream exchange =
+    ap (λ (n : ℕ). drop n client.requests.stream) is.count ∙ ap (drop (length exchange.taken)) same in
+    sym is.blocked ∙ some_blocked client.gone client.blocked client.link (length (drop client.requests.taken client.requests.stream)) number none works (is.link ∙ on)
+    (subst (λ (bytes : List ℕ). 0 < length bytes) (sym left) some)
+
+-- a link that is noted for waiting changes nothing of the exchange
+with_wants : (client : Client) (wants : List Want) (exchange : Exchange) → Represents client exchange → Represents (record client { wants = wants }) exchange
+with_wants client wants exchange is = record {
+  now = is.now;
+  link = is.link;
+  blocked = is.blocked;
+  gone = is.gone;
+  taken = is.taken;
+  count = is.count;
+  input = is.input;
+  replies = is.replies;
+  accepted = is.accepted;
+  answered = is.answered;
+}
+
+all_nothing : (calls : List Entry) → calls ++ [] ≡ calls
+all_nothing [] = refl
+all_nothing (call ∷ calls) = ap (λ (cs : List Entry). call ∷ cs) (all_nothing calls)
+
+module _ (client one client' : Client) (first second : List Entry) (keeps : KeepsReplies client one) (sends : Sends client one first) where
+  -- the sends were made, and then the turn ended so
+  pub turn_settles : (progress : Progress) → link_to_send one ≡ None → SettlesTo one client' progress second → GoesOnFrom client client' progress (first ++ second)
+  turn_settles More none settles before after due is =
+      let there : SendsFrom client one first after = sends after is in
+      let calls : first ++ second ≡ first = ap (λ (cs : List Entry). first ++ cs) settles.none ∙ all_nothing first in
+      let wants : List Want = wants_on (nat_lt 0 (length (drop one.requests.taken one.requests.stream))) one.link in
+      let unsent_is : drop one.requests.taken one.requests.stream ≡ unsent (stream_of client) (after_sends first after) =
+      ap (λ (n : ℕ). drop n one.requests.stream) there.represents.count ∙ ap (drop (length (after_sends first after).taken)) keeps.stream in
+      subst (λ (cs : List Entry). GoesOn client' (stream_of client) before after cs) (sym calls) (record {
+        due = due;
+        may = there.may;
+        represents = subst (λ (c : Client). Represents c (after_sends first after)) (sym settles.client_is) (with_wants one wants (after_sends first after) there.represents);
+        works = sym there.represents.gone ∙ settles.works;
+        settled = settled_so one (after_sends first after) (stream_of client) keeps.stream none settles.works there.represents;
+        wants = ap (λ (c : Client). c.wants) settles.client_is
+            ∙ ap (λ (bytes : List ℕ). wants_on (nat_lt 0 (length bytes)) one.link) unsent_is
+            ∙ ap (wants_on (nat_lt 0 (length (unsent (stream_of client) (after_sends first after))))) there.represents.link;
+      })
+  turn_settles Whole none settles before after due is = absurd settles
+  turn_settles (Unasked number) none settles before after due is = absurd settles
+  turn_settles (Refused number place why) none settles before after due is = absurd settles
+  turn_settles Lost none settles before after due is =
+      let there : SendsFrom client one first after = sends after is in
+      inr (record {
+        due = due;
+        sends = first;
+        calls_are = ap (λ (cs : List Entry). first ++ cs) (settles.closed ∙ ap closing (keeps.link ∙ is.link));
+        may = there.may;
+        failed = sym there.represents.gone ∙ settles.failed;
+        replies = ap (λ (c : Client). c.replies) settles.client_is ∙ keeps.replies ∙ is.replies;
+      })
+  turn_settles Memory none settles before after due is =
+      let there : SendsFrom client one first after = sends after is in
+      let calls : first ++ second ≡ first = ap (λ (cs : List Entry). first ++ cs) settles ∙ all_nothing first in
+      subst (λ (cs : List Entry). RunsOut (stream_of client) before after cs) (sym calls)
+      (record { may = there.may; none = λ other. absurd (other due) })
+
+  -- memory ran out at a send
+  pub turn_unsent : GoesOnFrom client client' Memory first
+  turn_unsent before after due is =
+      let there : SendsFrom client one first after = sends after is in
+      record { may = there.may; none = λ other. absurd (other due) }
+
+-- ---- a turn
+
+ends_as : (client' : Client) (stream : List ℕ) (before after : Exchange) (progress : Progress) (calls : List Entry) → progress ≢ More → progress ≢ Memory
+    → Ends client' stream before after progress calls → TurnsTo client' stream before after progress calls
+ends_as client' stream before after More calls other alive ends = absurd (other refl)
+ends_as client' stream before after Whole calls other alive ends = ends
+ends_as client' stream before after (Unasked number) calls other alive ends = ends
+ends_as client' stream before after (Refused number place why) calls other alive ends = ends
+ends_as client' stream before after Lost calls other alive ends = inl ends
+ends_as client' stream before after Memory calls other alive ends = absurd (alive refl)
+
+module _ (client one client' : Client) (turn : Turn) (piece : List ℕ) (same : stream_of one ≡ stream_of client) where
+  -- the exchange is over, and the link was closed
+  pub turn_ends : (progress : Progress) (calls : List Entry) → progress ≢ More → progress ≢ Memory → calls ≡ closing (link_of one)
+      → (progress ≢ Memory → (before : Exchange) → Represents client before → Hears one (stream_of client) before (heard turn piece before) progress)
+      → TurnsFrom turn piece client one progress calls
+  turn_ends progress calls other alive closed hears before is =
+      let there = hears alive before is in
+      ends_as one (stream_of client) before (heard turn piece before) progress calls other alive
+      (record { is = there.is; calls_are = closed ∙ ap closing there.link; replies = there.replies })
+
+  -- it goes on, and requests were sent
+  pub turn_goes_on : (heard_as progress : Progress) (calls : List Entry) → heard_as ≡ More
+      → (heard_as ≢ Memory → (before : Exchange) → Represents client before → Hears one (stream_of client) before (heard turn piece before) heard_as)
+      → GoesOnFrom one client' progress calls → TurnsFrom turn piece client client' progress calls
+  turn_goes_on heard_as progress calls more hears goes_on before is =
+      let alive : heard_as ≢ Memory = λ memory. absurd (cc (more, memory)) in
+      let there = hears alive before is in
+      subst (λ (stream : List ℕ). TurnsTo client' stream before (heard turn piece before) progress calls) same
+      (goes_on before (heard turn piece before)
+      (ap (λ (stream : List ℕ). progress_of stream before (heard turn piece before)) same ∙ sym there.is ∙ more)
+      (there.represents more))
+
+-- memory ran out at what came
+pub turn_unheard : (client client' : Client) (turn : Turn) (piece : List ℕ) → TurnsFrom turn piece client client' Memory []
+turn_unheard client client' turn piece before is = record { may = tt; none = λ other. refl }

@@ -1,0 +1,8 @@
+pub mod Clock
+pub mod Exchange
+pub mod Requests
+pub mod Accepting
+pub mod Client
+pub mod Sending
+pub mod Turning
+pub mod Run

@@ -1,0 +1,50 @@
+ghost use Rattle.std.specs.Prelude.{◌≡◌, ◌^◌, ◌≤◌};
+ghost use Rattle.riemann_client.specs.Clock.{next_moment};
+
+use std::marker::Model;
+
+/// The last moment of the clock, in seconds since 1970.
+const LATEST_MOMENT: u64 = 1 << 40;
+
+/// How many seconds pass in one turn at most.
+const SECONDS_PER_TURN: u64 = 3600;
+
+/// The clock of a client, which contracts see as its moment, in seconds since 1970.
+#[derive(Drop)]
+pub(crate) struct Clock {
+    moment: u64,
+}
+
+impl Model for Clock {
+    ghost use Rattle.std.specs.Prelude.{ℕ, ◌^◌, ◌≤◌};
+
+    ghost Value = { ℕ };
+
+    ghost view = { λ clock. clock.moment };
+
+    ghost invariant = { λ clock. clock.moment ≤ 2 ^ 40 };
+}
+
+impl Clock {
+    pub(crate) fn at(start: u64) -> Clock
+        requires { start ≤ 2 ^ 40 }
+        ensures { result ≡ start }
+    {
+        Clock { moment: start }
+    }
+
+    pub(crate) fn now(&self) -> u64
+        ensures value { result ≡ self.now }
+        ensures bound { result ≤ 2 ^ 40 }
+    {
+        self.moment
+    }
+
+    /// A turn reads the clock at `secs`. The clock never goes back, and goes on by an hour a turn at most.
+    pub(crate) fn pass(&mut self, secs: u64)
+        ensures { self.new ≡ next_moment self.old secs }
+    {
+        let latest = (self.moment + SECONDS_PER_TURN).min(LATEST_MOMENT);
+        self.moment = self.moment.max(secs.min(latest));
+    }
+}
