@@ -1,9 +1,11 @@
 -- How what a crash may leave goes on from call to call.
-use Rattle.std.proofs.Common.{◌≡◌, inl, inr, ⊎_elim, ℕ, zero, suc, ◌+◌, ◌-◌, ◌≤◌, min, List, ◌++◌, length, take, drop, Option, Some, Result, Ok, Err, OnOk, OnErr, refl, sym, ◌∙◌, ap, subst, arith, append_assoc, length-append, length-take, length-drop}
+use Rattle.std.proofs.Common.{◌≡◌, inl, inr, ⊎_elim, ℕ, zero, suc, ◌+◌, ◌-◌, ◌≤◌, min, List, ◌++◌, length, take, drop, Option, None, Some, Result, Ok, Err, OnOk, OnErr, refl, sym, ◌∙◌, ap, subst, arith, append_assoc, length-append, length-take, length-drop}
 use Rattle.std.specs.Option.{option_map, ForSome}
 use Rattle.std.proofs.lemmas.Bool.{cases_lt}
 use Rattle.std.proofs.lemmas.List.{take_at, drop_at, drop_min, drop-drop, length-take-le}
-use Rattle.disk_port.specs.Past.{Past, found, wrote, synced, text_of, put, written, Torn, Leaves, Rests, earlier, LeavesOnly, IsUndoneOrBegun, TearsOnly}
+use Rattle.std.proofs.lemmas.Option.{none-some, same_Some}
+use Rattle.disk_port.specs.Past.{Past, found, wrote, synced, text_of, put, written, Torn, Leaves, Rests, earlier, IsPossible, LeavesOnly, IsUndoneOrBegun, TearsOnly}
+use Rattle.disk_port.specs.Laws.{CallsArePossible, ReadsAreLeft}
 
 -- before the first call
 pub begins : (past : Past) (P : List ℕ → Type 0) → ((image : List ℕ) → Leaves past image → P image) → LeavesOnly past past P
@@ -107,7 +109,7 @@ pub failed_tears : (place count : ℕ) (old new : Option Past) → IsUndoneOrBeg
 failed_tears place count old new (inl same) past is rests =
     let P = Torn place count (text_of past) in
     (past, same ∙ is, begins past P (λ image leaves. subst P (sym (rests image leaves)) (torn_not place count (text_of past))))
-failed_tears place count old new (inr (text, new_is)) past is rests =
+failed_tears place count old new (inr (text, torn, new_is)) past is rests =
     (wrote past place count text, new_is ∙ ap (option_map (λ p. wrote p place count text)) is, begun past place count text rests)
 
 -- a write, and a sync that failed
@@ -130,3 +132,33 @@ pub sync_tears : {T E : Type 0} (place : ℕ) (bytes : List ℕ) (old mid new : 
     → mid ≡ option_map (written place bytes) old → OnOk answer (new ≡ option_map synced mid) → OnErr answer (new ≡ mid) → ForSome old (λ past. TearsOnly place (length bytes) past new)
 sync_tears place bytes old mid new (Ok value) within wrote_is sync_is failed = synced_tears place bytes old mid new within wrote_is sync_is
 sync_tears place bytes old mid new (Err error) within wrote_is sync_is failed = unsynced_tears place bytes old mid new wrote_is failed
+
+-- ---- what a disk can report
+
+pub reads_left : ReadsAreLeft
+reads_left (found text) possible = tt
+reads_left (wrote past place count text) possible = (text_of past, reads_left past possible.0, possible.1)
+reads_left (synced past) possible = refl
+
+pub calls_possible : CallsArePossible
+calls_possible = record {
+  write = λ past place bytes possible within. (possible, torn_put place bytes (text_of past) within);
+  failed_write = failed;
+  sync = λ past possible. possible;
+}
+  where
+    failed : (old new : Option Past) (place count : ℕ) → ForSome old IsPossible → IsUndoneOrBegun place count old new → ForSome new IsPossible
+    failed old new place count possible (inl same) past is = possible past (sym same ∙ is)
+    failed None new place count possible (inr (text, torn, new_is)) past is = absurd (none-some past (sym new_is ∙ is))
+    failed (Some old) new place count possible (inr (text, torn, new_is)) past is =
+        subst IsPossible (same_Some (wrote old place count text) past (sym new_is ∙ is)) (possible old refl, torn old refl)
+
+-- a write that failed and was done all the same
+pub done_all_the_same : (place : ℕ) (bytes : List ℕ) (old : Past) (new : Option Past) → place ≤ length (text_of old) → new ≡ Some (written place bytes old) → IsUndoneOrBegun place (length bytes) (Some old) new
+done_all_the_same place bytes old new within new_is =
+    inr (put place bytes (text_of old), λ past is. subst (λ (p : Past). Torn place (length bytes) (text_of p) (put place bytes (text_of old))) (same_Some old past is) (torn_put place bytes (text_of old) within), new_is)
+
+-- what holds at any answer
+pub if_err : {T E : Type 0} (answer : Result T E) (P : Type 0) → P → OnErr answer P
+if_err (Ok value) P p = tt
+if_err (Err error) P p = p

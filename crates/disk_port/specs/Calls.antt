@@ -1,5 +1,5 @@
 -- What a disk reports, and why its calls answer so.
-use Rattle.std.specs.Prelude.{◌≡◌, ℕ, ◌-◌, List, [], ◌∷◌, length, take, drop, min, Option, Result, Ok, Err}
+use Rattle.std.specs.Prelude.{◌≡◌, ℕ, ◌-◌, ◌≤◌, List, [], ◌∷◌, length, take, drop, min, Option, Result, Ok, Err}
 use Rattle.list_laws.specs.Counts.{Rose}
 use Rattle.disk_port.specs.Past.{Past}
 use Rattle.disk_port.specs.declared.disk.DiskError.{DiskError}
@@ -13,10 +13,15 @@ pub record DiskReport : Type 0 where
   -- how many calls failed
   pub faults : ℕ
 
+-- the count of faults rose, and did not fall
+pub record Fails (old new : ℕ) : Type 0 where
+  pub risen : Rose old new
+  pub no_less : old ≤ new
+
 -- why a call answered so, with the counts of faults before and after
 abbrev pub HasCause : {T : Type 0} → ℕ → ℕ → Result T DiskError → Type 0
 HasCause old new (Ok value) = new ≡ old
-HasCause old new (Err Failed) = Rose old new
+HasCause old new (Err Failed) = Fails old new
 HasCause old new (Err Memory) = new ≡ old
 
 -- the names that a call of `open` adds: none where it was out of memory

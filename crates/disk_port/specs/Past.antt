@@ -1,6 +1,6 @@
 -- What was done to the file of a disk, what a read gives, and what a crash may leave.
 use Rattle.std.specs.Prelude.{◌≡◌, ◌⊎◌, ℕ, zero, suc, ◌+◌, ◌≤◌, max, List, ◌++◌, length, take, drop, Option, Some}
-use Rattle.std.specs.Option.{option_map}
+use Rattle.std.specs.Option.{ForSome, option_map}
 
 -- what was done to the file, the latest outermost
 pub data Past : Type 0 where
@@ -57,12 +57,18 @@ pub record LeavesOnly (old new : Past) (P : List ℕ → Type 0) : Type 0 where
   pub began : earlier steps new ≡ old
   pub each : (count : ℕ) → count ≤ steps → (image : List ℕ) → Leaves (earlier count new) image → P image
 
--- a write that failed did nothing, or it was begun and the file then has any bytes
+-- A write that failed was not begun, or it was begun: in its range, and past the old end, are then any bytes.
 abbrev pub IsUndoneOrBegun : ℕ → ℕ → Option Past → Option Past → Type 0
-IsUndoneOrBegun place count old new =
-    (new ≡ old) ⊎ ((text : List ℕ) × (new ≡ option_map (λ past. wrote past place count text) old))
+IsUndoneOrBegun place count old new = (new ≡ old)
+    ⊎ ((text : List ℕ) × ForSome old (λ past. Torn place count (text_of past) text) × (new ≡ option_map (λ past. wrote past place count text) old))
 
 -- Of a file that rests, a crash since the old past leaves what a write of that range may leave.
 abbrev pub TearsOnly : ℕ → ℕ → Past → Option Past → Type 0
 TearsOnly place count old new =
     Rests old → (now : Past) × (new ≡ Some now) × LeavesOnly old now (Torn place count (text_of old))
+
+-- what may have been done to a file: in each write only bytes of its range changed
+abbrev pub IsPossible : Past → Type 0
+IsPossible (found text) = Unit {0}
+IsPossible (wrote past place count text) = IsPossible past × Torn place count (text_of past) text
+IsPossible (synced past) = IsPossible past

@@ -1,7 +1,8 @@
-ghost use Rattle.std.specs.Prelude.{◌≡◌, ◌≤◌, ◌++◌, [], Some, length, drop, IfOk, IsErrOf};
-ghost use Rattle.list_laws.specs.Counts.{Rose};
-ghost use Rattle.disk_port.specs.Past.{put, text_of};
-ghost use Rattle.disk_port.specs.Calls.{HasCause, IsReadAt};
+ghost use Rattle.std.specs.Prelude.{◌≡◌, ◌≤◌, ◌++◌, [], length, drop, IfOk, OnErr, OnOk, IsErrOf};
+ghost use Rattle.std.specs.Option.{ForSome, option_map};
+ghost use Rattle.disk_port.specs.Past.{IsUndoneOrBegun, put, synced, text_of, written};
+ghost use Rattle.disk_port.specs.Calls.{Fails, HasCause, IsReadAt, opened_by};
+ghost use Rattle.disk_port.specs.Failing.{CountsCall, calls_made, count_after, is_chosen};
 ghost use Rattle.disk_port.specs.Replay.{past_after};
 
 use crate::disk::{Disk, DiskError};
@@ -33,6 +34,8 @@ pub struct MemDisk {
 }
 
 impl MemDisk {
+    ghost use Rattle.disk_port.specs.MemDisk.{counted};
+
     /// A disk that has these bytes. The calls with the numbers in `failing`, from 0, fail, and so does each from `stop`
     /// on.
     pub fn fresh(
@@ -62,7 +65,9 @@ impl MemDisk {
     }
 
     /// Whether the next call fails.
-    fn fails(&self) -> bool {
+    fn fails(&self) -> bool
+        ensures { result ≡ is_chosen self.now.failing.items self.now.stop self.now.calls }
+    {
         let stopped = match self.stop {
             Some(stop) => stop <= self.calls,
             None => false,
@@ -78,6 +83,7 @@ impl MemDisk {
         ensures log { self.new.log ≡ self.old.log }
         ensures cause { HasCause self.old.faults self.new.faults result }
         ensures answered { IsErrOf result DiskError.Memory → ⊥ }
+        ensures counts { CountsCall (counted self.old) (counted self.new) result }
     {
         if self.fails() {
             return Err(self.count_failure());
@@ -93,7 +99,10 @@ impl MemDisk {
         ensures synced { self.new.synced ≡ self.old.synced }
         ensures opened { self.new.opened ≡ self.old.opened }
         ensures log { self.new.log ≡ self.old.log }
-        ensures cause { Rose self.old.faults self.new.faults }
+        ensures failing { self.new.failing ≡ self.old.failing }
+        ensures stop { self.new.stop ≡ self.old.stop }
+        ensures calls { self.new.calls ≡ count_after self.old.calls }
+        ensures cause { Fails self.old.faults self.new.faults }
     {
         self.calls = self.calls.saturating_add(1);
         self.faults = self.faults.saturating_add(1);
@@ -102,29 +111,74 @@ impl MemDisk {
 }
 
 impl Disk for MemDisk {
-    ghost report = { λ disk. record {
-      past = Some (past_after disk.synced disk.log);
-      opened = Some disk.opened;
-      faults = disk.faults;
-    } };
+    ghost use Rattle.disk_port.specs.MemDisk.{counted, mem_report};
+    ghost use Rattle.disk_port.specs.declared.disk_call.DiskCall.TheVariants.{Write};
 
-    fn open(&mut self, alloc: Global, name: &Text) -> Result<(), DiskError> {
+    ghost report = { λ disk. mem_report disk };
+
+    fn open(&mut self, alloc: Global, name: &Text) -> Result<(), DiskError>
+        ensures past { (mem_report self.new).past ≡ (mem_report self.old).past }
+        ensures opened { (mem_report self.new).opened ≡ option_map (λ names.
+            names ++ opened_by name.now result) (mem_report self.old).opened }
+        ensures cause { HasCause self.old.faults self.new.faults result }
+        ensures memory { IsErrOf result DiskError.Memory → self.new ≡ self.old }
+
+        // More than a disk must report: which calls fail.
+        ensures counts { CountsCall (counted self.old) (counted self.new) result }
+    {
         let name = name.copy(alloc)?;
         self.opened.push(alloc, name)?;
         self.count_call()
     }
 
-    fn length(&mut self, _alloc: Global) -> Result<u64, DiskError> {
+    fn length(&mut self, _alloc: Global) -> Result<u64, DiskError>
+        ensures length { IfOk result (λ count. ForSome (mem_report self.old).past (λ past.
+            count ≡ length (text_of past))) }
+        ensures past { (mem_report self.new).past ≡ (mem_report self.old).past }
+        ensures opened { (mem_report self.new).opened ≡ (mem_report self.old).opened }
+        ensures cause { HasCause self.old.faults self.new.faults result }
+        ensures memory { IsErrOf result DiskError.Memory → self.new ≡ self.old }
+
+        // More than a disk must report: which calls fail, and that memory does not run out.
+        ensures counts { CountsCall (counted self.old) (counted self.new) result }
+        ensures answered { IsErrOf result DiskError.Memory → ⊥ }
+    {
         self.count_call()?;
         Ok(self.file.len() as u64)
     }
 
-    fn read(&mut self, _alloc: Global, place: u64, buf: &mut [u8]) -> Result<usize, DiskError> {
+    fn read(&mut self, _alloc: Global, place: u64, buf: &mut [u8]) -> Result<usize, DiskError>
+        ensures within { IfOk result (λ count. count ≤ length buf.new) }
+        ensures bytes { IfOk result (λ count. ForSome (mem_report self.old).past (λ past.
+            IsReadAt place (text_of past) count buf.new)) }
+        ensures rest { IfOk result (λ count. drop count buf.new ≡ drop count buf.old) }
+        ensures past { (mem_report self.new).past ≡ (mem_report self.old).past }
+        ensures opened { (mem_report self.new).opened ≡ (mem_report self.old).opened }
+        ensures cause { HasCause self.old.faults self.new.faults result }
+        ensures memory { IsErrOf result DiskError.Memory → self.new ≡ self.old }
+
+        // More than a disk must report: which calls fail, and that memory does not run out.
+        ensures counts { CountsCall (counted self.old) (counted self.new) result }
+        ensures answered { IsErrOf result DiskError.Memory → ⊥ }
+    {
         self.count_call()?;
         Ok(read_from(self.file.as_slice(), place, buf))
     }
 
-    fn write_at(&mut self, alloc: Global, place: u64, bytes: &[u8]) -> Result<(), DiskError> {
+    fn write_at(&mut self, alloc: Global, place: u64, bytes: &[u8]) -> Result<(), DiskError>
+        requires { ForSome (mem_report self.old).past (λ past. place ≤ length (text_of past)) }
+        ensures done { OnOk result ((mem_report self.new).past
+            ≡ option_map (written place bytes.now) (mem_report self.old).past) }
+        ensures failed { OnErr result (IsUndoneOrBegun place (length bytes.now)
+            (mem_report self.old).past (mem_report self.new).past) }
+        ensures opened { (mem_report self.new).opened ≡ (mem_report self.old).opened }
+        ensures cause { HasCause self.old.faults self.new.faults result }
+        ensures memory { IsErrOf result DiskError.Memory → self.new ≡ self.old }
+
+        // More than a disk must report: which calls fail, and that a write that fails is done all the same.
+        ensures counts { CountsCall (counted self.old) (counted self.new) result }
+        ensures log { self.new.log ≡ self.old.log ++ calls_made (Write place bytes.now) result }
+    {
         let file = put_over(alloc, self.file.as_slice(), place, bytes)?;
         let bytes = Blob::from_slice(alloc, bytes)?;
         self.log.push(alloc, DiskCall::Write { place, bytes })?;
@@ -132,7 +186,17 @@ impl Disk for MemDisk {
         self.count_call()
     }
 
-    fn sync(&mut self, alloc: Global) -> Result<(), DiskError> {
+    fn sync(&mut self, alloc: Global) -> Result<(), DiskError>
+        ensures done { OnOk result ((mem_report self.new).past
+            ≡ option_map synced (mem_report self.old).past) }
+        ensures failed { OnErr result ((mem_report self.new).past ≡ (mem_report self.old).past) }
+        ensures opened { (mem_report self.new).opened ≡ (mem_report self.old).opened }
+        ensures cause { HasCause self.old.faults self.new.faults result }
+        ensures memory { IsErrOf result DiskError.Memory → self.new ≡ self.old }
+
+        // More than a disk must report: which calls fail.
+        ensures counts { CountsCall (counted self.old) (counted self.new) result }
+    {
         if self.fails() {
             return Err(self.count_failure());
         }

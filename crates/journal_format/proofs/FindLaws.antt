@@ -52,7 +52,7 @@ is_head bytes size rest fits e small there =
     }
 
 -- after an open gate
-head_front : (bytes : List ℕ) (gate : ℕ) (head rest : List ℕ) → 0 < gate → bytes ≡ gate ∷ head → IsHead head rest → HasFront true bytes rest
+pub head_front : (bytes : List ℕ) (gate : ℕ) (head rest : List ℕ) → 0 < gate → bytes ≡ gate ∷ head → IsHead head rest → HasFront true bytes rest
 head_front bytes gate head rest is_open whole is = record {
   journal = blank is.config;
   front = gate ∷ (head_bytes is.config ++ []);

@@ -5,3 +5,4 @@ pub mod LoopLaws
 pub mod FindLaws
 pub mod PartLaws
 pub mod OneLaws
+pub mod WholeLaws

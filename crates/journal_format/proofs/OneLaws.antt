@@ -14,23 +14,23 @@ use Rattle.journal_format.proofs.FindLaws.{next_first, next_false, next_true}
 
 -- ---- one record
 
-spelled_one : (first other : Bool) (r s : TurnRecord) (text more x y : List ℕ) → Spells first r text → Spells other s more → text ++ x ≡ more ++ y → (r ≡ s) × (x ≡ y)
+pub spelled_one : (first other : Bool) (r s : TurnRecord) (text more x y : List ℕ) → Spells first r text → Spells other s more → text ++ x ≡ more ++ y → (r ≡ s) × (x ≡ y)
 spelled_one first other r s text more x y p q same =
     let whole : record_bytes r ++ x ≡ record_bytes s ++ y = ap (λ (t : List ℕ). t ++ x) (sym p.text) ∙ same ∙ ap (λ (t : List ℕ). t ++ y) q.text in
     let read = some_is (r, x) (s, y) (sym (record_again r x p.allowed) ∙ ap record_at whole ∙ record_again s y q.allowed) in
     (ap (λ (pair : TurnRecord × List ℕ). pair.0) read, ap (λ (pair : TurnRecord × List ℕ). pair.1) read)
 
 -- records that begin, with what follows them
-begun : (first : Bool) (r : TurnRecord) (p more x : List ℕ) (begins : BeginsWith first r p more) → p ++ x ≡ begins.gate ∷ (begins.text ++ (more ++ x))
+pub begun : (first : Bool) (r : TurnRecord) (p more x : List ℕ) (begins : BeginsWith first r p more) → p ++ x ≡ begins.gate ∷ (begins.text ++ (more ++ x))
 begun first r p more x begins = ap (λ (t : List ℕ). t ++ x) begins.whole ∙ ap (λ (t : List ℕ). begins.gate ∷ t) (append_assoc begins.text more x)
 
 -- of two that begin the same bytes
-record BothBegin (r s : TurnRecord) (x y : List ℕ) (m n : ℕ) : Type 0 where
-  same : r ≡ s
-  rest : x ≡ y
-  size : m ≡ n
+pub record BothBegin (r s : TurnRecord) (x y : List ℕ) (m n : ℕ) : Type 0 where
+  pub same : r ≡ s
+  pub rest : x ≡ y
+  pub size : m ≡ n
 
-both_begin : (first : Bool) (r s : TurnRecord) (p q more others x y : List ℕ) (b : BeginsWith first r p more) (d : BeginsWith first s q others) → p ++ x ≡ q ++ y
+pub both_begin : (first : Bool) (r s : TurnRecord) (p q more others x y : List ℕ) (b : BeginsWith first r p more) (d : BeginsWith first s q others) → p ++ x ≡ q ++ y
     → BothBegin r s (more ++ x) (others ++ y) (length p - length more) (length q - length others)
 both_begin first r s p q more others x y b d e =
     let cells : b.gate ∷ (b.text ++ (more ++ x)) ≡ d.gate ∷ (d.text ++ (others ++ y)) = sym (begun first r p more x b) ∙ e ∙ begun first s q others y d in
@@ -50,7 +50,7 @@ gates_differ first r p more x y b e =
     let shut : b.gate ≡ 0 = cc in
     omega (arith, shut, b.is_open)
 
-run_one : (first : Bool) (rs ss : List TurnRecord) (p q x y : List ℕ) → AreRecords first rs p → AreRecords first ss q → p ++ 0 ∷ x ≡ q ++ 0 ∷ y → (rs ≡ ss) × (length p ≡ length q)
+pub run_one : (first : Bool) (rs ss : List TurnRecord) (p q x y : List ℕ) → AreRecords first rs p → AreRecords first ss q → p ++ 0 ∷ x ≡ q ++ 0 ∷ y → (rs ≡ ss) × (length p ≡ length q)
 run_one first [] [] p q x y none nothing e = (refl, ap length none ∙ sym (ap length nothing))
 run_one first [] (s ∷ ss) p q x y none (more, b, others) e =
     absurd (gates_differ first s q more (0 ∷ y) x b (sym e ∙ ap (λ (t : List ℕ). t ++ 0 ∷ x) none))
@@ -64,7 +64,7 @@ run_one first (r ∷ rs) (s ∷ ss) p q x y (more, b, rest) (others, d, left) e 
     )
 
 -- bytes that end before a gate
-run_ends : (first : Bool) (rs ss : List TurnRecord) (p q x : List ℕ) → AreRecords first rs p → AreRecords first ss q → p ++ 0 ∷ x ≡ q ++ [] → ⊥
+pub run_ends : (first : Bool) (rs ss : List TurnRecord) (p q x : List ℕ) → AreRecords first rs p → AreRecords first ss q → p ++ 0 ∷ x ≡ q ++ [] → ⊥
 run_ends first [] [] p q x none nothing e = omega (arith, ap length e, length-append p (0 ∷ x), length-append q [], ap length nothing)
 run_ends first [] (s ∷ ss) p q x none (more, b, others) e = gates_differ first s q more [] x b (sym e ∙ ap (λ (t : List ℕ). t ++ 0 ∷ x) none)
 run_ends first (r ∷ rs) [] p q x (more, b, others) none e = omega (arith, ap length e, length-append p (0 ∷ x), length-append q [], ap length none)
@@ -73,7 +73,7 @@ run_ends first (r ∷ rs) (s ∷ ss) p q x (more, b, rest) (others, d, left) e =
     run_ends false rs ss more others x rest left both.rest
 
 -- an open gate with no record after it
-run_stops : (first : Bool) (rs ss : List TurnRecord) (p q x y : List ℕ) (gate : ℕ) → AreRecords first rs p → AreRecords first ss q → 0 < gate → BeginsWithNone (next_first first ss) y
+pub run_stops : (first : Bool) (rs ss : List TurnRecord) (p q x y : List ℕ) (gate : ℕ) → AreRecords first rs p → AreRecords first ss q → 0 < gate → BeginsWithNone (next_first first ss) y
     → p ++ 0 ∷ x ≡ q ++ gate ∷ y → ⊥
 run_stops first [] [] p q x y gate none nothing is_open begins_none e =
     let cells : 0 ∷ x ≡ gate ∷ y = ap (λ (t : List ℕ). t ++ 0 ∷ x) (sym none) ∙ e ∙ ap (λ (t : List ℕ). t ++ gate ∷ y) nothing in
@@ -92,9 +92,9 @@ run_stops first (r ∷ rs) (s ∷ ss) p q x y gate (more, b, rest) (others, d, l
 -- ---- the head
 
 -- of two heads that begin the same bytes
-record SameHead (config other x y : List ℕ) : Type 0 where
-  config_is : config ≡ other
-  rest : x ≡ y
+pub record SameHead (config other x y : List ℕ) : Type 0 where
+  pub config_is : config ≡ other
+  pub rest : x ≡ y
 
 same_head : (config other x y : List ℕ) → length config ≤ config_limit → length other ≤ config_limit → head_bytes config ++ x ≡ head_bytes other ++ y → SameHead config other x y
 same_head config other x y small few e =
@@ -109,10 +109,10 @@ same_head config other x y small few e =
       rest = sym (drop_at config x m size) ∙ ap (drop m) rest ∙ drop_at other y m refl;
     }
 
-front_is : (journal : Journal) (front x : List ℕ) (is : IsFront journal front) → front ++ x ≡ is.gate ∷ (head_bytes journal.config ++ (is.run ++ x))
+pub front_is : (journal : Journal) (front x : List ℕ) (is : IsFront journal front) → front ++ x ≡ is.gate ∷ (head_bytes journal.config ++ (is.run ++ x))
 front_is journal front x is = ap (λ (t : List ℕ). t ++ x) is.whole ∙ ap (λ (t : List ℕ). is.gate ∷ t) (append_assoc (head_bytes journal.config) is.run x)
 
-same_fronts : (journal other : Journal) (front part x y : List ℕ) (is : IsFront journal front) (was : IsFront other part) → front ++ x ≡ part ++ y → SameHead journal.config other.config (is.run ++ x) (was.run ++ y)
+pub same_fronts : (journal other : Journal) (front part x y : List ℕ) (is : IsFront journal front) (was : IsFront other part) → front ++ x ≡ part ++ y → SameHead journal.config other.config (is.run ++ x) (was.run ++ y)
 same_fronts journal other front part x y is was e =
     let cells : is.gate ∷ (head_bytes journal.config ++ (is.run ++ x)) ≡ was.gate ∷ (head_bytes other.config ++ (was.run ++ y)) = sym (front_is journal front x is) ∙ e ∙ front_is other part y was in
     let tails : head_bytes journal.config ++ (is.run ++ x) ≡ head_bytes other.config ++ (was.run ++ y) = cc in
@@ -121,7 +121,7 @@ same_fronts journal other front part x y is was e =
 -- ---- the laws
 
 -- the first bytes of two parts, of which all of the first part
-take_more : (n : ℕ) (a b : List ℕ) (left : ℕ) → n ≡ length a + left → take n (a ++ b) ≡ a ++ take left b
+pub take_more : (n : ℕ) (a b : List ℕ) (left : ℕ) → n ≡ length a + left → take n (a ++ b) ≡ a ++ take left b
 take_more n [] b left is = let same : n ≡ left = omega arith in ap (λ k. take k b) same
 take_more zero (x ∷ a) b left is = absurd (omega arith)
 take_more (suc n) (x ∷ a) b left is = ap (λ (t : List ℕ). x ∷ t) (take_more n a b left (omega arith))

@@ -1,5 +1,5 @@
 -- What holds of journals and the bytes that hold them.
-use Rattle.std.specs.Prelude.{◌≡◌, ℕ, List, ◌++◌, take}
+use Rattle.std.specs.Prelude.{◌≡◌, ◌⊎◌, ℕ, ◌<◌, List, ◌++◌, take, slice_index}
 use Rattle.journal_format.specs.Journals.{FileMisfitsAt, Holds, HoldsAt, IsFront, Journal}
 
 -- a file holds one journal at most, whose closed gate is at one place
@@ -17,3 +17,15 @@ first_records n journal = record { config = journal.config; records = take n jou
 -- a journal's bytes begin with those of its first n records
 abbrev pub PrefixesAreJournals : Type 0
 PrefixesAreJournals = (journal : Journal) (bytes : List ℕ) (n : ℕ) → IsFront journal bytes → (part : List ℕ) × (rest : List ℕ) × (bytes ≡ part ++ rest) × IsFront (first_records n journal) part
+
+-- each of these is a byte
+abbrev pub AreBytes : List ℕ → Type 0
+AreBytes bytes = (i : ℕ) → slice_index bytes i < 256
+
+-- a file holds a journal, or it does not fit at some place
+abbrev pub FilesHoldOrMisfit : Type 0
+FilesHoldOrMisfit = (file : List ℕ) → AreBytes file → ((journal : Journal) × Holds journal file) ⊎ ((place : ℕ) × FileMisfitsAt file place)
+
+-- it does not fit at one place at most
+abbrev pub MisfitsAreOne : Type 0
+MisfitsAreOne = (file : List ℕ) (place other : ℕ) → FileMisfitsAt file place → FileMisfitsAt file other → place ≡ other

@@ -28,6 +28,10 @@ event_bytes (Ended link) = 4 ∷ to_be_bytes w64 link
 event_bytes (Broken link) = 5 ∷ to_be_bytes w64 link
 event_bytes (Room link) = 6 ∷ to_be_bytes w64 link
 
+-- what is before the event in a record
+abbrev pub front_bytes : List Summary → ℕ → List ℕ
+front_bytes summaries secs = to_be_bytes w16 (length summaries) ++ (flat_map summary_bytes summaries ++ to_be_bytes w64 secs)
+
 abbrev pub record_bytes : TurnRecord → List ℕ
 record_bytes entry =
     to_be_bytes w16 (length entry.summaries) ++ (flat_map summary_bytes entry.summaries ++ (to_be_bytes w64 entry.secs ++ event_bytes entry.event))

@@ -1,31 +1,94 @@
-//! Writing the parts of a journal.
+//! Writing the parts of a journal. If memory runs out, the output still begins with what it had.
 
-ghost use Rattle.std.specs.Prelude.{◌≡◌, ◌++◌, ◌≤◌, ◌∷◌, [], length, OnOk};
+ghost use Rattle.std.specs.Prelude.{◌≡◌, ◌++◌, ◌≤◌, ◌∷◌, [], length, OnErr, OnOk};
 ghost use Rattle.std.specs.List.{flat_map};
 ghost use Rattle.std.specs.Int.{to_be_bytes, w64};
-ghost use Rattle.journal_format.specs.Limits.{config_limit};
+ghost use Rattle.list_laws.specs.Prefix.{IsPrefix};
+ghost use Rattle.journal_format.specs.Limits.{config_limit, summary_limit};
 ghost use Rattle.journal_format.specs.Journals.{head_bytes};
-ghost use Rattle.journal_format.specs.Spelling.{IsEvent, IsPiece, IsRecord, end_byte, event_bytes, record_bytes, summary_bytes};
+ghost use Rattle.journal_format.specs.Spelling.{IsEvent, IsPiece, IsRecord, end_byte, event_bytes, front_bytes, record_bytes, summary_bytes};
 ghost use Rattle.journal_format.specs.declared.turn_record.TurnEvent.TheVariants.{Read};
 
 use crate::turn_record::{SendEnd, Summary, TurnEvent, TurnRecord};
 use ev_types::Memory;
+use std::alloc::Global;
 
-/// Adds the bytes of the record at the end. `Memory`: a part of them may be there.
-pub fn push_record(out: &mut Vec<u8>, entry: &TurnRecord) -> Result<(), Memory>
+/// Adds the bytes of the record at the end.
+pub fn push_record(alloc: Global, out: &mut Vec<u8>, entry: &TurnRecord) -> Result<(), Memory>
     requires { IsRecord entry.now }
-    ensures { OnOk result (out.new.items ≡ out.old.items ++ record_bytes entry.now) }
+    ensures ok { OnOk result (out.new.items ≡ out.old.items ++ record_bytes entry.now) }
+    ensures err { OnErr result (IsPrefix out.old.items out.new.items) }
 {
-    let count = entry.summaries.len() as u16;
+    push_turn(
+        alloc,
+        out,
+        entry.summaries.as_slice(),
+        entry.secs,
+        &entry.event,
+    )
+}
+
+/// Adds the bytes of a record that has these parts at the end.
+pub fn push_turn(
+    alloc: Global,
+    out: &mut Vec<u8>,
+    summaries: &[Summary],
+    secs: u64,
+    event: &TurnEvent,
+) -> Result<(), Memory>
+    requires few { length summaries.now ≤ summary_limit }
+    requires event { IsEvent event.now }
+    ensures ok { OnOk result (out.new.items ≡ out.old.items ++ record_bytes
+        (record { summaries = summaries.now; secs = secs; event = event.now })) }
+    ensures err { OnErr result (IsPrefix out.old.items out.new.items) }
+{
+    push_front(alloc, out, summaries, secs)?;
+    push_event(out, event)?;
+    Ok(())
+}
+
+/// Adds the bytes of the record of a read at the end, with the bytes that were read where they are.
+pub fn push_read_turn(
+    alloc: Global,
+    out: &mut Vec<u8>,
+    summaries: &[Summary],
+    secs: u64,
+    link: u64,
+    bytes: &[u8],
+) -> Result<(), Memory>
+    requires few { length summaries.now ≤ summary_limit }
+    requires piece { IsPiece bytes.now }
+    ensures ok { OnOk result (out.new.items ≡ out.old.items ++ record_bytes
+        (record { summaries = summaries.now; secs = secs; event = Read link bytes.now })) }
+    ensures err { OnErr result (IsPrefix out.old.items out.new.items) }
+{
+    push_front(alloc, out, summaries, secs)?;
+    push_read(out, link, bytes)?;
+    Ok(())
+}
+
+/// Adds what is before the event in a record.
+fn push_front(
+    _alloc: Global,
+    out: &mut Vec<u8>,
+    summaries: &[Summary],
+    secs: u64,
+) -> Result<(), Memory>
+    requires { length summaries.now ≤ summary_limit }
+    ensures ok { OnOk result (out.new.items ≡ out.old.items ++ front_bytes summaries.now secs) }
+    ensures err { OnErr result (IsPrefix out.old.items out.new.items) }
+{
+    let count = summaries.len() as u16;
     out.extend_from_slice(&count.to_be_bytes())?;
-    push_summaries(out, entry.summaries.as_slice())?;
-    out.extend_from_slice(&entry.secs.to_be_bytes())?;
-    push_event(out, &entry.event)
+    push_summaries(out, summaries)?;
+    out.extend_from_slice(&secs.to_be_bytes())?;
+    Ok(())
 }
 
 fn push_summaries(out: &mut Vec<u8>, summaries: &[Summary]) -> Result<(), Memory>
-    ensures { OnOk result (out.new.items
+    ensures ok { OnOk result (out.new.items
         ≡ out.old.items ++ flat_map summary_bytes summaries.now) }
+    ensures err { OnErr result (IsPrefix out.old.items out.new.items) }
 {
     for summary in summaries {
         push_summary(out, summary)?;
@@ -34,7 +97,8 @@ fn push_summaries(out: &mut Vec<u8>, summaries: &[Summary]) -> Result<(), Memory
 }
 
 fn push_summary(out: &mut Vec<u8>, summary: &Summary) -> Result<(), Memory>
-    ensures { OnOk result (out.new.items ≡ out.old.items ++ summary_bytes summary.now) }
+    ensures ok { OnOk result (out.new.items ≡ out.old.items ++ summary_bytes summary.now) }
+    ensures err { OnErr result (IsPrefix out.old.items out.new.items) }
 {
     out.extend_from_slice(&summary.link.to_be_bytes())?;
     out.extend_from_slice(&summary.taken.to_be_bytes())?;
@@ -54,7 +118,8 @@ fn end_byte(end: SendEnd) -> u8
 
 fn push_event(out: &mut Vec<u8>, event: &TurnEvent) -> Result<(), Memory>
     requires { IsEvent event.now }
-    ensures { OnOk result (out.new.items ≡ out.old.items ++ event_bytes event.now) }
+    ensures ok { OnOk result (out.new.items ≡ out.old.items ++ event_bytes event.now) }
+    ensures err { OnErr result (IsPrefix out.old.items out.new.items) }
 {
     match event {
         TurnEvent::Listen => out.push(0)?,
@@ -71,7 +136,9 @@ fn push_event(out: &mut Vec<u8>, event: &TurnEvent) -> Result<(), Memory>
 /// Adds a read of the link.
 fn push_read(out: &mut Vec<u8>, link: u64, bytes: &[u8]) -> Result<(), Memory>
     requires { IsPiece bytes.now }
-    ensures { OnOk result (out.new.items ≡ out.old.items ++ event_bytes (Read link bytes.now)) }
+    ensures ok { OnOk result (out.new.items
+        ≡ out.old.items ++ event_bytes (Read link bytes.now)) }
+    ensures err { OnErr result (IsPrefix out.old.items out.new.items) }
 {
     push_of_link(out, 3, link)?;
     let count = bytes.len() as u32;
@@ -82,7 +149,9 @@ fn push_read(out: &mut Vec<u8>, link: u64, bytes: &[u8]) -> Result<(), Memory>
 
 /// Adds a kind and a link.
 fn push_of_link(out: &mut Vec<u8>, kind: u8, link: u64) -> Result<(), Memory>
-    ensures { OnOk result (out.new.items ≡ out.old.items ++ kind ∷ to_be_bytes w64 link) }
+    ensures ok { OnOk result (out.new.items
+        ≡ out.old.items ++ kind ∷ to_be_bytes w64 link) }
+    ensures err { OnErr result (IsPrefix out.old.items out.new.items) }
 {
     out.push(kind)?;
     out.extend_from_slice(&link.to_be_bytes())?;
@@ -90,9 +159,10 @@ fn push_of_link(out: &mut Vec<u8>, kind: u8, link: u64) -> Result<(), Memory>
 }
 
 /// Adds what follows the first gate of a journal, up to its records.
-pub fn push_head(out: &mut Vec<u8>, config: &[u8]) -> Result<(), Memory>
+pub fn push_head(_alloc: Global, out: &mut Vec<u8>, config: &[u8]) -> Result<(), Memory>
     requires { length config.now ≤ config_limit }
-    ensures { OnOk result (out.new.items ≡ out.old.items ++ head_bytes config.now) }
+    ensures ok { OnOk result (out.new.items ≡ out.old.items ++ head_bytes config.now) }
+    ensures err { OnErr result (IsPrefix out.old.items out.new.items) }
 {
     let size = config.len() as u32;
     out.extend_from_slice(&size.to_be_bytes())?;

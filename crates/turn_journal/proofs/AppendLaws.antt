@@ -1,8 +1,8 @@
 -- What a record more makes of a file, and what a crash may make of it.
-use Rattle.std.proofs.Common.{◌≡◌, ◌⊎◌, inl, inr, ℕ, zero, suc, ◌+◌, ◌<◌, ◌≤◌, Bool, true, not, List, [], ◌∷◌, ◌++◌, length, get_or, take, drop, Option, Some, None, Result, Ok, Err, OnOk, refl, sym, ap, subst, ◌∙◌, append_assoc, length-append, length-take, arith}
+use Rattle.std.proofs.Common.{◌≡◌, ◌⊎◌, inl, inr, ℕ, zero, suc, ◌+◌, ◌-◌, ◌<◌, ◌≤◌, Bool, true, not, List, [], ◌∷◌, ◌++◌, length, get_or, take, drop, Option, Some, None, Result, Ok, Err, OnOk, refl, sym, ap, subst, ◌∙◌, append_assoc, length-append, length-take, length-drop, arith}
 use Rattle.std.specs.Option.{ForSome, option_map}
 use Rattle.std.proofs.lemmas.Bool.{cases_eq}
-use Rattle.std.proofs.lemmas.List.{take_at, drop_at, drop_more, take-append-drop}
+use Rattle.std.proofs.lemmas.List.{take_at, drop_at, drop_more, take-append-drop, length-take-le}
 use Rattle.std.proofs.lemmas.Option.{none-some, same_Some}
 use Rattle.disk_port.specs.Past.{LeavesOnly, Past, Rests, TearsOnly, Torn, put, synced, text_of, written}
 use Rattle.disk_port.proofs.PastLaws.{then_more, weaker}
@@ -11,15 +11,46 @@ use Rattle.journal_format.specs.Journals.{Holds, HoldsAt, Journal, is_blank, wit
 use Rattle.journal_format.specs.Spelling.{Spells}
 use Rattle.journal_format.specs.declared.turn_record.TurnRecord.{TurnRecord}
 use Rattle.journal_format.proofs.FindLaws.{front_more, not_empty}
-use Rattle.turn_journal.specs.Standing.{Adds, HoldsOrWith, IsNext, IsReady, LeavesOneOrBoth, Stands, StandsWith, Told, opened_past, put_past}
+use Rattle.turn_journal.specs.Standing.{Adds, HoldsOrWith, IsNext, IsReady, IsWithin, LeavesOneOrBoth, Stands, StandsWith, Told, opened_past, put_past}
 
 -- ---- the file at rest
 
 pub gate_within : (journal : Journal) (gate : ℕ) (file : List ℕ) → HoldsAt journal gate file → gate + 1 ≤ length file
 gate_within journal gate file holds = omega (arith, holds.gate, ap length holds.whole, length-append holds.front (0 ∷ holds.rest))
 
-pub first_place : (told : Option Past) (gate : ℕ) (has_record : Bool) → IsReady told gate has_record → ForSome told (λ past. gate + 1 ≤ length (text_of past))
-first_place told gate has_record ready past is = let at = ready past is in gate_within at.0 gate (text_of past) at.1.holds
+-- a journal that is ready has its closed gate within the file
+pub ready_within : (told : Option Past) (gate : ℕ) (has_record : Bool) → IsReady told gate has_record → IsWithin told gate
+ready_within told gate has_record ready past is = let at = ready past is in gate_within at.0 gate (text_of past) at.1.holds
+
+-- where the old past has P, the new one has Q
+pub place_then : (f : Past → Past) (P Q : Past → Type 0) (old new : Option Past) → ((past : Past) → P past → Q (f past)) → new ≡ option_map f old → ForSome old P → ForSome new Q
+place_then f P Q None new gives new_is was past is = absurd (none-some past (sym new_is ∙ is))
+place_then f P Q (Some old) new gives new_is was past is = subst Q (same_Some (f old) past (sym new_is ∙ is)) (gives old (was old refl))
+
+-- a file with other bytes over some of its own is no shorter, and has room for them
+put_long : (place : ℕ) (bytes text : List ℕ) → place ≤ length text → (length text ≤ length (put place bytes text)) × (place + length bytes ≤ length (put place bytes text))
+put_long place bytes text within =
+    let rest = drop (place + length bytes) text in
+    let whole : length (put place bytes text) ≡ place + (length bytes + (length text - (place + length bytes))) =
+    omega (arith, length-take-le place text within, length-append (take place text) (bytes ++ rest), length-append bytes rest, length-drop (place + length bytes) text) in
+    (omega (arith, whole), omega (arith, whole))
+
+-- the place to write to, and the gate after it
+pub put_within : (gate : ℕ) (bytes : List ℕ) (old mid : Option Past) → mid ≡ option_map (put_past gate bytes) old → IsWithin old gate → ForSome mid (λ past. gate + 1 + length bytes ≤ length (text_of past))
+put_within gate bytes old mid mid_is within =
+    place_then (put_past gate bytes) (λ past. gate + 1 ≤ length (text_of past)) (λ past. gate + 1 + length bytes ≤ length (text_of past)) old mid (λ past long. (put_long (gate + 1) bytes (text_of past) long).1) mid_is within
+
+pub gate_within_put : (gate : ℕ) (bytes : List ℕ) (old mid : Option Past) → mid ≡ option_map (put_past gate bytes) old → IsWithin old gate → ForSome mid (λ past. gate ≤ length (text_of past))
+gate_within_put gate bytes old mid mid_is within past is = let long = put_within gate bytes old mid mid_is within past is in omega (arith, long)
+
+pub within_done : {T E : Type 0} (answer : Result T E) (old mid new : Option Past) (gate : ℕ) (bytes : List ℕ) → IsWithin old gate → mid ≡ option_map (put_past gate bytes) old
+    → OnOk answer (new ≡ option_map (opened_past gate) mid) → OnOk answer (IsWithin new (gate + length bytes))
+within_done (Ok value) old mid new gate bytes within mid_is new_is =
+    place_then (opened_past gate) (λ past. gate + 1 + length bytes ≤ length (text_of past)) (λ past. gate + length bytes + 1 ≤ length (text_of past)) mid new
+    (λ past long.
+    let at : gate ≤ length (text_of past) = omega (arith, long) in
+    let kept = (put_long gate (1 ∷ []) (text_of past) at).0 in omega (arith, long, kept)) new_is (put_within gate bytes old mid mid_is within)
+within_done (Err error) old mid new gate bytes within mid_is new_is = tt
 
 -- the file up to its closed gate
 front_is : (journal : Journal) (gate : ℕ) (file : List ℕ) (holds : HoldsAt journal gate file) → take (gate + 1) file ≡ holds.front ++ 0 ∷ []
@@ -126,15 +157,6 @@ staged_text : (told : Option Past) (gate : ℕ) (has_record : Bool) (bytes text 
     → text_of (put_past gate bytes adds.past) ≡ adds.stands.holds.front ++ 0 ∷ (text ++ 0 ∷ tail_of gate bytes (text_of adds.past))
 staged_text told gate has_record bytes text is adds = staged adds.journal gate (text_of adds.past) bytes text adds.stands.holds is
 
-pub second_place : (told mid : Option Past) (gate : ℕ) (has_record : Bool) (bytes : List ℕ) → IsReady told gate has_record → mid ≡ option_map (put_past gate bytes) told → ForSome mid (λ past. gate ≤ length (text_of past))
-second_place None mid gate has_record bytes ready mid_is past is = absurd (none-some past (sym mid_is ∙ is))
-second_place (Some old) mid gate has_record bytes ready mid_is past is =
-    let at = ready old refl in
-    let file = text_of old in
-    let same : put_past gate bytes old ≡ past = same_Some (put_past gate bytes old) past (sym mid_is ∙ is) in
-    let long : gate ≤ length (put (gate + 1) bytes file) = omega (arith, gate_within at.0 gate file at.1.holds, length-take (gate + 1) file, length-append (take (gate + 1) file) (bytes ++ drop (gate + 1 + length bytes) file)) in
-    subst (λ (p : Past). gate ≤ length (text_of p)) same long
-
 pub append_done : (old mid new : Option Past) (gate : ℕ) (has_record : Bool) (bytes text : List ℕ) → bytes ≡ text ++ 0 ∷ [] → (adds : Adds old gate has_record text) → gate + length bytes < journal_limit
     → mid ≡ option_map (put_past gate bytes) old → new ≡ option_map (opened_past gate) mid → StandsWith adds new (gate + length bytes) true
 append_done old mid new gate has_record bytes text is adds limit mid_is new_is =
@@ -207,6 +229,9 @@ ready_if_ok (Ok value) old mid new gate bytes limit mid_is new_is = λ has_recor
 ready_if_ok (Err error) old mid new gate bytes limit mid_is new_is = tt
 
 -- ---- the same of a value whose bytes are made ready first
+
+pub moved_within : (old told : Option Past) (gate place : ℕ) → told ≡ old → place ≡ gate → IsWithin old gate → IsWithin told place
+moved_within old told gate place same at within past is = let long = within past (sym same ∙ is) in omega (arith, at, long)
 
 module _ (old told new : Option Past) (gate place : ℕ) (bytes ready : List ℕ) (same : told ≡ old) (at : place ≡ gate) (is : ready ≡ bytes ++ 0 ∷ []) (has_record : Bool) where
   abbrev moved : Adds old gate has_record bytes → Adds told place has_record bytes

@@ -1,2 +1,3 @@
 pub mod AppendLaws
+pub mod BeginLaws
 pub mod LoadLaws

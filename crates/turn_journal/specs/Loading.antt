@@ -1,7 +1,7 @@
 -- What is loaded of a disk's file, and why nothing is.
 use Rattle.std.specs.Prelude.{◌≡◌, ◌⊎◌, ℕ, ◌+◌, List, take, Option, Result, Ok, Err}
 use Rattle.std.specs.Option.{option_map}
-use Rattle.list_laws.specs.Counts.{Rose}
+use Rattle.disk_port.specs.Calls.{Fails}
 use Rattle.disk_port.specs.Past.{Past, synced, text_of}
 use Rattle.disk_port.specs.declared.disk.DiskError.{DiskError}
 use Rattle.disk_port.specs.declared.disk.DiskError.TheVariants as disk
@@ -19,7 +19,7 @@ fault_of disk.Memory = Memory
 abbrev pub HasFaultCause : {T : Type 0} → ℕ → ℕ → Result T JournalFault → Type 0
 HasFaultCause old new (Ok value) = new ≡ old
 HasFaultCause old new (Err (Refused place)) = new ≡ old
-HasFaultCause old new (Err DiskFault) = Rose old new
+HasFaultCause old new (Err DiskFault) = Fails old new
 HasFaultCause old new (Err Memory) = new ≡ old
 
 -- of the file nothing was done, or all of it was put on the disk

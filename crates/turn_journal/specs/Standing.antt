@@ -1,5 +1,5 @@
 -- What a disk that reports its file has of a journal, at rest and after a crash.
-use Rattle.std.specs.Prelude.{◌≡◌, ◌⊎◌, ℕ, ◌+◌, Bool, not, List, [], ◌∷◌, Option, Some}
+use Rattle.std.specs.Prelude.{◌≡◌, ◌⊎◌, ℕ, ◌+◌, ◌≤◌, Bool, not, List, [], ◌∷◌, length, Option, Some}
 use Rattle.std.specs.Option.{ForSome}
 use Rattle.disk_port.specs.Past.{LeavesOnly, Past, Rests, synced, text_of, written}
 use Rattle.journal_format.specs.Journals.{Holds, HoldsAt, Journal, blank, is_blank, with_record}
@@ -15,6 +15,10 @@ pub record Stands (past : Past) (gate : ℕ) (has_record : Bool) (journal : Jour
 -- the disk reports a past that has P
 abbrev pub Told : Option Past → (Past → Type 0) → Type 0
 Told told P = (past : Past) × (told ≡ Some past) × P past
+
+-- where the disk reports its file, it has a byte at this place
+abbrev pub IsWithin : Option Past → ℕ → Type 0
+IsWithin told gate = ForSome told (λ past. gate + 1 ≤ length (text_of past))
 
 -- where the disk reports its file, a journal stands there
 abbrev pub IsReady : Option Past → ℕ → Bool → Type 0

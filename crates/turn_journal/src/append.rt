@@ -3,7 +3,7 @@ ghost use Rattle.std.specs.Option.{ForSome, option_map};
 ghost use Rattle.disk_port.specs.Past.{TearsOnly, text_of};
 ghost use Rattle.disk_port.specs.Calls.{HasCause};
 ghost use Rattle.journal_format.specs.Limits.{journal_limit};
-ghost use Rattle.turn_journal.specs.Standing.{Adds, IsNext, IsReady, LeavesOneOrBoth, StandsWith, opened_past, put_past};
+ghost use Rattle.turn_journal.specs.Standing.{Adds, IsNext, IsReady, IsWithin, LeavesOneOrBoth, StandsWith, opened_past, put_past};
 
 use disk_port::{Disk, DiskError, write_synced};
 use std::alloc::Global;
@@ -17,7 +17,7 @@ pub(crate) fn append_on<D: Disk>(
     bytes: &[u8],
 ) -> Result<(), DiskError>
     requires room { gate + length bytes.now < journal_limit }
-    requires ready { (has_record : Bool) × IsReady (D.report disk.old).past gate has_record }
+    requires within { IsWithin (D.report disk.old).past gate }
     ensures ok { OnOk result ((has_record : Bool) (text : List ℕ) → bytes.now ≡ text ++ 0 ∷ [] →
         (adds : Adds (D.report disk.old).past gate has_record text) →
         StandsWith adds (D.report disk.new).past (gate + length bytes.now) true) }
@@ -25,6 +25,7 @@ pub(crate) fn append_on<D: Disk>(
         bytes.now ≡ text ++ 0 ∷ [] → IsReady (D.report disk.old).past gate has_record →
         IsNext has_record text →
         IsReady (D.report disk.new).past (gate + length bytes.now) true) }
+    ensures within { OnOk result (IsWithin (D.report disk.new).past (gate + length bytes.now)) }
     ensures any_moment { (has_record : Bool) (text : List ℕ) → bytes.now ≡ text ++ 0 ∷ [] →
         (adds : Adds (D.report disk.old).past gate has_record text) →
         LeavesOneOrBoth adds (D.report disk.new).past }
@@ -40,8 +41,7 @@ pub(crate) fn append_on<D: Disk>(
 /// Puts the bytes on the disk after the gate.
 fn put_after<D: Disk>(alloc: Global, disk: &mut D, gate: u64, bytes: &[u8]) -> Result<(), DiskError>
     requires room { gate + length bytes.now < journal_limit }
-    requires within { ForSome (D.report disk.old).past (λ past.
-        gate + 1 ≤ length (text_of past)) }
+    requires within { IsWithin (D.report disk.old).past gate }
     ensures done { OnOk result ((D.report disk.new).past
         ≡ option_map (put_past gate bytes.now) (D.report disk.old).past) }
     ensures any_moment { ForSome (D.report disk.old).past (λ past.

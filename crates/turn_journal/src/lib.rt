@@ -2,10 +2,12 @@
 #![tactic(auto)]
 
 mod append;
+mod begin;
 mod fault;
 mod file;
 mod load;
 
+pub use begin::begin_on;
 pub use fault::JournalFault;
 pub use file::JournalFile;
 pub use load::load_on;

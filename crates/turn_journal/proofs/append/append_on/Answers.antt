@@ -1,5 +1,5 @@
 use Rattle.std.proofs.Common.{length}
-use Rattle.turn_journal.proofs.AppendLaws.{done_if_ok, first_torn, ready_if_ok, second_torn}
+use Rattle.turn_journal.proofs.AppendLaws.{done_if_ok, first_torn, gate_within_put, ready_if_ok, second_torn, within_done}
 use Rattle.turn_journal.proofs.append.append_on.Goals as goal
 
 pub returns-in-Ok-clause-ok : goal.returns-in-Ok-clause-ok
@@ -20,3 +20,12 @@ pub returns-in-Ok-clause-ready : goal.returns-in-Ok-clause-ready
 returns-in-Ok-clause-ready g c =
     ready_if_ok c.open_gate.result (g.D.Disk.report c.args.disk.now).past (g.D.Disk.report c.put_after.new.disk).past (g.D.Disk.report c.open_gate.new.disk).past c.args.gate c.args.bytes.now
     c.requires.room c.in-Ok.ensures.done c.open_gate.ensures.done
+
+pub open_gate-requires : goal.open_gate-requires
+open_gate-requires g c =
+    gate_within_put c.args.gate c.args.bytes.now (g.D.Disk.report c.args.disk.now).past (g.D.Disk.report c.put_after.new.disk).past c.in-Ok.ensures.done c.requires.within
+
+pub returns-in-Ok-clause-within : goal.returns-in-Ok-clause-within
+returns-in-Ok-clause-within g c =
+    within_done c.open_gate.result (g.D.Disk.report c.args.disk.now).past (g.D.Disk.report c.put_after.new.disk).past (g.D.Disk.report c.open_gate.new.disk).past c.args.gate c.args.bytes.now
+    c.requires.within c.in-Ok.ensures.done c.open_gate.ensures.done
