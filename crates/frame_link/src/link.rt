@@ -1,4 +1,4 @@
-ghost use Rattle.std.specs.Prelude.{◌≡◌, ◌<◌, ◌^◌, true, false, [], length, OnOk, OnErr};
+ghost use Rattle.std.specs.Prelude.{◌≡◌, ◌<◌, ◌++◌, ◌^◌, true, false, [], length, OnOk, OnErr};
 ghost use Rattle.framing.specs.Frames.{HasFrame, IsOversized, Represents, first_body, length_at};
 ghost use Rattle.frame_link.specs.Held.{pushed, HandsOut, Lends, Takes, KeepsOnPush, KeepsOnTake};
 ghost use Rattle.frame_link.specs.Sight.{Sees};
@@ -6,8 +6,11 @@ ghost use Rattle.frame_link.specs.Sight.{Sees};
 use bytes::BytesMut;
 use ev_types::{Blob, Memory};
 use framing::BODY_LIMIT;
-use std::alloc::Global;
+use std::alloc::{AllocError, Global};
 use std::marker::Model;
+
+// A link that holds no bytes keeps memory for at most this many. A piece of 64 KB and the bytes before it mostly fit.
+const KEPT: usize = 131_072;
 
 /// The bytes of one link that were not handed out as frames yet. Contracts see them, and whether there was a length
 /// over the limit: from then on nothing more is taken in or handed out.
@@ -85,7 +88,7 @@ impl FrameLink {
         ensures keeps { OnOk result (KeepsOnPush piece.now self.old self.new) }
     {
         if !self.stopped {
-            self.bytes.extend_from_slice(piece)?;
+            append(&mut self.bytes, piece)?;
         }
         Ok(())
     }
@@ -118,6 +121,7 @@ impl FrameLink {
         ensures keeps { KeepsOnTake self.old (Taken.Whole (first_body self.old.bytes)) self.new }
     {
         self.bytes.advance(4 + length);
+        give_back(&mut self.bytes);
     }
 
     /// Hands out the first frame's body, if that frame is whole. A frame is a length of four big-endian bytes, at
@@ -150,6 +154,29 @@ impl FrameLink {
         };
         self.advance(length);
         Taken::Whole(body)
+    }
+}
+
+/// Appends the piece. The bytes move to the front of their memory before it grows.
+fn append(bytes: &mut BytesMut, piece: &[u8]) -> Result<(), AllocError>
+    ensures ok { OnOk result (bytes.new.items ≡ bytes.old.items ++ piece.now) }
+    ensures err { OnErr result (bytes.new.items ≡ bytes.old.items) }
+{
+    bytes.try_reclaim(piece.len());
+    bytes.extend_from_slice(piece)
+}
+
+/// Gives the memory back, if there are no bytes, and it is for more than [`KEPT`] bytes.
+fn give_back(bytes: &mut BytesMut)
+    ensures { bytes.new.items ≡ bytes.old.items }
+{
+    if !bytes.is_empty() {
+        return;
+    }
+    bytes.clear();
+    if bytes.capacity() > KEPT {
+        let alloc = *bytes.allocator();
+        *bytes = BytesMut::new(alloc);
     }
 }
 

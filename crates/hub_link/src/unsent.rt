@@ -13,8 +13,11 @@ use std::marker::Model;
 use std::mem;
 use step_count::{Ledger, Steps};
 
-/// Replies that were not sent yet. Contracts see the bytes that were not taken. Removing bytes at the front moves
-/// none of the others.
+// Fewer bytes that were taken keep their memory while bytes after them are unsent.
+const KEPT: usize = 65_536;
+
+/// Replies that were not sent yet. Contracts see the bytes that were not taken. The memory of those that were taken is
+/// given back in time: it is for fewer than 64 KB, or for less than an eighth of what is unsent.
 #[derive(Drop)]
 pub(crate) struct Unsent {
     /// The replies that are sent next.
@@ -111,13 +114,27 @@ impl Unsent {
         let rest = self.first.len() - self.taken;
         if count < rest {
             self.taken += count;
+            self.give_back(alloc);
             return;
         }
         self.first = mem::replace(&mut self.later, Blob::fresh(alloc));
         self.taken = count - rest;
-        if self.taken == self.first.len() {
-            self.first = Blob::fresh(alloc);
-            self.taken = 0;
+        self.give_back(alloc);
+    }
+
+    /// Gives the memory of the bytes that were taken back, if they are all of `first`, or at least 64 KB and an eighth of
+    /// the others of `first`. These are copied then. If there is no memory for that, it stays as it is.
+    fn give_back(&mut self, alloc: Global)
+        ensures { self.new ≡ self.old }
+    {
+        let rest = &self.first.as_slice()[self.taken..];
+        if !rest.is_empty() && (self.taken < KEPT || self.taken < rest.len() / 8) {
+            return;
         }
+        let Ok(rest) = Blob::from_slice(alloc, rest) else {
+            return;
+        };
+        self.first = rest;
+        self.taken = 0;
     }
 }

@@ -4,10 +4,10 @@ use Rattle.framing.proofs.FrameLaws.{represents_first}
 use Rattle.frame_link.proofs.LinkLaws.{link_hands_out, stays_open}
 use Rattle.frame_link.proofs.link.FrameLink.advance.Goals as goal
 
-later_is : (c : goal.After-advance) → c.advance.new.self.items ≡ after_frame c.args.self.now.bytes
+later_is : (c : goal.After-give_back) → c.give_back.new.bytes.items ≡ after_frame c.args.self.now.bytes
 later_is c =
     let seen : c.self.inside.bytes.items ≡ c.args.self.now.bytes = ap (λ held. held.bytes) c.self.view_is in
-    c.advance.ensures.items ∙ rw (seen, c.requires.size) refl
+    c.give_back.ensures ∙ c.advance.ensures.items ∙ rw (seen, c.requires.size) refl
 
 pub returns-clause-removes : goal.returns-clause-removes
 returns-clause-removes c =
