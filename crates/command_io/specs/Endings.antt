@@ -10,7 +10,7 @@ use Rattle.command_io.specs.declared.ending.Source.{Source}
 use Rattle.command_io.specs.declared.ending.Source.TheVariants.{ConfigFile, OtherFile}
 use Rattle.command_io.specs.declared.limits.TheConstants.{CONFIG_LIMIT, FILE_LIMIT}
 use Rattle.command_io.specs.declared.status.Status.{Status}
-use Rattle.command_io.specs.declared.status.Status.TheVariants.{Done, Usage, Config, ReadFault, SinkFault, LinkFault, Memory, Script, Truncated, TooLong, Lines}
+use Rattle.command_io.specs.declared.status.Status.TheVariants.{Done, Usage, Config, ReadFault, SinkFault, LinkFault, Memory, Script, Truncated, TooLong, Lines, Tests, Verdict}
 use Rattle.command_io.specs.Files.{LastFailed, NoneFailed, ReadMore, read_name}
 use Rattle.command_io.specs.Lines.{left_line, links_line, memory_line, refusal_line, script_line, too_long_line, unread_line}
 
@@ -27,6 +27,8 @@ code_of Script = 7
 code_of Truncated = 8
 code_of TooLong = 9
 code_of Lines = 10
+code_of Tests = 11
+code_of Verdict = 12
 
 abbrev pub status_of : Ending → Status
 status_of Finished = Done
@@ -74,6 +76,7 @@ IsRefusal Config = Unit {0}
 IsRefusal ReadFault = Unit {0}
 IsRefusal TooLong = Unit {0}
 IsRefusal Script = Unit {0}
+IsRefusal Tests = Unit {0}
 IsRefusal _ = ⊥
 
 -- the same, or memory ran out
@@ -85,6 +88,7 @@ IsRefusalOrMemory status = IsRefusal status
 abbrev pub HasNoLine : Status → Type 0
 HasNoLine Done = Unit {0}
 HasNoLine SinkFault = Unit {0}
+HasNoLine Verdict = Unit {0}
 HasNoLine _ = ⊥
 
 -- the endings of a command that has no configuration: its file was not read, or its text is not one

@@ -1,7 +1,7 @@
 -- The limits of files, as numbers.
 use Rattle.std.specs.Prelude.{ℕ}
 
--- the most bytes of a configuration
+-- the most bytes of a configuration, and of its tests
 abbrev pub config_limit : ℕ
 config_limit = 1048576
 

@@ -2,7 +2,7 @@ ghost use Rattle.std.specs.Prelude.{◌≡◌};
 ghost use Rattle.command_io.specs.Limits.{config_limit, file_limit};
 ghost use Rattle.command_io.specs.declared.limits.TheConstants.{CONFIG_LIMIT, FILE_LIMIT};
 
-/// The greatest number of bytes of a configuration.
+/// The greatest number of bytes of a configuration, and of its tests.
 pub const CONFIG_LIMIT: u64 = 1_048_576;
 
 /// The greatest number of bytes of a file that is fed, and of a script.

@@ -26,6 +26,10 @@ pub enum Status {
     TooLong,
     /// Lines of the text that was converted were refused.
     Lines,
+    /// The tests were refused.
+    Tests,
+    /// All tests were run, and one did not pass.
+    Verdict,
 }
 
 impl Status {
@@ -47,6 +51,8 @@ impl Status {
             Status::Truncated => 8,
             Status::TooLong => 9,
             Status::Lines => 10,
+            Status::Tests => 11,
+            Status::Verdict => 12,
         }
     }
 }

@@ -12,7 +12,7 @@ use Rattle.command_io.specs.declared.limits.TheConstants.{FILE_LIMIT}
 use Rattle.command_io.specs.declared.read.FileFault.{FileFault}
 use Rattle.command_io.specs.declared.read.FileFault.TheVariants as file
 use Rattle.command_io.specs.declared.status.Status.{Status}
-use Rattle.command_io.specs.declared.status.Status.TheVariants.{Done, Usage, Config, ReadFault, SinkFault, LinkFault, Memory, Script, Truncated, TooLong, Lines}
+use Rattle.command_io.specs.declared.status.Status.TheVariants.{Done, Usage, Config, ReadFault, SinkFault, LinkFault, Memory, Script, Truncated, TooLong, Lines, Tests, Verdict}
 use Rattle.graphite_lines.specs.Frames.{AreReadBack, FramesAreReadBack, accepted, frames_in, refused_lines}
 use Rattle.graphite_lines.specs.Lines.{lines_of}
 use Rattle.graphite_lines.specs.declared.bad.BadLine.{BadLine}
@@ -59,6 +59,8 @@ text_ends law host_part text frames lines out out' err err' Memory f l w = absur
 text_ends law host_part text frames lines out out' err err' Script f l w = w
 text_ends law host_part text frames lines out out' err err' Truncated f l w = w
 text_ends law host_part text frames lines out out' err err' TooLong f l w = w
+text_ends law host_part text frames lines out out' err err' Tests f l w = w
+text_ends law host_part text frames lines out out' err err' Verdict f l w = w
 
 -- ---- the command
 
@@ -75,6 +77,8 @@ converted_ends name host_part old new text LinkFault is ends = absurd ends
 converted_ends name host_part old new text Script is ends = absurd ends
 converted_ends name host_part old new text Truncated is ends = absurd ends
 converted_ends name host_part old new text TooLong is ends = absurd ends
+converted_ends name host_part old new text Tests is ends = absurd ends
+converted_ends name host_part old new text Verdict is ends = absurd ends
 
 pub converted_reads : (name : List ℕ) (host_part : Option ℕ) (text : List ℕ) (out out' err err' : SinkReport) (reads reads' : Option (List StoreRead)) (status : Status)
     → ConvertsText host_part text out out' err err' status → ReadMore (good_read name ∷ []) reads reads' → ReadsOnce name reads reads' status
@@ -89,6 +93,8 @@ converted_reads name host_part text out out' err err' reads reads' LinkFault end
 converted_reads name host_part text out out' err err' reads reads' Script ends grew = grew
 converted_reads name host_part text out out' err err' reads reads' Truncated ends grew = grew
 converted_reads name host_part text out out' err err' reads reads' TooLong ends grew = grew
+converted_reads name host_part text out out' err err' reads reads' Tests ends grew = grew
+converted_reads name host_part text out out' err err' reads reads' Verdict ends grew = grew
 
 -- the file was not read
 pub fault_ends : (name : List ℕ) (host_part : Option ℕ) (old new : Reports) (fault : FileFault)
@@ -150,3 +156,5 @@ convert_complete name host_part old new Config ends text holds fits read_still p
 convert_complete name host_part old new LinkFault ends text holds fits read_still put_still err_still = ends.2
 convert_complete name host_part old new Script ends text holds fits read_still put_still err_still = ends.2
 convert_complete name host_part old new Truncated ends text holds fits read_still put_still err_still = ends.2
+convert_complete name host_part old new Tests ends text holds fits read_still put_still err_still = ends.2
+convert_complete name host_part old new Verdict ends text holds fits read_still put_still err_still = ends.2

@@ -1,0 +1,4 @@
+pub mod LineLaws
+pub mod RunLaws
+pub mod FileLaws
+pub mod CommandLaws

@@ -1,0 +1,29 @@
+use Rattle.std.proofs.Common.{inl, inr, refl}
+use Rattle.test_command.proofs.CommandLaws.{suite_since}
+use Rattle.test_command.proofs.FileLaws.{both_read, config_not_complete, first_read, has_config}
+use Rattle.test_command.proofs.command.run_files.Goals as goal
+
+pub run_text-requires : goal.run_text-requires
+run_text-requires g c = rw c.as_slice.ensures (c.in-Ok.ensures.config.config, c.in-Ok.ensures.config.is.reads)
+
+pub returns-in-Ok-clause-ends : goal.returns-in-Ok-clause-ends
+returns-in-Ok-clause-ends g c =
+    let holds = c.in-Ok.ensures.config in
+    let ends = rw c.as_slice.ensures at (c.run_text.ensures.ends holds.config) in
+    inr (
+      holds.config,
+      has_config _ c.in-Ok.text holds,
+      suite_since holds.config _ (g.S.Store.report c.args.store.now) (g.S.Store.report c.fetch_config.new.store) (g.S.Store.report c.run_text.new.store) _ _ c.run_text.result c.in-Ok.ensures.quiet c.in-Ok.ensures.taken (rw c.in-Ok.ensures.held at (ends holds.is.reads)),
+    )
+
+pub returns-in-Ok-clause-reads : goal.returns-in-Ok-clause-reads
+returns-in-Ok-clause-reads g c = both_read c.args.config.now c.args.tests.now _ _ _ c.run_text.result c.in-Ok.ensures.read c.run_text.ensures.reads
+
+pub returns-in-Err-clause-ends : goal.returns-in-Err-clause-ends
+returns-in-Err-clause-ends g c = inl (c.in-Err.ensures.refused, refl)
+
+pub returns-in-Err-clause-reads : goal.returns-in-Err-clause-reads
+returns-in-Err-clause-reads g c = first_read c.args.config.now c.args.tests.now _ _ _ (g.S.Store.report c.args.store.now) (g.S.Store.report c.fetch_config.new.store) c.in-Err.ending c.in-Err.ensures.refused c.in-Err.ensures.reads
+
+pub returns-in-Err-clause-quiet : goal.returns-in-Err-clause-quiet
+returns-in-Err-clause-quiet g c = λ complete. absurd (config_not_complete _ (g.S.Store.report c.args.store.now) (g.S.Store.report c.fetch_config.new.store) c.in-Err.ending c.in-Err.ensures.refused complete)
