@@ -15,7 +15,7 @@ use sexp_config::ConfigWhy;
 
 /// The line where no command matches the arguments.
 pub const USAGE: &str =
-    "riemann: usage: feed CONFIG FILE, check CONFIG, replay CONFIG SCRIPT, serve CONFIG [--turns N], load CONFIG N START, graphite FILE [--host K]\n";
+    "riemann: usage: feed CONFIG FILE, check CONFIG, replay CONFIG SCRIPT, serve CONFIG [--turns N], load CONFIG N START, graphite FILE [--host K], test CONFIG TESTS\n";
 
 /// The line where memory ran out.
 pub const MEMORY_LINE: &str = "riemann: out of memory\n";

@@ -4,15 +4,18 @@ use Rattle.std.specs.Option.{ForSome}
 use Rattle.command_io.specs.declared.ending.Ending.{Ending}
 use Rattle.command_io.specs.declared.ending.Ending.TheVariants.{Finished, ConfigRefused, Unread, OverLimit, BytesLeft, WriteFailed, LinksFailed, ScriptRefused, OutOfMemory}
 use Rattle.command_io.specs.declared.status.Status.{Status}
-use Rattle.command_io.specs.declared.status.Status.TheVariants.{Done, Usage, Config, ReadFault, SinkFault, LinkFault, Memory, Script, Truncated, TooLong, Lines}
+use Rattle.command_io.specs.declared.status.Status.TheVariants.{Done, Usage, Config, ReadFault, SinkFault, LinkFault, Memory, Script, Truncated, TooLong, Lines, Tests, Verdict}
 use Rattle.command_io.specs.Reports.{Reports}
 use Rattle.graphite_command.specs.Converts.{ConvertEnds, Converts}
 use Rattle.command_io.specs.Endings.{HasNoLine, IsRefusal, IsRefusalOrMemory, status_of}
 use Rattle.riemann_commands.specs.declared.command.Command.{Command}
-use Rattle.riemann_commands.specs.declared.command.Command.TheVariants.{Feed, Check, Replay, Serve, Load, Graphite}
+use Rattle.riemann_commands.specs.declared.command.Command.TheVariants.{Feed, Check, Replay, Serve, Load, Graphite, Test}
 use Rattle.riemann_commands.specs.Commands.{IsCommandOf}
 use Rattle.riemann_commands.specs.Words.{IsGraphite, IsUsage, graphite_host_words, graphite_words}
 use Rattle.script_text.specs.Words.{number_of}
+use Rattle.test_command.specs.Endings.{status_of as status_of_tests}
+use Rattle.test_command.specs.declared.ending.TestsEnding.{TestsEnding}
+use Rattle.test_command.specs.declared.ending.TestsEnding.TheVariants as testing
 
 no_ending : (ending : Ending) → status_of ending ≡ Usage → ⊥
 no_ending Finished e = cc
@@ -35,6 +38,21 @@ named words (Replay config script) is usage = usage.2 config.now script.now is
 named words (Serve config turns) is usage = usage.3 config.now turns is
 named words (Load config count start) is usage = usage.4 config.now count start is
 named words (Graphite file host_part) is usage = usage.5 file.now host_part is
+named words (Test config tests) is usage = usage.6 config.now tests.now is
+
+-- the command that runs tests has endings of its own
+no_tests_ending : (ending : TestsEnding) → status_of_tests ending ≡ Usage → ⊥
+no_tests_ending testing.Passed e = cc
+no_tests_ending testing.Differed e = cc
+no_tests_ending (testing.ConfigRefused refusal) e = cc
+no_tests_ending (testing.TestsRefused place why) e = cc
+no_tests_ending (testing.Unread source) e = cc
+no_tests_ending (testing.OverLimit source) e = cc
+no_tests_ending testing.WriteFailed e = cc
+no_tests_ending testing.OutOfMemory e = cc
+
+pub not_usage_testing : (status : Status) (ending : TestsEnding) → status ≡ status_of_tests ending → status ≡ Usage → ⊥
+not_usage_testing status ending ended e = no_tests_ending ending (rw ended at e)
 
 -- the command that converts has an end of its own
 pub not_usage_converting : (file : List ℕ) (host_part : Option ℕ) (old new : Reports) (status : Status) → Converts file host_part old new status → status ≡ Usage → ⊥
@@ -84,6 +102,8 @@ refusal_or_memory Script refused = refused
 refusal_or_memory Truncated refused = refused
 refusal_or_memory TooLong refused = refused
 refusal_or_memory Lines refused = refused
+refusal_or_memory Tests refused = refused
+refusal_or_memory Verdict refused = refused
 
 pub out_of_memory : (status : Status) → status ≡ Memory → IsRefusalOrMemory status
 out_of_memory status e = rw e tt

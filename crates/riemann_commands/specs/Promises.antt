@@ -13,8 +13,9 @@ use Rattle.ports.specs.Counts.{Rose}
 use Rattle.ports.specs.Writing.{Got, SinkReport}
 use Rattle.replay_command.specs.Replays.{Replays}
 use Rattle.serve_command.specs.Serves.{Serves}
+use Rattle.test_command.specs.RunsTests.{RunsTests}
 use Rattle.riemann_commands.specs.Commands.{IsCommand}
-use Rattle.riemann_commands.specs.Words.{IsUsage, OnCheck, OnFeed, OnGraphite, OnLoad, OnReplay, OnServe}
+use Rattle.riemann_commands.specs.Words.{IsUsage, OnCheck, OnFeed, OnGraphite, OnLoad, OnReplay, OnServe, OnTest}
 
 -- the facts that each of the objects that were handed in is as it was
 pub record Sameness : Type 1 where
@@ -34,8 +35,9 @@ pub record Promises (words : List (List ℕ)) (old new : Reports) (same : Samene
   pub usage : (status ≡ Usage) ↔ IsUsage words
   pub command : status ≢ Usage → IsCommand words
   pub idle : status ≡ Usage → same.Store × same.Links × same.Patterns × same.Steps × GotLineOf usage_line old.err new.err
-  pub untouched : IsRefusal status → same.Out × same.Links
-  pub memory : status ≡ Memory → OnReplay words (λ config script. ⊥) → OnServe words (λ config turns. ⊥) → same.Out
+  pub untouched : IsRefusal status → (OnTest words (λ config tests. ⊥) → same.Out) × same.Links
+  pub memory : status ≡ Memory → OnReplay words (λ config script. ⊥) → OnServe words (λ config turns. ⊥)
+      → OnTest words (λ config tests. ⊥) → same.Out
   pub no_line : HasNoLine status → OnFeed words (λ config file. ⊥)
       → OnGraphite words (λ file host_part. ⊥) → same.Err
   pub done : status ≡ Done → OnFeed words (λ config file. ⊥) → same.Err
@@ -48,6 +50,7 @@ pub record Promises (words : List (List ℕ)) (old new : Reports) (same : Samene
   pub serve : OnServe words (λ config turns. Serves config turns old new same.Patterns status)
   pub load : OnLoad words (λ config count start. Loads config count start old new same.Patterns status)
   pub graphite : OnGraphite words (λ file host_part. Converts file host_part old new status)
+  pub test : OnTest words (λ config tests. RunsTests config tests old new same.Patterns same.Out status)
 
 -- ---- the options, which the program answers itself
 

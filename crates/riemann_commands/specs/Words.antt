@@ -54,6 +54,9 @@ abbrev pub IsGraphite : List (List ℕ) → List ℕ → Option ℕ → Type 0
 IsGraphite words file host_part = ((words ≡ graphite_words file) × (host_part ≡ None))
     ⊎ ((number : List ℕ) × (part : ℕ) × (words ≡ graphite_host_words file number) × IsHostPart number part × (host_part ≡ Some part))
 
+abbrev pub test_words : List ℕ → List ℕ → List (List ℕ)
+test_words config tests = codes "test" ∷ (config ∷ (tests ∷ []))
+
 -- ---- facts of the names, where the arguments are those of the command
 
 abbrev pub OnFeed : List (List ℕ) → (List ℕ → List ℕ → Type 0) → Type 0
@@ -74,8 +77,11 @@ OnLoad words P = (config : List ℕ) (count start : ℕ) → IsLoad words config
 abbrev pub OnGraphite : List (List ℕ) → (List ℕ → Option ℕ → Type 0) → Type 0
 OnGraphite words P = (file : List ℕ) (host_part : Option ℕ) → IsGraphite words file host_part → P file host_part
 
+abbrev pub OnTest : List (List ℕ) → (List ℕ → List ℕ → Type 0) → Type 0
+OnTest words P = (config tests : List ℕ) → words ≡ test_words config tests → P config tests
+
 -- no command matches the arguments
 abbrev pub IsUsage : List (List ℕ) → Type 0
 IsUsage words = OnFeed words (λ config file. ⊥) × OnCheck words (λ config. ⊥)
     × OnReplay words (λ config script. ⊥) × OnServe words (λ config turns. ⊥) × OnLoad words (λ config count start. ⊥)
-    × OnGraphite words (λ file host_part. ⊥)
+    × OnGraphite words (λ file host_part. ⊥) × OnTest words (λ config tests. ⊥)

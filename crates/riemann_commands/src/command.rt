@@ -30,6 +30,10 @@ pub(crate) enum Command<'a> {
         count: u64,
         start: u64,
     },
+    Test {
+        config: &'a Text,
+        tests: &'a Text,
+    },
     /// The host is the part of this number of a path, from 1 to 64, if there is a number.
     Graphite {
         file: &'a Text,
@@ -88,6 +92,11 @@ fn command_on_two<'a>(command: &'a Text, config: &'a Text, file: &'a Text) -> Op
         Some(Command::Replay {
             config,
             script: file,
+        })
+    } else if command.is(b"test") {
+        Some(Command::Test {
+            config,
+            tests: file,
         })
     } else {
         None

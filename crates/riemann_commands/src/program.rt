@@ -31,6 +31,7 @@ commands:
   load CONFIG N START     serve a generated load of N events in memory; write what it came to
   graphite FILE           convert lines of a path, a value and a time to frames
   graphite FILE --host K  the same; part K of a path is the host
+  test CONFIG TESTS       run the tests TESTS of the configuration CONFIG; write a line for each
 
 options:
   --help                  write this text

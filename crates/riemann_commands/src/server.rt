@@ -9,8 +9,9 @@ ghost use Rattle.load_command.specs.Loads.{Loads};
 ghost use Rattle.ports.specs.Counts.{Rose};
 ghost use Rattle.replay_command.specs.Replays.{Replays};
 ghost use Rattle.serve_command.specs.Serves.{Serves};
+ghost use Rattle.test_command.specs.RunsTests.{RunsTests};
 ghost use Rattle.riemann_commands.specs.Commands.{IsCommand};
-ghost use Rattle.riemann_commands.specs.Words.{IsUsage, OnCheck, OnFeed, OnGraphite, OnLoad, OnReplay, OnServe};
+ghost use Rattle.riemann_commands.specs.Words.{IsUsage, OnCheck, OnFeed, OnGraphite, OnLoad, OnReplay, OnServe, OnTest};
 
 use crate::command::{Command, command_of};
 use check_command::check;
@@ -25,6 +26,7 @@ use replay_command::replay;
 use serve_command::serve;
 use std::alloc::Global;
 use step_count::{Ledger, Steps};
+use test_command::run_tests;
 
 /// Carries out the command that matches the arguments, and gives how it ended.
 ///
@@ -38,6 +40,7 @@ use step_count::{Ledger, Steps};
 /// | `load CONFIG N START` | runs a server over a generated load of N events; counts notices, and writes one line to `out` |
 /// | `graphite FILE` | converts lines after Graphite's plain text to frames, which go to `out`, and then a line for each that is refused to `err` |
 /// | `graphite FILE --host K` | the same, where part K of a path is the host |
+/// | `test CONFIG TESTS` | runs tests of a configuration, and writes a line for each to `out` |
 ///
 /// Patterns are built by `patterns`, and the forks that are entered are counted in `steps`. A status other than `Done` and
 /// `SinkFault` has a line on `err`, which is cut where a write to `err` fails.
@@ -57,10 +60,14 @@ pub fn riemann<S: Store, L: Links, O: Sink, E: Sink, P: Patterns, G: Ledger>(
     ensures idle { result ≡ Status.Usage → (store.new ≡ store.old) × (links.new ≡ links.old) ×
         (patterns.new ≡ patterns.old) × (steps.new ≡ steps.old) ×
         GotLineOf usage_line (E.report err.old) (E.report err.new) }
-    ensures untouched { IsRefusal result → (out.new ≡ out.old) × (links.new ≡ links.old) }
-    // If memory runs out, only commands that write notices to `out` have written to it.
+    // Of the commands only `test` may have written to `out` before it refused what it was given: a pattern, after the lines
+    // of tests.
+    ensures untouched { IsRefusal result →
+        (OnTest words.now (λ config tests. ⊥) → out.new ≡ out.old) × (links.new ≡ links.old) }
+    // If memory runs out, only commands that write to `out` while they run have written to it.
     ensures memory { result ≡ Status.Memory → OnReplay words.now (λ config script. ⊥) →
-        OnServe words.now (λ config turns. ⊥) → out.new ≡ out.old }
+        OnServe words.now (λ config turns. ⊥) → OnTest words.now (λ config tests. ⊥) →
+        out.new ≡ out.old }
     // Without a line of its own for the status, only `feed` writes to `err`, where its notices go, and `graphite`, if it
     // could not write a line for each refused one.
     ensures no_line { HasNoLine result → OnFeed words.now (λ config file. ⊥) →
@@ -77,7 +84,7 @@ pub fn riemann<S: Store, L: Links, O: Sink, E: Sink, P: Patterns, G: Ledger>(
 
     // What each command promises. Where it ran a server, that has the lines of its notices, and that the notices of each
     // host are its own (`Runs.antt` and `Apart.antt` of `hub_run`). The equality is for the record's fact that no pattern
-    // was asked for.
+    // was asked for, and the second one for that nothing was written.
     ensures feed { OnFeed words.now (λ config file. Feeds config file
         (reports (S.report store.old) (L.report links.old) (O.report out.old) (E.report err.old)
         (P.report patterns.old) steps.old.forks)
@@ -108,6 +115,12 @@ pub fn riemann<S: Store, L: Links, O: Sink, E: Sink, P: Patterns, G: Ledger>(
         (P.report patterns.old) steps.old.forks)
         (reports (S.report store.new) (L.report links.new) (O.report out.new) (E.report err.new)
         (P.report patterns.new) steps.new.forks) result) }
+    ensures test { OnTest words.now (λ config tests. RunsTests config tests
+        (reports (S.report store.old) (L.report links.old) (O.report out.old) (E.report err.old)
+        (P.report patterns.old) steps.old.forks)
+        (reports (S.report store.new) (L.report links.new) (O.report out.new) (E.report err.new)
+        (P.report patterns.new) steps.new.forks) (patterns.new ≡ patterns.old)
+        (out.new ≡ out.old) result) }
 {
     match command_of(words) {
         Some(Command::Feed { config, file }) => {
@@ -134,6 +147,9 @@ pub fn riemann<S: Store, L: Links, O: Sink, E: Sink, P: Patterns, G: Ledger>(
         Some(Command::Graphite { file, host_part }) => {
             graphite(alloc, file, host_part, store, out, err)
         }
+        Some(Command::Test { config, tests }) => run_tests(
+            alloc, config, tests, store, out, err, patterns, steps,
+        ),
         None => {
             put_line(err, &[USAGE]);
             Status::Usage

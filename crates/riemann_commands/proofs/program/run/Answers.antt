@@ -19,4 +19,5 @@ returns-in-Ok-clause-command g c = rw c.in-Ok.is (λ none. rw (sym c.as_slice.en
   serve = c.riemann.ensures.serve;
   load = c.riemann.ensures.load;
   graphite = c.riemann.ensures.graphite;
+  test = c.riemann.ensures.test;
 }))

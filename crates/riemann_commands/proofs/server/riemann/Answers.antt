@@ -1,5 +1,5 @@
 use Rattle.std.proofs.Common.{refl}
-use Rattle.riemann_commands.proofs.CommandLaws.{converts_named, done_has_no_line, host_part_within, named, not_usage, not_usage_converting, out_of_memory, refusal_or_memory}
+use Rattle.riemann_commands.proofs.CommandLaws.{converts_named, done_has_no_line, host_part_within, named, not_usage, not_usage_converting, not_usage_testing, out_of_memory, refusal_or_memory}
 use Rattle.riemann_commands.proofs.server.riemann.Goals as goal
 
 pub returns-in-Some-Feed-clause-usage : goal.returns-in-Some-Feed-clause-usage
@@ -54,28 +54,28 @@ pub returns-in-None-clause-load : goal.returns-in-None-clause-load
 returns-in-None-clause-load g c = λ config count start is. absurd (c.in-None.ensures.4 config count start is)
 
 pub returns-in-Some-Feed-clause-untouched : goal.returns-in-Some-Feed-clause-untouched
-returns-in-Some-Feed-clause-untouched g c = λ refused. (c.feed.ensures.untouched (refusal_or_memory c.feed.result refused), refl)
+returns-in-Some-Feed-clause-untouched g c = λ refused. ((λ not_test. c.feed.ensures.untouched (refusal_or_memory c.feed.result refused)), refl)
 
 pub returns-in-Some-Feed-clause-memory : goal.returns-in-Some-Feed-clause-memory
-returns-in-Some-Feed-clause-memory g c = λ e not_replay not_serve. c.feed.ensures.untouched (out_of_memory c.feed.result e)
+returns-in-Some-Feed-clause-memory g c = λ e not_replay not_serve not_test. c.feed.ensures.untouched (out_of_memory c.feed.result e)
 
 pub returns-in-Some-Check-clause-untouched : goal.returns-in-Some-Check-clause-untouched
-returns-in-Some-Check-clause-untouched g c = λ refused. (c.check.ensures.untouched (refusal_or_memory c.check.result refused), refl)
+returns-in-Some-Check-clause-untouched g c = λ refused. ((λ not_test. c.check.ensures.untouched (refusal_or_memory c.check.result refused)), refl)
 
 pub returns-in-Some-Check-clause-memory : goal.returns-in-Some-Check-clause-memory
-returns-in-Some-Check-clause-memory g c = λ e not_replay not_serve. c.check.ensures.untouched (out_of_memory c.check.result e)
+returns-in-Some-Check-clause-memory g c = λ e not_replay not_serve not_test. c.check.ensures.untouched (out_of_memory c.check.result e)
 
 pub returns-in-Some-Load-clause-untouched : goal.returns-in-Some-Load-clause-untouched
-returns-in-Some-Load-clause-untouched g c = λ refused. (c.load.ensures.untouched (refusal_or_memory c.load.result refused), refl)
+returns-in-Some-Load-clause-untouched g c = λ refused. ((λ not_test. c.load.ensures.untouched (refusal_or_memory c.load.result refused)), refl)
 
 pub returns-in-Some-Load-clause-memory : goal.returns-in-Some-Load-clause-memory
-returns-in-Some-Load-clause-memory g c = λ e not_replay not_serve. c.load.ensures.untouched (out_of_memory c.load.result e)
+returns-in-Some-Load-clause-memory g c = λ e not_replay not_serve not_test. c.load.ensures.untouched (out_of_memory c.load.result e)
 
 pub returns-in-Some-Replay-clause-memory : goal.returns-in-Some-Replay-clause-memory
-returns-in-Some-Replay-clause-memory g c = λ e not_replay not_serve. absurd (not_replay _ _ (rw c.in-Some-Replay.field-0-is at c.in-Some-Replay.ensures))
+returns-in-Some-Replay-clause-memory g c = λ e not_replay not_serve not_test. absurd (not_replay _ _ (rw c.in-Some-Replay.field-0-is at c.in-Some-Replay.ensures))
 
 pub returns-in-Some-Serve-clause-memory : goal.returns-in-Some-Serve-clause-memory
-returns-in-Some-Serve-clause-memory g c = λ e not_replay not_serve. absurd (not_serve _ _ (rw c.in-Some-Serve.field-0-is at c.in-Some-Serve.ensures))
+returns-in-Some-Serve-clause-memory g c = λ e not_replay not_serve not_test. absurd (not_serve _ _ (rw c.in-Some-Serve.field-0-is at c.in-Some-Serve.ensures))
 
 pub returns-in-Some-Feed-clause-no_line : goal.returns-in-Some-Feed-clause-no_line
 returns-in-Some-Feed-clause-no_line g c = λ quiet not_feed. absurd (not_feed _ _ (rw c.in-Some-Feed.field-0-is at c.in-Some-Feed.ensures))
@@ -91,10 +91,10 @@ returns-in-Some-Graphite-clause-idle g c =
     λ e. absurd (not_usage_converting _ _ _ _ _ promise e)
 
 pub returns-in-Some-Graphite-clause-untouched : goal.returns-in-Some-Graphite-clause-untouched
-returns-in-Some-Graphite-clause-untouched g c = λ refused. (c.graphite.ensures.untouched (refusal_or_memory c.graphite.result refused), refl)
+returns-in-Some-Graphite-clause-untouched g c = λ refused. ((λ not_test. c.graphite.ensures.untouched (refusal_or_memory c.graphite.result refused)), refl)
 
 pub returns-in-Some-Graphite-clause-memory : goal.returns-in-Some-Graphite-clause-memory
-returns-in-Some-Graphite-clause-memory g c = λ e not_replay not_serve. c.graphite.ensures.untouched (out_of_memory c.graphite.result e)
+returns-in-Some-Graphite-clause-memory g c = λ e not_replay not_serve not_test. c.graphite.ensures.untouched (out_of_memory c.graphite.result e)
 
 pub returns-in-Some-Graphite-clause-no_line : goal.returns-in-Some-Graphite-clause-no_line
 returns-in-Some-Graphite-clause-no_line g c = λ quiet not_feed not_graphite. absurd (not_graphite _ _ (rw c.in-Some-Graphite.field-0-is at c.in-Some-Graphite.ensures))
@@ -124,3 +124,26 @@ pub returns-in-Some-Graphite-clause-graphite : goal.returns-in-Some-Graphite-cla
 returns-in-Some-Graphite-clause-graphite g c =
     let promise = c.graphite.ensures.promise (g.L.Links.report c.args.links.now) (g.P.Patterns.report c.args.patterns.now) c.args.steps.now.forks in
     λ file host_part is. converts_named _ _ _ _ _ _ _ _ (rw c.in-Some-Graphite.field-0-is at c.in-Some-Graphite.ensures) promise is
+
+pub returns-in-Some-Test-clause-usage : goal.returns-in-Some-Test-clause-usage
+returns-in-Some-Test-clause-usage g c =
+    let promise = c.run_tests.ensures.promise (g.L.Links.report c.args.links.now) in
+    (λ e. absurd (not_usage_testing _ promise.ending promise.ended e), λ usage. absurd (named _ _ c.in-Some-Test.ensures usage))
+
+pub returns-in-Some-Test-clause-idle : goal.returns-in-Some-Test-clause-idle
+returns-in-Some-Test-clause-idle g c =
+    let promise = c.run_tests.ensures.promise (g.L.Links.report c.args.links.now) in
+    λ e. absurd (not_usage_testing _ promise.ending promise.ended e)
+
+pub returns-in-Some-Test-clause-untouched : goal.returns-in-Some-Test-clause-untouched
+returns-in-Some-Test-clause-untouched g c =
+    λ refused. ((λ not_test. absurd (not_test _ _ (rw c.in-Some-Test.field-0-is at c.in-Some-Test.ensures))), refl)
+
+pub returns-in-Some-Test-clause-memory : goal.returns-in-Some-Test-clause-memory
+returns-in-Some-Test-clause-memory g c = λ e not_replay not_serve not_test. absurd (not_test _ _ (rw c.in-Some-Test.field-0-is at c.in-Some-Test.ensures))
+
+pub returns-in-Some-Test-clause-done : goal.returns-in-Some-Test-clause-done
+returns-in-Some-Test-clause-done g c = λ e not_feed. c.run_tests.ensures.no_line (done_has_no_line c.run_tests.result e)
+
+pub returns-in-None-clause-test : goal.returns-in-None-clause-test
+returns-in-None-clause-test g c = λ config tests is. absurd (c.in-None.ensures.6 config tests is)
