@@ -239,7 +239,8 @@ fn run_due<G: Ledger>(
     Ok(())
 }
 
-/// The entry comes to the fork of the number, whose due moment is set anew.
+/// The entry comes to the fork of the number, whose due moment is set anew. No caller has a number without a fork, to which
+/// nothing would come.
 #[cycle(run)]
 fn run_fork<G: Ledger>(
     alloc: Global,
@@ -260,7 +261,7 @@ fn run_fork<G: Ledger>(
     ensures prefix { IsPrefix out.old out.new }
 {
     if number >= forks.len() {
-        return Err(Memory);
+        return Ok(());
     }
     let fork = forks.enter(number, steps);
     run_forest(alloc, &stream.children, fork, entry, context, out, steps)?;
