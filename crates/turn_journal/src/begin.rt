@@ -33,6 +33,7 @@ pub fn begin_on<D: Disk>(alloc: Global, disk: &mut D, config: &[u8]) -> Result<F
         StandsBlank config.now found (D.report disk.new).past)) }
     ensures ready { IfOk result (λ found. IsReady (D.report disk.new).past
         found.gate found.has_record) }
+    ensures end { IfOk result (λ found. found ≡ blank_end config.now) }
     ensures free { OnOk result (ForSome (D.report disk.old).past (λ past.
         IsFree (text_of past))) }
     ensures refused { IfErr result (λ fault. ForSome (D.report disk.old).past (λ past.
@@ -67,6 +68,7 @@ fn begin_in<D: Disk>(
         StandsBlank config.now found (D.report disk.new).past)) }
     ensures ready { IfOk result (λ found. IsReady (D.report disk.new).past
         found.gate found.has_record) }
+    ensures end { IfOk result (λ found. found ≡ blank_end config.now) }
     ensures free { OnOk result (ForSome (D.report disk.old).past (λ past.
         IsFree (text_of past))) }
     ensures refused { IfErr result (λ fault. ForSome (D.report disk.old).past (λ past.

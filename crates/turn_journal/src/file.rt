@@ -64,6 +64,8 @@ impl<'a, D: Disk> JournalFile<'a, D> {
             (D.report file.disk.now).past)) }
         ensures ready { IfOk result (λ file. IsReady (D.report file.disk.now).past
             file.gate file.has_record) }
+        ensures gate { IfOk result (λ file. file.gate ≡ length config.now + 5) }
+        ensures has_record { IfOk result (λ file. file.has_record ≡ false) }
         ensures free { OnOk result (ForSome (D.report disk.entry.now).past (λ past.
             IsFree (text_of past))) }
         ensures any_moment { IfOk result (λ file. ForSome (D.report disk.entry.now).past (λ past.
