@@ -2,9 +2,9 @@
 """examples.py PROGRAM: runs `PROGRAM test` over the configurations in examples/ that have tests, and over a long test.
 
 Every test of an example has to pass. Then each number of its configuration is made one less and one more, one change at a
-time, and a test has to fail for it. The long test has 100,000 events and 1,000,000 seconds, and may take a second of
-processor time for each configuration that it is run with. It prints a line for each, and ends with status 1 if one is not
-as it has to be.
+time, and a test has to fail for it. The long test has 100,000 events and 1,000,000 seconds. What it takes is printed, and
+may be at most 10 seconds of processor time, with each configuration that it is run with. It prints a line for each, and
+ends with status 1 if one is not as it has to be.
 """
 
 import pathlib
@@ -24,6 +24,7 @@ TOKEN = re.compile(r';[^\n]*|#?"(?:\\.|[^"\\])*"|[A-Za-z_:=<>][^\s,()\[\]{}";]*|
 EVENTS = 100_000
 SECONDS = 1_000_000
 TURNS = 4_000
+MOST_SECONDS = 10
 
 LONG = {
     "one stream": '(streams (changed :state {:init nil} (notice "n")))',
@@ -87,8 +88,8 @@ def long_test():
 
 def try_long(program, name, config, tests):
     status, out, err, seconds = run_tests(program, config, tests)
-    held = status in (PASSED, VERDICT) and out.count("\n") == 1 and not err and seconds < 1
-    print(f"examples: {EVENTS} events in {SECONDS} seconds, {name}: {seconds:.2f} seconds, {out.strip()}{err.strip()}")
+    held = status in (PASSED, VERDICT) and out.count("\n") == 1 and not err and seconds < MOST_SECONDS
+    print(f"examples: {EVENTS} events in {SECONDS} seconds, {name}: {seconds:.2f} seconds of processor time, {out.strip()}{err.strip()}")
     return held
 
 
