@@ -13,9 +13,6 @@ use Rattle.riemann_commands.specs.declared.command.Command.TheVariants.{Feed, Ch
 use Rattle.riemann_commands.specs.Commands.{IsCommandOf}
 use Rattle.riemann_commands.specs.Words.{IsGraphite, IsUsage, graphite_host_words, graphite_words}
 use Rattle.script_text.specs.Words.{number_of}
-use Rattle.test_command.specs.Endings.{status_of as status_of_tests}
-use Rattle.test_command.specs.declared.ending.TestsEnding.{TestsEnding}
-use Rattle.test_command.specs.declared.ending.TestsEnding.TheVariants as testing
 
 no_ending : (ending : Ending) → status_of ending ≡ Usage → ⊥
 no_ending Finished e = cc
@@ -39,20 +36,6 @@ named words (Serve config turns) is usage = usage.3 config.now turns is
 named words (Load config count start) is usage = usage.4 config.now count start is
 named words (Graphite file host_part) is usage = usage.5 file.now host_part is
 named words (Test config tests) is usage = usage.6 config.now tests.now is
-
--- the command that runs tests has endings of its own
-no_tests_ending : (ending : TestsEnding) → status_of_tests ending ≡ Usage → ⊥
-no_tests_ending testing.Passed e = cc
-no_tests_ending testing.Differed e = cc
-no_tests_ending (testing.ConfigRefused refusal) e = cc
-no_tests_ending (testing.TestsRefused place why) e = cc
-no_tests_ending (testing.Unread source) e = cc
-no_tests_ending (testing.OverLimit source) e = cc
-no_tests_ending testing.WriteFailed e = cc
-no_tests_ending testing.OutOfMemory e = cc
-
-pub not_usage_testing : (status : Status) (ending : TestsEnding) → status ≡ status_of_tests ending → status ≡ Usage → ⊥
-not_usage_testing status ending ended e = no_tests_ending ending (rw ended at e)
 
 -- the command that converts has an end of its own
 pub not_usage_converting : (file : List ℕ) (host_part : Option ℕ) (old new : Reports) (status : Status) → Converts file host_part old new status → status ≡ Usage → ⊥

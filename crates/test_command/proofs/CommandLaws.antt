@@ -7,7 +7,7 @@ use Rattle.command_io.specs.declared.ending.ConfigRefusal.{ConfigRefusal}
 use Rattle.command_io.specs.declared.ending.ConfigRefusal.TheVariants.{Refused, Pattern}
 use Rattle.command_io.specs.declared.ending.Source.TheVariants.{ConfigFile, OtherFile}
 use Rattle.command_io.specs.declared.limits.TheConstants.{CONFIG_LIMIT}
-use Rattle.command_io.specs.declared.status.Status.TheVariants.{ReadFault, SinkFault, LinkFault}
+use Rattle.command_io.specs.declared.status.Status.TheVariants.{Usage, ReadFault, SinkFault, LinkFault}
 use Rattle.config_tests.specs.Tests.{AreTestsOf}
 use Rattle.config_tests.specs.declared.entry.Test.{Test}
 use Rattle.ports.specs.Counts.{IsStill, Rose}
@@ -125,6 +125,18 @@ no_link (Unread source) e = cc
 no_link (OverLimit source) e = cc
 no_link WriteFailed e = cc
 no_link OutOfMemory e = cc
+
+-- ---- the arguments are those of the command
+
+pub no_usage : (ending : TestsEnding) → status_of ending ≡ Usage → ⊥
+no_usage Passed e = cc
+no_usage Differed e = cc
+no_usage (ConfigRefused refusal) e = cc
+no_usage (TestsRefused place why) e = cc
+no_usage (Unread source) e = cc
+no_usage (OverLimit source) e = cc
+no_usage WriteFailed e = cc
+no_usage OutOfMemory e = cc
 
 -- ---- what is certain without faults
 

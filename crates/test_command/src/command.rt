@@ -61,6 +61,7 @@ pub fn run_tests<S: Store, O: Sink, E: Sink, P: Patterns, G: Ledger>(
     ensures sink_fault { result ≡ Status.SinkFault →
         Rose (O.report out.old).faults (O.report out.new).faults }
     ensures links_work { result ≢ Status.LinkFault }
+    ensures not_usage { result ≢ Status.Usage }
     ensures no_line { HasNoLine result → err.new ≡ err.old }
 {
     let ending = run_files(alloc, config, tests, store, out, patterns, steps);

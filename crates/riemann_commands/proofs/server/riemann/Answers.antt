@@ -1,5 +1,5 @@
 use Rattle.std.proofs.Common.{refl}
-use Rattle.riemann_commands.proofs.CommandLaws.{converts_named, done_has_no_line, host_part_within, named, not_usage, not_usage_converting, not_usage_testing, out_of_memory, refusal_or_memory}
+use Rattle.riemann_commands.proofs.CommandLaws.{converts_named, done_has_no_line, host_part_within, named, not_usage, not_usage_converting, out_of_memory, refusal_or_memory}
 use Rattle.riemann_commands.proofs.server.riemann.Goals as goal
 
 pub returns-in-Some-Feed-clause-usage : goal.returns-in-Some-Feed-clause-usage
@@ -126,14 +126,10 @@ returns-in-Some-Graphite-clause-graphite g c =
     λ file host_part is. converts_named _ _ _ _ _ _ _ _ (rw c.in-Some-Graphite.field-0-is at c.in-Some-Graphite.ensures) promise is
 
 pub returns-in-Some-Test-clause-usage : goal.returns-in-Some-Test-clause-usage
-returns-in-Some-Test-clause-usage g c =
-    let promise = c.run_tests.ensures.promise (g.L.Links.report c.args.links.now) in
-    (λ e. absurd (not_usage_testing _ promise.ending promise.ended e), λ usage. absurd (named _ _ c.in-Some-Test.ensures usage))
+returns-in-Some-Test-clause-usage g c = (λ e. absurd (c.run_tests.ensures.not_usage e), λ usage. absurd (named _ _ c.in-Some-Test.ensures usage))
 
 pub returns-in-Some-Test-clause-idle : goal.returns-in-Some-Test-clause-idle
-returns-in-Some-Test-clause-idle g c =
-    let promise = c.run_tests.ensures.promise (g.L.Links.report c.args.links.now) in
-    λ e. absurd (not_usage_testing _ promise.ending promise.ended e)
+returns-in-Some-Test-clause-idle g c = λ e. absurd (c.run_tests.ensures.not_usage e)
 
 pub returns-in-Some-Test-clause-untouched : goal.returns-in-Some-Test-clause-untouched
 returns-in-Some-Test-clause-untouched g c =
@@ -147,3 +143,9 @@ returns-in-Some-Test-clause-done g c = λ e not_feed. c.run_tests.ensures.no_lin
 
 pub returns-in-None-clause-test : goal.returns-in-None-clause-test
 returns-in-None-clause-test g c = λ config tests is. absurd (c.in-None.ensures.6 config tests is)
+
+pub returns-in-Some-Replay-clause-untouched : goal.returns-in-Some-Replay-clause-untouched
+returns-in-Some-Replay-clause-untouched g c = λ refused. ((λ not_test. c.replay.ensures.untouched refused), refl)
+
+pub returns-in-Some-Serve-clause-untouched : goal.returns-in-Some-Serve-clause-untouched
+returns-in-Some-Serve-clause-untouched g c = λ refused. let same = c.serve.ensures.untouched refused in ((λ not_test. same.0), same.1)

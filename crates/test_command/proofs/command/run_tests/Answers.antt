@@ -1,5 +1,5 @@
 use Rattle.std.proofs.Common.{refl}
-use Rattle.test_command.proofs.CommandLaws.{ends_put_rose, ends_rose, ends_shown, no_link}
+use Rattle.test_command.proofs.CommandLaws.{ends_put_rose, ends_rose, ends_shown, no_link, no_usage}
 use Rattle.test_command.proofs.command.run_tests.Goals as goal
 
 pub returns-clause-promise : goal.returns-clause-promise
@@ -26,3 +26,6 @@ returns-clause-sink_fault g c = λ e. ends_put_rose _ _ (g.S.Store.report c.args
 
 pub returns-clause-links_work : goal.returns-clause-links_work
 returns-clause-links_work g c = λ e. no_link c.run_files-ending.result (rw c.report_ending.ensures.status at e)
+
+pub returns-clause-not_usage : goal.returns-clause-not_usage
+returns-clause-not_usage g c = λ e. no_usage c.run_files-ending.result (rw c.report_ending.ensures.status at e)
