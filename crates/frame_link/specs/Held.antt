@@ -1,7 +1,7 @@
 use Rattle.std.specs.Prelude.{◌≡◌, ℕ, ◌+◌, Bool, true, false, if◌then◌else◌, List, [], ◌∷◌, ◌++◌, length}
 use Rattle.framing.specs.Frames.{HasFrame, IsOversized, frames_of, partial, length_at, first_body, Represents}
-use Rattle.frame_link.specs.declared.link.FirstFrame.{FirstFrame}
-use Rattle.frame_link.specs.declared.link.FirstFrame.TheVariants.{Whole as first_whole, NotYet as first_not_yet, TooLong as first_too_long}
+use Rattle.frame_link.specs.declared.buffer.FirstFrame.{FirstFrame}
+use Rattle.frame_link.specs.declared.buffer.FirstFrame.TheVariants.{Whole as first_whole, NotYet as first_not_yet, TooLong as first_too_long}
 use Rattle.frame_link.specs.declared.link.Taken.{Taken}
 use Rattle.frame_link.specs.declared.link.Taken.TheVariants.{Whole, NotYet, TooLong, Memory}
 
@@ -47,11 +47,11 @@ Takes old NotYet new = Waits old new
 Takes old (TooLong size) new = Stops old size new
 Takes old Memory new = HasFrame old.bytes × (new ≡ old)
 
--- what each answer of `front` says
-abbrev pub Lends : Held → FirstFrame → Type 0
-Lends held (first_whole body) = HasFrame held.bytes × (body.now ≡ first_body held.bytes) × (length body.now ≡ length_at held.bytes)
-Lends held first_not_yet = (HasFrame held.bytes → ⊥) × (IsOversized held.bytes → ⊥)
-Lends held (first_too_long size) = IsOversized held.bytes × (size ≡ length_at held.bytes)
+-- what the bytes' first frame is
+abbrev pub Lends : List ℕ → FirstFrame → Type 0
+Lends bytes (first_whole body) = HasFrame bytes × (body.now ≡ first_body bytes) × (length body.now ≡ length_at bytes)
+Lends bytes first_not_yet = (HasFrame bytes → ⊥) × (IsOversized bytes → ⊥)
+Lends bytes (first_too_long size) = IsOversized bytes × (size ≡ length_at bytes)
 
 -- the bodies that an answer hands out
 abbrev pub bodies_in : Taken → List (List ℕ)

@@ -1,7 +1,7 @@
 use Rattle.std.specs.Prelude.{◌≡◌, ℕ, List}
 use Rattle.framing.specs.Frames.{HasFrame, IsOversized, length_at}
-use Rattle.frame_link.specs.declared.link.Look.{Look}
-use Rattle.frame_link.specs.declared.link.Look.TheVariants.{Partial, Oversized, Frame}
+use Rattle.frame_link.specs.declared.buffer.Look.{Look}
+use Rattle.frame_link.specs.declared.buffer.Look.TheVariants.{Partial, Oversized, Frame}
 
 -- what the bytes begin with
 abbrev pub Sees : List ℕ → Look → Type 0

@@ -1,12 +1,11 @@
 -- How messages are answered one after another, and what the link is then.
-use Rattle.std.proofs.Common.{◌≡◌, ℕ, ◌≤◌, Bool, true, false, List, [], ◌∷◌, ◌++◌, length, map, refl, ap, sym, ◌∙◌, subst, arith, append-nil, append_assoc, length-append}
-use Rattle.std.specs.Prelude.{IfSome, Option, None, Ok, Err}
-use Rattle.std.proofs.lemmas.List.{drop-append-le, map-append}
+use Rattle.std.proofs.Common.{◌≡◌, ℕ, ◌+◌, ◌-◌, ◌≤◌, List, [], ◌∷◌, ◌++◌, length, map, drop, refl, ap, sym, ◌∙◌, subst, arith, append-nil, append_assoc, length-append, length-drop}
+use Rattle.std.specs.Prelude.{IfSome, Option, Some, None, Result, Ok, Err}
+use Rattle.std.proofs.lemmas.List.{drop-append-le, drop-drop, map-append}
 use Rattle.msg_replies.specs.event_core.declared.arrivals.Core.{Core}
 use Rattle.msg_replies.specs.event_core.Core.{CoreConfig, Represents, config_of, now_of, state_by}
-use Rattle.frame_link.specs.Held.{Held, HandsOut}
 use Rattle.framing.specs.Frames.{HasFrame, after_frame, first_body, frames_of, partial}
-use Rattle.framing.proofs.FrameLaws.{frames_at_frame, frames_at_none}
+use Rattle.framing.proofs.FrameLaws.{frames_at_frame, frames_at_none, partial_at_frame, partial_at_none}
 use Rattle.list_laws.specs.declared.memory.Memory.{Memory}
 use Rattle.stream_meaning.specs.Arrivals.{Arrival}
 use Rattle.msg_replies.specs.hub_meaning.Legal.{ArePossible}
@@ -19,7 +18,7 @@ use Rattle.msg_replies.specs.Answering.{AnswersMessage, Replies}
 use Rattle.msg_replies.specs.Arriving.{Arrives, Reported}
 use Rattle.msg_replies.proofs.AnswerLaws.{arrives_nothing, arrives_then}
 use Rattle.msg_replies.proofs.VerdictLaws.{more_verdicts, no_verdicts}
-use Rattle.hub_link.specs.Answering.{Answered, AnswersFirst, AnswersFrames, IsSame, IsTalk}
+use Rattle.hub_link.specs.Answering.{Answered, AnswersFirst, AnswersFrames, AreTaken, IsSame, IsTalk}
 
 -- ---- messages and their verdicts
 
@@ -115,44 +114,52 @@ module _ (core one two : Core) (left left' left'' : List ℕ) (a b c : Reported)
 
 -- ---- the loop over the frames
 
--- these messages were answered, and removed from what is held
-pub record SoFar (input input' : Held) (left left' : List ℕ) (core core' : Core) (patterns patterns' : PatternsReport) (old new : Reported) : Type 0 where
+-- the messages of the first frames, which have so many bytes, were answered
+pub record SoFar (bytes : List ℕ) (taken : ℕ) (left left' : List ℕ) (core core' : Core) (patterns patterns' : PatternsReport) (old new : Reported) : Type 0 where
   pub messages : List Message
-  pub frames : frames_of input.bytes ≡ map body_of messages ++ frames_of input'.bytes
-  pub rest : partial input.bytes ≡ partial input'.bytes
-  pub goes_on : input.stopped ≡ false → input'.stopped ≡ false
+  pub frames : frames_of bytes ≡ map body_of messages ++ frames_of (drop taken bytes)
+  pub rest : partial bytes ≡ partial (drop taken bytes)
+  pub within : taken ≤ length bytes
   pub reported : AfterVerdicts patterns patterns' (map verdict_of messages)
   pub possible : (talk : Talk) → IsTalk core left talk → ArePossible (config_of core) (now_of core) messages talk
   pub answered : (talk : Talk) → IsTalk core left talk → Answered core core' left' old new messages talk
 
-pub so_far_nothing : (input : Held) (left : List ℕ) (core : Core) (patterns : PatternsReport) (old : Reported) → SoFar input input left left core core patterns patterns old old
-so_far_nothing input left core patterns old = record {
+pub so_far_nothing : (bytes left : List ℕ) (core : Core) (patterns : PatternsReport) (old : Reported) → SoFar bytes 0 left left core core patterns patterns old old
+so_far_nothing bytes left core patterns old = record {
   messages = [];
   frames = refl;
   rest = refl;
-  goes_on = λ is. is;
+  within = omega arith;
   reported = no_verdicts patterns;
   possible = λ talk is. tt;
   answered = λ talk is. answered_nothing core left old talk is;
 }
 
-module _ (input input' input'' : Held) (left left' left'' : List ℕ) (core one two : Core) (patterns patterns' patterns'' : PatternsReport) (a b c : Reported) where
+module _ (bytes : List ℕ) (taken : ℕ) (left left' left'' : List ℕ) (core one two : Core) (patterns patterns' patterns'' : PatternsReport) (a b c : Reported) where
   -- one message more
-  pub so_far_more : SoFar input input' left left' core one patterns patterns' a b
-      → AnswersFirst input' input'' left' left'' one two patterns' patterns'' b c (Ok true)
-      → SoFar input input'' left left'' core two patterns patterns'' a c
-  so_far_more so_far first =
-      let hands : HandsOut input' (first_body input'.bytes) input'' = first.0 in
-      let answers : AnswersMessage (first_body input'.bytes) (length left') one two patterns' patterns'' left' left'' b c (Ok tt) = first.1 in
-      let body : List ℕ = first_body input'.bytes in
+  pub so_far_more : (size : ℕ) → SoFar bytes taken left left' core one patterns patterns' a b
+      → AnswersFirst (drop taken bytes) left' left'' one two patterns' patterns'' b c (Ok (Some size))
+      → SoFar bytes (taken + size) left left'' core two patterns patterns'' a c
+  so_far_more size so_far first =
+      let rest : List ℕ = drop taken bytes in
+      let has : HasFrame rest = first.0 in
+      let answers : AnswersMessage (first_body rest) (length left') one two patterns' patterns'' left' left'' b c (Ok tt) = first.2 in
+      let body : List ℕ = first_body rest in
       let message : Message = message_with body answers.refusal in
+      let later : after_frame rest ≡ drop (taken + size) bytes =
+      ap (λ (n : ℕ). drop n rest) (sym first.1) ∙ drop-drop size taken bytes in
+      let long : length rest ≡ length bytes - taken = length-drop taken bytes in
+      let whole = has.whole in
+      let size_is = first.1 in
+      let so_many = so_far.within in
       record {
         messages = so_far.messages ++ message ∷ [];
-        frames = so_far.frames ∙ ap (λ (fs : List (List ℕ)). map body_of so_far.messages ++ fs) hands.frames
-            ∙ sym (append_assoc (map body_of so_far.messages) (body ∷ []) (frames_of input''.bytes))
-            ∙ ap (λ (fs : List (List ℕ)). fs ++ frames_of input''.bytes) (sym (map-append body_of so_far.messages (message ∷ [])));
-        rest = so_far.rest ∙ hands.rest;
-        goes_on = λ is. hands.goes_on;
+        frames = so_far.frames ∙ ap (λ (fs : List (List ℕ)). map body_of so_far.messages ++ fs) (frames_at_frame rest has)
+            ∙ sym (append_assoc (map body_of so_far.messages) (body ∷ []) (frames_of (after_frame rest)))
+            ∙ ap (λ (fs : List (List ℕ)). fs ++ frames_of (after_frame rest)) (sym (map-append body_of so_far.messages (message ∷ [])))
+            ∙ ap (λ (bs : List ℕ). map body_of (so_far.messages ++ message ∷ []) ++ frames_of bs) later;
+        rest = so_far.rest ∙ partial_at_frame rest has ∙ ap partial later;
+        within = omega arith;
         reported = subst (λ (vs : List (Option Refusal)). AfterVerdicts patterns patterns'' vs) (sym (map-append verdict_of so_far.messages (message ∷ [])))
             (more_verdicts (built_rule (now_of one) (length left') body) patterns patterns' patterns'' (map verdict_of so_far.messages) answers.refusal so_far.reported answers.verdict);
         possible = λ talk is.
@@ -163,17 +170,18 @@ module _ (input input' input'' : Held) (left left' left'' : List ℕ) (core one 
       }
 
   -- memory ran out at a message
-  pub so_far_failed : (memory : Memory) → SoFar input input' left left' core one patterns patterns' a b
-      → AnswersFirst input' input'' left' left'' one two patterns' patterns'' b c (Err memory)
-      → AnswersFrames input input'' left left'' core two patterns patterns'' a c (Err memory)
+  pub so_far_failed : {T : Type 0} (memory : Memory) → SoFar bytes taken left left' core one patterns patterns' a b
+      → AnswersFirst (drop taken bytes) left' left'' one two patterns' patterns'' b c (Err memory)
+      → AnswersFrames {T = T} bytes left left'' core two patterns patterns'' a c (Err memory)
   so_far_failed memory so_far first =
-      let has : HasFrame input'.bytes = first.0 in
-      let answers : AnswersMessage (first_body input'.bytes) (length left') one two patterns' patterns'' left' left'' b c (Err memory) = first.1 in
-      let body : List ℕ = first_body input'.bytes in
-      let later : List (List ℕ) = frames_of (after_frame input'.bytes) in
-      let frames : frames_of input.bytes ≡ map body_of so_far.messages ++ (body ∷ later) =
-      so_far.frames ∙ ap (λ (fs : List (List ℕ)). map body_of so_far.messages ++ fs) (frames_at_frame input'.bytes has) in
-      let is : judged (frames_of input.bytes) (map verdict_of so_far.messages ++ answers.refusal ∷ []) ≡ so_far.messages ++ (message_with body answers.refusal ∷ judged later []) =
+      let rest : List ℕ = drop taken bytes in
+      let has : HasFrame rest = first.0 in
+      let answers : AnswersMessage (first_body rest) (length left') one two patterns' patterns'' left' left'' b c (Err memory) = first.1 in
+      let body : List ℕ = first_body rest in
+      let later : List (List ℕ) = frames_of (after_frame rest) in
+      let frames : frames_of bytes ≡ map body_of so_far.messages ++ (body ∷ later) =
+      so_far.frames ∙ ap (λ (fs : List (List ℕ)). map body_of so_far.messages ++ fs) (frames_at_frame rest has) in
+      let is : judged (frames_of bytes) (map verdict_of so_far.messages ++ answers.refusal ∷ []) ≡ so_far.messages ++ (message_with body answers.refusal ∷ judged later []) =
       ap (λ (fs : List (List ℕ)). judged fs (map verdict_of so_far.messages ++ answers.refusal ∷ [])) frames ∙ judged_more so_far.messages body later answers.refusal in
       record {
         verdicts = map verdict_of so_far.messages ++ answers.refusal ∷ [];
@@ -188,20 +196,20 @@ module _ (input input' input'' : Held) (left left' left'' : List ℕ) (core one 
               none_refused (config_of core) (now_of core) later (answered (config_of core) (now_of core) (message_with body answers.refusal) there),
             ));
         answered = tt;
-        rest = tt;
       }
     where
       shorter : (messages : List Message) (body : List ℕ) (bodies : List (List ℕ)) (verdict : Option Refusal) → length (map verdict_of messages ++ verdict ∷ []) ≤ length (map body_of messages ++ (body ∷ bodies))
       shorter [] body bodies verdict = omega arith
       shorter (message ∷ messages) body bodies verdict = let h = shorter messages body bodies verdict in omega arith
 
-module _ (input input' : Held) (left left' : List ℕ) (core one : Core) (patterns patterns' : PatternsReport) (a b : Reported) where
+module _ (bytes : List ℕ) (taken : ℕ) (left left' : List ℕ) (core one : Core) (patterns patterns' : PatternsReport) (a b : Reported) where
   -- no frame is left
-  pub so_far_all : SoFar input input' left left' core one patterns patterns' a b → (HasFrame input'.bytes → ⊥) → AnswersFrames input input' left left' core one patterns patterns' a b (Ok tt)
+  pub so_far_all : SoFar bytes taken left left' core one patterns patterns' a b → (HasFrame (drop taken bytes) → ⊥)
+      → AnswersFrames bytes left left' core one patterns patterns' a b (Ok taken)
   so_far_all so_far bare =
-      let frames : frames_of input.bytes ≡ map body_of so_far.messages =
-      so_far.frames ∙ ap (λ (fs : List (List ℕ)). map body_of so_far.messages ++ fs) (frames_at_none input'.bytes bare) ∙ append-nil (map body_of so_far.messages) in
-      let is : judged (frames_of input.bytes) (map verdict_of so_far.messages) ≡ so_far.messages =
+      let frames : frames_of bytes ≡ map body_of so_far.messages =
+      so_far.frames ∙ ap (λ (fs : List (List ℕ)). map body_of so_far.messages ++ fs) (frames_at_none (drop taken bytes) bare) ∙ append-nil (map body_of so_far.messages) in
+      let is : judged (frames_of bytes) (map verdict_of so_far.messages) ≡ so_far.messages =
       ap (λ (fs : List (List ℕ)). judged fs (map verdict_of so_far.messages)) frames ∙ judged_all so_far.messages in
       record {
         verdicts = map verdict_of so_far.messages;
@@ -209,24 +217,48 @@ module _ (input input' : Held) (left left' : List ℕ) (core one : Core) (patter
         reported = so_far.reported;
         possible = λ talk is_talk. subst (λ (ms : List Message). ArePossible (config_of core) (now_of core) ms talk) (sym is) (so_far.possible talk is_talk);
         answered = λ talk is_talk. subst (λ (ms : List Message). Answered core one left' a b ms talk) (sym is) (so_far.answered talk is_talk);
-        rest = (so_far.rest, so_far.goes_on);
       }
     where
       same_length : (messages : List Message) → length (map verdict_of messages) ≤ length (map body_of messages)
       same_length [] = omega arith
       same_length (message ∷ messages) = let h = same_length messages in omega arith
 
-module _ (input input' input'' : Held) (left left' left'' : List ℕ) (core one two : Core) (patterns patterns' patterns'' : PatternsReport) (a b c : Reported) where
-  -- after one round of the loop
-  pub so_far_next : (whole : Bool) → whole ≡ true → SoFar input input' left left' core one patterns patterns' a b
-      → AnswersFirst input' input'' left' left'' one two patterns' patterns'' b c (Ok whole) → SoFar input input'' left left'' core two patterns patterns'' a c
-  so_far_next true is so_far first = so_far_more input input' input'' left left' left'' core one two patterns patterns' patterns'' a b c so_far first
-  so_far_next false is so_far first = absurd (cc is)
+  -- and what is left begins no whole frame
+  pub so_far_taken : SoFar bytes taken left left' core one patterns patterns' a b → (HasFrame (drop taken bytes) → ⊥) → AreTaken bytes taken
+  so_far_taken so_far bare = record {
+    within = so_far.within;
+    rest = sym (partial_at_none (drop taken bytes) bare) ∙ sym so_far.rest;
+  }
 
-  -- after its last round
-  pub so_far_end : (whole : Bool) → whole ≡ false → SoFar input input' left left' core one patterns patterns' a b
-      → AnswersFirst input' input'' left' left'' one two patterns' patterns'' b c (Ok whole) → AnswersFrames input input'' left left'' core two patterns patterns'' a c (Ok tt)
-  so_far_end true is so_far first = absurd (cc is)
-  so_far_end false is so_far first =
-      let same : IsSame input' input'' left' left'' one two patterns' patterns'' b c = first.1 in
-      rw (same.input_is, same.left_is, same.core_is, same.patterns_are, same.reported_is) (so_far_all input input' left left' core one patterns patterns' a b so_far first.0)
+module _ (bytes : List ℕ) (taken : ℕ) (left left' left'' : List ℕ) (core one two : Core) (patterns patterns' patterns'' : PatternsReport) (a b c : Reported) where
+  -- nothing came of the last look, after which no frame is left
+  pub so_far_end : SoFar bytes taken left left' core one patterns patterns' a b
+      → AnswersFirst (drop taken bytes) left' left'' one two patterns' patterns'' b c (Ok None) → AnswersFrames bytes left left'' core two patterns patterns'' a c (Ok taken)
+  so_far_end so_far first =
+      let same : IsSame left' left'' one two patterns' patterns'' b c = first.1 in
+      rw (same.left_is, same.core_is, same.patterns_are, same.reported_is) (so_far_all bytes taken left left' core one patterns patterns' a b so_far first.0)
+
+-- ---- the frames, with another answer
+
+module _ {T U : Type 0} (bytes left left' : List ℕ) (core core' : Core) (patterns patterns' : PatternsReport) (old new : Reported) where
+  -- all were answered, whatever came after them
+  pub answers_then : (taken : T) (result : Result U Memory) → AnswersFrames bytes left left' core core' patterns patterns' old new (Ok taken)
+      → AnswersFrames bytes left left' core core' patterns patterns' old new result
+  answers_then taken (Ok other) frames = record { verdicts = frames.verdicts; few = frames.few; reported = frames.reported; possible = frames.possible; answered = frames.answered }
+  answers_then taken (Err memory) frames = record { verdicts = frames.verdicts; few = frames.few; reported = frames.reported; possible = frames.possible; answered = tt }
+
+  -- memory ran out
+  pub answers_failed : (result : Result T Memory) (memory : Memory) → AnswersFrames bytes left left' core core' patterns patterns' old new result
+      → AnswersFrames {T = U} bytes left left' core core' patterns patterns' old new (Err memory)
+  answers_failed result memory frames = record { verdicts = frames.verdicts; few = frames.few; reported = frames.reported; possible = frames.possible; answered = tt }
+
+-- there was no memory for the piece
+pub answers_nothing : {T : Type 0} (bytes left : List ℕ) (core : Core) (patterns : PatternsReport) (old : Reported) (memory : Memory)
+    → AnswersFrames {T = T} bytes left left core core patterns patterns old old (Err memory)
+answers_nothing bytes left core patterns old memory = record {
+  verdicts = [];
+  few = omega arith;
+  reported = no_verdicts patterns;
+  possible = λ talk is. none_refused (config_of core) (now_of core) (frames_of bytes) talk;
+  answered = tt;
+}

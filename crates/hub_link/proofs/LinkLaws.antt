@@ -5,7 +5,6 @@ use Rattle.std.proofs.lemmas.Bool.{and_parts, eqb-true, leb-true, ltb-true}
 use Rattle.std.proofs.lemmas.Bool.Decides.{nat_tests}
 use Rattle.msg_replies.specs.event_core.declared.arrivals.Core.{Core}
 use Rattle.msg_replies.specs.event_core.Core.{CoreConfig, config_of, now_of}
-use Rattle.frame_link.specs.Held.{Held, pushed}
 use Rattle.framing.specs.Frames.{HasFrame, IsOversized, frames_of, length_at, partial}
 use Rattle.framing.specs.declared.TheConstants.{BODY_LIMIT}
 use Rattle.framing.proofs.FrameLaws.{oversized_has_none, partial_append, partial_at_none, partial_of_nothing}
@@ -24,23 +23,11 @@ use Rattle.msg_replies.proofs.AnswerLaws.{arrives_nothing}
 use Rattle.msg_replies.proofs.VerdictLaws.{no_verdicts}
 use Rattle.hub_link.specs.declared.link.HubLink.{HubLink}
 use Rattle.hub_link.specs.Answering.{Answered, AnswersFrames, IsTalk}
-use Rattle.hub_link.specs.Hearing.{HearsPiece, IsAt, read_talk, talk_after}
+use Rattle.hub_link.specs.Hearing.{HearsPiece, IsAt, KeepsRest, read_talk, talk_after}
 use Rattle.hub_link.specs.HubLink.{Follows, RepresentsLink}
 use Rattle.hub_link.specs.Sending.{is_over_as}
 use Rattle.hub_link.proofs.HearLaws.{none_refused, unsent_with_reply, within_with_reply}
 use Rattle.hub_link.proofs.SendLaws.{closes}
-
-held_is : (held : Held) (bytes : List ℕ) (stopped : Bool) → held.bytes ≡ bytes → held.stopped ≡ stopped → held ≡ record { bytes = bytes; stopped = stopped }
-held_is held bytes stopped same is =
-    ap (λ (b : List ℕ). let h : Held = record { bytes = b; stopped = held.stopped } in h) same ∙ ap (λ (s : Bool). let h : Held = record { bytes = bytes; stopped = s } in h) is
-
--- what is held of a piece once its frames are answered
-held_after : (came piece : List ℕ) (pushed held : Held) → pushed ≡ record { bytes = partial came ++ piece; stopped = false } → partial pushed.bytes ≡ partial held.bytes
-    → (pushed.stopped ≡ false → held.stopped ≡ false) → (HasFrame held.bytes → ⊥) → held ≡ record { bytes = partial (came ++ piece); stopped = false }
-held_after came piece pushed held is rest goes_on bare =
-    held_is held (partial (came ++ piece)) false
-    (sym (partial_at_none held.bytes bare) ∙ sym rest ∙ ap (λ (h : Held). partial h.bytes) is ∙ sym (partial_append came piece))
-    (goes_on (ap (λ (h : Held). h.stopped) is))
 
 -- messages that are answered change the replies of a link alone
 answered_link : (config : CoreConfig) (now : ℕ) (messages : List Message) (talk : Talk)
@@ -54,7 +41,7 @@ talk_at piece core link state meant is = record { arrivals = is.arrivals; left_i
 -- the link whose frames were answered
 represents_answered : (piece : List ℕ) (link one : HubLink) (core core' : Core) (old new : Reported) (messages : List Message) (state : RunState) (meant : Link)
     → IsAt core link state meant → one.number ≡ link.number → one.status ≡ link.status → one.blocked ≡ link.blocked
-    → one.input ≡ record { bytes = partial (meant.came ++ piece); stopped = false }
+    → one.input ≡ partial (meant.came ++ piece)
     → Answered core core' one.unsent old new messages (talk_of piece state meant)
     → RepresentsLink one (all_answered (config_of core) (now_of core) messages (talk_of piece state meant)).link
 represents_answered piece link one core core' old new messages state meant is number status blocked input answers =
@@ -63,28 +50,28 @@ represents_answered piece link one core core' old new messages state meant is nu
       number = number ∙ is.represents.number ∙ ap (λ (l : Link). l.number) (sym same);
       status = status ∙ is.represents.status ∙ ap (λ (l : Link). l.status) (sym same);
       blocked = blocked ∙ is.represents.blocked ∙ ap (λ (l : Link). l.blocked) (sym same);
-      input = λ _. input ∙ ap (λ (l : Link). let h : Held = record { bytes = partial l.came; stopped = false } in h) (sym same);
+      input = λ _. input ∙ ap (λ (l : Link). partial l.came) (sym same);
       unsent = answers.left_is;
       within = answers.within;
     }
 
 -- ---- the verdicts
 
-abbrev pub IsHeldOf : HubLink → List ℕ → Held → Type 0
-IsHeldOf link piece pushed = (meant : Link) → RepresentsLink link meant → pushed ≡ record { bytes = partial meant.came ++ piece; stopped = false }
-
 abbrev pub IsOpenLink : HubLink → Type 0
 IsOpenLink link = (meant : Link) → RepresentsLink link meant → is_open meant ≡ true
 
-frames_in : (link : HubLink) (piece : List ℕ) (pushed : Held) (meant : Link) → IsHeldOf link piece pushed → RepresentsLink link meant → frames_of pushed.bytes ≡ new_frames meant.came piece
-frames_in link piece pushed meant held is = ap (λ (h : Held). frames_of h.bytes) (held meant is) ∙ sym (new_frames_rest meant.came piece)
+frames_in : (link : HubLink) (piece : List ℕ) (meant : Link) → IsOpenLink link → RepresentsLink link meant → frames_of (link.input ++ piece) ≡ new_frames meant.came piece
+frames_in link piece meant opened is = ap (λ (bs : List ℕ). frames_of (bs ++ piece)) (is.input (opened meant is)) ∙ sym (new_frames_rest meant.came piece)
 
-are_verdicts : (piece : List ℕ) (verdicts : List (Option Refusal)) (link : HubLink) (pushed : Held) (core : Core)
-    → IsOpenLink link → IsHeldOf link piece pushed → length verdicts ≤ length (frames_of pushed.bytes)
-    → ((talk : Talk) → IsTalk core link.unsent talk → ArePossible (config_of core) (now_of core) (judged (frames_of pushed.bytes) verdicts) talk)
+rest_in : (link : HubLink) (piece : List ℕ) (meant : Link) → IsOpenLink link → RepresentsLink link meant → partial (link.input ++ piece) ≡ partial (meant.came ++ piece)
+rest_in link piece meant opened is = ap (λ (bs : List ℕ). partial (bs ++ piece)) (is.input (opened meant is)) ∙ sym (partial_append meant.came piece)
+
+are_verdicts : (piece : List ℕ) (verdicts : List (Option Refusal)) (link : HubLink) (core : Core)
+    → IsOpenLink link → length verdicts ≤ length (frames_of (link.input ++ piece))
+    → ((talk : Talk) → IsTalk core link.unsent talk → ArePossible (config_of core) (now_of core) (judged (frames_of (link.input ++ piece)) verdicts) talk)
     → (state : RunState) (meant : Link) → IsAt core link state meant → VerdictsIf (is_open meant) (config_of core) piece verdicts state meant
-are_verdicts piece verdicts link pushed core opened held few possible state meant is =
-    let frames = frames_in link piece pushed meant held is.represents in
+are_verdicts piece verdicts link core opened few possible state meant is =
+    let frames = frames_in link piece meant opened is.represents in
     let all : AreVerdicts (config_of core) piece verdicts state meant = record {
       few = subst (λ (fs : List (List ℕ)). length verdicts ≤ length fs) frames few;
       possible = subst (λ (now : ℕ). ArePossible (config_of core) now (messages_in piece verdicts meant) (talk_of piece state meant)) is.now
@@ -124,50 +111,41 @@ hears_nothing piece link core patterns old shut = record {
       };
 }
 
--- there was no memory for the piece
-pub hears_no_piece : (piece : List ℕ) (link link' : HubLink) (core : Core) (patterns : PatternsReport) (old : Reported) (memory : Memory) → HearsPiece piece link link' core core patterns patterns old old (Err memory)
-hears_no_piece piece link link' core patterns old memory = record {
-  verdicts = [];
-  reported = no_verdicts patterns;
-  possible = λ state meant is. no_verdicts_are piece link core state meant;
-  heard = tt;
-}
-
-module _ (piece : List ℕ) (link : HubLink) (pushed held : Held) (left : List ℕ) (core core' : Core) (patterns patterns' : PatternsReport) (old new : Reported)
-    (opened : IsOpenLink link) (is_held : IsHeldOf link piece pushed) where
+module _ (piece : List ℕ) (link : HubLink) (left : List ℕ) (core core' : Core) (patterns patterns' : PatternsReport) (old new : Reported) (opened : IsOpenLink link) where
   -- memory ran out at one of the messages, or at a length over the limit
-  pub hears_in_part : (link' : HubLink) (memory : Memory) (result : Result (Unit {0}) Memory) → AnswersFrames pushed held link.unsent left core core' patterns patterns' old new result
+  pub hears_in_part : (link' : HubLink) (memory : Memory) (result : Result (Unit {0}) Memory)
+      → AnswersFrames (link.input ++ piece) link.unsent left core core' patterns patterns' old new result
       → HearsPiece piece link link' core core' patterns patterns' old new (Err memory)
   hears_in_part link' memory result frames = record {
     verdicts = frames.verdicts;
     reported = frames.reported;
-    possible = are_verdicts piece frames.verdicts link pushed core opened is_held frames.few frames.possible;
+    possible = are_verdicts piece frames.verdicts link core opened frames.few frames.possible;
     heard = tt;
   }
 
   -- all frames were answered, and a length over the limit where one follows
-  pub hears_all : (one link' : HubLink) → AnswersFrames pushed held link.unsent left core core' patterns patterns' old new (Ok tt) → (HasFrame held.bytes → ⊥)
-      → one.number ≡ link.number → one.status ≡ link.status → one.blocked ≡ link.blocked → one.input ≡ held → one.unsent ≡ left
+  pub hears_all : (one link' : HubLink) → AnswersFrames (link.input ++ piece) link.unsent one.unsent core core' patterns patterns' old new (Ok tt)
+      → one.number ≡ link.number → KeepsRest piece link one
       → ((meant : Link) → is_open meant ≡ true → RepresentsLink one meant → RepresentsLink link' (cut_off meant))
       → HearsPiece piece link link' core core' patterns patterns' old new (Ok tt)
-  hears_all one link' frames bare number status blocked input unsent_is cut = record {
+  hears_all one link' frames number keeps cut = record {
     verdicts = frames.verdicts;
     reported = frames.reported;
-    possible = are_verdicts piece frames.verdicts link pushed core opened is_held frames.few frames.possible;
+    possible = are_verdicts piece frames.verdicts link core opened frames.few frames.possible;
     heard = λ state meant is.
         let config : CoreConfig = config_of core in
         let open_now : is_open meant ≡ true = opened meant is.represents in
-        let talked : Talk = all_answered config (now_of core) (judged (frames_of pushed.bytes) frames.verdicts) (talk_of piece state meant) in
+        let messages : List Message = judged (frames_of (link.input ++ piece)) frames.verdicts in
+        let talked : Talk = all_answered config (now_of core) messages (talk_of piece state meant) in
         let answers = frames.answered (talk_of piece state meant) (talk_at piece core link state meant is) in
         let there : RepresentsLink one talked.link =
-        represents_answered piece link one core core' old new (judged (frames_of pushed.bytes) frames.verdicts) state meant is number status blocked
-        (input ∙ held_after meant.came piece pushed held (is_held meant is.represents) frames.rest.0 frames.rest.1 bare)
-        (subst (λ (bs : List ℕ). Answered core core' bs old new (judged (frames_of pushed.bytes) frames.verdicts) (talk_of piece state meant)) (sym unsent_is) answers) in
+        represents_answered piece link one core core' old new messages state meant is number keeps.status keeps.blocked
+        (keeps.input ∙ rest_in link piece meant opened is.represents) answers in
         let still_open : is_open talked.link ≡ true =
-        ap (λ (l : Link). is_open l) (answered_link config (now_of core) (judged (frames_of pushed.bytes) frames.verdicts) (talk_of piece state meant)) ∙ open_now in
+        ap (λ (l : Link). is_open l) (answered_link config (now_of core) messages (talk_of piece state meant)) ∙ open_now in
         let same : read_talk talked ≡ talk_after config piece frames.verdicts state meant =
-        ap (λ (now : ℕ). read_talk (all_answered config now (judged (frames_of pushed.bytes) frames.verdicts) (talk_of piece state meant))) is.now
-        ∙ ap (λ (fs : List (List ℕ)). read_talk (all_answered config state.now (judged fs frames.verdicts) (talk_of piece state meant))) (frames_in link piece pushed meant is_held is.represents)
+        ap (λ (now : ℕ). read_talk (all_answered config now messages (talk_of piece state meant))) is.now
+        ∙ ap (λ (fs : List (List ℕ)). read_talk (all_answered config state.now (judged fs frames.verdicts) (talk_of piece state meant))) (frames_in link piece meant opened is.represents)
         ∙ ap (λ (t : Bool). cond t (read_talk (all_answered config state.now (messages_in piece frames.verdicts meant) (talk_of piece state meant))) (no_talk state meant)) (sym open_now) in
         record {
           more = answers.more;
@@ -193,12 +171,12 @@ within_test bytes other = by_case (is_oversized bytes) refl
     by_case false is = is
 
 -- the reply to the length is appended, and no more is read
-pub cuts_off : (link link' : HubLink) (size : ℕ) → IsOversized link.input.bytes → size ≡ length_at link.input.bytes
+pub cuts_off : (link link' : HubLink) (size : ℕ) → IsOversized link.input → size ≡ length_at link.input
     → link'.number ≡ link.number → link'.status ≡ ReadClosed → link'.blocked ≡ link.blocked → link'.unsent ≡ link.unsent ++ reply_to_oversized size
     → (meant : Link) → is_open meant ≡ true → RepresentsLink link meant → RepresentsLink link' (cut_off meant)
 cuts_off link link' size over size_is number status blocked unsent_is meant opened is =
-    let held : partial meant.came ≡ link.input.bytes = sym (ap (λ (h : Held). h.bytes) (is.input opened)) in
-    let test : is_oversized (partial meant.came) ≡ true = ap is_oversized held ∙ oversized_test link.input.bytes over in
+    let held : partial meant.came ≡ link.input = sym (is.input opened) in
+    let test : is_oversized (partial meant.came) ≡ true = ap is_oversized held ∙ oversized_test link.input over in
     let size_there : size ≡ length_at (partial meant.came) = size_is ∙ ap length_at (sym held) in
     let reply : List ℕ = reply_to_oversized (length_at (partial meant.came)) in
     let there : RepresentsLink link' (with_status ReadClosed (with_reply reply meant)) = record {
@@ -211,9 +189,9 @@ cuts_off link link' size over size_is number status blocked unsent_is meant open
     } in
     subst (λ (t : Bool). RepresentsLink link' (cond t (with_status ReadClosed (with_reply reply meant)) meant)) (sym test) there
 
-pub cuts_nothing : (link : HubLink) → (IsOversized link.input.bytes → ⊥) → (meant : Link) → is_open meant ≡ true → RepresentsLink link meant → RepresentsLink link (cut_off meant)
+pub cuts_nothing : (link : HubLink) → (IsOversized link.input → ⊥) → (meant : Link) → is_open meant ≡ true → RepresentsLink link meant → RepresentsLink link (cut_off meant)
 cuts_nothing link other meant opened is =
-    let held : link.input.bytes ≡ partial meant.came = ap (λ (h : Held). h.bytes) (is.input opened) in
+    let held : link.input ≡ partial meant.came = is.input opened in
     let test : is_oversized (partial meant.came) ≡ false = within_test (partial meant.came) (subst (λ (bs : List ℕ). IsOversized bs → ⊥) held other) in
     subst (λ (t : Bool). RepresentsLink link (cond t (with_status ReadClosed (with_reply (reply_to_oversized (length_at (partial meant.came))) meant)) meant)) (sym test) is
 
@@ -277,13 +255,13 @@ unblocks link link' is number status blocked input unsent_is meant represents =
     } in
     subst (λ (t : Bool). RepresentsLink link' (cond t (record meant { blocked = false }) meant)) (sym (connected_as link meant true is represents)) there
 
-pub opens : (link : HubLink) (number : ℕ) (has_room : Bool) (links : List Link) → link.number ≡ number → link.status ≡ cond has_room Open Closing → link.blocked ≡ false → link.input.bytes ≡ []
-    → link.input.stopped ≡ false → link.unsent ≡ [] → has_room ≡ nat_lt (length (connected links)) connected_limit → RepresentsLink link (new_link number links)
-opens link number has_room links number_is status blocked bytes goes_on unsent_is room = record {
+pub opens : (link : HubLink) (number : ℕ) (has_room : Bool) (links : List Link) → link.number ≡ number → link.status ≡ cond has_room Open Closing → link.blocked ≡ false → link.input ≡ []
+    → link.unsent ≡ [] → has_room ≡ nat_lt (length (connected links)) connected_limit → RepresentsLink link (new_link number links)
+opens link number has_room links number_is status blocked bytes unsent_is room = record {
   number = number_is;
   status = status ∙ ap (λ (t : Bool). cond t Open Closing) room;
   blocked = blocked;
-  input = λ _. held_is link.input (partial []) false (bytes ∙ sym partial_of_nothing) goes_on;
+  input = λ _. bytes ∙ sym partial_of_nothing;
   unsent = unsent_is;
   within = omega arith;
 }
@@ -314,10 +292,6 @@ tells_over link meant over is represents =
     subst (λ (t : Bool). IsTrue t ↔ MayClose meant)
     (sym (is ∙ ap (λ (s : Status). is_over_as s (length link.unsent)) represents.status ∙ ap (λ (bs : List ℕ). is_over_as meant.status (length bs)) represents.unsent))
     (over_as meant meant.status)
-
--- the piece is held after what was held
-pub pushed_is : (link : HubLink) (piece : List ℕ) (held : Held) → is_open_status link.status ≡ true → held ≡ pushed piece link.input → IsHeldOf link piece held
-pushed_is link piece held is same meant represents = same ∙ ap (pushed piece) (represents.input (open_as link meant true is represents))
 
 pub on_ok_three : {T E A B C D : Type 0} (r : Result T E) → (A → B → C → D) → OnOk r A → OnOk r B → OnOk r C → OnOk r D
 on_ok_three (Ok x) f a b c = f a b c

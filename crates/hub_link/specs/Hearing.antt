@@ -1,5 +1,6 @@
 -- What a piece that comes on a link does to the core, the patterns and the link.
 use Rattle.std.specs.Prelude.{◌≡◌, ℕ, if◌then◌else◌, List, ◌++◌, Option, Result, OnOk}
+use Rattle.framing.specs.Frames.{partial}
 use Rattle.msg_replies.specs.event_core.declared.arrivals.Core.{Core}
 use Rattle.msg_replies.specs.event_core.Core.{CoreConfig, Represents, config_of, now_of}
 use Rattle.list_laws.specs.declared.memory.Memory.{Memory}
@@ -17,6 +18,12 @@ pub record IsAt (core : Core) (link : HubLink) (state : RunState) (meant : Link)
   pub arrivals : Represents core state.arrivals
   pub now : now_of core ≡ state.now
   pub represents : RepresentsLink link meant
+
+-- of what was held and the piece what begins no whole frame is held, and else only what is unsent changed
+pub record KeepsRest (piece : List ℕ) (link link' : HubLink) : Type 0 where
+  pub status : link'.status ≡ link.status
+  pub blocked : link'.blocked ≡ link.blocked
+  pub input : link'.input ≡ partial (link.input ++ piece)
 
 -- the arrivals and the link after the messages of a piece, and after a length over the limit where one follows
 abbrev pub read_talk : Talk → Talk

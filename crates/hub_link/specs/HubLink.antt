@@ -1,5 +1,5 @@
 -- What a link of a server represents.
-use Rattle.std.specs.Prelude.{◌≡◌, ℕ, ◌≤◌, true, false, length}
+use Rattle.std.specs.Prelude.{◌≡◌, ℕ, ◌≤◌, true, length}
 use Rattle.framing.specs.Frames.{partial}
 use Rattle.msg_replies.specs.hub_meaning.Links.{Link, is_open, unsent}
 use Rattle.hub_link.specs.declared.link.HubLink.{HubLink}
@@ -12,7 +12,7 @@ pub record RepresentsLink (link : HubLink) (meant : Link) : Type 0 where
   pub number : link.number ≡ meant.number
   pub status : link.status ≡ meant.status
   pub blocked : link.blocked ≡ meant.blocked
-  pub input : is_open meant ≡ true → link.input ≡ record { bytes = partial meant.came; stopped = false }
+  pub input : is_open meant ≡ true → link.input ≡ partial meant.came
   pub unsent : link.unsent ≡ unsent meant
   pub within : length meant.taken ≤ length meant.replies
 

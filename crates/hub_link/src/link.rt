@@ -1,4 +1,4 @@
-ghost use Rattle.std.specs.Prelude.{◌≡◌, ◌≢◌, ◌↔◌, ◌<◌, ◌||◌, ◌++◌, if◌then◌else◌, true, length, nat_lt, IsTrue, OnOk, List};
+ghost use Rattle.std.specs.Prelude.{◌≡◌, ◌≢◌, ◌↔◌, ◌<◌, ◌||◌, ◌++◌, [], if◌then◌else◌, true, length, nat_lt, IsTrue, OnOk, List};
 ghost use Rattle.msg_replies.specs.hub_meaning.Replies.{reply_to_oversized};
 ghost use Rattle.msg_replies.specs.hub_meaning.Legal.{MayClose};
 ghost use Rattle.msg_replies.specs.hub_meaning.Links.{Link, broken, connected, connected_limit, ended, is_open, is_open_status, is_read_closed_status, new_link, sent, unblocked, want_of};
@@ -6,14 +6,15 @@ ghost use Rattle.msg_replies.specs.hub_meaning.Runs.{cut_off};
 ghost use Rattle.msg_replies.specs.Arriving.{reported};
 ghost use Rattle.ports.specs.Links.{IsWithin};
 ghost use Rattle.hub_link.specs.Added.{Added};
-ghost use Rattle.hub_link.specs.Hearing.{HearsPiece};
+ghost use Rattle.hub_link.specs.Answering.{AnswersFrames};
+ghost use Rattle.hub_link.specs.Hearing.{HearsPiece, KeepsRest};
 ghost use Rattle.hub_link.specs.HubLink.{Follows, RepresentsLink, number_of};
 ghost use Rattle.hub_link.specs.Sending.{IsSent, Sends, can_send, is_over_as, sendable};
 
 use crate::frames::answer_frames;
 use crate::unsent::Unsent;
 use ev_types::{Memory, Notices};
-use frame_link::{FirstFrame, FrameLink};
+use frame_link::{FirstFrame, FrameBuffer, first_frame};
 use framing::BODY_LIMIT;
 use msg_replies::event_core::Core;
 use msg_replies::hub_meaning::Status;
@@ -29,7 +30,7 @@ pub struct HubLink {
     number: u64,
     status: Status,
     blocked: bool,
-    input: FrameLink,
+    input: FrameBuffer,
     unsent: Unsent,
 }
 
@@ -45,7 +46,7 @@ impl HubLink {
             number,
             status: Status::Open,
             blocked: false,
-            input: FrameLink::fresh(alloc),
+            input: FrameBuffer::fresh(alloc),
             unsent: Unsent::fresh(alloc),
         }
     }
@@ -78,18 +79,59 @@ impl HubLink {
         if !self.is_open() {
             return Ok(());
         }
+        if self.input.is_empty() {
+            self.read_alone(alloc, piece, spent, core, patterns, notices, steps)?;
+        } else {
+            self.read_after(alloc, piece, spent, core, patterns, notices, steps)?;
+        }
+        self.cut_off(alloc)
+    }
+
+    /// Answers the frames of a piece where it lies, and keeps what is left of it, where no bytes came before it.
+    fn read_alone<P: Patterns, G: Ledger>(
+        &mut self,
+        alloc: Global,
+        piece: &[u8],
+        spent: &mut SpentEvents,
+        core: &mut Core,
+        patterns: &mut P,
+        notices: &mut Notices,
+        steps: &mut Steps<G>,
+    ) -> Result<(), Memory>
+        requires { self.old.input ≡ [] }
+        ensures number { number_of self.new ≡ number_of self.old }
+        ensures frames { AnswersFrames (self.old.input ++ piece.now) self.old.unsent self.new.unsent
+            core.old core.new (P.report patterns.old) (P.report patterns.new)
+            (reported notices.old steps.old.forks) (reported notices.new steps.new.forks) result }
+        ensures keeps { OnOk result (KeepsRest piece.now self.old self.new) }
+    {
+        let unsent = &mut self.unsent;
+        let taken = answer_frames(alloc, piece, unsent, spent, core, patterns, notices, steps)?;
+        self.input.push(alloc, &piece[taken..])
+    }
+
+    /// Answers the frames of a piece and of the bytes before it, and keeps what is left.
+    fn read_after<P: Patterns, G: Ledger>(
+        &mut self,
+        alloc: Global,
+        piece: &[u8],
+        spent: &mut SpentEvents,
+        core: &mut Core,
+        patterns: &mut P,
+        notices: &mut Notices,
+        steps: &mut Steps<G>,
+    ) -> Result<(), Memory>
+        ensures number { number_of self.new ≡ number_of self.old }
+        ensures frames { AnswersFrames (self.old.input ++ piece.now) self.old.unsent self.new.unsent
+            core.old core.new (P.report patterns.old) (P.report patterns.new)
+            (reported notices.old steps.old.forks) (reported notices.new steps.new.forks) result }
+        ensures keeps { OnOk result (KeepsRest piece.now self.old self.new) }
+    {
         self.input.push(alloc, piece)?;
-        answer_frames(
-            alloc,
-            &mut self.input,
-            &mut self.unsent,
-            spent,
-            core,
-            patterns,
-            notices,
-            steps,
-        )?;
-        self.cut_off(alloc)?;
+        let bytes = self.input.as_slice();
+        let unsent = &mut self.unsent;
+        let taken = answer_frames(alloc, bytes, unsent, spent, core, patterns, notices, steps)?;
+        self.input.advance(taken);
         Ok(())
     }
 
@@ -120,7 +162,7 @@ impl HubLink {
         ensures represents { OnOk result ((meant : Link) → is_open meant ≡ true
             → RepresentsLink self.old meant → RepresentsLink self.new (cut_off meant)) }
     {
-        match self.input.front() {
+        match first_frame(self.input.as_slice()) {
             FirstFrame::TooLong { length } => self.refuse_length(alloc, length),
             FirstFrame::NotYet => Ok(()),
             FirstFrame::Whole(_) => Ok(()),
@@ -148,7 +190,7 @@ impl HubLink {
         ensures unsent { self.new.unsent ≡ self.old.unsent }
     {
         self.status = Status::ReadClosed;
-        self.input = FrameLink::fresh(alloc);
+        self.input = FrameBuffer::fresh(alloc);
     }
 
     /// The client sends no more.

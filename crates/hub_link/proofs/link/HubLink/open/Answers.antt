@@ -4,4 +4,4 @@ use Rattle.hub_link.proofs.link.HubLink.open.Goals as goal
 
 pub returns-clause-represents : goal.returns-clause-represents
 returns-clause-represents c links room =
-    opens _ c.args.number true links refl refl refl c.fresh.ensures.nothing c.fresh.ensures.goes_on c.fresh-2.ensures (sym room)
+    opens _ c.args.number true links refl refl refl c.fresh.ensures c.fresh-2.ensures (sym room)
