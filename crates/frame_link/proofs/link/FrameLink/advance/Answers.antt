@@ -4,7 +4,7 @@ use Rattle.framing.proofs.FrameLaws.{represents_first}
 use Rattle.frame_link.proofs.LinkLaws.{link_hands_out, stays_open}
 use Rattle.frame_link.proofs.link.FrameLink.advance.Goals as goal
 
-later_is : (c : goal.After-advance) → c.advance.new.buffer ≡ after_frame c.args.self.now.bytes
+later_is : (c : goal.After-advance) → c.advance.new.self ≡ after_frame c.args.self.now.bytes
 later_is c =
     let seen : c.self.inside.buffer ≡ c.args.self.now.bytes = ap (λ held. held.bytes) c.self.view_is in
     c.advance.ensures ∙ rw (seen, c.requires.size) refl
