@@ -14,10 +14,10 @@ use Rattle.hub_link.specs.hub_meaning.Runs.{RunState, Talk, all_answered, answer
 use Rattle.hub_link.specs.hub_meaning.Verdicts.{Message, PatternsReport, Refusal}
 use Rattle.hub_link.proofs.HubMeaningLinkLaws.{all_found, found_number}
 use Rattle.hub_link.specs.declared.link.HubLink.{HubLink}
-use Rattle.hub_link.specs.Hearing.{Hears, HearsPiece, talk_after}
+use Rattle.hub_link.specs.Hearing.{HearsPiece, talk_after}
 use Rattle.hub_link.specs.Hearing as hearing
 use Rattle.hub_link.specs.HubLink.{RepresentsLink}
-use Rattle.link_table.specs.Kept.{IsAbsent, IsAt as IsAtPlace, Kept}
+use Rattle.link_table.specs.Kept.{IsAbsent, IsAt, Kept}
 use Rattle.list_laws.specs.declared.memory.Memory.{Memory}
 use Rattle.hub_link.specs.msg_replies.Arriving.{Reported}
 use Rattle.hub_link.proofs.MsgRepliesAnswerLaws.{heard_nothing}
@@ -25,7 +25,7 @@ use Rattle.hub_link.proofs.MsgRepliesVerdictLaws.{no_verdicts}
 use Rattle.ports.specs.declared.entry.Entry.{Entry}
 use Rattle.ports.specs.declared.links.What.{What}
 use Rattle.ports.specs.declared.links.What.TheVariants.{Idle, Opened, Read, Ended, Broken, Room, Stopped, Failed, Memory as NoMemory}
-use Rattle.conn_core.specs.Hub.{IsAt}
+use Rattle.conn_core.specs.Hub.{RepresentsState}
 use Rattle.conn_core.specs.Occurring.{Done, Occurs, OccursFrom}
 use Rattle.conn_core.specs.Reaching.{Changes, Ends, Focus, Settles, links_after}
 use Rattle.conn_core.specs.declared.hub.Hub.{Hub}
@@ -86,7 +86,7 @@ nothing_in config Failed piece state other = refl
 nothing_in config NoMemory piece state other = refl
 
 -- only the links changed
-links_done : (hub : Hub) (table' : Kept HubLink) (config : CoreConfig) (state there : RunState) (run : List Entry) (reported : Reported) → IsAt hub config state → there.now ≡ state.now → there.arrivals ≡ state.arrivals
+links_done : (hub : Hub) (table' : Kept HubLink) (config : CoreConfig) (state there : RunState) (run : List Entry) (reported : Reported) → RepresentsState hub config state → there.now ≡ state.now → there.arrivals ≡ state.arrivals
     → Ends table' config there run → Done (record hub { table = table' }) config state (state_from config (plain run) there) reported reported
 links_done hub table' config state there run reported at now arrivals ends =
     subst (λ (after : RunState). Done (record hub { table = table' }) config state after reported reported) (sym ends.leads) (record {
@@ -227,8 +227,8 @@ module _ (config : CoreConfig) (piece : List ℕ) (verdicts : List (Option Refus
       by_test false = ap (λ (ls : List Link). with_links ls state) (sym still)
 
 module _ (number count place : ℕ) (piece : List ℕ) (hub : Hub) (core' : Core) (value value' : HubLink) (patterns patterns' : PatternsReport) (old new : Reported)
-    (at_place : IsAtPlace number hub.table place) (at_value : (other : HubLink) → get_or hub.table.values place other ≡ value) where
-  is_at : (config : CoreConfig) (state : RunState) → IsAt hub config state → (meant : Link) → Focus hub.table number place state.links meant → hearing.IsAt hub.core value state meant
+    (at_place : IsAt number hub.table place) (at_value : (other : HubLink) → get_or hub.table.values place other ≡ value) where
+  is_at : (config : CoreConfig) (state : RunState) → RepresentsState hub config state → (meant : Link) → Focus hub.table number place state.links meant → hearing.RepresentsState hub.core value state meant
   is_at config state at meant focus =
       record { arrivals = at.arrivals; now = at.now; represents = subst (λ (v : HubLink). RepresentsLink v meant) (at_value value) (focus.value value) }
 
@@ -253,7 +253,7 @@ module _ (number count place : ℕ) (piece : List ℕ) (hub : Hub) (core' : Core
 
   heard_whole : (table' : Kept HubLink) (spent : List Event) (result : Result (Unit {0}) Memory) (run : List Entry) → HearsPiece piece value value' hub.core core' patterns patterns' old new (Ok tt)
       → Settles (record hub.table { values = set hub.table.values place value' }) table' number place result run
-      → (state : RunState) → IsAt hub (config_of hub.core) state → AreSettled state.links
+      → (state : RunState) → RepresentsState hub (config_of hub.core) state → AreSettled state.links
       → Occurs (Read number count) piece (record hub { core = core'; table = table'; spent = spent }) patterns patterns' old new result (config_of hub.core) state run
   heard_whole table' spent result run hears settles state at settled =
       let config : CoreConfig = config_of hub.core in

@@ -12,7 +12,7 @@ use Rattle.hub_link.specs.hub_meaning.Runs.{RunState, Step, plain, state_from, w
 use Rattle.hub_link.proofs.HubMeaningLinkLaws.{rising_changed, rising_opened}
 use Rattle.hub_link.proofs.HubMeaningRunLaws.{legal_append, state_append}
 use Rattle.hub_link.specs.declared.link.HubLink.{HubLink}
-use Rattle.hub_link.specs.HubLink.{Follows, RepresentsLink, number_of}
+use Rattle.hub_link.specs.HubLink.{RepresentsChanged, RepresentsLink, number_of}
 use Rattle.hub_link.specs.Sending.{IsOf, IsSent, Sends, after_sends}
 use Rattle.link_table.specs.Kept.{HasNoNumber, IsAbsent, IsAt, Kept, is_newer, number_at}
 use Rattle.list_laws.specs.declared.memory.Memory.{Memory}
@@ -165,7 +165,7 @@ pub unblocked_unclosed : KeepsStanding unblocked
 unblocked_unclosed link unclosed = choice (λ l. l.status ≢ Closed) (is_connected link) (record link { blocked = false }) link unclosed unclosed
 
 pub changes_found : (f : Link → Link) (table table'' : Kept HubLink) (number place : ℕ) (value value' : HubLink) (result : Result (Unit {0}) Memory) (run : List Entry)
-    → ((link : Link) → (f link).number ≡ link.number) → KeepsStanding f → IsAt number table place → ((other : HubLink) → get_or table.values place other ≡ value) → Follows f value value'
+    → ((link : Link) → (f link).number ≡ link.number) → KeepsStanding f → IsAt number table place → ((other : HubLink) → get_or table.values place other ≡ value) → RepresentsChanged f value value'
     → Settles (record table { values = set table.values place value' }) table'' number place result run → Changes (changed number f) table table'' result run
 changes_found f table table'' number place value value' result run numbers unclosed at is follows settles config state keeps settled =
     let found = focus_found table number place state.links keeps settled at in

@@ -23,7 +23,7 @@ use Rattle.ports.specs.declared.links.What.{What}
 use Rattle.ports.specs.declared.links.What.TheVariants.{Idle, Opened, Read, Ended, Broken, Room, Stopped, Failed, Memory as NoMemory}
 use Rattle.ports.specs.Writing.{GotPrefix, SinkReport}
 use Rattle.stream_meaning.specs.Arrivals.{Arrival, Elapsed}
-use Rattle.conn_core.specs.Hub.{Follows, IsAt, wants_in}
+use Rattle.conn_core.specs.Hub.{Follows, RepresentsState, wants_in}
 use Rattle.conn_core.specs.Occurring.{OccursFrom}
 use Rattle.conn_core.specs.Turning.{GotFirstLines, GotLines, Turns, longer, turn_step}
 use Rattle.conn_core.specs.declared.hub.Hub.{Hub}
@@ -122,7 +122,7 @@ module _ (turn : Turn) (piece : List ℕ) (hub : Hub) (config : CoreConfig) (ste
   -- the hub once the seconds have passed
   pub passed_at : (core' : Core) (old new : Reported) → now_of core' ≡ next_moment (now_of hub.core) turn.secs
       → ((arrivals : List Arrival) → Represents hub.core arrivals → Arrives hub.core core' arrivals (replicate (next_moment (now_of hub.core) turn.secs - now_of hub.core) Elapsed) old new)
-      → IsAt (record hub { core = core' }) config (passed (next_moment (state_after config steps).now turn.secs) (state_after config steps))
+      → RepresentsState (record hub { core = core' }) config (passed (next_moment (state_after config steps).now turn.secs) (state_after config steps))
   passed_at core' old new now arrives =
       let at = follows.state in
       let comes = arrives (state_after config steps).arrivals at.arrivals in
@@ -135,7 +135,7 @@ module _ (turn : Turn) (piece : List ℕ) (hub : Hub) (config : CoreConfig) (ste
 
   -- out of memory at its occurrence
   pub turns_unfinished : (one hub' : Hub) (patterns patterns' : PatternsReport) (old new : Reported) (forks forks' : ℕ) (text : SinkReport) (result : Result (Unit {0}) Stop) (failure : Result (Unit {0}) Memory) (run : List Entry) → IsErr result → result ≢ Err SinkFault
-      → IsAt one config (passed (next_moment (state_after config steps).now turn.secs) (state_after config steps))
+      → RepresentsState one config (passed (next_moment (state_after config steps).now turn.secs) (state_after config steps))
       → OccursFrom turn.what piece one hub' patterns patterns' old new failure run
       → Turns turn piece hub hub' patterns patterns' forks forks' text text result config steps run
   turns_unfinished one hub' patterns patterns' old new forks forks' text result failure run failed no_sink at occurs =
@@ -158,7 +158,7 @@ module _ (turn : Turn) (piece : List ℕ) (hub : Hub) (config : CoreConfig) (ste
   -- all was done but the lines
   pub turns_reported : (one hub' : Hub) (patterns patterns' : PatternsReport) (middle : Reported) (notices : List Notice) (forks forks' : ℕ) (text text' : SinkReport) (result : Result (Unit {0}) Stop) (run : List Entry)
       → ((arrivals : List Arrival) → Represents hub.core arrivals → Arrives hub.core one.core arrivals (replicate (next_moment (now_of hub.core) turn.secs - now_of hub.core) Elapsed) (reported [] forks) middle)
-      → IsAt one config (passed (next_moment (state_after config steps).now turn.secs) (state_after config steps))
+      → RepresentsState one config (passed (next_moment (state_after config steps).now turn.secs) (state_after config steps))
       → OccursFrom turn.what piece one hub' patterns patterns' middle (reported notices forks') (Ok tt) run
       → OnOk result (GotLines text notices text') → OnErr result (GotPrefix text.text (lines_of notices) text'.text) → OnErr result (GotFirstLines text notices text') → (result ≡ Err SinkFault → notices ≢ [])
       → Turns turn piece hub hub' patterns patterns' forks forks' text text' result config steps run
@@ -188,7 +188,7 @@ module _ (turn : Turn) (piece : List ℕ) (hub : Hub) (config : CoreConfig) (ste
         some = some;
         follows = on_ok_from result (record {
           legal = longer_legal verdicts run occurred_so.possible occurred_so.legal;
-          state = subst (IsAt hub' config) (sym is) done.at;
+          state = subst (RepresentsState hub' config) (sym is) done.at;
           settled = subst (λ (s : RunState). AreSettled s.links) (sym is) done.settled;
         });
         counted = on_ok_from result (ap (λ (xs : List Arrival). forks + forks_by config xs) arrivals ∙ both.forks);

@@ -16,7 +16,7 @@ abbrev pub wants_in : Hub → List Want
 wants_in hub = hub.table.wants
 
 -- its core and its links are as in this state
-pub record IsAt (hub : Hub) (config : CoreConfig) (state : RunState) : Type 0 where
+pub record RepresentsState (hub : Hub) (config : CoreConfig) (state : RunState) : Type 0 where
   pub arrivals : Represents hub.core state.arrivals
   pub config_is : config_of hub.core ≡ config
   pub now : now_of hub.core ≡ state.now
@@ -25,5 +25,5 @@ pub record IsAt (hub : Hub) (config : CoreConfig) (state : RunState) : Type 0 wh
 -- these steps may come one after another, and the hub is as they leave it, when the next turn may be asked for
 pub record Follows (hub : Hub) (config : CoreConfig) (steps : List Step) : Type 0 where
   pub legal : IsLegal config steps
-  pub state : IsAt hub config (state_after config steps)
+  pub state : RepresentsState hub config (state_after config steps)
   pub settled : AreSettled (state_after config steps).links

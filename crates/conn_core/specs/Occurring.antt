@@ -9,13 +9,13 @@ use Rattle.hub_link.specs.msg_replies.Arriving.{Reported}
 use Rattle.ports.specs.declared.entry.Entry.{Entry}
 use Rattle.ports.specs.declared.links.What.{What}
 use Rattle.stream_meaning.specs.Arrivals.{Arrival}
-use Rattle.conn_core.specs.Hub.{IsAt}
+use Rattle.conn_core.specs.Hub.{RepresentsState}
 use Rattle.conn_core.specs.declared.hub.Hub.{Hub}
 
 -- The hub is at the state after these calls, in which all links are settled. The notices of the new arrivals were
 -- appended, and the forks counted.
 pub record Done (hub : Hub) (config : CoreConfig) (state after : RunState) (old new : Reported) : Type 0 where
-  pub at : IsAt hub config after
+  pub at : RepresentsState hub config after
   pub settled : AreSettled after.links
   pub more : List Arrival
   pub arrivals : after.arrivals ≡ state.arrivals ++ more
@@ -32,5 +32,5 @@ pub record Occurs (what : What) (piece : List ℕ) (hub : Hub) (patterns pattern
 
 abbrev pub OccursFrom : What → List ℕ → Hub → Hub → PatternsReport → PatternsReport → Reported → Reported → Result (Unit {0}) Memory → List Entry → Type 0
 OccursFrom what piece hub hub' patterns patterns' old new result run =
-    (config : CoreConfig) (state : RunState) → IsAt hub config state → AreSettled state.links
+    (config : CoreConfig) (state : RunState) → RepresentsState hub config state → AreSettled state.links
     → Occurs what piece hub' patterns patterns' old new result config state run

@@ -7,7 +7,7 @@ use Rattle.msg_replies.specs.event_core.declared.arrivals.Core.{Core}
 use Rattle.msg_replies.specs.event_core.Core.{CoreConfig, config_of, now_of}
 use Rattle.framing.specs.Frames.{HasFrame, IsOversized, frames_of, length_at, partial}
 use Rattle.framing.specs.declared.TheConstants.{BODY_LIMIT}
-use Rattle.framing.proofs.FrameLaws.{oversized_has_none, partial_append, partial_at_none, partial_of_nothing}
+use Rattle.framing.proofs.FrameLaws.{oversized_has_none, partial_append, partial_of_nothing}
 use Rattle.list_laws.specs.declared.memory.Memory.{Memory}
 use Rattle.ports.specs.declared.links.Want.{Want}
 use Rattle.msg_replies.specs.hub_meaning.Legal.{ArePossible, AreVerdicts, MayClose, MayCloseAs, VerdictsIf}
@@ -24,7 +24,7 @@ use Rattle.msg_replies.proofs.VerdictLaws.{no_verdicts}
 use Rattle.hub_link.specs.declared.link.HubLink.{HubLink}
 use Rattle.hub_link.specs.Answering.{Answered, AnswersFrames, IsTalk}
 use Rattle.hub_link.specs.Hearing.{HearsPiece, IsAt, KeepsRest, read_talk, talk_after}
-use Rattle.hub_link.specs.HubLink.{Follows, RepresentsLink}
+use Rattle.hub_link.specs.HubLink.{RepresentsChanged, RepresentsLink}
 use Rattle.hub_link.specs.Sending.{is_over_as}
 use Rattle.hub_link.proofs.HearLaws.{none_refused, unsent_with_reply, within_with_reply}
 use Rattle.hub_link.proofs.SendLaws.{closes}
@@ -212,11 +212,11 @@ is_shut link is meant represents = open_as link meant false is represents
 pub is_opened : (link : HubLink) → is_open_status link.status ≡ true → (meant : Link) → RepresentsLink link meant → is_open meant ≡ true
 is_opened link is meant represents = open_as link meant true is represents
 
-pub stays_ended : (link : HubLink) → is_open_status link.status ≡ false → Follows ended link link
+pub stays_ended : (link : HubLink) → is_open_status link.status ≡ false → RepresentsChanged ended link link
 stays_ended link is meant represents =
     subst (λ (t : Bool). RepresentsLink link (cond t (with_status ReadClosed meant) meant)) (sym (open_as link meant false is represents)) represents
 
-pub ends : (link link' : HubLink) → is_open_status link.status ≡ true → link'.number ≡ link.number → link'.status ≡ ReadClosed → link'.blocked ≡ link.blocked → link'.unsent ≡ link.unsent → Follows ended link link'
+pub ends : (link link' : HubLink) → is_open_status link.status ≡ true → link'.number ≡ link.number → link'.status ≡ ReadClosed → link'.blocked ≡ link.blocked → link'.unsent ≡ link.unsent → RepresentsChanged ended link link'
 ends link link' is number status blocked unsent_is meant represents =
     let there : RepresentsLink link' (with_status ReadClosed meant) = record {
       number = number ∙ represents.number;
@@ -228,22 +228,22 @@ ends link link' is number status blocked unsent_is meant represents =
     } in
     subst (λ (t : Bool). RepresentsLink link' (cond t (with_status ReadClosed meant) meant)) (sym (open_as link meant true is represents)) there
 
-pub stays_broken : (link : HubLink) → (is_open_status link.status || is_read_closed_status link.status) ≡ false → Follows broken link link
+pub stays_broken : (link : HubLink) → (is_open_status link.status || is_read_closed_status link.status) ≡ false → RepresentsChanged broken link link
 stays_broken link is meant represents =
     subst (λ (t : Bool). RepresentsLink link (cond t (with_status Closing meant) meant)) (sym (connected_as link meant false is represents)) represents
 
 pub breaks : (link link' : HubLink) → (is_open_status link.status || is_read_closed_status link.status) ≡ true → link'.number ≡ link.number → link'.status ≡ Closing → link'.blocked ≡ link.blocked
-    → link'.unsent ≡ link.unsent → Follows broken link link'
+    → link'.unsent ≡ link.unsent → RepresentsChanged broken link link'
 breaks link link' is number status blocked unsent_is meant represents =
     subst (λ (t : Bool). RepresentsLink link' (cond t (with_status Closing meant) meant)) (sym (connected_as link meant true is represents))
     (closes link link' number status blocked unsent_is meant represents)
 
-pub stays_unblocked : (link : HubLink) → (is_open_status link.status || is_read_closed_status link.status) ≡ false → Follows unblocked link link
+pub stays_unblocked : (link : HubLink) → (is_open_status link.status || is_read_closed_status link.status) ≡ false → RepresentsChanged unblocked link link
 stays_unblocked link is meant represents =
     subst (λ (t : Bool). RepresentsLink link (cond t (record meant { blocked = false }) meant)) (sym (connected_as link meant false is represents)) represents
 
 pub unblocks : (link link' : HubLink) → (is_open_status link.status || is_read_closed_status link.status) ≡ true → link'.number ≡ link.number → link'.status ≡ link.status → link'.blocked ≡ false
-    → link'.input ≡ link.input → link'.unsent ≡ link.unsent → Follows unblocked link link'
+    → link'.input ≡ link.input → link'.unsent ≡ link.unsent → RepresentsChanged unblocked link link'
 unblocks link link' is number status blocked input unsent_is meant represents =
     let there : RepresentsLink link' (record meant { blocked = false }) = record {
       number = number ∙ represents.number;

@@ -17,5 +17,5 @@ pub record RepresentsLink (link : HubLink) (meant : Link) : Type 0 where
   pub within : length meant.taken ≤ length meant.replies
 
 -- whatever link the old one represented, the new one represents that link changed
-abbrev pub Follows : (Link → Link) → HubLink → HubLink → Type 0
-Follows change old new = (meant : Link) → RepresentsLink old meant → RepresentsLink new (change meant)
+abbrev pub RepresentsChanged : (Link → Link) → HubLink → HubLink → Type 0
+RepresentsChanged change old new = (meant : Link) → RepresentsLink old meant → RepresentsLink new (change meant)

@@ -55,7 +55,7 @@ fn answer_first<P: Patterns, G: Ledger>(
 {
     match first_frame(bytes) {
         FirstFrame::Whole(body) => {
-            unsent.answer(alloc, body, spent, core, patterns, notices, steps)?;
+            unsent.append_reply(alloc, body, spent, core, patterns, notices, steps)?;
             Ok(Some(4 + body.len()))
         }
         FirstFrame::NotYet => Ok(None),

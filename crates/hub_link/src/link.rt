@@ -1,4 +1,4 @@
-ghost use Rattle.std.specs.Prelude.{◌≡◌, ◌≢◌, ◌↔◌, ◌<◌, ◌||◌, ◌++◌, [], if◌then◌else◌, true, length, nat_lt, IsTrue, OnOk, List};
+ghost use Rattle.std.specs.Prelude.{◌≡◌, ◌≢◌, ◌↔◌, ◌<◌, ◌||◌, ◌++◌, [], true, length, nat_lt, IsTrue, OnOk, List};
 ghost use Rattle.msg_replies.specs.hub_meaning.Replies.{reply_to_oversized};
 ghost use Rattle.msg_replies.specs.hub_meaning.Legal.{MayClose};
 ghost use Rattle.msg_replies.specs.hub_meaning.Links.{Link, broken, connected, connected_limit, ended, is_open, is_open_status, is_read_closed_status, new_link, sent, unblocked, want_of};
@@ -8,7 +8,7 @@ ghost use Rattle.ports.specs.Links.{IsWithin};
 ghost use Rattle.hub_link.specs.Added.{Added};
 ghost use Rattle.hub_link.specs.Answering.{AnswersFrames};
 ghost use Rattle.hub_link.specs.Hearing.{HearsPiece, KeepsRest};
-ghost use Rattle.hub_link.specs.HubLink.{Follows, RepresentsLink, number_of};
+ghost use Rattle.hub_link.specs.HubLink.{RepresentsChanged, RepresentsLink, number_of};
 ghost use Rattle.hub_link.specs.Sending.{IsSent, Sends, can_send, is_over_as, sendable};
 
 use crate::frames::answer_frames;
@@ -196,7 +196,7 @@ impl HubLink {
     /// The client sends no more.
     pub fn end(&mut self, alloc: Global)
         ensures number { number_of self.new ≡ number_of self.old }
-        ensures represents { Follows ended self.old self.new }
+        ensures represents { RepresentsChanged ended self.old self.new }
     {
         if !self.is_open() {
             return;
@@ -207,7 +207,7 @@ impl HubLink {
     /// The link does not work any more, and is to be closed.
     pub fn fail(&mut self)
         ensures number { number_of self.new ≡ number_of self.old }
-        ensures represents { Follows broken self.old self.new }
+        ensures represents { RepresentsChanged broken self.old self.new }
     {
         if !self.is_connected() {
             return;
@@ -218,7 +218,7 @@ impl HubLink {
     /// The link may be sent to again.
     pub fn unblock(&mut self)
         ensures number { number_of self.new ≡ number_of self.old }
-        ensures represents { Follows unblocked self.old self.new }
+        ensures represents { RepresentsChanged unblocked self.old self.new }
     {
         if !self.is_connected() {
             return;
@@ -283,7 +283,7 @@ impl HubLink {
     fn note(&mut self, alloc: Global, answer: SendAnswer)
         requires { IsWithin (length self.old.unsent) answer }
         ensures number { number_of self.new ≡ number_of self.old }
-        ensures represents { Follows (sent self.old.unsent answer) self.old self.new }
+        ensures represents { RepresentsChanged (sent self.old.unsent answer) self.old self.new }
         ensures less { can_send self.old ≡ true → answer ≢ SendAnswer.Memory
             → sendable self.new < sendable self.old }
     {

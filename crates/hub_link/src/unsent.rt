@@ -70,7 +70,7 @@ impl Unsent {
 
     /// Posts the events of a message, and appends the reply to it. The message is read into the memory of `spent`. After
     /// `Memory` nothing is known of the replies.
-    pub(crate) fn answer<P: Patterns, G: Ledger>(
+    pub(crate) fn append_reply<P: Patterns, G: Ledger>(
         &mut self,
         alloc: Global,
         body: &[u8],

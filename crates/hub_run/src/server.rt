@@ -1,4 +1,4 @@
-ghost use Rattle.std.specs.Prelude.{◌≡◌, ◌≢◌, ◌≤◌, length, Err, OnOk};
+ghost use Rattle.std.specs.Prelude.{◌≡◌, ◌≢◌, ◌≤◌, length, Err};
 ghost use Rattle.std.specs.Option.{ForSome};
 ghost use Rattle.conn_core.specs.Hub.{wants_in};
 ghost use Rattle.conn_core.specs.Known.{AreUnclosed};

@@ -12,7 +12,6 @@ use Rattle.ports.specs.declared.entry.Entry.TheVariants.{Listen, Next, Send, Clo
 use Rattle.ports.specs.declared.links.SendAnswer.{SendAnswer}
 use Rattle.ports.specs.declared.links.SendAnswer.TheVariants.{Took}
 use Rattle.ports.specs.declared.links.Turn.{Turn}
-use Rattle.ports.specs.declared.links.What.{What}
 use Rattle.ports.specs.declared.links.What.TheVariants as what
 use Rattle.ports.specs.declared.rules.SendRule.{SendRule}
 use Rattle.ports.specs.declared.script.LinkEvent.TheVariants as event
