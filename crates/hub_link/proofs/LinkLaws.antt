@@ -111,9 +111,9 @@ hears_nothing piece link core patterns old shut = record {
       };
 }
 
-module _ (piece : List ℕ) (link : HubLink) (left : List ℕ) (core core' : Core) (patterns patterns' : PatternsReport) (old new : Reported) (opened : IsOpenLink link) where
+module _ (piece : List ℕ) (link : HubLink) (core core' : Core) (patterns patterns' : PatternsReport) (old new : Reported) (opened : IsOpenLink link) where
   -- memory ran out at one of the messages, or at a length over the limit
-  pub hears_in_part : (link' : HubLink) (memory : Memory) (result : Result (Unit {0}) Memory)
+  pub hears_in_part : {left : List ℕ} (link' : HubLink) (memory : Memory) (result : Result (Unit {0}) Memory)
       → AnswersFrames (link.input ++ piece) link.unsent left core core' patterns patterns' old new result
       → HearsPiece piece link link' core core' patterns patterns' old new (Err memory)
   hears_in_part link' memory result frames = record {
@@ -124,7 +124,7 @@ module _ (piece : List ℕ) (link : HubLink) (left : List ℕ) (core core' : Cor
   }
 
   -- all frames were answered, and a length over the limit where one follows
-  pub hears_all : (one link' : HubLink) → AnswersFrames (link.input ++ piece) link.unsent one.unsent core core' patterns patterns' old new (Ok tt)
+  pub hears_all : (one link' : HubLink) → AnswersFrames {T = Unit {0}} (link.input ++ piece) link.unsent one.unsent core core' patterns patterns' old new (Ok tt)
       → one.number ≡ link.number → KeepsRest piece link one
       → ((meant : Link) → is_open meant ≡ true → RepresentsLink one meant → RepresentsLink link' (cut_off meant))
       → HearsPiece piece link link' core core' patterns patterns' old new (Ok tt)
@@ -155,6 +155,14 @@ module _ (piece : List ℕ) (link : HubLink) (left : List ℕ) (core core' : Cor
           link = subst (λ (t : Talk). RepresentsLink link' t.link) same (cut talked.link still_open there);
         };
   }
+
+  -- and memory may run out at that length
+  pub hears_cut : (one link' : HubLink) (result : Result (Unit {0}) Memory) → AnswersFrames {T = Unit {0}} (link.input ++ piece) link.unsent one.unsent core core' patterns patterns' old new (Ok tt)
+      → one.number ≡ link.number → KeepsRest piece link one
+      → OnOk result ((meant : Link) → is_open meant ≡ true → RepresentsLink one meant → RepresentsLink link' (cut_off meant))
+      → HearsPiece piece link link' core core' patterns patterns' old new result
+  hears_cut one link' (Ok tt) frames number keeps cut = hears_all one link' frames number keeps cut
+  hears_cut one link' (Err memory) frames number keeps cut = hears_in_part link' memory (Ok tt) frames
 
 -- ---- a length over the limit
 

@@ -79,15 +79,35 @@ impl HubLink {
         if !self.is_open() {
             return Ok(());
         }
-        if self.input.is_empty() {
-            self.read_alone(alloc, piece, spent, core, patterns, notices, steps)?;
-        } else {
-            self.read_after(alloc, piece, spent, core, patterns, notices, steps)?;
-        }
+        self.read(alloc, piece, spent, core, patterns, notices, steps)?;
         self.cut_off(alloc)
     }
 
-    /// Answers the frames of a piece where it lies, and keeps what is left of it, where no bytes came before it.
+    /// Answers the frames of a piece and of the bytes before it, and keeps what is left.
+    fn read<P: Patterns, G: Ledger>(
+        &mut self,
+        alloc: Global,
+        piece: &[u8],
+        spent: &mut SpentEvents,
+        core: &mut Core,
+        patterns: &mut P,
+        notices: &mut Notices,
+        steps: &mut Steps<G>,
+    ) -> Result<(), Memory>
+        ensures number { number_of self.new ≡ number_of self.old }
+        ensures frames { AnswersFrames (self.old.input ++ piece.now) self.old.unsent self.new.unsent
+            core.old core.new (P.report patterns.old) (P.report patterns.new)
+            (reported notices.old steps.old.forks) (reported notices.new steps.new.forks) result }
+        ensures keeps { OnOk result (KeepsRest piece.now self.old self.new) }
+    {
+        if self.input.is_empty() {
+            self.read_alone(alloc, piece, spent, core, patterns, notices, steps)
+        } else {
+            self.read_after(alloc, piece, spent, core, patterns, notices, steps)
+        }
+    }
+
+    /// The same where there are no bytes before it: the frames are answered where they lie.
     fn read_alone<P: Patterns, G: Ledger>(
         &mut self,
         alloc: Global,
@@ -110,7 +130,7 @@ impl HubLink {
         self.input.push(alloc, &piece[taken..])
     }
 
-    /// Answers the frames of a piece and of the bytes before it, and keeps what is left.
+    /// The same by way of the bytes that are kept.
     fn read_after<P: Patterns, G: Ledger>(
         &mut self,
         alloc: Global,
