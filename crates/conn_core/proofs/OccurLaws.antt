@@ -228,7 +228,7 @@ module _ (config : CoreConfig) (piece : List ℕ) (verdicts : List (Option Refus
 
 module _ (number count place : ℕ) (piece : List ℕ) (hub : Hub) (core' : Core) (value value' : HubLink) (patterns patterns' : PatternsReport) (old new : Reported)
     (at_place : IsAt number hub.table place) (at_value : (other : HubLink) → get_or hub.table.values place other ≡ value) where
-  is_at : (config : CoreConfig) (state : RunState) → RepresentsState hub config state → (meant : Link) → Focus hub.table number place state.links meant → hearing.RepresentsState hub.core value state meant
+  is_at : (config : CoreConfig) (state : RunState) → RepresentsState hub config state → (meant : Link) → Focus hub.table number place state.links meant → hearing.IsAt hub.core value state meant
   is_at config state at meant focus =
       record { arrivals = at.arrivals; now = at.now; represents = subst (λ (v : HubLink). RepresentsLink v meant) (at_value value) (focus.value value) }
 
