@@ -1,5 +1,5 @@
 -- How what a crash may leave goes on from call to call.
-use Rattle.std.proofs.Common.{◌≡◌, inl, inr, ⊎_elim, ℕ, zero, suc, ◌+◌, ◌-◌, ◌≤◌, min, List, ◌++◌, length, take, drop, Option, None, Some, Result, Ok, Err, OnOk, OnErr, refl, sym, ◌∙◌, ap, subst, arith, append_assoc, length-append, length-take, length-drop}
+use Rattle.std.proofs.Common.{◌≡◌, inl, inr, ℕ, zero, suc, ◌+◌, ◌-◌, ◌≤◌, min, List, ◌++◌, length, take, drop, Option, None, Some, Result, Ok, Err, OnOk, OnErr, refl, sym, ◌∙◌, ap, subst, arith, append_assoc, length-append, length-drop}
 use Rattle.std.specs.Option.{option_map, ForSome}
 use Rattle.std.proofs.lemmas.Bool.{cases_lt}
 use Rattle.std.proofs.lemmas.List.{take_at, drop_at, drop_min, drop-drop, length-take-le}
@@ -152,6 +152,27 @@ calls_possible = record {
     failed None new place count possible (inr (text, torn, new_is)) past is = absurd (none-some past (sym new_is ∙ is))
     failed (Some old) new place count possible (inr (text, torn, new_is)) past is =
         subst IsPossible (same_Some (wrote old place count text) past (sym new_is ∙ is)) (possible old refl, torn old refl)
+
+-- a past that is the same, or one after a write, a sync, or both
+pub same_possible : (old new : Option Past) → new ≡ old → ForSome old IsPossible → ForSome new IsPossible
+same_possible old new new_is possible past is = possible past (sym new_is ∙ is)
+
+pub written_possible : (place : ℕ) (bytes : List ℕ) (old new : Option Past) → ForSome old (λ past. place ≤ length (text_of past))
+    → new ≡ option_map (written place bytes) old → ForSome old IsPossible → ForSome new IsPossible
+written_possible place bytes None new within new_is possible past is = absurd (none-some past (sym new_is ∙ is))
+written_possible place bytes (Some old) new within new_is possible past is =
+    subst IsPossible (same_Some (written place bytes old) past (sym new_is ∙ is)) (calls_possible.write old place bytes (possible old refl) (within old refl))
+
+pub synced_possible : (old new : Option Past) → new ≡ option_map synced old → ForSome old IsPossible → ForSome new IsPossible
+synced_possible None new new_is possible past is = absurd (none-some past (sym new_is ∙ is))
+synced_possible (Some old) new new_is possible past is = subst IsPossible (same_Some (synced old) past (sym new_is ∙ is)) (calls_possible.sync old (possible old refl))
+
+pub sync_possible : {T E : Type 0} (place : ℕ) (bytes : List ℕ) (old mid new : Option Past) (answer : Result T E) → ForSome old (λ past. place ≤ length (text_of past))
+    → mid ≡ option_map (written place bytes) old → OnOk answer (new ≡ option_map synced mid) → OnErr answer (new ≡ mid) → ForSome old IsPossible → ForSome new IsPossible
+sync_possible place bytes old mid new (Ok value) within wrote_is sync_is failed possible =
+    synced_possible mid new sync_is (written_possible place bytes old mid within wrote_is possible)
+sync_possible place bytes old mid new (Err error) within wrote_is sync_is failed possible =
+    same_possible mid new failed (written_possible place bytes old mid within wrote_is possible)
 
 -- a write that failed and was done all the same
 pub done_all_the_same : (place : ℕ) (bytes : List ℕ) (old : Past) (new : Option Past) → place ≤ length (text_of old) → new ≡ Some (written place bytes old) → IsUndoneOrBegun place (length bytes) (Some old) new

@@ -72,3 +72,7 @@ abbrev pub IsPossible : Past → Type 0
 IsPossible (found text) = Unit {0}
 IsPossible (wrote past place count text) = IsPossible past × Torn place count (text_of past) text
 IsPossible (synced past) = IsPossible past
+
+-- where only bytes in the ranges of writes had changed, only such have
+abbrev pub StaysPossible : Option Past → Option Past → Type 0
+StaysPossible old new = ForSome old IsPossible → ForSome new IsPossible

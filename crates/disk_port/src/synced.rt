@@ -1,6 +1,6 @@
 ghost use Rattle.std.specs.Prelude.{◌≡◌, ◌≤◌, length, OnOk};
 ghost use Rattle.std.specs.Option.{ForSome, option_map};
-ghost use Rattle.disk_port.specs.Past.{TearsOnly, synced, text_of, written};
+ghost use Rattle.disk_port.specs.Past.{StaysPossible, TearsOnly, synced, text_of, written};
 ghost use Rattle.disk_port.specs.Calls.{HasCause};
 
 use crate::disk::{Disk, DiskError};
@@ -19,6 +19,8 @@ pub fn write_synced<D: Disk>(
         ≡ option_map (λ past. synced (written place bytes.now past)) (D.report disk.old).past) }
     ensures any_moment { ForSome (D.report disk.old).past (λ past.
         TearsOnly place (length bytes.now) past (D.report disk.new).past) }
+    // After an error too, a read gives bytes that a crash may leave.
+    ensures possible { StaysPossible (D.report disk.old).past (D.report disk.new).past }
     ensures opened { (D.report disk.new).opened ≡ (D.report disk.old).opened }
     ensures cause { HasCause (D.report disk.old).faults (D.report disk.new).faults result }
 {

@@ -1,5 +1,9 @@
-//! Tests of the disk, by its public calls.
+//! Tests of the disk and of journals, by their public calls.
 #![tactic(auto)]
 
 #[cfg(test)]
 mod disks;
+#[cfg(test)]
+mod formats;
+#[cfg(test)]
+mod journals;

@@ -1,6 +1,6 @@
 ghost use Rattle.std.specs.Prelude.{◌≡◌, ◌+◌, ◌<◌, ◌≤◌, ◌∷◌, ◌++◌, [], List, ℕ, Bool, true, length, OnOk};
 ghost use Rattle.std.specs.Option.{ForSome, option_map};
-ghost use Rattle.disk_port.specs.Past.{TearsOnly, text_of};
+ghost use Rattle.disk_port.specs.Past.{StaysPossible, TearsOnly, text_of};
 ghost use Rattle.disk_port.specs.Calls.{HasCause};
 ghost use Rattle.journal_format.specs.Limits.{journal_limit};
 ghost use Rattle.turn_journal.specs.Standing.{Adds, IsNext, IsReady, IsWithin, LeavesOneOrBoth, StandsWith, opened_past, put_past};
@@ -29,6 +29,7 @@ pub(crate) fn append_on<D: Disk>(
     ensures any_moment { (has_record : Bool) (text : List ℕ) → bytes.now ≡ text ++ 0 ∷ [] →
         (adds : Adds (D.report disk.old).past gate has_record text) →
         LeavesOneOrBoth adds (D.report disk.new).past }
+    ensures possible { StaysPossible (D.report disk.old).past (D.report disk.new).past }
     ensures opened { (D.report disk.new).opened ≡ (D.report disk.old).opened }
     ensures cause { HasCause (D.report disk.old).faults (D.report disk.new).faults result }
 {
@@ -46,6 +47,7 @@ fn put_after<D: Disk>(alloc: Global, disk: &mut D, gate: u64, bytes: &[u8]) -> R
         ≡ option_map (put_past gate bytes.now) (D.report disk.old).past) }
     ensures any_moment { ForSome (D.report disk.old).past (λ past.
         TearsOnly (gate + 1) (length bytes.now) past (D.report disk.new).past) }
+    ensures possible { StaysPossible (D.report disk.old).past (D.report disk.new).past }
     ensures opened { (D.report disk.new).opened ≡ (D.report disk.old).opened }
     ensures cause { HasCause (D.report disk.old).faults (D.report disk.new).faults result }
 {
@@ -59,6 +61,7 @@ fn open_gate<D: Disk>(alloc: Global, disk: &mut D, gate: u64) -> Result<(), Disk
         ≡ option_map (opened_past gate) (D.report disk.old).past) }
     ensures any_moment { ForSome (D.report disk.old).past (λ past.
         TearsOnly gate 1 past (D.report disk.new).past) }
+    ensures possible { StaysPossible (D.report disk.old).past (D.report disk.new).past }
     ensures opened { (D.report disk.new).opened ≡ (D.report disk.old).opened }
     ensures cause { HasCause (D.report disk.old).faults (D.report disk.new).faults result }
 {

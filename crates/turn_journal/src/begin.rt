@@ -1,6 +1,6 @@
 ghost use Rattle.std.specs.Prelude.{◌≡◌, ◌≤◌, true, length, IfOk, IfErr, OnOk};
 ghost use Rattle.std.specs.Option.{ForSome, option_map};
-ghost use Rattle.disk_port.specs.Past.{TearsOnly, synced, text_of};
+ghost use Rattle.disk_port.specs.Past.{StaysPossible, TearsOnly, synced, text_of};
 ghost use Rattle.disk_port.specs.Calls.{HasCause};
 ghost use Rattle.journal_format.specs.Limits.{config_limit};
 ghost use Rattle.turn_journal.specs.Beginning.{BeginsOnly, HoldsBlankOrFree, IsClosed, IsFirst, IsFree, IsOfDisk, IsShort, IsWhyTaken, LeavesAfterSync, StandsBlank, begun_past, blank_bytes, blank_end, blank_past, closed_past, headed_past, is_taken};
@@ -46,6 +46,8 @@ pub fn begin_on<D: Disk>(alloc: Global, disk: &mut D, config: &[u8]) -> Result<F
     ensures any_moment { ForSome (D.report disk.old).past (λ past.
         IsFree (text_of past) →
         LeavesAfterSync past (D.report disk.new).past (HoldsBlankOrFree config.now)) }
+    // After an error too, a read gives bytes that a crash may leave.
+    ensures possible { StaysPossible (D.report disk.old).past (D.report disk.new).past }
     ensures opened { (D.report disk.new).opened ≡ (D.report disk.old).opened }
     ensures cause { HasFaultCause (D.report disk.old).faults (D.report disk.new).faults result }
 {
@@ -77,6 +79,7 @@ fn begin_in<D: Disk>(
         is_taken (text_of past) ≡ true → (D.report disk.new).past ≡ (D.report disk.old).past) }
     ensures any_moment { BeginsOnly IsFree config.now
         (D.report disk.old).past (D.report disk.new).past }
+    ensures possible { StaysPossible (D.report disk.old).past (D.report disk.new).past }
     ensures opened { (D.report disk.new).opened ≡ (D.report disk.old).opened }
     ensures cause { HasFaultCause (D.report disk.old).faults (D.report disk.new).faults result }
 {
@@ -88,12 +91,14 @@ fn begin_in<D: Disk>(
 }
 
 /// Syncs, and looks at the first bytes of the file.
+#[tactic(auto, using(disk_port::proofs::PastLaws::same_possible, disk_port::proofs::PastLaws::synced_possible))]
 fn look_at<D: Disk>(alloc: Global, disk: &mut D) -> Result<First, DiskError>
     ensures first { IfOk result (λ first. ForSome (D.report disk.old).past (λ past.
         IsFirst (text_of past) first)) }
     ensures synced { OnOk result ((D.report disk.new).past
         ≡ option_map synced (D.report disk.old).past) }
     ensures any_moment { IsSyncedOrNot (D.report disk.old).past (D.report disk.new).past }
+    ensures possible { StaysPossible (D.report disk.old).past (D.report disk.new).past }
     ensures opened { (D.report disk.new).opened ≡ (D.report disk.old).opened }
     ensures cause { HasCause (D.report disk.old).faults (D.report disk.new).faults result }
 {
@@ -104,10 +109,12 @@ fn look_at<D: Disk>(alloc: Global, disk: &mut D) -> Result<First, DiskError>
 }
 
 /// Reads the first two bytes of the file.
+#[tactic(auto, using(disk_port::proofs::PastLaws::same_possible))]
 fn first_of<D: Disk>(alloc: Global, disk: &mut D) -> Result<First, DiskError>
     ensures first { IfOk result (λ first. ForSome (D.report disk.old).past (λ past.
         IsFirst (text_of past) first)) }
     ensures past { (D.report disk.new).past ≡ (D.report disk.old).past }
+    ensures possible { StaysPossible (D.report disk.old).past (D.report disk.new).past }
     ensures opened { (D.report disk.new).opened ≡ (D.report disk.old).opened }
     ensures cause { HasCause (D.report disk.old).faults (D.report disk.new).faults result }
 {
@@ -138,6 +145,7 @@ fn begin_short<D: Disk>(alloc: Global, disk: &mut D, config: &[u8]) -> Result<Fo
     ensures unrefused { IfErr result IsOfDisk }
     ensures any_moment { BeginsOnly IsShort config.now
         (D.report disk.old).past (D.report disk.new).past }
+    ensures possible { StaysPossible (D.report disk.old).past (D.report disk.new).past }
     ensures opened { (D.report disk.new).opened ≡ (D.report disk.old).opened }
     ensures cause { HasFaultCause (D.report disk.old).faults (D.report disk.new).faults result }
 {
@@ -157,6 +165,7 @@ fn begin_closed<D: Disk>(alloc: Global, disk: &mut D, config: &[u8]) -> Result<F
     ensures unrefused { IfErr result IsOfDisk }
     ensures any_moment { BeginsOnly IsClosed config.now
         (D.report disk.old).past (D.report disk.new).past }
+    ensures possible { StaysPossible (D.report disk.old).past (D.report disk.new).past }
     ensures opened { (D.report disk.new).opened ≡ (D.report disk.old).opened }
     ensures cause { HasFaultCause (D.report disk.old).faults (D.report disk.new).faults result }
 {
@@ -177,6 +186,7 @@ fn write_blank<D: Disk>(alloc: Global, disk: &mut D, config: &[u8]) -> Result<()
         ≡ option_map (blank_past config.now) (D.report disk.old).past) }
     ensures any_moment { BeginsOnly IsClosed config.now
         (D.report disk.old).past (D.report disk.new).past }
+    ensures possible { StaysPossible (D.report disk.old).past (D.report disk.new).past }
     ensures opened { (D.report disk.new).opened ≡ (D.report disk.old).opened }
     ensures cause { HasCause (D.report disk.old).faults (D.report disk.new).faults result }
 {
@@ -192,6 +202,7 @@ fn close_first<D: Disk>(alloc: Global, disk: &mut D) -> Result<(), DiskError>
         ≡ option_map closed_past (D.report disk.old).past) }
     ensures any_moment { ForSome (D.report disk.old).past (λ past.
         TearsOnly 0 1 past (D.report disk.new).past) }
+    ensures possible { StaysPossible (D.report disk.old).past (D.report disk.new).past }
     ensures opened { (D.report disk.new).opened ≡ (D.report disk.old).opened }
     ensures cause { HasCause (D.report disk.old).faults (D.report disk.new).faults result }
 {
@@ -206,6 +217,7 @@ fn write_head<D: Disk>(alloc: Global, disk: &mut D, config: &[u8]) -> Result<(),
         ≡ option_map (headed_past config.now) (D.report disk.old).past) }
     ensures any_moment { ForSome (D.report disk.old).past (λ past.
         TearsOnly 1 (length (blank_bytes config.now)) past (D.report disk.new).past) }
+    ensures possible { StaysPossible (D.report disk.old).past (D.report disk.new).past }
     ensures opened { (D.report disk.new).opened ≡ (D.report disk.old).opened }
     ensures cause { HasCause (D.report disk.old).faults (D.report disk.new).faults result }
 {
@@ -232,6 +244,7 @@ fn open_first<D: Disk>(alloc: Global, disk: &mut D) -> Result<(), DiskError>
         ≡ option_map begun_past (D.report disk.old).past) }
     ensures any_moment { ForSome (D.report disk.old).past (λ past.
         TearsOnly 0 1 past (D.report disk.new).past) }
+    ensures possible { StaysPossible (D.report disk.old).past (D.report disk.new).past }
     ensures opened { (D.report disk.new).opened ≡ (D.report disk.old).opened }
     ensures cause { HasCause (D.report disk.old).faults (D.report disk.new).faults result }
 {

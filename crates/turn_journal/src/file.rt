@@ -1,7 +1,7 @@
 ghost use Rattle.std.specs.Prelude.{◌≡◌, ◌+◌, ◌<◌, ◌∷◌, ◌++◌, ◌≤◌, [], false, true, length, IfOk, OnErr, OnOk};
 ghost use Rattle.std.specs.Option.{ForSome, option_map};
 ghost use Rattle.disk_port.specs.Calls.{HasCause};
-ghost use Rattle.disk_port.specs.Past.{synced, text_of};
+ghost use Rattle.disk_port.specs.Past.{StaysPossible, synced, text_of};
 ghost use Rattle.journal_format.specs.Limits.{config_limit, journal_limit};
 ghost use Rattle.turn_journal.specs.Beginning.{HoldsBlankOrFree, IsFree, LeavesAfterSync, StandsBlank};
 ghost use Rattle.turn_journal.specs.Loading.{IsLoaded};
@@ -132,6 +132,9 @@ impl<'a, D: Disk> JournalFile<'a, D> {
         ensures any_moment { (adds : Adds (D.report self.old.disk.now).past self.old.gate
             self.old.has_record bytes.now) →
             LeavesOneOrBoth adds (D.report self.new.disk.now).past }
+        // After an error too, a read gives bytes that a crash may leave.
+        ensures possible { StaysPossible (D.report self.old.disk.now).past
+            (D.report self.new.disk.now).past }
         ensures place { OnOk result (self.new.gate ≡ self.old.gate + length bytes.now + 1) }
         ensures has_record { OnOk result (self.new.has_record ≡ true) }
         ensures sound { OnOk result (self.new.failed ≡ false) }
