@@ -4,9 +4,9 @@ use Rattle.std.specs.Prelude.{MatchOption, is_none, is_some}
 use Rattle.std.specs.List.{flat_map}
 use Rattle.std.proofs.lemmas.Bool.{eq-eqb, ne_eqb}
 use Rattle.std.proofs.lemmas.List.{drop-append-le, drop-drop, drop-take, length-take-le, take-append-drop, take-take}
-use Rattle.framing.specs.Frames.{AreWithinLimit, HasFrame, Represents, after_frame, first_body, frame, frames_of, has_frame, length_at}
+use Rattle.framing.specs.Frames.{AreWithinLimit, HasFrame, Represents, after_frame, first_body, frame, frames_of, has_frame, length_at, partial}
 use Rattle.framing.specs.declared.TheConstants.{BODY_LIMIT}
-use Rattle.framing.proofs.FrameLaws.{frames_are_one_lem, frames_at_frame, frames_at_none, has_frame_false, has_frame_true, represents_first, represents_more, represents_nothing}
+use Rattle.framing.proofs.FrameLaws.{after_frame_length, frames_are_one_lem, frames_at_frame, frames_at_none, has_frame_false, has_frame_true, partial_at_frame, partial_at_none, represents_first, represents_more, represents_nothing}
 use Rattle.riemann_client.specs.Requests.{AnswersIfSent, AnswersNext, HasAnswered, Requested, sent_count, taken_of, waiting}
 
 -- ---- the next request
@@ -165,3 +165,37 @@ frames_of_requests stream bodies is small =
 pub kept_at : (inside view : Requested) → inside ≡ view → (inside.answered ≤ inside.taken) × (inside.taken ≤ length inside.stream)
     → (view.answered ≤ view.taken) × (view.taken ≤ length view.stream)
 kept_at inside view same kept = subst (λ (r : Requested). (r.answered ≤ r.taken) × (r.taken ≤ length r.stream)) same kept
+
+-- ---- requests that are counted
+
+-- these are left once so many were counted
+pub record CountedSoFar (frames rest : List ℕ) (count : ℕ) : Type 0 where
+  pub left : partial rest ≡ partial frames
+  pub counted : count + length (frames_of rest) ≡ length (frames_of frames)
+  pub few : count + length rest ≤ length frames
+
+pub counted_none : (frames : List ℕ) → CountedSoFar frames frames 0
+counted_none frames = record { left = refl; counted = omega arith; few = omega arith }
+
+pub counted_more : (frames rest next : List ℕ) (count : ℕ) → CountedSoFar frames rest count → HasFrame rest → next ≡ after_frame rest → CountedSoFar frames next (count + 1)
+counted_more frames rest next count so_far has is =
+    let one : length (frames_of rest) ≡ suc (length (frames_of (after_frame rest))) = ap length (frames_at_frame rest has) in
+    let short = after_frame_length rest has in
+    let same : length next ≡ length (after_frame rest) = ap length is in
+    let frames_same : length (frames_of next) ≡ length (frames_of (after_frame rest)) = ap (λ (bytes : List ℕ). length (frames_of bytes)) is in
+    record {
+      left = ap partial is ∙ sym (partial_at_frame rest has) ∙ so_far.left;
+      counted = omega (arith, one, frames_same, so_far.counted);
+      few = omega (arith, short, same, so_far.few);
+    }
+
+pub one_less : (rest next : List ℕ) → HasFrame rest → next ≡ after_frame rest → length next < length rest
+one_less rest next has is =
+    let short = after_frame_length rest has in
+    let same : length next ≡ length (after_frame rest) = ap length is in
+    omega (arith, short, same)
+
+pub counted_all : (frames rest : List ℕ) (count : ℕ) → CountedSoFar frames rest count → (HasFrame rest → ⊥) → (count ≡ length (frames_of frames)) × (length rest ≡ length (partial frames))
+counted_all frames rest count so_far bare =
+    let none : length (frames_of rest) ≡ 0 = ap length (frames_at_none rest bare) in
+    (omega (arith, none, so_far.counted), ap length (sym (partial_at_none rest bare) ∙ so_far.left))

@@ -15,7 +15,7 @@ use Rattle.ports.specs.declared.links.What.{What}
 use Rattle.ports.specs.declared.links.What.TheVariants as what
 use Rattle.riemann_msg.specs.Fault.{Fault, first_fault}
 use Rattle.riemann_client.specs.Exchange.{Exchange, Reply, accepted_from, begun, fault_between, heard, heard_piece, is_on, new_replies, occurred, passed, progress_of, refused, replies_come, reply_at, reply_fault, requests_sent, sent, standing, unsent}
-use Rattle.riemann_client.specs.Run.{AreGoing, ClientTurn, IsGoing, IsPaired, PairsReplies, PrefixesAreSent, RepliesArePaired, after_turn, body_of, exchange_after, exchange_from}
+use Rattle.riemann_client.specs.Run.{AreGoing, ClientTurn, IsGoing, IsPaired, LastIsSound, PairsReplies, SendsPrefix, TurnsAreSound, after_last, after_turn, body_of, exchange_after, exchange_from}
 use Rattle.riemann_client.specs.Sending.{AreSends, MaySend, after_sends}
 use Rattle.riemann_client.specs.declared.progress.Progress.{Progress}
 use Rattle.riemann_client.specs.declared.progress.Progress.TheVariants.{More, Unasked}
@@ -59,7 +59,7 @@ sends_take stream (Send number bytes Failed ∷ calls) exchange may has = sends_
 sends_take stream (Send number bytes Memory ∷ calls) exchange may has = sends_take stream calls (sent bytes Memory exchange) may.1 has
 sends_take stream (Close number ∷ calls) exchange may has = absurd may
 
-sends_bring : (calls : List Entry) (exchange : Exchange) → SameReplies exchange (after_sends calls exchange)
+pub sends_bring : (calls : List Entry) (exchange : Exchange) → SameReplies exchange (after_sends calls exchange)
 sends_bring [] exchange = record { came = refl; replies = refl }
 sends_bring (Listen address answer ∷ calls) exchange = sends_bring calls exchange
 sends_bring (Next wants turn piece ∷ calls) exchange = sends_bring calls exchange
@@ -94,14 +94,19 @@ turns_take : (stream : List ℕ) (exchange : Exchange) (turns : List ClientTurn)
 turns_take stream exchange [] going has = has
 turns_take stream exchange (taken ∷ turns) going has = turns_take stream (after_turn exchange taken) turns going.1 (turn_takes stream exchange taken going.0 has)
 
-pub prefixes_lem : PrefixesAreSent
-prefixes_lem stream start turns going =
-    let after : Exchange = exchange_after start turns in
-    let has : HasTaken stream after = turns_take stream (begun start) turns going refl in
-    record {
-      bytes = (unsent stream after, has);
-      requests = (frames_of (partial after.taken ++ unsent stream after), ap frames_of has ∙ frames_append after.taken (unsent stream after));
-    }
+sends_prefix : (stream : List ℕ) (exchange : Exchange) → HasTaken stream exchange → SendsPrefix stream exchange
+sends_prefix stream exchange has = record {
+  bytes = (unsent stream exchange, has);
+  requests = (frames_of (partial exchange.taken ++ unsent stream exchange), ap frames_of has ∙ frames_append exchange.taken (unsent stream exchange));
+}
+
+last_takes : (stream : List ℕ) (start : ℕ) (turns : List ClientTurn) (last : ClientTurn) (sends : List Entry) → AreGoing stream (begun start) turns
+    → AreSends stream sends (heard last.turn last.piece (exchange_after start turns)) → HasTaken stream (after_last start turns last sends)
+last_takes stream start turns last sends going may =
+    sends_take stream sends (heard last.turn last.piece (exchange_after start turns)) may
+    (subst (λ (bytes : List ℕ). stream ≡ bytes ++ drop (length bytes) stream)
+    (sym (occurs_takes last.turn.what last.piece (passed last.turn.secs (exchange_after start turns))))
+    (turns_take stream (begun start) turns going refl))
 
 -- ---- replies
 
@@ -297,8 +302,9 @@ all_from : (stream : List ℕ) (exchange : Exchange) (turns : List ClientTurn) �
 all_from stream exchange [] going all = all
 all_from stream exchange (taken ∷ turns) going all = all_from stream (after_turn exchange taken) turns going.1 (going_accepted stream exchange taken going.0 all)
 
-pub replies_lem : RepliesArePaired
-replies_lem stream start turns last going =
+last_pairs : (stream : List ℕ) (start : ℕ) (turns : List ClientTurn) (last : ClientTurn) → AreGoing stream (begun start) turns
+    → PairsReplies start (turns ++ last ∷ []) (heard last.turn last.piece (exchange_after start turns))
+last_pairs stream start turns last going =
     let none : AllAccepted (begun start) = sym frames_of_nothing in
     let all : AllAccepted (exchange_after start turns) = all_from stream (begun start) turns going none in
     record {
@@ -317,8 +323,15 @@ replies_lem stream start turns last going =
       ];
     }
 
+-- sends bring no reply
+pairs_same : (start : ℕ) (turns : List ClientTurn) (old new : Exchange) → SameReplies old new → PairsReplies start turns old → PairsReplies start turns new
+pairs_same start turns old new same pairs = record {
+  first = (pairs.first.0, ap frames_of same.came ∙ pairs.first.1 ∙ ap (λ (rs : List Reply). map body_of rs ++ pairs.first.0) (sym same.replies));
+  paired = λ number less. pairs.paired number (subst (λ (rs : List Reply). number < length rs) same.replies less);
+}
+
 -- the same at the end of a turn
-pub pairs_of_turns : (stream : List ℕ) (start : ℕ) (turns : List ClientTurn) → AreGoing stream (begun start) turns → PairsReplies start turns (exchange_after start turns)
+pairs_of_turns : (stream : List ℕ) (start : ℕ) (turns : List ClientTurn) → AreGoing stream (begun start) turns → PairsReplies start turns (exchange_after start turns)
 pairs_of_turns stream start turns going =
     let none : AllAccepted (begun start) = sym frames_of_nothing in
     let all : AllAccepted (exchange_after start turns) = all_from stream (begun start) turns going none in
@@ -340,3 +353,18 @@ pairs_of_turns stream start turns going =
         whole = paired.whole;
       }
     ]
+
+-- ---- both
+
+pub turns_lem : TurnsAreSound
+turns_lem stream start turns going = record {
+  sent = sends_prefix stream (exchange_after start turns) (turns_take stream (begun start) turns going refl);
+  paired = pairs_of_turns stream start turns going;
+}
+
+pub last_lem : LastIsSound
+last_lem stream start turns last sends going may = record {
+  sent = sends_prefix stream (after_last start turns last sends) (last_takes stream start turns last sends going may);
+  paired = pairs_same start (turns ++ last ∷ []) (heard last.turn last.piece (exchange_after start turns)) (after_last start turns last sends)
+      (sends_bring sends (heard last.turn last.piece (exchange_after start turns))) (last_pairs stream start turns last going);
+}

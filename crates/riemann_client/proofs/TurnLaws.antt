@@ -130,3 +130,51 @@ module _ (client one client' : Client) (turn : Turn) (piece : List ℕ) (same : 
 -- memory ran out at what came
 pub turn_unheard : (client client' : Client) (turn : Turn) (piece : List ℕ) → TurnsFrom turn piece client client' Memory []
 turn_unheard client client' turn piece before is = record { may = tt; none = λ other. refl }
+
+-- ---- whether it was the last turn is noted, which changes nothing else
+
+with_ended : (client : Client) (ended : Bool) (exchange : Exchange) → Represents client exchange → Represents (record client { ended = ended }) exchange
+with_ended client ended exchange is = record {
+  now = is.now;
+  link = is.link;
+  blocked = is.blocked;
+  gone = is.gone;
+  taken = is.taken;
+  count = is.count;
+  input = is.input;
+  replies = is.replies;
+  accepted = is.accepted;
+  answered = is.answered;
+}
+
+module _ (client' : Client) (ended : Bool) (stream : List ℕ) (before after : Exchange) where
+  noted_end : (progress : Progress) (calls : List Entry) → Ends client' stream before after progress calls → Ends (record client' { ended = ended }) stream before after progress calls
+  noted_end progress calls ends = record { is = ends.is; calls_are = ends.calls_are; replies = ends.replies }
+
+  noted_as : (progress : Progress) (calls : List Entry) → TurnsTo client' stream before after progress calls → TurnsTo (record client' { ended = ended }) stream before after progress calls
+  noted_as More calls on = record {
+    due = on.due;
+    may = on.may;
+    represents = with_ended client' ended (after_sends calls after) on.represents;
+    works = on.works;
+    settled = on.settled;
+    wants = on.wants;
+  }
+  noted_as Whole calls ends = noted_end Whole calls ends
+  noted_as (Unasked number) calls ends = noted_end (Unasked number) calls ends
+  noted_as (Refused number place why) calls ends = noted_end (Refused number place why) calls ends
+  noted_as Lost calls (inl ends) = inl (noted_end Lost calls ends)
+  noted_as Lost calls (inr fails) = inr (record {
+    due = fails.due;
+    sends = fails.sends;
+    calls_are = fails.calls_are;
+    may = fails.may;
+    failed = fails.failed;
+    replies = fails.replies;
+  })
+  noted_as Memory calls out = out
+
+pub turn_noted : (client one : Client) (turn : Turn) (piece : List ℕ) (ended : Bool) (progress : Progress) (calls : List Entry) → TurnsFrom turn piece client one progress calls
+    → TurnsFrom turn piece client (record one { ended = ended }) progress calls
+turn_noted client one turn piece ended progress calls turns before is =
+    noted_as one ended (stream_of client) before (heard turn piece before) progress calls (turns before is)

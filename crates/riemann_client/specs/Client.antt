@@ -1,5 +1,5 @@
 -- What a client represents.
-use Rattle.std.specs.Prelude.{◌≡◌, ℕ, false, List, [], ◌∷◌, ◌++◌, length, map, Option, Some, None}
+use Rattle.std.specs.Prelude.{◌≡◌, ℕ, Bool, false, List, [], ◌∷◌, ◌++◌, length, map, Option, Some, None}
 use Rattle.std.specs.Option.{ForSome}
 use Rattle.framing.specs.Frames.{frames_of, partial}
 use Rattle.ports.specs.Links.{MayClose}
@@ -27,6 +27,10 @@ replies_of client = client.replies
 -- what the client waits for
 abbrev pub wants_in : Client → List Want
 wants_in client = client.wants
+
+-- the exchange is over, or memory ran out: no other turn is taken
+abbrev pub is_ended : Client → Bool
+is_ended client = client.ended
 
 -- The client is at this exchange, in which each reply was accepted: of the bytes that came it keeps those of no whole
 -- frame.

@@ -73,10 +73,21 @@ pub record PairsReplies (start : ℕ) (turns : List ClientTurn) (exchange : Exch
   pub first : IsPrefix (map body_of exchange.replies) (replies_come exchange)
   pub paired : (number : ℕ) → number < length exchange.replies → IsPaired start turns number
 
--- after turns that went on, and one more
-abbrev pub RepliesArePaired : Type 0
-RepliesArePaired = (stream : List ℕ) (start : ℕ) (turns : List ClientTurn) (last : ClientTurn) → AreGoing stream (begun start) turns
-    → PairsReplies start (turns ++ last ∷ []) (heard last.turn last.piece (exchange_after start turns))
+-- What holds of an exchange to which these turns led.
+pub record IsSound (stream : List ℕ) (start : ℕ) (turns : List ClientTurn) (exchange : Exchange) : Type 0 where
+  pub sent : SendsPrefix stream exchange
+  pub paired : PairsReplies start turns exchange
 
-abbrev pub PrefixesAreSent : Type 0
-PrefixesAreSent = (stream : List ℕ) (start : ℕ) (turns : List ClientTurn) → AreGoing stream (begun start) turns → SendsPrefix stream (exchange_after start turns)
+-- after turns that went on
+abbrev pub TurnsAreSound : Type 0
+TurnsAreSound = (stream : List ℕ) (start : ℕ) (turns : List ClientTurn) → AreGoing stream (begun start) turns
+    → IsSound stream start turns (exchange_after start turns)
+
+-- what came in one turn more, and the sends in it, of which the last may have failed
+abbrev pub after_last : ℕ → List ClientTurn → ClientTurn → List Entry → Exchange
+after_last start turns last sends = after_sends sends (heard last.turn last.piece (exchange_after start turns))
+
+-- after turns that went on, and one more
+abbrev pub LastIsSound : Type 0
+LastIsSound = (stream : List ℕ) (start : ℕ) (turns : List ClientTurn) (last : ClientTurn) (sends : List Entry) → AreGoing stream (begun start) turns
+    → AreSends stream sends (heard last.turn last.piece (exchange_after start turns)) → IsSound stream start (turns ++ last ∷ []) (after_last start turns last sends)

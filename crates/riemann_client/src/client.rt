@@ -1,8 +1,8 @@
-ghost use Rattle.std.specs.Prelude.{◌≡◌, ◌≢◌, [], ◌^◌, ◌<◌, ◌≤◌, ◌&&◌, ◌||◌, not, None, Some, IfOk, OnOk, drop, length};
+ghost use Rattle.std.specs.Prelude.{◌≡◌, ◌≢◌, [], ◌^◌, ◌<◌, ◌≤◌, ◌&&◌, ◌||◌, not, true, false, None, Some, IfOk, OnOk, drop, length};
 ghost use Rattle.std.specs.List.{flat_map};
 ghost use Rattle.framing.specs.Frames.{AreWithinLimit, frame, frames_of};
 ghost use Rattle.ports.specs.Links.{IsWithin};
-ghost use Rattle.riemann_client.specs.Client.{Answered, IsUnclosed, Represents, link_of, replies_of, stream_of, wants_in};
+ghost use Rattle.riemann_client.specs.Client.{Answered, IsUnclosed, Represents, is_ended, link_of, replies_of, stream_of, wants_in};
 ghost use Rattle.riemann_client.specs.Exchange.{Exchange, begun, heard, is_link, is_oversized, link_after, occurred, read_from, standing, wants_on};
 ghost use Rattle.riemann_client.specs.Sending.{KeepsReplies, MakesCalls, Notes, Sends, link_to_send, sendable};
 ghost use Rattle.riemann_client.specs.Turning.{GoesOnFrom, Hears, Occurs, SettlesTo, TurnsFrom, closing};
@@ -26,6 +26,8 @@ pub struct Client {
     link: Option<u64>,
     blocked: bool,
     gone: bool,
+    /// The exchange is over, or memory ran out in a turn.
+    ended: bool,
     clock: Clock,
     wants: Wants,
 }
@@ -40,6 +42,7 @@ impl Client {
         ensures requests { IfOk result (λ client. frames_of (stream_of client) ≡ requests.now) }
         ensures represents { IfOk result (λ client. Represents client (begun start)) }
         ensures wants { IfOk result (λ client. wants_in client ≡ []) }
+        ensures going { IfOk result (λ client. is_ended client ≡ false) }
     {
         let frames = frame_all(alloc, requests.as_slice())?;
         Ok(Client::over(alloc, frames, start))
@@ -53,6 +56,7 @@ impl Client {
         ensures stream { stream_of result ≡ frames }
         ensures represents { Represents result (begun start) }
         ensures wants { wants_in result ≡ [] }
+        ensures going { is_ended result ≡ false }
     {
         Client {
             requests: Requests::over(frames),
@@ -61,6 +65,7 @@ impl Client {
             link: None,
             blocked: false,
             gone: false,
+            ended: false,
             clock: Clock::at(start),
             wants: Wants::fresh(alloc),
         }
@@ -80,10 +85,41 @@ impl Client {
         &self.replies
     }
 
+    /// The replies that were accepted, in order, with no copy.
+    pub fn into_replies(self) -> Msgs
+        ensures { result ≡ replies_of self }
+    {
+        self.replies
+    }
+
     /// Takes one turn, with the bytes of a read in `piece`: the replies that became whole are accepted in order, and then,
     /// while replies are to come, the link is sent requests until it takes no more. When the exchange is over, the link is
     /// closed. Once the answer was not [`Progress::More`], no other turn is taken.
     pub fn turn<L: Links>(
+        &mut self,
+        alloc: Global,
+        turn: Turn,
+        piece: &[u8],
+        links: &mut L,
+    ) -> Progress
+        requires going { is_ended self.old ≡ false }
+        requires known { IsUnclosed (L.report links.old).log (link_of self.old) }
+        requires answered { Answered (L.report links.old).log turn }
+        ensures stream { stream_of self.new ≡ stream_of self.old }
+        ensures going { result ≡ Progress.More → is_ended self.new ≡ false }
+        ensures ended { result ≢ Progress.More → is_ended self.new ≡ true }
+        ensures known { result ≡ Progress.More →
+            IsUnclosed (L.report links.new).log (link_of self.new) }
+        ensures turns { MakesCalls (L.report links.old) (L.report links.new)
+            (TurnsFrom turn piece.now self.old self.new result) }
+    {
+        let progress = self.take_turn(alloc, turn, piece, links);
+        self.ended = is_last(progress);
+        progress
+    }
+
+    /// Takes one turn, and does not note yet whether it was the last.
+    fn take_turn<L: Links>(
         &mut self,
         alloc: Global,
         turn: Turn,
@@ -102,7 +138,7 @@ impl Client {
             Progress::More => self.send_requests(alloc, links),
             Progress::Memory => Progress::Memory,
             progress => {
-                self.close(links);
+                self.close_link(links);
                 progress
             }
         }
@@ -324,7 +360,7 @@ impl Client {
             (SettlesTo self.old self.new result) }
     {
         if self.gone {
-            self.close(links);
+            self.close_link(links);
             return Progress::Lost;
         }
         let room = self.requests.unsent().len() > 0;
@@ -334,9 +370,21 @@ impl Client {
         }
     }
 
-    /// Closes the link, if one was opened. It is called where no other turn is to be taken while the exchange goes on:
-    /// when it is over, the link is closed already.
-    pub fn close<L: Links>(&self, links: &mut L)
+    /// Ends the exchange while it goes on: the link, if one was opened, is closed, and no other turn is taken.
+    pub fn close<L: Links>(&mut self, links: &mut L)
+        requires going { is_ended self.old ≡ false }
+        requires known { IsUnclosed (L.report links.old).log (link_of self.old) }
+        ensures closes { MakesCalls (L.report links.old) (L.report links.new)
+            (λ calls. calls ≡ closing (link_of self.old)) }
+        ensures ended { is_ended self.new ≡ true }
+        ensures replies { replies_of self.new ≡ replies_of self.old }
+    {
+        self.close_link(links);
+        self.ended = true;
+    }
+
+    /// Closes the link, if one was opened.
+    fn close_link<L: Links>(&self, links: &mut L)
         requires { IsUnclosed (L.report links.old).log (link_of self.now) }
         ensures { MakesCalls (L.report links.old) (L.report links.new)
             (λ calls. calls ≡ closing (link_of self.now)) }
@@ -346,6 +394,14 @@ impl Client {
         };
         links.close(link);
     }
+}
+
+/// Whether no other turn is taken after one that came to this.
+fn is_last(progress: Progress) -> bool
+    ensures going { progress ≡ Progress.More → result ≡ false }
+    ensures last { progress ≢ Progress.More → result ≡ true }
+{
+    !matches!(progress, Progress::More)
 }
 
 /// Notes what is waited for on the link, if there is one: bytes to read, and room if `room`.

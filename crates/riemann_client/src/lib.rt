@@ -9,7 +9,7 @@ mod replies;
 mod requests;
 
 pub use client::Client;
-pub use law::{prefixes_are_sent, replies_are_paired};
+pub use law::exchanges_are_sound;
 pub use progress::Progress;
 pub use replies::Msgs;
-pub use requests::{Blobs, has_request};
+pub use requests::{Blobs, Counted, count_requests, has_request, put_frame};

@@ -2,7 +2,7 @@
 
 ghost use Rattle.std.specs.Prelude.{◌≡◌, ℕ, ◌+◌, ◌==◌, ◌≤◌, length, drop, IfOk, MatchOption, OnOk, ◌++◌};
 ghost use Rattle.std.specs.List.{flat_map};
-ghost use Rattle.framing.specs.Frames.{AreWithinLimit, HasFrame, frame, frames_of, has_frame, length_at};
+ghost use Rattle.framing.specs.Frames.{AreWithinLimit, HasFrame, after_frame, frame, frames_of, has_frame, length_at, partial};
 ghost use Rattle.riemann_client.specs.Requests.{AnswersIfSent, HasAnswered, IsAsSent};
 
 use ev_types::{Blob, Items, Memory};
@@ -119,6 +119,42 @@ pub fn has_request(frames: &[u8]) -> bool
     first_frame_len(frames).is_some()
 }
 
+/// What frames that are sent come to.
+#[derive(Clone, Copy, Debug, PartialEq, Eq)]
+pub struct Counted {
+    /// How many requests there are.
+    pub requests: usize,
+    /// How many bytes come after the last one.
+    pub left: usize,
+}
+
+/// Counts the requests whose frames these are.
+#[tactic(auto, using(crate::proofs::RequestLaws::one_less))]
+pub fn count_requests(frames: &[u8]) -> Counted
+    ensures requests { result.requests ≡ length (frames_of frames.now) }
+    ensures left { result.left ≡ length (partial frames.now) }
+{
+    let mut rest = frames;
+    let mut requests = 0;
+    'frames: while let Some(next) = after_first(rest) {
+        rest = next;
+        requests += 1;
+    }
+    Counted {
+        requests,
+        left: rest.len(),
+    }
+}
+
+/// What follows the first frame, if that frame is whole and its body within the limit.
+fn after_first(bytes: &[u8]) -> Option<&[u8]>
+    ensures { MatchOption result (HasFrame bytes.now → ⊥)
+        (λ rest. HasFrame bytes.now × (rest.now ≡ after_frame bytes.now)) }
+{
+    let length = first_frame_len(bytes)?;
+    Some(&bytes[length..])
+}
+
 /// The frames of the bodies, one after another.
 pub(crate) fn frame_all(alloc: Global, bodies: &[Blob]) -> Result<Blob, Memory>
     requires { AreWithinLimit bodies.now }
@@ -131,8 +167,8 @@ pub(crate) fn frame_all(alloc: Global, bodies: &[Blob]) -> Result<Blob, Memory>
     Ok(frames)
 }
 
-/// Appends the frame of a body.
-fn put_frame(alloc: Global, body: &[u8], frames: &mut Blob) -> Result<(), Memory>
+/// Appends the frame of a body, which has at most [`BODY_LIMIT`] bytes.
+pub fn put_frame(alloc: Global, body: &[u8], frames: &mut Blob) -> Result<(), Memory>
     requires { length body.now ≤ BODY_LIMIT }
     ensures { OnOk result (frames.new ≡ frames.old ++ frame body.now) }
 {

@@ -1,14 +1,12 @@
-use Rattle.std.proofs.Common.{sym, subst}
-use Rattle.riemann_client.specs.Client.{IsUnclosed, link_of}
-use Rattle.riemann_client.proofs.KnownLaws.{known_after_turn}
+use Rattle.riemann_client.specs.Turning.{TurnsFrom}
+use Rattle.riemann_client.proofs.SendLaws.{makes_weaken}
+use Rattle.riemann_client.proofs.TurnLaws.{turn_noted}
 use Rattle.riemann_client.proofs.client.Client.turn.Goals as goal
 
-pub send_requests-requires : goal.send_requests-requires
-send_requests-requires g c =
-    subst (IsUnclosed (g.L.Links.report c.args.links.now).log) (sym c.hear.ensures.link)
-    (known_after_turn (g.L.Links.report c.args.links.now).log c.args.turn (link_of c.args.self.now) c.requires.answered c.requires.known)
-
-pub close-requires : goal.close-requires
-close-requires g c =
-    subst (IsUnclosed (g.L.Links.report c.args.links.now).log) (sym c.hear.ensures.link)
-    (known_after_turn (g.L.Links.report c.args.links.now).log c.args.turn (link_of c.args.self.now) c.requires.answered c.requires.known)
+pub returns-clause-turns : goal.returns-clause-turns
+returns-clause-turns g c =
+    makes_weaken (g.L.Links.report c.args.links.now) (g.L.Links.report c.take_turn-progress.new.links)
+    (TurnsFrom c.args.turn c.args.piece.now c.args.self.now c.take_turn-progress.new.self c.take_turn-progress.result)
+    (TurnsFrom c.args.turn c.args.piece.now c.args.self.now (record c.take_turn-progress.new.self { ended = c.is_last-self.result }) c.take_turn-progress.result)
+    (turn_noted c.args.self.now c.take_turn-progress.new.self c.args.turn c.args.piece.now c.is_last-self.result c.take_turn-progress.result)
+    c.take_turn-progress.ensures.turns

@@ -1,4 +1,4 @@
-use Rattle.std.proofs.Common.{◌≡◌, length, min, ap, arith, length-drop}
+use Rattle.std.proofs.Common.{◌≡◌, length, ap, arith, length-drop}
 use Rattle.riemann_client.specs.Requests.{Requested}
 use Rattle.riemann_client.proofs.RequestLaws.{answered_stays, kept_at}
 use Rattle.riemann_client.proofs.requests.Requests.advance.Goals as goal
