@@ -7,3 +7,5 @@ mod disks;
 mod formats;
 #[cfg(test)]
 mod journals;
+#[cfg(test)]
+mod recorded;

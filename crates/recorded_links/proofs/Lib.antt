@@ -1,0 +1,4 @@
+pub mod MarkLemmas
+pub mod SendLaws
+pub mod KeepLaws
+pub mod StepLaws

@@ -1,0 +1,5 @@
+pub mod Marks
+pub mod Sending
+pub mod Numbers
+pub mod Keeping
+pub mod Steps

@@ -1,0 +1,13 @@
+//! Links whose turns are recorded in a journal before they are handed out.
+#![tactic(auto)]
+
+mod ask;
+mod call_log;
+mod links;
+mod recorder;
+mod sends;
+
+pub use call_log::CallLog;
+pub use links::RecordedLinks;
+pub use recorder::TurnRecorder;
+pub use sends::Sends;

@@ -1,0 +1,387 @@
+ghost use Rattle.std.specs.Prelude.{◌≡◌, ◌≢◌, ℕ, List, ◌+◌, ◌<◌, ◌≤◌, [], ◌∷◌, ◌++◌, None, false, true, length, take, IfOk, OnOk};
+ghost use Rattle.std.specs.Option.{ForSome};
+ghost use Rattle.journal_format.specs.Limits.{config_limit, journal_limit, step_limit};
+ghost use Rattle.ports.specs.Calls.{AddsCalls};
+ghost use Rattle.ports.specs.Links.{HasListenCause, HasNextCause, IsPieceWithin, IsWithin, MayClose, listen_entries, next_entries, piece_of, send_entries};
+ghost use Rattle.ports.specs.declared.entry.Entry.TheVariants.{Close};
+ghost use Rattle.recorded_links.specs.Keeping.{FailedIf, is_lost, is_lost_listen};
+ghost use Rattle.recorded_links.specs.Numbers.{Knows, first_after};
+ghost use Rattle.recorded_links.specs.Steps.{CloseStep, ListenStep, NextStep, SendStep, own_report, seen};
+ghost use Rattle.turn_journal.specs.Beginning.{StandsBlank};
+
+use crate::ask::{ask, inner_number, offer};
+use crate::call_log::CallLog;
+use crate::recorder::TurnRecorder;
+use disk_port::Disk;
+use ev_types::{Memory, Text};
+use journal_format::{JOURNAL_LIMIT, STEP_LIMIT};
+use ports::{Links, ListenAnswer, PIECE_LIMIT, SendAnswer, Turn, Wants, What};
+use std::alloc::Global;
+use turn_journal::{JournalFault, JournalFile};
+
+/// Links that are lent, and whose answers to `listen` and `next` are recorded in a journal before they are handed out.
+/// Contracts see what calls were made of both, and whether these links may still be used.
+#[derive(Drop)]
+pub struct RecordedLinks<'a, L: Links, D: Disk> {
+    pub inner: &'a mut L,
+    pub recorder: TurnRecorder<'a, D>,
+    /// The number before that of number 0 of the inner links here, if that is not 0.
+    pub last: Option<u64>,
+    /// Whether each later call of `listen` and `next` answers out of memory: memory ran out, or the disk failed.
+    pub spent: bool,
+    /// Whether the disk failed in the last call.
+    pub disk_failed: bool,
+    /// The calls so far, which only proofs see.
+    pub log: CallLog,
+    // room for what is wanted of the inner links
+    wants: Wants,
+    ghost sound: { spent ≡ false → recorder.journal.failed ≡ false },
+    ghost room: { recorder.journal.has_record ≡ false →
+        recorder.journal.gate + step_limit < journal_limit },
+    ghost knows: { Knows (first_after last) log (L.report inner.now).log },
+}
+
+impl<'a, L: Links, D: Disk> RecordedLinks<'a, L, D> {
+    /// Links that record in this journal. It takes no memory.
+    pub fn over(
+        alloc: Global,
+        inner: &'a mut L,
+        journal: JournalFile<'a, D>,
+        last: Option<u64>,
+    ) -> RecordedLinks<'a, L, D>
+        requires sound { journal.failed ≡ false }
+        requires room { journal.has_record ≡ false → journal.gate + step_limit < journal_limit }
+        ensures inner { result.inner.now ≡ inner.entry.now }
+        ensures inner_same { result.inner.ghost_name ≡ inner.entry.ghost_name }
+        ensures journal { result.recorder.journal ≡ journal.entry }
+        ensures sends { result.recorder.sends.summaries.items ≡ [] }
+        ensures last { result.last ≡ last }
+        ensures ready { result.spent ≡ false }
+        ensures quiet { result.disk_failed ≡ false }
+        ensures log { result.log ≡ [] }
+    {
+        RecordedLinks {
+            inner,
+            recorder: TurnRecorder::over(alloc, journal),
+            last,
+            spent: false,
+            disk_failed: false,
+            log: CallLog::fresh(),
+            wants: Wants::fresh(alloc),
+        }
+    }
+
+    /// Begins a journal of this configuration in the disk's file, in which the links record. What is known after an error
+    /// [`turn_journal::begin_on`] says.
+    pub fn record(
+        alloc: Global,
+        inner: &'a mut L,
+        disk: &'a mut D,
+        config: &[u8],
+    ) -> Result<RecordedLinks<'a, L, D>, JournalFault>
+        requires { length config.now ≤ config_limit }
+        ensures begun { IfOk result (λ links. ForSome (D.report disk.entry.now).past (λ _.
+            StandsBlank config.now (record {
+              gate = links.recorder.journal.gate;
+              has_record = links.recorder.journal.has_record;
+            }) (D.report links.recorder.journal.disk.now).past)) }
+        ensures unbegun { IfOk result (λ links. links.recorder.journal.has_record ≡ false) }
+        ensures inner { IfOk result (λ links. links.inner.now ≡ inner.entry.now) }
+        ensures inner_same { IfOk result (λ links.
+            links.inner.ghost_name ≡ inner.entry.ghost_name) }
+        ensures disk_same { IfOk result (λ links.
+            links.recorder.journal.disk.ghost_name ≡ disk.entry.ghost_name) }
+        ensures no_fault { IfOk result (λ links.
+            (D.report links.recorder.journal.disk.now).faults
+            ≡ (D.report disk.entry.now).faults) }
+        ensures opened { IfOk result (λ links.
+            (D.report links.recorder.journal.disk.now).opened
+            ≡ (D.report disk.entry.now).opened) }
+        ensures sends { IfOk result (λ links. links.recorder.sends.summaries.items ≡ []) }
+        ensures last { IfOk result (λ links. links.last ≡ None) }
+        ensures ready { IfOk result (λ links. links.spent ≡ false) }
+        ensures log { IfOk result (λ links. links.log ≡ []) }
+    {
+        match JournalFile::begin(alloc, disk, config) {
+            Ok(journal) => {
+                let links = RecordedLinks::over(alloc, inner, journal, None);
+                Ok(links)
+            }
+            Err(fault) => Err(fault),
+        }
+    }
+}
+
+impl<'a, L: Links, D: Disk> Links for RecordedLinks<'a, L, D> {
+    ghost report = { λ links. own_report links.log (L.report links.inner.now)
+        (D.report links.recorder.journal.disk.now) };
+
+    fn listen(&mut self, alloc: Global, address: &Text) -> ListenAnswer
+        ensures adds { AddsCalls
+            (own_report self.old.log (L.report self.old.inner.now)
+            (D.report self.old.recorder.journal.disk.now))
+            (own_report self.new.log (L.report self.new.inner.now)
+            (D.report self.new.recorder.journal.disk.now))
+            (listen_entries address.now result) }
+        ensures cause { HasListenCause
+            (own_report self.old.log (L.report self.old.inner.now)
+            (D.report self.old.recorder.journal.disk.now)).faults
+            (own_report self.new.log (L.report self.new.inner.now)
+            (D.report self.new.recorder.journal.disk.now)).faults result }
+
+        // More than links must report: what the inner links were asked, and what the journal got before the answer.
+        ensures step { ListenStep
+            (seen (L.report self.old.inner.now) (first_after self.old.last)
+            (D.report self.old.recorder.journal.disk.now) self.old.recorder.journal.gate
+            self.old.recorder.journal.has_record self.old.recorder.sends.summaries.items
+            self.old.spent)
+            (seen (L.report self.new.inner.now) (first_after self.new.last)
+            (D.report self.new.recorder.journal.disk.now) self.new.recorder.journal.gate
+            self.new.recorder.journal.has_record self.new.recorder.sends.summaries.items
+            self.new.spent)
+            address.now result }
+        ensures disk_failed { FailedIf self.new.disk_failed
+            (D.report self.old.recorder.journal.disk.now).faults
+            (D.report self.new.recorder.journal.disk.now).faults }
+        ensures log { self.new.log ≡ self.old.log ++ listen_entries address.now result }
+        ensures memory { result ≡ ListenAnswer.Memory → self.new.spent ≡ true }
+        ensures fault { self.new.disk_failed ≡ true → self.new.spent ≡ true }
+        ensures opened { (D.report self.new.recorder.journal.disk.now).opened
+            ≡ (D.report self.old.recorder.journal.disk.now).opened }
+        ensures last { self.new.last ≡ self.old.last }
+        ensures inner_same { self.new.inner.ghost_name ≡ self.old.inner.ghost_name }
+        ensures disk_same { self.new.recorder.journal.disk.ghost_name
+            ≡ self.old.recorder.journal.disk.ghost_name }
+    {
+        self.disk_failed = false;
+        if self.spent || self.recorder.journal.has_record {
+            self.spent = true;
+            return ListenAnswer::Memory;
+        }
+        self.spent = true;
+        let asked = self.inner.listen(alloc, address);
+        let answer = self.recorder.keep_listen(alloc, asked);
+        self.disk_failed = is_lost_listen(asked, answer);
+        let ended = self.disk_failed || answer == ListenAnswer::Memory;
+        self.spent = ended || self.recorder.journal.failed;
+        log_listen(&mut self.log, address, answer);
+        answer
+    }
+
+    fn next(&mut self, alloc: Global, wants: &Wants, buf: &mut [u8]) -> Turn
+        requires { length buf.old ≡ PIECE_LIMIT }
+        ensures within { IsPieceWithin PIECE_LIMIT result.what }
+        ensures adds { AddsCalls
+            (own_report self.old.log (L.report self.old.inner.now)
+            (D.report self.old.recorder.journal.disk.now))
+            (own_report self.new.log (L.report self.new.inner.now)
+            (D.report self.new.recorder.journal.disk.now))
+            (next_entries wants.now buf.new result) }
+        ensures cause { HasNextCause
+            (own_report self.old.log (L.report self.old.inner.now)
+            (D.report self.old.recorder.journal.disk.now)).faults
+            (own_report self.new.log (L.report self.new.inner.now)
+            (D.report self.new.recorder.journal.disk.now)).faults result.what }
+
+        // More than links must report: what the inner links were asked, and what the journal got before the turn was
+        // handed out.
+        ensures step { NextStep
+            (seen (L.report self.old.inner.now) (first_after self.old.last)
+            (D.report self.old.recorder.journal.disk.now) self.old.recorder.journal.gate
+            self.old.recorder.journal.has_record self.old.recorder.sends.summaries.items
+            self.old.spent)
+            (seen (L.report self.new.inner.now) (first_after self.new.last)
+            (D.report self.new.recorder.journal.disk.now) self.new.recorder.journal.gate
+            self.new.recorder.journal.has_record self.new.recorder.sends.summaries.items
+            self.new.spent)
+            wants.now buf.new result }
+        ensures disk_failed { FailedIf self.new.disk_failed
+            (D.report self.old.recorder.journal.disk.now).faults
+            (D.report self.new.recorder.journal.disk.now).faults }
+        ensures log { self.new.log ≡ self.old.log ++ next_entries wants.now buf.new result }
+        ensures memory { result.what ≡ What.Memory → self.new.spent ≡ true }
+        ensures fault { self.new.disk_failed ≡ true → self.new.spent ≡ true }
+        ensures opened { (D.report self.new.recorder.journal.disk.now).opened
+            ≡ (D.report self.old.recorder.journal.disk.now).opened }
+        ensures last { self.new.last ≡ self.old.last }
+        ensures inner_same { self.new.inner.ghost_name ≡ self.old.inner.ghost_name }
+        ensures disk_same { self.new.recorder.journal.disk.ghost_name
+            ≡ self.old.recorder.journal.disk.ghost_name }
+    {
+        self.disk_failed = false;
+        if self.spent || !self.recorder.journal.has_record {
+            self.spent = true;
+            return Turn {
+                secs: 0,
+                what: What::Memory,
+            };
+        }
+        if !has_room(self.recorder.journal.gate) {
+            let turn = Turn {
+                secs: 0,
+                what: What::Stopped,
+            };
+            log_turn(&mut self.log, wants, turn, buf);
+            return turn;
+        }
+        self.spent = true;
+        let asked = ask(alloc, self.inner, self.last, &mut self.wants, wants, buf);
+        let count = count_read(asked.what);
+        let turn = self.recorder.keep_turn(alloc, asked, &buf[..count]);
+        self.disk_failed = is_lost(asked.what, turn.what);
+        let ended = self.disk_failed || turn.what == What::Memory;
+        self.spent = ended || self.recorder.journal.failed;
+        log_turn(&mut self.log, wants, turn, buf);
+        turn
+    }
+
+    fn send(&mut self, alloc: Global, link: u64, bytes: &[u8]) -> SendAnswer
+        requires { 0 < length bytes.now }
+        ensures within { IsWithin (length bytes.now) result }
+        ensures adds { AddsCalls
+            (own_report self.old.log (L.report self.old.inner.now)
+            (D.report self.old.recorder.journal.disk.now))
+            (own_report self.new.log (L.report self.new.inner.now)
+            (D.report self.new.recorder.journal.disk.now))
+            (send_entries link bytes.now result) }
+        ensures no_fault { (own_report self.new.log (L.report self.new.inner.now)
+            (D.report self.new.recorder.journal.disk.now)).faults
+            ≡ (own_report self.old.log (L.report self.old.inner.now)
+            (D.report self.old.recorder.journal.disk.now)).faults }
+
+        // More than links must report: whether the inner links were asked, and what is noted for the next record.
+        ensures step { result ≢ SendAnswer.Memory → SendStep
+            (seen (L.report self.old.inner.now) (first_after self.old.last)
+            (D.report self.old.recorder.journal.disk.now) self.old.recorder.journal.gate
+            self.old.recorder.journal.has_record self.old.recorder.sends.summaries.items
+            self.old.spent)
+            (seen (L.report self.new.inner.now) (first_after self.new.last)
+            (D.report self.new.recorder.journal.disk.now) self.new.recorder.journal.gate
+            self.new.recorder.journal.has_record self.new.recorder.sends.summaries.items
+            self.new.spent)
+            link bytes.now result }
+        ensures spent { result ≡ SendAnswer.Memory → self.new.spent ≡ true }
+        ensures disk_failed { self.new.disk_failed ≡ false }
+        ensures log { self.new.log ≡ self.old.log ++ send_entries link bytes.now result }
+        ensures opened { (D.report self.new.recorder.journal.disk.now).opened
+            ≡ (D.report self.old.recorder.journal.disk.now).opened }
+        ensures last { self.new.last ≡ self.old.last }
+        ensures inner_same { self.new.inner.ghost_name ≡ self.old.inner.ghost_name }
+        ensures disk_same { self.new.recorder.journal.disk.ghost_name
+            ≡ self.old.recorder.journal.disk.ghost_name }
+    {
+        self.disk_failed = false;
+        if self.recorder.sends.reserve().is_err() {
+            self.spent = true;
+            return SendAnswer::Memory;
+        }
+        let sends = &self.recorder.sends;
+        let answer = offer(alloc, self.inner, self.last, sends, link, bytes);
+        self.recorder.sends.note(link, answer);
+        log_send(&mut self.log, link, bytes, answer);
+        if answer == SendAnswer::Memory {
+            self.spent = true;
+        }
+        answer
+    }
+
+    fn close(&mut self, link: u64)
+        requires { MayClose (own_report self.old.log (L.report self.old.inner.now)
+            (D.report self.old.recorder.journal.disk.now)).log link }
+        ensures adds { AddsCalls
+            (own_report self.old.log (L.report self.old.inner.now)
+            (D.report self.old.recorder.journal.disk.now))
+            (own_report self.new.log (L.report self.new.inner.now)
+            (D.report self.new.recorder.journal.disk.now))
+            (Close link ∷ []) }
+        ensures no_fault { (own_report self.new.log (L.report self.new.inner.now)
+            (D.report self.new.recorder.journal.disk.now)).faults
+            ≡ (own_report self.old.log (L.report self.old.inner.now)
+            (D.report self.old.recorder.journal.disk.now)).faults }
+
+        // More than links must report: whether the inner link was closed.
+        ensures step { CloseStep
+            (seen (L.report self.old.inner.now) (first_after self.old.last)
+            (D.report self.old.recorder.journal.disk.now) self.old.recorder.journal.gate
+            self.old.recorder.journal.has_record self.old.recorder.sends.summaries.items
+            self.old.spent)
+            (seen (L.report self.new.inner.now) (first_after self.new.last)
+            (D.report self.new.recorder.journal.disk.now) self.new.recorder.journal.gate
+            self.new.recorder.journal.has_record self.new.recorder.sends.summaries.items
+            self.new.spent) link }
+        ensures disk_failed { self.new.disk_failed ≡ false }
+        ensures log { self.new.log ≡ self.old.log ++ Close link ∷ [] }
+        ensures opened { (D.report self.new.recorder.journal.disk.now).opened
+            ≡ (D.report self.old.recorder.journal.disk.now).opened }
+        ensures last { self.new.last ≡ self.old.last }
+        ensures inner_same { self.new.inner.ghost_name ≡ self.old.inner.ghost_name }
+        ensures disk_same { self.new.recorder.journal.disk.ghost_name
+            ≡ self.old.recorder.journal.disk.ghost_name }
+    {
+        self.disk_failed = false;
+        self.log.closed(link);
+        if let Some(number) = inner_number(self.last, link) {
+            self.inner.close(number);
+        }
+    }
+}
+
+/// Whether the journal with its closed gate there has room for one record more.
+fn has_room(gate: u64) -> bool
+    ensures room { result ≡ true → gate + step_limit < journal_limit }
+    ensures full { result ≡ false → journal_limit < gate + 1 + step_limit }
+{
+    gate < (JOURNAL_LIMIT - STEP_LIMIT) as u64
+}
+
+/// The number of bytes that came in a turn.
+fn count_read(what: What) -> usize
+    ensures within { IsPieceWithin PIECE_LIMIT what → result ≤ PIECE_LIMIT }
+    ensures piece { (buf : List ℕ) → take result buf ≡ piece_of what buf }
+{
+    match what {
+        What::Read { link: _, count } => count,
+        _ => 0,
+    }
+}
+
+fn log_listen(log: &mut CallLog, address: &Text, answer: ListenAnswer)
+    ensures { log.new ≡ log.old ++ listen_entries address.now answer }
+{
+    if answer != ListenAnswer::Memory {
+        log.listened(address, answer);
+    }
+}
+
+/// Logs a turn, with the bytes of a read, but for one of which memory ran out.
+fn log_turn(log: &mut CallLog, wants: &Wants, turn: Turn, buf: &[u8])
+    requires whole { length buf.now ≡ PIECE_LIMIT }
+    requires within { IsPieceWithin PIECE_LIMIT turn.what }
+    ensures { log.new ≡ log.old ++ next_entries wants.now buf.now turn }
+{
+    if turn.what != What::Memory {
+        log.turned(wants, turn, &buf[..count_read(turn.what)]);
+    }
+}
+
+fn log_send(log: &mut CallLog, link: u64, bytes: &[u8], answer: SendAnswer)
+    ensures { log.new ≡ log.old ++ send_entries link bytes.now answer }
+{
+    if answer != SendAnswer::Memory {
+        log.sent(link, bytes, answer);
+    }
+}
+
+/// Whether a turn of the inner links was lost by a disk that failed.
+fn is_lost(asked: What, handed: What) -> bool
+    ensures { result ≡ is_lost asked handed }
+{
+    asked != What::Failed && handed == What::Failed
+}
+
+/// The same of an answer to `listen`.
+fn is_lost_listen(asked: ListenAnswer, handed: ListenAnswer) -> bool
+    ensures { result ≡ is_lost_listen asked handed }
+{
+    matches!(asked, ListenAnswer::Ready { .. }) && handed == ListenAnswer::Failed
+}

@@ -1,0 +1,302 @@
+//! A record is added to the journal before what it is of is handed out.
+
+ghost use Rattle.std.specs.Prelude.{◌≡◌, ℕ, ◌+◌, ◌<◌, ◌≤◌, [], Err, false, true, is_ok, length, OnErr, OnOk};
+ghost use Rattle.disk_port.specs.Calls.{HasCause};
+ghost use Rattle.journal_format.specs.Limits.{journal_limit, step_limit};
+ghost use Rattle.journal_format.specs.Spelling.{IsWord, record_bytes};
+ghost use Rattle.recorded_links.specs.Keeping.{AddsRecord, FailedIf, HandsListen, HandsOut, HasPiece, IsTurn, entry_of, is_lost, is_lost_listen, is_ready, is_recorded, kept_of, listen_entry};
+ghost use Rattle.turn_journal.specs.Standing.{IsNext};
+
+use crate::sends::Sends;
+use disk_port::{Disk, DiskError};
+use ev_types::Memory;
+use journal_format::{TurnEvent, push_read_turn, push_turn};
+use ports::{ListenAnswer, Turn, What};
+use std::alloc::Global;
+use turn_journal::JournalFile;
+
+/// A journal, and the sends that its next record is to have.
+#[derive(Drop)]
+pub struct TurnRecorder<'a, D: Disk> {
+    pub journal: JournalFile<'a, D>,
+    pub sends: Sends,
+    // the record that is added
+    bytes: Vec<u8>,
+}
+
+impl<'a, D: Disk> TurnRecorder<'a, D> {
+    /// The recorder of turns in this journal, before any send. It takes no memory.
+    pub(crate) fn over(alloc: Global, journal: JournalFile<'a, D>) -> TurnRecorder<'a, D>
+        ensures journal { result.journal ≡ journal.entry }
+        ensures sends { result.sends.summaries.items ≡ [] }
+    {
+        TurnRecorder {
+            journal,
+            sends: Sends::fresh(alloc),
+            bytes: Vec::new(alloc),
+        }
+    }
+
+    /// Adds the record of a turn of the inner links, with the bytes of a read, and gives what is handed out.
+    pub(crate) fn keep_turn(&mut self, alloc: Global, asked: Turn, piece: &[u8]) -> Turn
+        requires piece { HasPiece asked.what piece.now }
+        requires begun { self.old.journal.has_record ≡ true }
+        requires room { self.old.journal.gate + step_limit < journal_limit }
+        requires sound { self.old.journal.failed ≡ false }
+        ensures hands { HandsOut asked.what asked result }
+        ensures records { is_recorded asked.what ≡ true →
+            AddsRecord (record_bytes (entry_of self.old.sends.summaries.items asked piece.now))
+            (is_recorded result.what)
+            (kept_of (D.report self.old.journal.disk.now).past self.old.journal.gate
+            self.old.journal.has_record)
+            (kept_of (D.report self.new.journal.disk.now).past self.new.journal.gate
+            self.new.journal.has_record) }
+        ensures other { is_recorded asked.what ≡ false →
+            kept_of (D.report self.new.journal.disk.now).past self.new.journal.gate
+            self.new.journal.has_record
+            ≡ kept_of (D.report self.old.journal.disk.now).past self.old.journal.gate
+            self.old.journal.has_record }
+        ensures faults { FailedIf (is_lost asked.what result.what)
+            (D.report self.old.journal.disk.now).faults
+            (D.report self.new.journal.disk.now).faults }
+        ensures cleared { is_recorded result.what ≡ true → self.new.sends.summaries.items ≡ [] }
+        ensures uncleared { is_recorded result.what ≡ false →
+            self.new.sends.summaries.items ≡ self.old.sends.summaries.items }
+        ensures begun { self.new.journal.has_record ≡ true }
+        ensures opened { (D.report self.new.journal.disk.now).opened
+            ≡ (D.report self.old.journal.disk.now).opened }
+        ensures same { self.new.journal.disk.ghost_name ≡ self.old.journal.disk.ghost_name }
+    {
+        if !is_recorded(asked.what) {
+            return unrecorded(asked);
+        }
+        let added = self.add_turn(alloc, asked, piece);
+        handed_out(asked, added)
+    }
+
+    /// Adds the record of a turn.
+    fn add_turn(&mut self, alloc: Global, turn: Turn, piece: &[u8]) -> Result<(), DiskError>
+        requires piece { HasPiece turn.what piece.now }
+        requires begun { self.old.journal.has_record ≡ true }
+        requires room { self.old.journal.gate + step_limit < journal_limit }
+        requires sound { self.old.journal.failed ≡ false }
+        ensures records { AddsRecord
+            (record_bytes (entry_of self.old.sends.summaries.items turn piece.now)) (is_ok result)
+            (kept_of (D.report self.old.journal.disk.now).past self.old.journal.gate
+            self.old.journal.has_record)
+            (kept_of (D.report self.new.journal.disk.now).past self.new.journal.gate
+            self.new.journal.has_record) }
+        ensures cause { HasCause (D.report self.old.journal.disk.now).faults
+            (D.report self.new.journal.disk.now).faults result }
+        ensures ok { OnOk result (self.new.sends.summaries.items ≡ []) }
+        ensures err { OnErr result
+            (self.new.sends.summaries.items ≡ self.old.sends.summaries.items) }
+        ensures begun { self.new.journal.has_record ≡ true }
+        ensures opened { (D.report self.new.journal.disk.now).opened
+            ≡ (D.report self.old.journal.disk.now).opened }
+        ensures same { self.new.journal.disk.ghost_name ≡ self.old.journal.disk.ghost_name }
+    {
+        match fill_turn(alloc, &mut self.bytes, &self.sends, turn, piece) {
+            Ok(()) => self.add(alloc),
+            Err(_) => Err(DiskError::Memory),
+        }
+    }
+
+    /// Adds the record that was made ready, and forgets the sends before it.
+    fn add(&mut self, alloc: Global) -> Result<(), DiskError>
+        requires next { IsNext self.old.journal.has_record self.old.bytes.items }
+        requires short { length self.old.bytes.items + 1 ≤ step_limit }
+        requires room { self.old.journal.gate + step_limit < journal_limit }
+        requires sound { self.old.journal.failed ≡ false }
+        ensures records { AddsRecord self.old.bytes.items (is_ok result)
+            (kept_of (D.report self.old.journal.disk.now).past self.old.journal.gate
+            self.old.journal.has_record)
+            (kept_of (D.report self.new.journal.disk.now).past self.new.journal.gate
+            self.new.journal.has_record) }
+        ensures cause { HasCause (D.report self.old.journal.disk.now).faults
+            (D.report self.new.journal.disk.now).faults result }
+        ensures ok { OnOk result (self.new.sends.summaries.items ≡ []) }
+        ensures err { OnErr result
+            (self.new.sends.summaries.items ≡ self.old.sends.summaries.items) }
+        ensures begun { OnOk result (self.new.journal.has_record ≡ true) }
+        ensures unbegun { OnErr result
+            (self.new.journal.has_record ≡ self.old.journal.has_record) }
+        ensures gate { OnErr result (self.new.journal.gate ≡ self.old.journal.gate) }
+        ensures opened { (D.report self.new.journal.disk.now).opened
+            ≡ (D.report self.old.journal.disk.now).opened }
+        ensures same { self.new.journal.disk.ghost_name ≡ self.old.journal.disk.ghost_name }
+    {
+        match self.journal.append(alloc, self.bytes.as_slice()) {
+            Ok(()) => {
+                self.sends.clear();
+                Ok(())
+            }
+            Err(error) => Err(error),
+        }
+    }
+
+    /// Adds the record of an answer to `listen`, and gives what is handed out.
+    pub(crate) fn keep_listen(&mut self, alloc: Global, asked: ListenAnswer) -> ListenAnswer
+        requires unbegun { self.old.journal.has_record ≡ false }
+        requires room { self.old.journal.gate + step_limit < journal_limit }
+        requires sound { self.old.journal.failed ≡ false }
+        ensures hands { HandsListen asked result }
+        ensures records { (secs : ℕ) → asked ≡ ListenAnswer.Ready secs →
+            AddsRecord (record_bytes (listen_entry self.old.sends.summaries.items secs))
+            (is_ready result)
+            (kept_of (D.report self.old.journal.disk.now).past self.old.journal.gate
+            self.old.journal.has_record)
+            (kept_of (D.report self.new.journal.disk.now).past self.new.journal.gate
+            self.new.journal.has_record) }
+        ensures other { is_ready asked ≡ false →
+            kept_of (D.report self.new.journal.disk.now).past self.new.journal.gate
+            self.new.journal.has_record
+            ≡ kept_of (D.report self.old.journal.disk.now).past self.old.journal.gate
+            self.old.journal.has_record }
+        ensures faults { FailedIf (is_lost_listen asked result)
+            (D.report self.old.journal.disk.now).faults
+            (D.report self.new.journal.disk.now).faults }
+        ensures cleared { is_ready result ≡ true → self.new.sends.summaries.items ≡ [] }
+        ensures uncleared { is_ready result ≡ false →
+            self.new.sends.summaries.items ≡ self.old.sends.summaries.items }
+        ensures begun { self.new.journal.has_record ≡ is_ready result }
+        ensures gate { is_ready result ≡ false →
+            self.new.journal.gate ≡ self.old.journal.gate }
+        ensures opened { (D.report self.new.journal.disk.now).opened
+            ≡ (D.report self.old.journal.disk.now).opened }
+        ensures same { self.new.journal.disk.ghost_name ≡ self.old.journal.disk.ghost_name }
+    {
+        match asked {
+            ListenAnswer::Ready { secs } => {
+                let added = self.add_listen(alloc, secs);
+                listened(secs, added)
+            }
+            ListenAnswer::Failed | ListenAnswer::Memory => asked,
+        }
+    }
+
+    /// Adds the record of a `listen` at that second.
+    fn add_listen(&mut self, alloc: Global, secs: u64) -> Result<(), DiskError>
+        requires unbegun { self.old.journal.has_record ≡ false }
+        requires room { self.old.journal.gate + step_limit < journal_limit }
+        requires sound { self.old.journal.failed ≡ false }
+        ensures records { AddsRecord
+            (record_bytes (listen_entry self.old.sends.summaries.items secs)) (is_ok result)
+            (kept_of (D.report self.old.journal.disk.now).past self.old.journal.gate
+            self.old.journal.has_record)
+            (kept_of (D.report self.new.journal.disk.now).past self.new.journal.gate
+            self.new.journal.has_record) }
+        ensures cause { HasCause (D.report self.old.journal.disk.now).faults
+            (D.report self.new.journal.disk.now).faults result }
+        ensures ok { OnOk result (self.new.sends.summaries.items ≡ []) }
+        ensures err { OnErr result
+            (self.new.sends.summaries.items ≡ self.old.sends.summaries.items) }
+        ensures begun { self.new.journal.has_record ≡ is_ok result }
+        ensures gate { OnErr result (self.new.journal.gate ≡ self.old.journal.gate) }
+        ensures opened { (D.report self.new.journal.disk.now).opened
+            ≡ (D.report self.old.journal.disk.now).opened }
+        ensures same { self.new.journal.disk.ghost_name ≡ self.old.journal.disk.ghost_name }
+    {
+        match fill_listen(alloc, &mut self.bytes, &self.sends, secs) {
+            Ok(()) => self.add(alloc),
+            Err(_) => Err(DiskError::Memory),
+        }
+    }
+}
+
+/// Whether a turn is recorded.
+fn is_recorded(what: What) -> bool
+    ensures { result ≡ is_recorded what }
+{
+    !matches!(what, What::Stopped | What::Failed | What::Memory)
+}
+
+/// What is handed out of a turn that is not recorded.
+fn unrecorded(asked: Turn) -> Turn
+    ensures hands { is_recorded asked.what ≡ false → HandsOut asked.what asked result }
+    ensures what { result.what ≡ asked.what }
+{
+    match asked.what {
+        What::Stopped => Turn {
+            secs: 0,
+            what: What::Stopped,
+        },
+        _ => asked,
+    }
+}
+
+/// A turn whose record was added is handed out, and another one is lost.
+fn handed_out(turn: Turn, added: Result<(), DiskError>) -> Turn
+    ensures ok { OnOk added (result ≡ turn) }
+    ensures failed { added ≡ Err DiskError.Failed → result.what ≡ What.Failed }
+    ensures memory { added ≡ Err DiskError.Memory → result.what ≡ What.Memory }
+{
+    match added {
+        Ok(()) => turn,
+        Err(DiskError::Failed) => Turn {
+            secs: 0,
+            what: What::Failed,
+        },
+        Err(DiskError::Memory) => Turn {
+            secs: 0,
+            what: What::Memory,
+        },
+    }
+}
+
+/// The same of an answer to `listen` at that second.
+fn listened(secs: u64, added: Result<(), DiskError>) -> ListenAnswer
+    ensures ok { OnOk added (result ≡ ListenAnswer.Ready secs) }
+    ensures failed { added ≡ Err DiskError.Failed → result ≡ ListenAnswer.Failed }
+    ensures memory { added ≡ Err DiskError.Memory → result ≡ ListenAnswer.Memory }
+{
+    match added {
+        Ok(()) => ListenAnswer::Ready { secs },
+        Err(DiskError::Failed) => ListenAnswer::Failed,
+        Err(DiskError::Memory) => ListenAnswer::Memory,
+    }
+}
+
+/// Makes the record of a turn ready.
+fn fill_turn(
+    alloc: Global,
+    bytes: &mut Vec<u8>,
+    sends: &Sends,
+    turn: Turn,
+    piece: &[u8],
+) -> Result<(), Memory>
+    requires { HasPiece turn.what piece.now }
+    ensures bytes { OnOk result (bytes.new.items
+        ≡ record_bytes (entry_of sends.now.summaries.items turn piece.now)) }
+    ensures fits { IsTurn turn.what × IsWord turn.secs }
+{
+    bytes.clear();
+    let summaries = sends.summaries.as_slice();
+    let secs = turn.secs;
+    match turn.what {
+        What::Opened { link } => {
+            push_turn(alloc, bytes, summaries, secs, &TurnEvent::Opened { link })
+        }
+        What::Read { link, .. } => push_read_turn(alloc, bytes, summaries, secs, link, piece),
+        What::Ended { link } => {
+            push_turn(alloc, bytes, summaries, secs, &TurnEvent::Ended { link })
+        }
+        What::Broken { link } => {
+            push_turn(alloc, bytes, summaries, secs, &TurnEvent::Broken { link })
+        }
+        What::Room { link } => push_turn(alloc, bytes, summaries, secs, &TurnEvent::Room { link }),
+        What::Idle | What::Stopped | What::Failed | What::Memory => {
+            push_turn(alloc, bytes, summaries, secs, &TurnEvent::Idle)
+        }
+    }
+}
+
+/// Makes the record of a `listen` ready.
+fn fill_listen(alloc: Global, bytes: &mut Vec<u8>, sends: &Sends, secs: u64) -> Result<(), Memory>
+    ensures { OnOk result (bytes.new.items
+        ≡ record_bytes (listen_entry sends.now.summaries.items secs)) }
+{
+    bytes.clear();
+    let summaries = sends.summaries.as_slice();
+    push_turn(alloc, bytes, summaries, secs, &TurnEvent::Listen)
+}
