@@ -1,3 +1,4 @@
 pub mod TurnLemmas
 pub mod ReportLemmas
 pub mod SilenceLemmas
+pub mod DialLemmas

@@ -1,8 +1,10 @@
-//! Links to clients over TCP, and the system's clock, over `mio`.
+//! Links over TCP, to clients and to a server, and the system's clock, over `mio`.
 #![tactic(auto)]
 
 mod accept;
 mod client;
+mod dial;
+mod dial_links;
 mod fault;
 mod links;
 mod queue;
@@ -10,6 +12,8 @@ mod readings;
 mod sockets;
 
 pub use accept::{Refusal, refusal_of};
+pub use dial::Dial;
+pub use dial_links::DialLinks;
 pub use links::MioLinks;
 pub use readings::Readings;
 pub use sockets::Sockets;

@@ -204,7 +204,7 @@ fn longest_wait(readings: &Readings) -> u64
 }
 
 /// The reading of the system's clock, in seconds since 1970. A clock before 1970 reads 0.
-fn seconds<R: Clock>(rt: &R) -> u64 {
+pub(crate) fn seconds<R: Clock>(rt: &R) -> u64 {
     let Ok(now) = SystemTime::now(rt) else {
         return 0;
     };

@@ -395,7 +395,7 @@ fn bind<R: Net>(rt: &R, address: &str) -> io::Result<TcpListener> {
 }
 
 /// What the server waits for on the link. It waits for nothing on a link that it does not name.
-fn want_of(wants: &Wants, link: u64) -> Want {
+pub(crate) fn want_of(wants: &Wants, link: u64) -> Want {
     let wants = wants.as_slice();
     match wants.binary_search_by_key(&link, |want| want.link) {
         Ok(at) => Want {

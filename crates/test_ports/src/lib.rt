@@ -2,6 +2,8 @@
 #![tactic(auto)]
 
 #[cfg(test)]
+mod dial;
+#[cfg(test)]
 mod links;
 #[cfg(test)]
 mod load;

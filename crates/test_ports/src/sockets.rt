@@ -26,7 +26,7 @@ fn both(alloc: Global) -> Result<Wants, Memory> {
 }
 
 /// What the links answer when they are to listen on the address.
-fn listen_on<L: Links>(
+pub(crate) fn listen_on<L: Links>(
     alloc: Global,
     links: &mut L,
     address: &str,
@@ -78,7 +78,7 @@ pub(crate) fn next_turn<L: Links>(
 }
 
 /// Whether a send of these bytes is answered so.
-fn is_sent<L: Links>(
+pub(crate) fn is_sent<L: Links>(
     alloc: Global,
     links: &mut L,
     link: u64,
