@@ -9,3 +9,5 @@ mod formats;
 mod journals;
 #[cfg(test)]
 mod recorded;
+#[cfg(test)]
+mod replayed;
