@@ -1,4 +1,5 @@
 pub mod SetupLaws
+pub mod FaultLaws
 pub use Rattle.command_io.proofs.EndingLaws as CommandIoEndingLaws
 pub use Rattle.command_io.proofs.ReadLaws as CommandIoReadLaws
 pub use Rattle.command_io.proofs.Sinks as CommandIoSinks

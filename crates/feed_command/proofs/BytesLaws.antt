@@ -1,15 +1,21 @@
 -- What is known once bytes were fed, from what the run and the replies say.
-use Rattle.std.proofs.Common.{◌≡◌, ℕ, List, [], ◌∷◌, length, refl, inr, subst, arith}
+use Rattle.std.proofs.Common.{◌≡◌, ◌≢◌, ℕ, List, [], ◌∷◌, length, refl, inl, inr, subst, arith}
+use Rattle.std.specs.Prelude.{Result, Err}
 use Rattle.file_run.specs.command_io.Reports.{Reports}
 use Rattle.file_run.specs.command_io.declared.ending.Ending.{Ending}
 use Rattle.file_run.specs.command_io.declared.ending.Ending.TheVariants.{Finished, ConfigRefused, Unread, OverLimit, BytesLeft, WriteFailed, LinksFailed, ScriptRefused, OutOfMemory}
+use Rattle.command_setup.specs.Endings.{ending_of_fault}
 use Rattle.command_setup.specs.Setups.{run_report_of}
-use Rattle.file_run.specs.Runs.{RunsWhole}
+use Rattle.file_run.specs.Files.{IsAfterRun}
+use Rattle.file_run.specs.Runs.{RunsScript, RunsWhole}
 use Rattle.framing.specs.Frames.{partial}
 use Rattle.file_run.specs.hub_meaning.Runs.{state_after}
 use Rattle.file_run.specs.hub_run.Runs.{config_at}
 use Rattle.file_run.specs.hub_run.Taken.{steps_of}
+use Rattle.file_run.specs.hub_run.declared.fault.RunFault.{RunFault}
+use Rattle.file_run.specs.hub_run.declared.fault.RunFault.TheVariants as cause
 use Rattle.file_run.specs.hub_run.declared.setup.Setup.{Setup}
+use Rattle.ports.specs.Counts.{Rose}
 use Rattle.ports.specs.Pieces.{feed_script}
 use Rattle.ports.specs.Playing.{bytes_taken}
 use Rattle.ports.specs.Writing.{Got, GotPrefix}
@@ -45,6 +51,21 @@ fed_all answered setup bytes old new run Wrote whole quiet wrote =
       wrote = subst Wrote all wrote;
       all_lines = quiet;
     }
+
+-- a run that this fault cut off, which is not one of the links
+pub bytes_cut : {T : Type 0} (setup : Setup) (bytes : List ℕ) (old new : Reports) (run : List Entry) (ran : Result T RunFault) (fault : RunFault)
+    → ran ≡ Err fault → RunsScript setup (feed_script PIECE_LIMIT bytes) (run_report_of old old.err) (run_report_of new new.err) (Err fault) run
+    → new.out ≡ old.out → ran ≢ Err cause.Links → (ran ≡ Err cause.Sink → Rose old.err.faults new.err.faults)
+    → (ran ≢ Err cause.Sink → new.err.faults ≡ old.err.faults) → BytesEnd setup bytes old new (ending_of_fault fault)
+bytes_cut setup bytes old new run ran cause.Links is cut same works rose quiet = absurd (works is)
+bytes_cut setup bytes old new run ran cause.Sink is cut same works rose quiet = inl (record { run = run; ran = cut; no_reply = same }, rose is)
+bytes_cut setup bytes old new run ran cause.Memory is cut same works rose quiet =
+    inr (record { run = run; ran = cut; no_reply = same }, quiet (λ sink. cc))
+
+pub run_was_cut : {T : Type 0} (ran : Result T RunFault) (fault : RunFault) → ran ≡ Err fault → ran ≢ Err cause.Links → IsAfterRun (ending_of_fault fault)
+run_was_cut ran cause.Links is works = works is
+run_was_cut ran cause.Sink is works = tt
+run_was_cut ran cause.Memory is works = tt
 
 -- after a whole run the replies were written, or a prefix of them
 pub bytes_ended : FeedsAreAnswered → (setup : Setup) (bytes : List ℕ) (old new : Reports) (run : List Entry) (ending : Ending)

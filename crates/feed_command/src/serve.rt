@@ -11,9 +11,10 @@ ghost use Rattle.framing.specs.Frames.{partial};
 ghost use Rattle.ports.specs.Pieces.{feed_script};
 
 use crate::left::bytes_left;
+use command_setup::ending_of_fault;
 use ev_types::Blob;
 use file_run::command_io::{Ending, put_all};
-use file_run::hub_run::{RunFault, Setup};
+use file_run::hub_run::Setup;
 use file_run::run_script;
 use ports::{PIECE_LIMIT, ScriptLinks, Sink, feed_links};
 use pred_eval::Patterns;
@@ -81,9 +82,7 @@ fn serve_links<O: Sink, E: Sink, P: Patterns, G: Ledger>(
             feeds_are_answered();
             write_replies(links.taken(0).as_slice(), left, out)
         }
-        Err(RunFault::Sink) => Ending::WriteFailed,
-        Err(RunFault::Memory) => Ending::OutOfMemory,
-        Err(RunFault::Links) => Ending::LinksFailed,
+        Err(fault) => ending_of_fault(fault),
     }
 }
 

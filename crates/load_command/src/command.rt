@@ -10,8 +10,8 @@ ghost use Rattle.load_command.specs.Loads.{LoadEnds, Loads, RunEnds, WritesSumma
 use crate::play::{EVENT_LIMIT, play};
 use crate::summary::Summary;
 use command_setup::command_io::{Ending, Status, put_all, report};
-use command_setup::fetch_setup;
-use command_setup::hub_run::{RunFault, Setup};
+use command_setup::hub_run::Setup;
+use command_setup::{ending_of_fault, fetch_setup};
 use ev_types::Text;
 use ports::{Sink, Store};
 use pred_eval::Patterns;
@@ -110,9 +110,7 @@ fn run_load<O: Sink, P: Patterns, G: Ledger>(
 {
     match play(alloc, setup, count, start, patterns, steps) {
         Ok(summary) => write_summary(alloc, &summary, out),
-        Err(RunFault::Memory) => Ending::OutOfMemory,
-        Err(RunFault::Sink) => Ending::WriteFailed,
-        Err(RunFault::Links) => Ending::LinksFailed,
+        Err(fault) => ending_of_fault(fault),
     }
 }
 

@@ -12,9 +12,10 @@ ghost use Rattle.replay_command.specs.Replays.{PlayEnds};
 ghost use Rattle.replay_command.specs.Scripts.{IsScript, RefusesScript, RefusesText};
 ghost use Rattle.script_text.specs.Scripts.{script_of};
 
+use command_setup::ending_of_fault;
 use ev_types::Text;
 use file_run::command_io::Ending;
-use file_run::hub_run::{RunFault, Setup};
+use file_run::hub_run::Setup;
 use file_run::{read_other, run_script};
 use link_lines::{LineFault, write_link_lines};
 use ports::{ScriptLinks, Sink, Store};
@@ -81,9 +82,7 @@ pub(crate) fn play<O: Sink, P: Patterns, G: Ledger>(
 {
     match run_script(alloc, setup, &mut links, out, patterns, steps) {
         Ok(()) => write_links(alloc, &links, out),
-        Err(RunFault::Sink) => Ending::WriteFailed,
-        Err(RunFault::Memory) => Ending::OutOfMemory,
-        Err(RunFault::Links) => Ending::LinksFailed,
+        Err(fault) => ending_of_fault(fault),
     }
 }
 

@@ -20,6 +20,7 @@ use Rattle.command_setup.specs.command_io.Reports.{IsIdle, Reports as Reporting}
 use Rattle.command_setup.proofs.CommandIoReadLaws.{read_alone}
 use Rattle.command_setup.specs.command_io.Accepting.{RefusesSetup}
 use Rattle.command_setup.specs.Setups.{SetsUp}
+use Rattle.command_setup.proofs.FaultLaws.{cut_has_config, cut_not_complete, cut_refuses_nothing}
 use Rattle.command_setup.proofs.SetupLaws.{refused_for_memory, refused_rose}
 use Rattle.serve_command.specs.Serves.{RanOn, ServeEnds, ending_of_run}
 
@@ -37,9 +38,7 @@ served content turns setup old new (Err Memory) sets ran links_rose sink_rose li
 
 pub run_has_config : (ran : Result Hub RunFault) → HasNoConfig (ending_of_run ran) → ⊥
 run_has_config (Ok hub) refused = refused
-run_has_config (Err Links) refused = refused
-run_has_config (Err Sink) refused = refused
-run_has_config (Err Memory) refused = refused
+run_has_config (Err fault) refused = cut_has_config fault refused
 
 pub served_reads : (old new : Option (List StoreRead)) (name : List ℕ) (ran : Result Hub RunFault) → ReadMore (good_read name ∷ []) old new
     → ReadsFiles (name ∷ []) (IsReadOnce (ending_of_run ran)) old new (ending_of_run ran)
@@ -51,21 +50,15 @@ served_reads old new name (Err Memory) grew = read_alone _ old new name _ grew t
 -- a run that went to its last turn met no fault
 pub no_links_fault : (ran : Result Hub RunFault) → IsComplete (ending_of_run ran) → ran ≡ Err Links → ⊥
 no_links_fault (Ok hub) complete e = cc
-no_links_fault (Err Links) complete e = complete
-no_links_fault (Err Sink) complete e = complete
-no_links_fault (Err Memory) complete e = complete
+no_links_fault (Err fault) complete e = cut_not_complete fault complete
 
 pub no_sink_fault : (ran : Result Hub RunFault) → IsComplete (ending_of_run ran) → ran ≡ Err Sink → ⊥
 no_sink_fault (Ok hub) complete e = cc
-no_sink_fault (Err Links) complete e = complete
-no_sink_fault (Err Sink) complete e = complete
-no_sink_fault (Err Memory) complete e = complete
+no_sink_fault (Err fault) complete e = cut_not_complete fault complete
 
 pub run_refuses_nothing : (ran : Result Hub RunFault) → IsRefusal (status_of (ending_of_run ran)) → ⊥
 run_refuses_nothing (Ok hub) refused = refused
-run_refuses_nothing (Err Links) refused = refused
-run_refuses_nothing (Err Sink) refused = refused
-run_refuses_nothing (Err Memory) refused = refused
+run_refuses_nothing (Err fault) refused = cut_refuses_nothing fault refused
 
 -- ---- where there is no configuration
 

@@ -16,14 +16,13 @@ use Rattle.command_setup.specs.command_io.declared.status.Status.{Status}
 use Rattle.command_setup.specs.command_io.Endings.{HasNoConfig, IsComplete, IsDoneOrMemory, IsReadOnce, ReadsFiles, Says, status_of}
 use Rattle.command_setup.specs.command_io.Reports.{IsIdle, Reports}
 use Rattle.command_setup.specs.command_io.Accepting.{RefusesSetup}
+use Rattle.command_setup.specs.Endings.{ending_of_fault}
 use Rattle.command_setup.specs.Setups.{SetsUp, run_report_of}
 
 -- how it ends after such a run
 abbrev pub ending_of_run : Result Hub RunFault → Ending
 ending_of_run (Ok hub) = Finished
-ending_of_run (Err Links) = LinksFailed
-ending_of_run (Err Sink) = WriteFailed
-ending_of_run (Err Memory) = OutOfMemory
+ending_of_run (Err fault) = ending_of_fault fault
 
 -- the links were run on to this result, with notices written to the output
 abbrev pub RanOn : Setup → ℕ → Reports → Reports → Result Hub RunFault → Type 0

@@ -7,8 +7,8 @@ ghost use Rattle.serve_command.specs.Serves.{ServeEnds, Serves, ending_of_run};
 
 use command_setup::command_io::{Ending, Status, report};
 use command_setup::conn_core::Hub;
-use command_setup::fetch_setup;
 use command_setup::hub_run::{RunFault, run};
+use command_setup::{ending_of_fault, fetch_setup};
 use ev_types::Text;
 use ports::{Links, Sink, Store};
 use pred_eval::Patterns;
@@ -94,8 +94,6 @@ fn ending_of_run(ran: Result<Hub, RunFault>) -> Ending
 {
     match ran {
         Ok(_) => Ending::Finished,
-        Err(RunFault::Links) => Ending::LinksFailed,
-        Err(RunFault::Sink) => Ending::WriteFailed,
-        Err(RunFault::Memory) => Ending::OutOfMemory,
+        Err(fault) => ending_of_fault(fault),
     }
 }
