@@ -8,7 +8,6 @@ use Rattle.command_io.specs.sexp_config.Canonical.{canonical_text}
 use Rattle.command_io.specs.sexp_config.Config.{IsConfigOf}
 use Rattle.command_io.specs.declared.ending.Ending.{Ending}
 use Rattle.command_io.specs.declared.ending.Ending.TheVariants.{Finished, ConfigRefused, Unread, OverLimit, BytesLeft, WriteFailed, LinksFailed, ScriptRefused}
-use Rattle.command_io.specs.declared.ending.Source.TheVariants.{ConfigFile, OtherFile}
 use Rattle.command_io.specs.declared.limits.TheConstants.{CONFIG_LIMIT}
 use Rattle.command_io.specs.declared.status.Status.{Status}
 use Rattle.command_io.specs.Building.{AreBuilt}
@@ -17,15 +16,14 @@ use Rattle.command_io.specs.Endings.{HasNoConfig, IsComplete, IsDoneOrMemory, Is
 use Rattle.command_io.specs.Reports.{Reports}
 use Rattle.command_io.specs.hub_meaning.Verdicts.{PatternsReport}
 
--- what an ending says of the contents of the file
-abbrev pub CheckCause : Content → Ending → Type 0
-CheckCause config (OverLimit ConfigFile) = IsOverLimit config CONFIG_LIMIT
-CheckCause config (OverLimit OtherFile) = ⊥
-CheckCause config (Unread OtherFile) = ⊥
-CheckCause config (BytesLeft count) = ⊥
-CheckCause config LinksFailed = ⊥
-CheckCause config (ScriptRefused line) = ⊥
-CheckCause config _ = Unit {0}
+-- what an ending says of the file of the name, and of its content
+abbrev pub CheckCause : List ℕ → Content → Ending → Type 0
+CheckCause name config (Unread unread) = unread.now ≡ name
+CheckCause name config (OverLimit over limit) = IsOverLimit config CONFIG_LIMIT × (over.now ≡ name) × (limit ≡ CONFIG_LIMIT)
+CheckCause name config (BytesLeft count) = ⊥
+CheckCause name config LinksFailed = ⊥
+CheckCause name config (ScriptRefused line) = ⊥
+CheckCause name config _ = Unit {0}
 
 -- the file is a configuration whose patterns were built, and `Wrote` holds of its canonical text
 abbrev pub WritesText : Content → (List ℕ → Type 0) → Type 0
@@ -51,9 +49,9 @@ pub record Checks (config : List ℕ) (old new : Reports) (Unasked : Type 0) (st
   -- how it ended, as the status and the line on the error stream say
   pub ending : Ending
   pub ended : status ≡ status_of ending
-  pub says : Says config config ending old.err new.err
+  pub says : Says ending old.err new.err
   -- why it ended so
-  pub cause : CheckCause (old.store.held config) ending
+  pub cause : CheckCause config (old.store.held config) ending
   -- what it read, and what it wrote
   pub reads : ReadsFiles (config ∷ []) (IsReadOnce ending) old.store.reads new.store.reads ending
   pub taken : TookMore ending old.store.taken new.store.taken

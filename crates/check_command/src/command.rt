@@ -52,22 +52,22 @@ pub fn check<S: Store, O: Sink, E: Sink, P: Patterns>(
     ensures no_line { HasNoLine result → err.new ≡ err.old }
 {
     let ending = check_file(alloc, config, store, out, patterns);
-    report(ending, config, config, err)
+    report(ending, err)
 }
 
 /// Reads the configuration, builds its patterns, and writes its canonical text.
-fn check_file<S: Store, O: Sink, P: Patterns>(
+fn check_file<'a, S: Store, O: Sink, P: Patterns>(
     alloc: Global,
-    config: &Text,
+    name: &'a Text,
     store: &mut S,
     out: &mut O,
     patterns: &mut P,
-) -> Ending
-    ensures cause { CheckCause ((S.report store.old).held config.now) result }
-    ensures reads { ReadsFiles (config.now ∷ []) (IsReadOnce result) (S.report store.old).reads
+) -> Ending<'a>
+    ensures cause { CheckCause name.now ((S.report store.old).held name.now) result }
+    ensures reads { ReadsFiles (name.now ∷ []) (IsReadOnce result) (S.report store.old).reads
         (S.report store.new).reads result }
     ensures taken { TookMore result (S.report store.old).taken (S.report store.new).taken }
-    ensures writes { CheckWrites ((S.report store.old).held config.now) (P.report patterns.old)
+    ensures writes { CheckWrites ((S.report store.old).held name.now) (P.report patterns.old)
         (P.report patterns.new) (O.report out.old) (O.report out.new) result }
     ensures quiet { IsComplete result → ((S.report store.new).faults ≡ (S.report store.old).faults)
         × ((O.report out.new).faults ≡ (O.report out.old).faults) }
@@ -78,19 +78,19 @@ fn check_file<S: Store, O: Sink, P: Patterns>(
     ensures untouched { IsRefusalOrMemory (status_of result) → out.new ≡ out.old }
     ensures unasked { HasNoConfig result → patterns.new ≡ patterns.old }
 {
-    match fetch_config(alloc, config, store) {
+    match fetch_config(alloc, name, store) {
         Ok(config) => check_config(alloc, config, out, patterns),
-        Err(fault) => fault.ending(),
+        Err(fault) => fault.ending(name.as_str()),
     }
 }
 
 /// Builds the patterns of the configuration, and writes its canonical text.
-fn check_config<O: Sink, P: Patterns>(
+fn check_config<'a, O: Sink, P: Patterns>(
     alloc: Global,
     config: Config,
     out: &mut O,
     patterns: &mut P,
-) -> Ending
+) -> Ending<'a>
     requires few { length (plan_patterns config.plan) ≤ CONFIG_LIMIT }
     ensures ends { EndsCheck config (P.report patterns.old) (P.report patterns.new)
         (O.report out.old) (O.report out.new) result }

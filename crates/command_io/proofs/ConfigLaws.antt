@@ -1,17 +1,24 @@
 -- What is known of a configuration that was read, and why it was refused.
-use Rattle.std.proofs.Common.{ℕ, ◌≤◌, List, length, arith}
+use Rattle.std.proofs.Common.{◌≡◌, ℕ, ◌≤◌, List, [], ◌∷◌, length, refl, sym, subst, arith}
+use Rattle.std.specs.Prelude.{Result, Ok, Err, IfErr}
 use Rattle.hub_meaning.specs.Verdicts.{PatternsReport}
 use Rattle.ports.specs.Counts.{IsStill}
 use Rattle.ports.specs.Reading.{Content, IsHeld}
 use Rattle.sexp_config.specs.declared.config.Config.{Config}
-use Rattle.sexp_config.specs.Config.{IsConfigOf}
+use Rattle.config_terms.specs.declared.fault.ConfigFault.{ConfigFault}
+use Rattle.config_terms.specs.declared.fault.ConfigFault.TheVariants as cause
+use Rattle.config_terms.specs.declared.fault.ConfigWhy.{ConfigWhy}
+use Rattle.sexp_config.specs.Config.{IsConfigFault, IsConfigOf, IsReadAs, IsRefusedAs, IsRefusedFor}
 use Rattle.stream_plan.specs.Ready.{plan_patterns}
 use Rattle.command_io.specs.declared.ending.ConfigRefusal.{ConfigRefusal}
 use Rattle.command_io.specs.declared.ending.ConfigRefusal.TheVariants.{Refused, Pattern}
 use Rattle.command_io.specs.declared.limits.TheConstants.{CONFIG_LIMIT}
 use Rattle.command_io.specs.Building.{IsRefusedPattern}
-use Rattle.command_io.specs.Configs.{ForConfig, ReadsAs, RefusesConfig, RefusesPattern}
-use Rattle.command_io.specs.Files.{ForHeld}
+use Rattle.command_io.specs.Configs.{ForConfig, IsRefused, ReadsAs, RefusesConfig, RefusesPattern}
+use Rattle.command_io.specs.Fetches.{IsFetchFault, IsTextFault, fetch_reads}
+use Rattle.command_io.specs.Files.{ForHeld, good_read}
+use Rattle.command_io.specs.declared.fetch.FetchFault.{FetchFault}
+use Rattle.command_io.specs.declared.fetch.FetchFault.TheVariants as fetch
 use Rattle.command_io.proofs.EndingLaws.{reported_of}
 
 -- the file holds a text that is this configuration
@@ -37,3 +44,29 @@ pub config_not_refused : (content : Content) (text : List ℕ) (read : Config) (
     → IsConfigOf text read → IsStill old.refusals new.refusals → RefusesConfig content old new refusal → ⊥
 config_not_refused content text read (Refused place why) old new holds reads still refuses = (reported_of content text _ holds refuses.0).1.unread read reads
 config_not_refused content text read (Pattern number) old new holds reads still refuses = omega (arith, refuses.rose, still.0, still.1)
+
+-- ---- a text that was not read as a configuration
+
+pub text_fault : (text : List ℕ) (fault : ConfigFault) → IsRefusedFor text fault
+    → ((place : ℕ) (why : ConfigWhy) → IsConfigFault text place why → IsRefusedAs place why (Err fault))
+    → ((config : Config) → IsConfigOf text config → IsReadAs config (Err fault)) → IsTextFault text (fetch.Config fault)
+text_fault text (cause.Refused place why) refused only_refused only =
+    record { fault = refused; only = only_refused; unread = λ config is. let other : cause.Refused place why ≡ cause.Memory = only config is in cc }
+text_fault text cause.Memory refused only_refused only = tt
+
+-- a fault of the text is one of the file that has it
+pub file_of_text : (content : Content) (text : List ℕ) (faults faults' taken taken' : ℕ) (read : Result Config FetchFault)
+    → ForHeld content (λ held. (held ≡ text) × (length text ≤ CONFIG_LIMIT)) → IfErr read (IsTextFault text)
+    → IfErr read (IsFetchFault content faults faults' taken taken')
+file_of_text content text faults faults' taken taken' (Ok config) holds is = tt
+file_of_text content text faults faults' taken taken' (Err (fetch.File fault)) holds is = absurd is
+file_of_text content text faults faults' taken taken' (Err (fetch.Config (cause.Refused place why))) holds is = λ held reported.
+    let file = holds held reported in
+    (file.0, file.1, (rw file.2.0 file.2.1, subst (λ (bytes : List ℕ). IsRefused bytes place why) (sym file.2.0) is))
+file_of_text content text faults faults' taken taken' (Err (fetch.Config cause.Memory)) holds is = tt
+
+-- its file was read
+pub text_reads : (name text : List ℕ) (read : Result Config FetchFault) → IfErr read (IsTextFault text) → fetch_reads name read ≡ good_read name ∷ []
+text_reads name text (Ok config) is = refl
+text_reads name text (Err (fetch.File fault)) is = absurd is
+text_reads name text (Err (fetch.Config fault)) is = refl

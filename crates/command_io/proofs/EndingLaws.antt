@@ -11,8 +11,8 @@ use Rattle.command_io.specs.Files.{ForHeld}
 pub took_since : (ending : Ending) (old mid new : ℕ) → old ≤ mid → TookMore ending mid new → TookMore ending old new
 took_since Finished old mid new rises took = tt
 took_since (ConfigRefused refusal) old mid new rises took = tt
-took_since (Unread source) old mid new rises took = tt
-took_since (OverLimit source) old mid new rises took = λ small. omega (arith, took (omega arith))
+took_since (Unread unread) old mid new rises took = tt
+took_since (OverLimit over limit) old mid new rises took = λ small. omega (arith, took (omega arith))
 took_since (BytesLeft count) old mid new rises took = tt
 took_since WriteFailed old mid new rises took = tt
 took_since LinksFailed old mid new rises took = tt

@@ -1,11 +1,13 @@
 -- What a command read, from what one read after another answered.
 use Rattle.std.proofs.Common.{◌≡◌, ℕ, suc, List, [], ◌∷◌, length, take, refl, ap, ◌∙◌}
+use Rattle.std.specs.Borrow.{Bor}
 use Rattle.std.specs.Prelude.{Err, Option, map}
 use Rattle.ports.specs.declared.store.StoreRead.{StoreRead}
 use Rattle.command_io.specs.declared.ending.Ending.{Ending}
 use Rattle.command_io.specs.declared.ending.Ending.TheVariants.{Finished, ConfigRefused, Unread, OverLimit, BytesLeft, WriteFailed, LinksFailed, ScriptRefused, OutOfMemory}
 use Rattle.command_io.specs.declared.fetch.FetchFault.{FetchFault}
-use Rattle.command_io.specs.declared.fetch.FetchFault.TheVariants.{Refused, File, Memory}
+use Rattle.command_io.specs.declared.fetch.FetchFault.TheVariants as fetch
+use Rattle.config_terms.specs.declared.fault.ConfigFault.TheVariants.{Refused, Memory}
 use Rattle.command_io.specs.declared.read.FileFault.TheVariants as file
 use Rattle.command_io.specs.Endings.{HaveFailed, IsReadOnce, ReadsFiles}
 use Rattle.command_io.specs.Fetches.{ending_of_fetch, fetch_reads}
@@ -18,13 +20,13 @@ pub read_alone : (C : ℕ → Type 0) (old new : Option (List StoreRead)) (name 
 read_alone C old new name ending grew counted failed = record { made = good_read name ∷ []; grew = grew; named = refl; counted = counted; failed = failed }
 
 -- the reads of a configuration that there is not
-pub fetch_reads_once : (old new : Option (List StoreRead)) (name : List ℕ) (fault : FetchFault) → ReadMore (fetch_reads name (Err fault)) old new
-    → ReadsFiles (name ∷ []) (IsReadOnce (ending_of_fetch fault)) old new (ending_of_fetch fault)
-fetch_reads_once old new name (Refused place why) grew = record { made = good_read name ∷ []; grew = grew; named = refl; counted = refl; failed = (refl, tt) }
-fetch_reads_once old new name (File file.Unread) grew = record { made = bad_read name ∷ []; grew = grew; named = refl; counted = refl; failed = refl }
-fetch_reads_once old new name (File file.TooLong) grew = record { made = good_read name ∷ []; grew = grew; named = refl; counted = refl; failed = (refl, tt) }
-fetch_reads_once old new name (File file.Memory) grew = record { made = []; grew = grew; named = refl; counted = tt; failed = tt }
-fetch_reads_once old new name Memory grew = record { made = good_read name ∷ []; grew = grew; named = refl; counted = tt; failed = (refl, tt) }
+pub fetch_reads_once : (old new : Option (List StoreRead)) (name : List ℕ) (shown : Bor (List ℕ)) (fault : FetchFault)
+    → ReadMore (fetch_reads name (Err fault)) old new → ReadsFiles (name ∷ []) (IsReadOnce (ending_of_fetch shown fault)) old new (ending_of_fetch shown fault)
+fetch_reads_once old new name shown (fetch.Config (Refused place why)) grew = record { made = good_read name ∷ []; grew = grew; named = refl; counted = refl; failed = (refl, tt) }
+fetch_reads_once old new name shown (fetch.File file.Unread) grew = record { made = bad_read name ∷ []; grew = grew; named = refl; counted = refl; failed = refl }
+fetch_reads_once old new name shown (fetch.File file.TooLong) grew = record { made = good_read name ∷ []; grew = grew; named = refl; counted = refl; failed = (refl, tt) }
+fetch_reads_once old new name shown (fetch.File file.Memory) grew = record { made = []; grew = grew; named = refl; counted = tt; failed = tt }
+fetch_reads_once old new name shown (fetch.Config Memory) grew = record { made = good_read name ∷ []; grew = grew; named = refl; counted = tt; failed = (refl, tt) }
 
 -- one good read, of the first of two files
 pub read_first : (C : ℕ → Type 0) (old new : Option (List StoreRead)) (name other : List ℕ) (ending : Ending) → ReadMore (good_read name ∷ []) old new → C 1
@@ -55,8 +57,8 @@ last_failed_after name (read ∷ made) failed = (refl, failed)
 failed_after : (name : List ℕ) (ending : Ending) (made : List StoreRead) → HaveFailed ending made → HaveFailed ending (good_read name ∷ made)
 failed_after name Finished made failed = (refl, failed)
 failed_after name (ConfigRefused refusal) made failed = (refl, failed)
-failed_after name (Unread source) made failed = last_failed_after name made failed
-failed_after name (OverLimit source) made failed = (refl, failed)
+failed_after name (Unread unread) made failed = last_failed_after name made failed
+failed_after name (OverLimit over limit) made failed = (refl, failed)
 failed_after name (BytesLeft count) made failed = (refl, failed)
 failed_after name WriteFailed made failed = (refl, failed)
 failed_after name LinksFailed made failed = (refl, failed)

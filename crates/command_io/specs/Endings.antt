@@ -6,9 +6,6 @@ use Rattle.ports.specs.declared.store.StoreRead.{StoreRead}
 use Rattle.command_io.specs.declared.ending.ConfigRefusal.TheVariants.{Refused}
 use Rattle.command_io.specs.declared.ending.Ending.{Ending}
 use Rattle.command_io.specs.declared.ending.Ending.TheVariants.{Finished, ConfigRefused, Unread, OverLimit, BytesLeft, WriteFailed, LinksFailed, ScriptRefused, OutOfMemory}
-use Rattle.command_io.specs.declared.ending.Source.{Source}
-use Rattle.command_io.specs.declared.ending.Source.TheVariants.{ConfigFile, OtherFile}
-use Rattle.command_io.specs.declared.limits.TheConstants.{CONFIG_LIMIT, FILE_LIMIT}
 use Rattle.command_io.specs.declared.status.Status.{Status}
 use Rattle.command_io.specs.declared.status.Status.TheVariants.{Done, Usage, Config, ReadFault, SinkFault, LinkFault, Memory, Script, Truncated, TooLong, Lines, Tests, Verdict}
 use Rattle.command_io.specs.Files.{LastFailed, NoneFailed, ReadMore, read_name}
@@ -33,41 +30,33 @@ code_of Verdict = 12
 abbrev pub status_of : Ending → Status
 status_of Finished = Done
 status_of (ConfigRefused refusal) = Config
-status_of (Unread source) = ReadFault
-status_of (OverLimit source) = TooLong
+status_of (Unread name) = ReadFault
+status_of (OverLimit name limit) = TooLong
 status_of (BytesLeft count) = Truncated
 status_of WriteFailed = SinkFault
 status_of LinksFailed = LinkFault
 status_of (ScriptRefused line) = Script
 status_of OutOfMemory = Memory
 
--- what belongs to one of the two files of a command
-abbrev pub of_source : {A : Type 0} → A → A → Source → A
-of_source config other ConfigFile = config
-of_source config other OtherFile = other
-
-abbrev pub limit_of : Source → ℕ
-limit_of = of_source CONFIG_LIMIT FILE_LIMIT
-
--- the line of an ending, with the names of the two files; nothing for those that have none
-abbrev pub line_of : List ℕ → List ℕ → Ending → List ℕ
-line_of config other (ConfigRefused refusal) = refusal_line refusal
-line_of config other (Unread source) = unread_line (of_source config other source)
-line_of config other (OverLimit source) = too_long_line (of_source config other source) (limit_of source)
-line_of config other (BytesLeft count) = left_line count
-line_of config other LinksFailed = links_line
-line_of config other (ScriptRefused line) = script_line line
-line_of config other OutOfMemory = memory_line
-line_of config other _ = []
+-- the line of an ending; nothing for those that have none
+abbrev pub line_of : Ending → List ℕ
+line_of (ConfigRefused refusal) = refusal_line refusal
+line_of (Unread name) = unread_line name.now
+line_of (OverLimit name limit) = too_long_line name.now limit
+line_of (BytesLeft count) = left_line count
+line_of LinksFailed = links_line
+line_of (ScriptRefused line) = script_line line
+line_of OutOfMemory = memory_line
+line_of _ = []
 
 abbrev pub GotLineOf : List ℕ → SinkReport → SinkReport → Type 0
 GotLineOf line old new = GotLine old line new
 
 -- the error stream got the line of an ending, or a prefix of it where a put failed; without a line nothing was put
-abbrev pub Says : List ℕ → List ℕ → Ending → SinkReport → SinkReport → Type 0
-Says config other Finished old new = new ≡ old
-Says config other WriteFailed old new = new ≡ old
-Says config other ending old new = GotLineOf (line_of config other ending) old new
+abbrev pub Says : Ending → SinkReport → SinkReport → Type 0
+Says Finished old new = new ≡ old
+Says WriteFailed old new = new ≡ old
+Says ending old new = GotLineOf (line_of ending) old new
 
 -- the statuses of a call that refused what it was given
 abbrev pub IsRefusal : Status → Type 0
@@ -91,11 +80,12 @@ HasNoLine SinkFault = Unit {0}
 HasNoLine Verdict = Unit {0}
 HasNoLine _ = ⊥
 
--- the endings of a command that has no configuration: its file was not read, or its text is not one
+-- The endings of a command that has no configuration, where no other file was to be read: its file was not read, or its
+-- text is not one.
 abbrev pub HasNoConfig : Ending → Type 0
 HasNoConfig (ConfigRefused (Refused place why)) = Unit {0}
-HasNoConfig (Unread ConfigFile) = Unit {0}
-HasNoConfig (OverLimit ConfigFile) = Unit {0}
+HasNoConfig (Unread name) = Unit {0}
+HasNoConfig (OverLimit name limit) = Unit {0}
 HasNoConfig _ = ⊥
 
 -- the endings of a command that did all that it had to
@@ -112,12 +102,12 @@ IsDoneOrMemory _ = ⊥
 
 -- the last read failed where the ending says so, and no other
 abbrev pub HaveFailed : Ending → List StoreRead → Type 0
-HaveFailed (Unread source) made = LastFailed made
+HaveFailed (Unread name) made = LastFailed made
 HaveFailed _ made = NoneFailed made
 
 -- of a file that is over its limit at least one byte more than the limit was taken
 abbrev pub TookMore : Ending → ℕ → ℕ → Type 0
-TookMore (OverLimit source) old new = RoseBy (limit_of source + 1) old new
+TookMore (OverLimit name limit) old new = RoseBy (limit + 1) old new
 TookMore _ old new = Unit {0}
 
 -- of one file: it was read, unless memory ran out

@@ -6,14 +6,14 @@ use sexp_config::ConfigWhy;
 
 /// How a command ended, with the values that its line shows.
 #[derive(Clone, Copy)]
-pub enum Ending {
+pub enum Ending<'a> {
     /// It did all that it had to.
     Finished,
     ConfigRefused(ConfigRefusal),
-    /// The file could not be read.
-    Unread(Source),
-    /// The file is longer than its limit.
-    OverLimit(Source),
+    /// The file of the name could not be read.
+    Unread { name: &'a str },
+    /// The file of the name has more than `limit` bytes.
+    OverLimit { name: &'a str, limit: u64 },
     /// It did all that it had to, and `count` bytes, at least one, were left after the last whole frame.
     BytesLeft { count: usize },
     /// A notice line or the result of the command could not be written. The line of the ending does not count.
@@ -34,23 +34,16 @@ pub enum ConfigRefusal {
     Pattern { number: u32 },
 }
 
-/// One of the two files of a command.
-#[derive(Clone, Copy)]
-pub enum Source {
-    ConfigFile,
-    OtherFile,
-}
-
-impl Ending {
+impl<'a> Ending<'a> {
     /// The status of a command that ended so.
     pub fn status(self) -> Status
-        ensures { result ≡ status_of self }
+        ensures { result ≡ status_of self.entry }
     {
         match self {
             Ending::Finished => Status::Done,
             Ending::ConfigRefused(_) => Status::Config,
-            Ending::Unread(_) => Status::ReadFault,
-            Ending::OverLimit(_) => Status::TooLong,
+            Ending::Unread { .. } => Status::ReadFault,
+            Ending::OverLimit { .. } => Status::TooLong,
             Ending::BytesLeft { .. } => Status::Truncated,
             Ending::WriteFailed => Status::SinkFault,
             Ending::LinksFailed => Status::LinkFault,

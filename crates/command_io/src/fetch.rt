@@ -2,40 +2,47 @@ ghost use Rattle.std.specs.Prelude.{◌≡◌, ◌≤◌, IfErr, IfOk, OnOk, len
 ghost use Rattle.sexp_config.specs.Expiry.{IsInterval};
 ghost use Rattle.stream_plan.specs.Ready.{plan_patterns};
 ghost use Rattle.command_io.specs.Configs.{ReadsAs};
-ghost use Rattle.command_io.specs.Fetches.{IsFetchFault, IsTextFault, ending_of_fetch, fetch_reads};
+ghost use Rattle.command_io.specs.Fetches.{IsFetchFault, IsTextFault, ending_of_config, ending_of_fetch, fetch_reads};
 ghost use Rattle.command_io.specs.Files.{ForHeld, ReadMore};
 
-use crate::ending::{ConfigRefusal, Ending, Source};
+use crate::ending::{ConfigRefusal, Ending};
 use crate::limits::CONFIG_LIMIT;
 use crate::read::{FileFault, read_file};
 use ev_types::Text;
 use ports::Store;
-use sexp_config::{Config, ConfigFault, ConfigWhy, read_config};
+use sexp_config::{Config, ConfigFault, read_config};
 use std::alloc::Global;
 
 /// Why there is no configuration.
 #[derive(Clone, Copy)]
 pub enum FetchFault {
-    /// The text is not a configuration, for this cause at the place.
-    Refused { place: usize, why: ConfigWhy },
     /// The file was not read.
     File(FileFault),
-    /// Out of memory once the file was read.
-    Memory,
+    /// It was read, and its text was not read as a configuration.
+    Config(ConfigFault),
 }
 
 impl FetchFault {
-    /// How the command ends.
-    pub fn ending(self) -> Ending
-        ensures { result ≡ ending_of_fetch self }
+    /// How the command ends whose configuration is in the file of the name.
+    pub fn ending<'a>(self, name: &'a str) -> Ending<'a>
+        ensures { result ≡ ending_of_fetch name.entry self }
     {
         match self {
-            FetchFault::Refused { place, why } => {
-                Ending::ConfigRefused(ConfigRefusal::Refused { place, why })
-            }
-            FetchFault::File(fault) => fault.ending(Source::ConfigFile),
-            FetchFault::Memory => Ending::OutOfMemory,
+            FetchFault::File(fault) => fault.ending(name, CONFIG_LIMIT),
+            FetchFault::Config(fault) => ending_of_config(fault),
         }
+    }
+}
+
+/// How a command ends whose text was not read as a configuration.
+fn ending_of_config<'a>(fault: ConfigFault) -> Ending<'a>
+    ensures { result ≡ ending_of_config fault }
+{
+    match fault {
+        ConfigFault::Refused { place, why } => {
+            Ending::ConfigRefused(ConfigRefusal::Refused { place, why })
+        }
+        ConfigFault::Memory => Ending::OutOfMemory,
     }
 }
 
@@ -73,7 +80,6 @@ fn read_text(alloc: Global, text: &[u8]) -> Result<Config, FetchFault>
 {
     match read_config(alloc, text) {
         Ok(config) => Ok(config),
-        Err(ConfigFault::Refused { place, why }) => Err(FetchFault::Refused { place, why }),
-        Err(ConfigFault::Memory) => Err(FetchFault::Memory),
+        Err(fault) => Err(FetchFault::Config(fault)),
     }
 }

@@ -12,7 +12,7 @@ mod status;
 mod write;
 
 pub use build::build_ready;
-pub use ending::{ConfigRefusal, Ending, Source};
+pub use ending::{ConfigRefusal, Ending};
 pub use fetch::{FetchFault, fetch_config};
 pub use hub_meaning;
 pub use limits::{CONFIG_LIMIT, FILE_LIMIT, limits_are_numbers};

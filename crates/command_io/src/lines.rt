@@ -1,14 +1,12 @@
-ghost use Rattle.std.specs.Prelude.{◌≡◌, ℕ, ◌≤◌, List, OnOk, OnErr};
+ghost use Rattle.std.specs.Prelude.{◌≡◌, OnOk, OnErr};
 ghost use Rattle.ports.specs.Counts.{Rose};
 ghost use Rattle.ports.specs.Writing.{Got, GotPrefix, GotLine};
-ghost use Rattle.command_io.specs.Endings.{HasNoLine, Says, limit_of, of_source, status_of};
+ghost use Rattle.command_io.specs.Endings.{HasNoLine, Says, status_of};
 ghost use Rattle.command_io.specs.Lines.{joined, left_line, pattern_line, refusal_line, refused_line, script_line, too_long_line, unread_line};
 
 use crate::Status;
-use crate::ending::{ConfigRefusal, Ending, Source};
-use crate::limits::{CONFIG_LIMIT, FILE_LIMIT};
+use crate::ending::{ConfigRefusal, Ending};
 use crate::write::put_all;
-use ev_types::Text;
 use itoa::Buffer;
 use ports::{Failed, Sink};
 use sexp_config::ConfigWhy;
@@ -22,19 +20,19 @@ pub const MEMORY_LINE: &str = "riemann: out of memory\n";
 
 const LINKS_LINE: &str = "riemann: links failed\n";
 
-/// Writes the line of an ending, with the names of the command's two files, and gives the status. It takes no memory.
-pub fn report<E: Sink>(ending: Ending, config: &Text, other: &Text, err: &mut E) -> Status
-    ensures status { result ≡ status_of ending }
-    ensures says { Says config.now other.now ending (E.report err.old) (E.report err.new) }
+/// Writes the line of an ending, and gives the status. It takes no memory.
+pub fn report<E: Sink>(ending: Ending, err: &mut E) -> Status
+    ensures status { result ≡ status_of ending.entry }
+    ensures says { Says ending.entry (E.report err.old) (E.report err.new) }
     ensures no_line { HasNoLine result → err.new ≡ err.old }
 {
-    report_line(ending, config, other, err);
+    report_line(ending, err);
     ending.status()
 }
 
-fn report_line<E: Sink>(ending: Ending, config: &Text, other: &Text, err: &mut E)
-    ensures says { Says config.now other.now ending (E.report err.old) (E.report err.new) }
-    ensures no_line { HasNoLine (status_of ending) → err.new ≡ err.old }
+fn report_line<E: Sink>(ending: Ending, err: &mut E)
+    ensures says { Says ending.entry (E.report err.old) (E.report err.new) }
+    ensures no_line { HasNoLine (status_of ending.entry) → err.new ≡ err.old }
 {
     match ending {
         Ending::Finished | Ending::WriteFailed => {}
@@ -42,10 +40,8 @@ fn report_line<E: Sink>(ending: Ending, config: &Text, other: &Text, err: &mut E
         Ending::LinksFailed => put_line(err, &[LINKS_LINE]),
         Ending::ScriptRefused { line } => report_script(line, err),
         Ending::OutOfMemory => put_line(err, &[MEMORY_LINE]),
-        Ending::Unread(source) => report_unread(name_of(source, config, other), err),
-        Ending::OverLimit(source) => {
-            report_too_long(name_of(source, config, other), limit_of(source), err)
-        }
+        Ending::Unread { name } => report_unread(name, err),
+        Ending::OverLimit { name, limit } => report_too_long(name, limit, err),
         Ending::BytesLeft { count } => report_left(count, err),
     }
 }
@@ -86,26 +82,20 @@ fn report_script<E: Sink>(line: u64, err: &mut E)
     put_line(err, &["riemann: script refused at line ", line, "\n"]);
 }
 
-fn report_unread<E: Sink>(name: &Text, err: &mut E)
+fn report_unread<E: Sink>(name: &str, err: &mut E)
     ensures { GotLine (E.report err.old) (unread_line name.now) (E.report err.new) }
 {
-    put_line(err, &["riemann: cannot read ", name.as_str(), "\n"]);
+    put_line(err, &["riemann: cannot read ", name, "\n"]);
 }
 
-fn report_too_long<E: Sink>(name: &Text, limit: u64, err: &mut E)
+fn report_too_long<E: Sink>(name: &str, limit: u64, err: &mut E)
     ensures { GotLine (E.report err.old) (too_long_line name.now limit) (E.report err.new) }
 {
     let mut digits = Buffer::new();
     let limit = digits.format(limit);
     put_line(
         err,
-        &[
-            "riemann: ",
-            name.as_str(),
-            " is longer than ",
-            limit,
-            " bytes\n",
-        ],
+        &["riemann: ", name, " is longer than ", limit, " bytes\n"],
     );
 }
 
@@ -115,24 +105,6 @@ fn report_left<E: Sink>(left: usize, err: &mut E)
     let mut digits = Buffer::new();
     let left = digits.format(left);
     put_line(err, &["riemann: ", left, " bytes left of no whole frame\n"]);
-}
-
-fn name_of<'a>(source: Source, config: &'a Text, other: &'a Text) -> &'a Text
-    ensures { result.now ≡ of_source config.now other.now source }
-{
-    match source {
-        Source::ConfigFile => config,
-        Source::OtherFile => other,
-    }
-}
-
-fn limit_of(source: Source) -> u64
-    ensures { result ≡ limit_of source }
-{
-    match source {
-        Source::ConfigFile => CONFIG_LIMIT,
-        Source::OtherFile => FILE_LIMIT,
-    }
 }
 
 /// Writes the pieces of a line. A write that fails ends the line, and is not reported.

@@ -2,7 +2,7 @@ ghost use Rattle.std.specs.Prelude.{◌≡◌, ◌^◌, ◌<◌, ◌≤◌, IfEr
 ghost use Rattle.command_io.specs.Files.{ForHeld, IsFileFault, ReadMore, reads_of};
 ghost use Rattle.command_io.specs.Fetches.{ending_of_file};
 
-use crate::ending::{Ending, Source};
+use crate::ending::Ending;
 use ev_types::{Blob, Text};
 use ports::{ReadAnswer, Store};
 use std::alloc::Global;
@@ -18,13 +18,13 @@ pub enum FileFault {
 }
 
 impl FileFault {
-    /// How the command ends whose file this is.
-    pub fn ending(self, source: Source) -> Ending
-        ensures { result ≡ ending_of_file source self }
+    /// How the command ends that was to read the file of the name, which may have at most `limit` bytes.
+    pub fn ending<'a>(self, name: &'a str, limit: u64) -> Ending<'a>
+        ensures { result ≡ ending_of_file name.entry limit self }
     {
         match self {
-            FileFault::Unread => Ending::Unread(source),
-            FileFault::TooLong => Ending::OverLimit(source),
+            FileFault::Unread => Ending::Unread { name },
+            FileFault::TooLong => Ending::OverLimit { name, limit },
             FileFault::Memory => Ending::OutOfMemory,
         }
     }

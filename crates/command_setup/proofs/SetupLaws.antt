@@ -1,5 +1,6 @@
 -- What a command knows that has no configuration.
 use Rattle.std.proofs.Common.{◌≡◌, ℕ, ◌≤◌, List, length, refl, arith}
+use Rattle.std.specs.Borrow.{Bor}
 use Rattle.hub_run.specs.hub_meaning.Verdicts.{PatternsReport}
 use Rattle.ports.specs.Counts.{IsStill, Rose}
 use Rattle.ports.specs.Reading.{Content, IsHeld, StoreReport}
@@ -7,9 +8,9 @@ use Rattle.command_io.specs.sexp_config.declared.config.Config.{Config}
 use Rattle.command_io.specs.sexp_config.Config.{IsConfigOf}
 use Rattle.command_io.specs.declared.ending.Ending.{Ending}
 use Rattle.command_io.specs.declared.ending.Ending.TheVariants.{Finished, ConfigRefused, Unread, OverLimit, BytesLeft, WriteFailed, LinksFailed, ScriptRefused, OutOfMemory}
-use Rattle.command_io.specs.declared.ending.Source.TheVariants.{ConfigFile, OtherFile}
 use Rattle.command_io.specs.declared.fetch.FetchFault.{FetchFault}
-use Rattle.command_io.specs.declared.fetch.FetchFault.TheVariants.{Refused, File, Memory}
+use Rattle.command_io.specs.declared.fetch.FetchFault.TheVariants as fetch
+use Rattle.command_io.specs.config_terms.declared.fault.ConfigFault.TheVariants.{Refused, Memory}
 use Rattle.command_io.specs.declared.limits.TheConstants.{CONFIG_LIMIT}
 use Rattle.command_io.specs.declared.read.FileFault.TheVariants as file
 use Rattle.command_io.specs.declared.status.Status.TheVariants.{ReadFault, SinkFault, LinkFault}
@@ -27,82 +28,80 @@ accepted content setup sets bytes reported =
     let held = sets bytes reported in
     (held.0, held.1, (held.2.0, (held.2.1.0, held.2.1.1, held.2.1.2.0)))
 
-pub refuses_fetch : (content : Content) (store store' : StoreReport) (patterns : PatternsReport) (fault : FetchFault)
-    → IsFetchFault content store.faults store'.faults store.taken store'.taken fault → RefusesSetup content store store' patterns patterns (ending_of_fetch fault)
-refuses_fetch content store store' patterns (Refused place why) cause = (cause, refl)
-refuses_fetch content store store' patterns (File file.Unread) cause = (cause, refl)
-refuses_fetch content store store' patterns (File file.TooLong) cause = (cause.0, cause.1, refl)
-refuses_fetch content store store' patterns (File file.Memory) cause = refl
-refuses_fetch content store store' patterns Memory cause = refl
+pub refuses_fetch : (name : List ℕ) (shown : Bor (List ℕ)) (store store' : StoreReport) (patterns : PatternsReport) (fault : FetchFault) → shown.now ≡ name
+    → IsFetchFault (store.held name) store.faults store'.faults store.taken store'.taken fault
+    → RefusesSetup name store store' patterns patterns (ending_of_fetch shown fault)
+refuses_fetch name shown store store' patterns (fetch.Config (Refused place why)) is cause = (cause, refl)
+refuses_fetch name shown store store' patterns (fetch.File file.Unread) is cause = (cause, refl, is)
+refuses_fetch name shown store store' patterns (fetch.File file.TooLong) is cause = (cause.0, cause.1, refl, is, refl)
+refuses_fetch name shown store store' patterns (fetch.File file.Memory) is cause = refl
+refuses_fetch name shown store store' patterns (fetch.Config Memory) is cause = refl
 
 -- ---- how a command does not end that has no configuration
 
-pub refused_not_complete : (content : Content) (store store' : StoreReport) (patterns patterns' : PatternsReport) (ending : Ending)
-    → RefusesSetup content store store' patterns patterns' ending → IsComplete ending → ⊥
-refused_not_complete content store store' patterns patterns' Finished refuses complete = refuses
-refused_not_complete content store store' patterns patterns' (ConfigRefused refusal) refuses complete = complete
-refused_not_complete content store store' patterns patterns' (Unread source) refuses complete = complete
-refused_not_complete content store store' patterns patterns' (OverLimit source) refuses complete = complete
-refused_not_complete content store store' patterns patterns' (BytesLeft count) refuses complete = refuses
-refused_not_complete content store store' patterns patterns' WriteFailed refuses complete = complete
-refused_not_complete content store store' patterns patterns' LinksFailed refuses complete = complete
-refused_not_complete content store store' patterns patterns' (ScriptRefused line) refuses complete = complete
-refused_not_complete content store store' patterns patterns' OutOfMemory refuses complete = complete
+pub refused_not_complete : (name : List ℕ) (store store' : StoreReport) (patterns patterns' : PatternsReport) (ending : Ending)
+    → RefusesSetup name store store' patterns patterns' ending → IsComplete ending → ⊥
+refused_not_complete name store store' patterns patterns' Finished refuses complete = refuses
+refused_not_complete name store store' patterns patterns' (ConfigRefused refusal) refuses complete = complete
+refused_not_complete name store store' patterns patterns' (Unread unread) refuses complete = complete
+refused_not_complete name store store' patterns patterns' (OverLimit over limit) refuses complete = complete
+refused_not_complete name store store' patterns patterns' (BytesLeft count) refuses complete = refuses
+refused_not_complete name store store' patterns patterns' WriteFailed refuses complete = complete
+refused_not_complete name store store' patterns patterns' LinksFailed refuses complete = complete
+refused_not_complete name store store' patterns patterns' (ScriptRefused line) refuses complete = complete
+refused_not_complete name store store' patterns patterns' OutOfMemory refuses complete = complete
 
-pub refused_not_written : (content : Content) (store store' : StoreReport) (patterns patterns' : PatternsReport) (ending : Ending)
-    → RefusesSetup content store store' patterns patterns' ending → status_of ending ≡ SinkFault → ⊥
-refused_not_written content store store' patterns patterns' Finished refuses e = cc
-refused_not_written content store store' patterns patterns' (ConfigRefused refusal) refuses e = cc
-refused_not_written content store store' patterns patterns' (Unread source) refuses e = cc
-refused_not_written content store store' patterns patterns' (OverLimit source) refuses e = cc
-refused_not_written content store store' patterns patterns' (BytesLeft count) refuses e = cc
-refused_not_written content store store' patterns patterns' WriteFailed refuses e = refuses
-refused_not_written content store store' patterns patterns' LinksFailed refuses e = cc
-refused_not_written content store store' patterns patterns' (ScriptRefused line) refuses e = cc
-refused_not_written content store store' patterns patterns' OutOfMemory refuses e = cc
+pub refused_not_written : (name : List ℕ) (store store' : StoreReport) (patterns patterns' : PatternsReport) (ending : Ending)
+    → RefusesSetup name store store' patterns patterns' ending → status_of ending ≡ SinkFault → ⊥
+refused_not_written name store store' patterns patterns' Finished refuses e = cc
+refused_not_written name store store' patterns patterns' (ConfigRefused refusal) refuses e = cc
+refused_not_written name store store' patterns patterns' (Unread unread) refuses e = cc
+refused_not_written name store store' patterns patterns' (OverLimit over limit) refuses e = cc
+refused_not_written name store store' patterns patterns' (BytesLeft count) refuses e = cc
+refused_not_written name store store' patterns patterns' WriteFailed refuses e = refuses
+refused_not_written name store store' patterns patterns' LinksFailed refuses e = cc
+refused_not_written name store store' patterns patterns' (ScriptRefused line) refuses e = cc
+refused_not_written name store store' patterns patterns' OutOfMemory refuses e = cc
 
-pub refused_not_linked : (content : Content) (store store' : StoreReport) (patterns patterns' : PatternsReport) (ending : Ending)
-    → RefusesSetup content store store' patterns patterns' ending → status_of ending ≡ LinkFault → ⊥
-refused_not_linked content store store' patterns patterns' Finished refuses e = cc
-refused_not_linked content store store' patterns patterns' (ConfigRefused refusal) refuses e = cc
-refused_not_linked content store store' patterns patterns' (Unread source) refuses e = cc
-refused_not_linked content store store' patterns patterns' (OverLimit source) refuses e = cc
-refused_not_linked content store store' patterns patterns' (BytesLeft count) refuses e = cc
-refused_not_linked content store store' patterns patterns' WriteFailed refuses e = cc
-refused_not_linked content store store' patterns patterns' LinksFailed refuses e = refuses
-refused_not_linked content store store' patterns patterns' (ScriptRefused line) refuses e = cc
-refused_not_linked content store store' patterns patterns' OutOfMemory refuses e = cc
+pub refused_not_linked : (name : List ℕ) (store store' : StoreReport) (patterns patterns' : PatternsReport) (ending : Ending)
+    → RefusesSetup name store store' patterns patterns' ending → status_of ending ≡ LinkFault → ⊥
+refused_not_linked name store store' patterns patterns' Finished refuses e = cc
+refused_not_linked name store store' patterns patterns' (ConfigRefused refusal) refuses e = cc
+refused_not_linked name store store' patterns patterns' (Unread unread) refuses e = cc
+refused_not_linked name store store' patterns patterns' (OverLimit over limit) refuses e = cc
+refused_not_linked name store store' patterns patterns' (BytesLeft count) refuses e = cc
+refused_not_linked name store store' patterns patterns' WriteFailed refuses e = cc
+refused_not_linked name store store' patterns patterns' LinksFailed refuses e = refuses
+refused_not_linked name store store' patterns patterns' (ScriptRefused line) refuses e = cc
+refused_not_linked name store store' patterns patterns' OutOfMemory refuses e = cc
 
 -- ---- the causes of the others
 
-pub refused_rose : (content : Content) (store store' : StoreReport) (patterns patterns' : PatternsReport) (ending : Ending)
-    → RefusesSetup content store store' patterns patterns' ending → status_of ending ≡ ReadFault → Rose store.faults store'.faults
-refused_rose content store store' patterns patterns' Finished refuses e = cc
-refused_rose content store store' patterns patterns' (ConfigRefused refusal) refuses e = cc
-refused_rose content store store' patterns patterns' (Unread ConfigFile) refuses e = refuses.0
-refused_rose content store store' patterns patterns' (Unread OtherFile) refuses e = absurd refuses
-refused_rose content store store' patterns patterns' (OverLimit source) refuses e = cc
-refused_rose content store store' patterns patterns' (BytesLeft count) refuses e = cc
-refused_rose content store store' patterns patterns' WriteFailed refuses e = cc
-refused_rose content store store' patterns patterns' LinksFailed refuses e = cc
-refused_rose content store store' patterns patterns' (ScriptRefused line) refuses e = cc
-refused_rose content store store' patterns patterns' OutOfMemory refuses e = cc
+pub refused_rose : (name : List ℕ) (store store' : StoreReport) (patterns patterns' : PatternsReport) (ending : Ending)
+    → RefusesSetup name store store' patterns patterns' ending → status_of ending ≡ ReadFault → Rose store.faults store'.faults
+refused_rose name store store' patterns patterns' Finished refuses e = cc
+refused_rose name store store' patterns patterns' (ConfigRefused refusal) refuses e = cc
+refused_rose name store store' patterns patterns' (Unread unread) refuses e = refuses.0
+refused_rose name store store' patterns patterns' (OverLimit over limit) refuses e = cc
+refused_rose name store store' patterns patterns' (BytesLeft count) refuses e = cc
+refused_rose name store store' patterns patterns' WriteFailed refuses e = cc
+refused_rose name store store' patterns patterns' LinksFailed refuses e = cc
+refused_rose name store store' patterns patterns' (ScriptRefused line) refuses e = cc
+refused_rose name store store' patterns patterns' OutOfMemory refuses e = cc
 
 -- a configuration within its limit is refused only for lack of memory, where no fault and no refusal is counted
-pub refused_for_memory : (content : Content) (text : List ℕ) (read : Config) (store store' : StoreReport) (patterns patterns' : PatternsReport) (ending : Ending)
-    → IsHeld content text → IsConfigOf text read → length text ≤ CONFIG_LIMIT → IsStill store.faults store'.faults
-    → IsStill patterns.refusals patterns'.refusals → RefusesSetup content store store' patterns patterns' ending → ending ≡ OutOfMemory
-refused_for_memory content text read store store' patterns patterns' Finished holds is fits reads_still still refuses = absurd refuses
-refused_for_memory content text read store store' patterns patterns' (ConfigRefused refusal) holds is fits reads_still still refuses =
-    absurd (config_not_refused content text read refusal patterns patterns' holds is still refuses)
-refused_for_memory content text read store store' patterns patterns' (Unread ConfigFile) holds is fits reads_still still refuses =
+pub refused_for_memory : (name text : List ℕ) (read : Config) (store store' : StoreReport) (patterns patterns' : PatternsReport) (ending : Ending)
+    → IsHeld (store.held name) text → IsConfigOf text read → length text ≤ CONFIG_LIMIT → IsStill store.faults store'.faults
+    → IsStill patterns.refusals patterns'.refusals → RefusesSetup name store store' patterns patterns' ending → ending ≡ OutOfMemory
+refused_for_memory name text read store store' patterns patterns' Finished holds is fits reads_still still refuses = absurd refuses
+refused_for_memory name text read store store' patterns patterns' (ConfigRefused refusal) holds is fits reads_still still refuses =
+    absurd (config_not_refused (store.held name) text read refusal patterns patterns' holds is still refuses)
+refused_for_memory name text read store store' patterns patterns' (Unread unread) holds is fits reads_still still refuses =
     absurd (omega (arith, refuses.0, reads_still.0, reads_still.1))
-refused_for_memory content text read store store' patterns patterns' (Unread OtherFile) holds is fits reads_still still refuses = absurd refuses
-refused_for_memory content text read store store' patterns patterns' (OverLimit ConfigFile) holds is fits reads_still still refuses =
-    absurd (not_over content text CONFIG_LIMIT holds fits refuses.0)
-refused_for_memory content text read store store' patterns patterns' (OverLimit OtherFile) holds is fits reads_still still refuses = absurd refuses
-refused_for_memory content text read store store' patterns patterns' (BytesLeft count) holds is fits reads_still still refuses = absurd refuses
-refused_for_memory content text read store store' patterns patterns' WriteFailed holds is fits reads_still still refuses = absurd refuses
-refused_for_memory content text read store store' patterns patterns' LinksFailed holds is fits reads_still still refuses = absurd refuses
-refused_for_memory content text read store store' patterns patterns' (ScriptRefused line) holds is fits reads_still still refuses = absurd refuses
-refused_for_memory content text read store store' patterns patterns' OutOfMemory holds is fits reads_still still refuses = refl
+refused_for_memory name text read store store' patterns patterns' (OverLimit over limit) holds is fits reads_still still refuses =
+    absurd (not_over (store.held name) text CONFIG_LIMIT holds fits refuses.0)
+refused_for_memory name text read store store' patterns patterns' (BytesLeft count) holds is fits reads_still still refuses = absurd refuses
+refused_for_memory name text read store store' patterns patterns' WriteFailed holds is fits reads_still still refuses = absurd refuses
+refused_for_memory name text read store store' patterns patterns' LinksFailed holds is fits reads_still still refuses = absurd refuses
+refused_for_memory name text read store store' patterns patterns' (ScriptRefused line) holds is fits reads_still still refuses = absurd refuses
+refused_for_memory name text read store store' patterns patterns' OutOfMemory holds is fits reads_still still refuses = refl

@@ -5,7 +5,7 @@ use command_io::Ending;
 use hub_run::RunFault;
 
 /// How a command ends whose run was cut off by the fault.
-pub fn ending_of_fault(fault: RunFault) -> Ending
+pub fn ending_of_fault<'a>(fault: RunFault) -> Ending<'a>
     ensures { result ≡ ending_of_fault fault }
 {
     match fault {

@@ -16,17 +16,16 @@ use std::alloc::Global;
 
 /// Reads the configuration in the file of the name, builds its patterns, and gives what a server is run with. An error
 /// is how the command ends.
-pub fn fetch_setup<S: Store, P: Patterns>(
+pub fn fetch_setup<'a, S: Store, P: Patterns>(
     alloc: Global,
-    name: &Text,
+    name: &'a Text,
     store: &mut S,
     patterns: &mut P,
-) -> Result<Setup, Ending>
+) -> Result<Setup, Ending<'a>>
     ensures setup { IfOk result (λ setup. SetsUp ((S.report store.old).held name.now) setup) }
     ensures interval { IfOk result (λ setup. IsInterval setup.expiry) }
-    ensures fault { IfErr result (λ ending. RefusesSetup ((S.report store.old).held name.now)
-        (S.report store.old) (S.report store.new) (P.report patterns.old) (P.report patterns.new)
-        ending) }
+    ensures fault { IfErr result (RefusesSetup name.now (S.report store.old) (S.report store.new)
+        (P.report patterns.old) (P.report patterns.new)) }
     ensures read { OnOk result (ReadMore (good_read name.now ∷ []) (S.report store.old).reads
         (S.report store.new).reads) }
     ensures reads { IfErr result (λ ending. ReadsFiles (name.now ∷ []) (IsReadOnce ending)
@@ -40,12 +39,16 @@ pub fn fetch_setup<S: Store, P: Patterns>(
 {
     match fetch_config(alloc, name, store) {
         Ok(config) => setup_of(alloc, config, patterns),
-        Err(fault) => Err(fault.ending()),
+        Err(fault) => Err(fault.ending(name.as_str())),
     }
 }
 
 /// Builds the patterns of the configuration, and gives what a server is run with.
-fn setup_of<P: Patterns>(alloc: Global, config: Config, patterns: &mut P) -> Result<Setup, Ending>
+fn setup_of<'a, P: Patterns>(
+    alloc: Global,
+    config: Config,
+    patterns: &mut P,
+) -> Result<Setup, Ending<'a>>
     requires few { length (plan_patterns config.plan) ≤ CONFIG_LIMIT }
     ensures makes { MakesSetup config (P.report patterns.old) (P.report patterns.new) result }
     ensures asked { IfErr result (λ ending. HasNoConfig ending → ⊥) }

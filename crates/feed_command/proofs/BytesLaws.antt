@@ -79,7 +79,7 @@ bytes_ended answered setup bytes old new run WriteFailed whole quiet writes =
     inr (fed_all answered setup bytes old new run (λ replies. GotPrefix old.out.text replies new.out.text) whole quiet writes.0, writes.1)
 bytes_ended answered setup bytes old new run OutOfMemory whole quiet writes = absurd writes
 bytes_ended answered setup bytes old new run (ConfigRefused refusal) whole quiet writes = absurd writes
-bytes_ended answered setup bytes old new run (Unread source) whole quiet writes = absurd writes
-bytes_ended answered setup bytes old new run (OverLimit source) whole quiet writes = absurd writes
+bytes_ended answered setup bytes old new run (Unread unread) whole quiet writes = absurd writes
+bytes_ended answered setup bytes old new run (OverLimit over limit) whole quiet writes = absurd writes
 bytes_ended answered setup bytes old new run LinksFailed whole quiet writes = absurd writes
 bytes_ended answered setup bytes old new run (ScriptRefused line) whole quiet writes = absurd writes

@@ -12,7 +12,7 @@ use Rattle.file_run.specs.command_io.declared.status.Status.TheVariants.{ReadFau
 use Rattle.command_setup.proofs.SetupLaws.{refused_for_memory, refused_not_linked, refused_not_written, refused_rose}
 use Rattle.command_setup.specs.Setups.{SetsUp}
 use Rattle.file_run.proofs.OtherLaws.{file_refused_for_memory, file_refused_since, file_rose}
-use Rattle.file_run.specs.Files.{RefusesFile}
+use Rattle.file_run.specs.Files.{IsFile, ReadsBoth, RefusesFile}
 use Rattle.framing.specs.Frames.{partial}
 use Rattle.file_run.specs.hub_meaning.Verdicts.{PatternsReport}
 use Rattle.file_run.specs.hub_run.declared.setup.Setup.{Setup}
@@ -49,26 +49,32 @@ bytes_since setup bytes store mid store' links out out' err err' patterns patter
   | inr some ↦ inr (record { run = some.0.run; ran = some.0.ran; no_reply = some.0.no_reply }, some.1)
 ]
 bytes_since setup bytes store mid store' links out out' err err' patterns patterns' forks forks' (ConfigRefused refusal) ends = absurd ends
-bytes_since setup bytes store mid store' links out out' err err' patterns patterns' forks forks' (Unread source) ends = absurd ends
-bytes_since setup bytes store mid store' links out out' err err' patterns patterns' forks forks' (OverLimit source) ends = absurd ends
+bytes_since setup bytes store mid store' links out out' err err' patterns patterns' forks forks' (Unread unread) ends = absurd ends
+bytes_since setup bytes store mid store' links out out' err err' patterns patterns' forks forks' (OverLimit over limit) ends = absurd ends
 bytes_since setup bytes store mid store' links out out' err err' patterns patterns' forks forks' LinksFailed ends = absurd ends
 bytes_since setup bytes store mid store' links out out' err err' patterns patterns' forks forks' (ScriptRefused line) ends = absurd ends
 
 -- the configuration was accepted, and then the file was refused or fed
-pub feed_ended : (config file : Content) (setup : Setup) (store mid store' : StoreReport) (links : LinksReport) (out out' err err' : SinkReport)
-    (patterns between patterns' : PatternsReport) (forks forks' : ℕ) (ending : Ending) → SetsUp config setup → mid.faults ≡ store.faults
-    → store.taken ≤ mid.taken → between ≡ patterns
+pub feed_ended : (config file : List ℕ) (setup : Setup) (store mid store' : StoreReport) (links : LinksReport) (out out' err err' : SinkReport)
+    (patterns between patterns' : PatternsReport) (forks forks' : ℕ) (Unasked : Type 0) (ending : Ending) → SetsUp (store.held config) setup
+    → mid.faults ≡ store.faults → store.taken ≤ mid.taken → between ≡ patterns → mid.held ≡ store.held
+    → ReadsBoth config file store.reads store'.reads ending
     → FileEnds setup file (reports mid links out err between forks) (reports store' links out' err' patterns' forks') ending
-    → FeedEnds config file (reports store links out err patterns forks) (reports store' links out' err' patterns' forks') ending
-feed_ended config file setup store mid store' links out out' err err' patterns between patterns' forks forks' ending sets faults taken same ends =
+    → FeedEnds config file (reports store links out err patterns forks) (reports store' links out' err' patterns' forks') Unasked ending
+feed_ended config file setup store mid store' links out out' err err' patterns between patterns' forks forks' Unasked ending sets faults taken same held reads ends =
     let moved : FileEnds setup file (reports mid links out err patterns forks) (reports store' links out' err' patterns' forks') ending
     = subst (λ state. FileEnds setup file (reports mid links out err state forks) (reports store' links out' err' patterns' forks') ending) same ends in
     inr (
       setup,
       sets,
+      reads,
       elim moved [
-        | inl refused ↦ inl (file_refused_since file store mid store' ending faults taken refused.0, refused.1, refused.2, refused.3)
-        | inr fed ↦ inr (fed.0, fed.1, bytes_since setup fed.0 store mid store' links out out' err err' patterns patterns' forks forks' ending fed.2)
+        | inl refused ↦ inl (file_refused_since file store mid store' ending faults taken held refused.0, refused.1, refused.2, refused.3)
+        | inr fed ↦ inr (
+          fed.0,
+          subst (λ (files : List ℕ → Content). IsFile (files file) fed.0) held fed.1,
+          bytes_since setup fed.0 store mid store' links out out' err err' patterns patterns' forks forks' ending fed.2,
+        )
       ],
     )
 
@@ -80,8 +86,8 @@ bytes_not_read setup bytes old new (BytesLeft count) ends e = cc
 bytes_not_read setup bytes old new WriteFailed ends e = cc
 bytes_not_read setup bytes old new OutOfMemory ends e = cc
 bytes_not_read setup bytes old new (ConfigRefused refusal) ends e = ends
-bytes_not_read setup bytes old new (Unread source) ends e = ends
-bytes_not_read setup bytes old new (OverLimit source) ends e = ends
+bytes_not_read setup bytes old new (Unread unread) ends e = ends
+bytes_not_read setup bytes old new (OverLimit over limit) ends e = ends
 bytes_not_read setup bytes old new LinksFailed ends e = ends
 bytes_not_read setup bytes old new (ScriptRefused line) ends e = ends
 
@@ -91,32 +97,32 @@ bytes_not_linked setup bytes old new (BytesLeft count) ends e = cc
 bytes_not_linked setup bytes old new WriteFailed ends e = cc
 bytes_not_linked setup bytes old new OutOfMemory ends e = cc
 bytes_not_linked setup bytes old new (ConfigRefused refusal) ends e = ends
-bytes_not_linked setup bytes old new (Unread source) ends e = ends
-bytes_not_linked setup bytes old new (OverLimit source) ends e = ends
+bytes_not_linked setup bytes old new (Unread unread) ends e = ends
+bytes_not_linked setup bytes old new (OverLimit over limit) ends e = ends
 bytes_not_linked setup bytes old new LinksFailed ends e = ends
 bytes_not_linked setup bytes old new (ScriptRefused line) ends e = ends
 
-file_not_linked : (content : Content) (old new : StoreReport) (ending : Ending) → RefusesFile content old new ending → status_of ending ≡ LinkFault → ⊥
-file_not_linked content old new Finished refuses e = cc
-file_not_linked content old new (ConfigRefused refusal) refuses e = cc
-file_not_linked content old new (Unread source) refuses e = cc
-file_not_linked content old new (OverLimit source) refuses e = cc
-file_not_linked content old new (BytesLeft count) refuses e = cc
-file_not_linked content old new WriteFailed refuses e = cc
-file_not_linked content old new LinksFailed refuses e = refuses
-file_not_linked content old new (ScriptRefused line) refuses e = cc
-file_not_linked content old new OutOfMemory refuses e = cc
+file_not_linked : (name : List ℕ) (old new : StoreReport) (ending : Ending) → RefusesFile name old new ending → status_of ending ≡ LinkFault → ⊥
+file_not_linked name old new Finished refuses e = cc
+file_not_linked name old new (ConfigRefused refusal) refuses e = cc
+file_not_linked name old new (Unread unread) refuses e = cc
+file_not_linked name old new (OverLimit over limit) refuses e = cc
+file_not_linked name old new (BytesLeft count) refuses e = cc
+file_not_linked name old new WriteFailed refuses e = cc
+file_not_linked name old new LinksFailed refuses e = refuses
+file_not_linked name old new (ScriptRefused line) refuses e = cc
+file_not_linked name old new OutOfMemory refuses e = cc
 
-file_not_written : (content : Content) (old new : StoreReport) (ending : Ending) → RefusesFile content old new ending → status_of ending ≡ SinkFault → ⊥
-file_not_written content old new Finished refuses e = cc
-file_not_written content old new (ConfigRefused refusal) refuses e = cc
-file_not_written content old new (Unread source) refuses e = cc
-file_not_written content old new (OverLimit source) refuses e = cc
-file_not_written content old new (BytesLeft count) refuses e = cc
-file_not_written content old new WriteFailed refuses e = refuses
-file_not_written content old new LinksFailed refuses e = cc
-file_not_written content old new (ScriptRefused line) refuses e = cc
-file_not_written content old new OutOfMemory refuses e = cc
+file_not_written : (name : List ℕ) (old new : StoreReport) (ending : Ending) → RefusesFile name old new ending → status_of ending ≡ SinkFault → ⊥
+file_not_written name old new Finished refuses e = cc
+file_not_written name old new (ConfigRefused refusal) refuses e = cc
+file_not_written name old new (Unread unread) refuses e = cc
+file_not_written name old new (OverLimit over limit) refuses e = cc
+file_not_written name old new (BytesLeft count) refuses e = cc
+file_not_written name old new WriteFailed refuses e = refuses
+file_not_written name old new LinksFailed refuses e = cc
+file_not_written name old new (ScriptRefused line) refuses e = cc
+file_not_written name old new OutOfMemory refuses e = cc
 
 -- ---- the causes of faults
 
@@ -130,65 +136,65 @@ bytes_wrote setup bytes old new Finished ends e = cc
 bytes_wrote setup bytes old new (BytesLeft count) ends e = cc
 bytes_wrote setup bytes old new OutOfMemory ends e = cc
 bytes_wrote setup bytes old new (ConfigRefused refusal) ends e = absurd ends
-bytes_wrote setup bytes old new (Unread source) ends e = absurd ends
-bytes_wrote setup bytes old new (OverLimit source) ends e = absurd ends
+bytes_wrote setup bytes old new (Unread unread) ends e = absurd ends
+bytes_wrote setup bytes old new (OverLimit over limit) ends e = absurd ends
 bytes_wrote setup bytes old new LinksFailed ends e = absurd ends
 bytes_wrote setup bytes old new (ScriptRefused line) ends e = absurd ends
 
-pub feed_read_rose : (config file : Content) (old new : Reports) (ending : Ending) → FeedEnds config file old new ending
+pub feed_read_rose : (config file : List ℕ) (old new : Reports) (Unasked : Type 0) (ending : Ending) → FeedEnds config file old new Unasked ending
     → status_of ending ≡ ReadFault → Rose old.store.faults new.store.faults
-feed_read_rose config file old new ending ends e = elim ends [
+feed_read_rose config file old new Unasked ending ends e = elim ends [
   | inl refused ↦ refused_rose config old.store new.store old.patterns new.patterns ending refused.0 e
-  | inr accepted ↦ elim accepted.2 [
+  | inr accepted ↦ elim accepted.3 [
     | inl refused ↦ file_rose file old.store new.store ending refused.0 e
     | inr fed ↦ absurd (bytes_not_read accepted.0 fed.0 old new ending fed.2 e)
   ]
 ]
 
-feed_sink_rose : (config file : Content) (old new : Reports) (ending : Ending) → FeedEnds config file old new ending
+feed_sink_rose : (config file : List ℕ) (old new : Reports) (Unasked : Type 0) (ending : Ending) → FeedEnds config file old new Unasked ending
     → status_of ending ≡ SinkFault → Rose old.out.faults new.out.faults ⊎ Rose old.err.faults new.err.faults
-feed_sink_rose config file old new ending ends e = elim ends [
+feed_sink_rose config file old new Unasked ending ends e = elim ends [
   | inl refused ↦ absurd (refused_not_written config old.store new.store old.patterns new.patterns ending refused.0 e)
-  | inr accepted ↦ elim accepted.2 [
+  | inr accepted ↦ elim accepted.3 [
     | inl refused ↦ absurd (file_not_written file old.store new.store ending refused.0 e)
     | inr fed ↦ bytes_wrote accepted.0 fed.0 old new ending fed.2 e
   ]
 ]
 
-pub feed_not_linked : (config file : Content) (old new : Reports) (ending : Ending) → FeedEnds config file old new ending
+pub feed_not_linked : (config file : List ℕ) (old new : Reports) (Unasked : Type 0) (ending : Ending) → FeedEnds config file old new Unasked ending
     → status_of ending ≡ LinkFault → ⊥
-feed_not_linked config file old new ending ends e = elim ends [
+feed_not_linked config file old new Unasked ending ends e = elim ends [
   | inl refused ↦ refused_not_linked config old.store new.store old.patterns new.patterns ending refused.0 e
-  | inr accepted ↦ elim accepted.2 [
+  | inr accepted ↦ elim accepted.3 [
     | inl refused ↦ file_not_linked file old.store new.store ending refused.0 e
     | inr fed ↦ bytes_not_linked accepted.0 fed.0 old new ending fed.2 e
   ]
 ]
 
 -- after a write that failed nothing more is written
-said_nothing : (config file : List ℕ) (ending : Ending) (old new : SinkReport) → Says config file ending old new → status_of ending ≡ SinkFault → new ≡ old
-said_nothing config file WriteFailed old new says e = says
-said_nothing config file Finished old new says e = cc
-said_nothing config file (BytesLeft count) old new says e = cc
-said_nothing config file OutOfMemory old new says e = cc
-said_nothing config file (ConfigRefused refusal) old new says e = cc
-said_nothing config file (Unread source) old new says e = cc
-said_nothing config file (OverLimit source) old new says e = cc
-said_nothing config file LinksFailed old new says e = cc
-said_nothing config file (ScriptRefused line) old new says e = cc
+said_nothing : (ending : Ending) (old new : SinkReport) → Says ending old new → status_of ending ≡ SinkFault → new ≡ old
+said_nothing WriteFailed old new says e = says
+said_nothing Finished old new says e = cc
+said_nothing (BytesLeft count) old new says e = cc
+said_nothing OutOfMemory old new says e = cc
+said_nothing (ConfigRefused refusal) old new says e = cc
+said_nothing (Unread unread) old new says e = cc
+said_nothing (OverLimit over limit) old new says e = cc
+said_nothing LinksFailed old new says e = cc
+said_nothing (ScriptRefused line) old new says e = cc
 
 -- so what is known of the error stream before the line of the ending is known of it after that
-pub feed_write_rose : (config file : List ℕ) (held held' : Content) (old new : Reports) (after : SinkReport) (ending : Ending) → FeedEnds held held' old new ending
-    → Says config file ending new.err after → status_of ending ≡ SinkFault → Rose old.out.faults new.out.faults ⊎ Rose old.err.faults after.faults
-feed_write_rose config file held held' old new after ending ends says e = elim (feed_sink_rose held held' old new ending ends e) [
+pub feed_write_rose : (config file : List ℕ) (old new : Reports) (Unasked : Type 0) (after : SinkReport) (ending : Ending)
+    → FeedEnds config file old new Unasked ending → Says ending new.err after → status_of ending ≡ SinkFault → Rose old.out.faults new.out.faults ⊎ Rose old.err.faults after.faults
+feed_write_rose config file old new Unasked after ending ends says e = elim (feed_sink_rose config file old new Unasked ending ends e) [
   | inl rose ↦ inl rose
-  | inr rose ↦ inr (subst (λ (sink : SinkReport). Rose old.err.faults sink.faults) (sym (said_nothing config file ending new.err after says e)) rose)
+  | inr rose ↦ inr (subst (λ (sink : SinkReport). Rose old.err.faults sink.faults) (sym (said_nothing ending new.err after says e)) rose)
 ]
 
-still_before : (config file : List ℕ) (old before after : SinkReport) (ending : Ending) → Says config file ending before after
+still_before : (old before after : SinkReport) (ending : Ending) → Says ending before after
     → IsStill old.faults after.faults → status_of ending ≡ SinkFault → IsStill old.faults before.faults
-still_before config file old before after ending says still e =
-    subst (λ (sink : SinkReport). IsStill old.faults sink.faults) (said_nothing config file ending before after says e) still
+still_before old before after ending says still e =
+    subst (λ (sink : SinkReport). IsStill old.faults sink.faults) (said_nothing ending before after says e) still
 
 -- ---- completeness
 
@@ -205,31 +211,31 @@ bytes_complete setup bytes old new WriteFailed ends out_still err_still = elim e
   | inr all ↦ absurd (omega (arith, all.1, out_still.0, out_still.1))
 ]
 bytes_complete setup bytes old new (ConfigRefused refusal) ends out_still err_still = absurd ends
-bytes_complete setup bytes old new (Unread source) ends out_still err_still = absurd ends
-bytes_complete setup bytes old new (OverLimit source) ends out_still err_still = absurd ends
+bytes_complete setup bytes old new (Unread unread) ends out_still err_still = absurd ends
+bytes_complete setup bytes old new (OverLimit over limit) ends out_still err_still = absurd ends
 bytes_complete setup bytes old new LinksFailed ends out_still err_still = absurd ends
 bytes_complete setup bytes old new (ScriptRefused line) ends out_still err_still = absurd ends
 
-feed_complete : (config file : Content) (old new : Reports) (text bytes : List ℕ) (read : Config) (ending : Ending)
-    → FeedEnds config file old new ending → IsHeld config text → IsConfigOf text read → length text ≤ CONFIG_LIMIT
-    → IsHeld file bytes → length bytes ≤ FILE_LIMIT
+feed_complete : (config file : List ℕ) (old new : Reports) (Unasked : Type 0) (text bytes : List ℕ) (read : Config) (ending : Ending)
+    → FeedEnds config file old new Unasked ending → IsHeld (old.store.held config) text → IsConfigOf text read → length text ≤ CONFIG_LIMIT
+    → IsHeld (old.store.held file) bytes → length bytes ≤ FILE_LIMIT
     → IsStill old.store.faults new.store.faults → IsStill old.out.faults new.out.faults
     → (status_of ending ≡ SinkFault → IsStill old.err.faults new.err.faults) → IsStill old.patterns.refusals new.patterns.refusals → HasFed (partial bytes) (status_of ending)
-feed_complete config file old new text bytes read ending ends holds is fits holds_bytes bytes_fit reads_still out_still err_still still = elim ends [
+feed_complete config file old new Unasked text bytes read ending ends holds is fits holds_bytes bytes_fit reads_still out_still err_still still = elim ends [
   | inl refused ↦ for_memory _ ending (refused_for_memory config text read old.store new.store old.patterns new.patterns ending holds is fits reads_still still refused.0)
-  | inr accepted ↦ elim accepted.2 [
+  | inr accepted ↦ elim accepted.3 [
     | inl refused ↦ for_memory _ ending (file_refused_for_memory file bytes old.store new.store ending holds_bytes bytes_fit reads_still refused.0)
     | inr fed ↦
-        let same : bytes ≡ fed.0 = (reported_of file bytes (λ held. held ≡ fed.0) holds_bytes (λ held reported. let is = fed.1 held reported in (is.0, is.1, is.2.0))) in
+        let same : bytes ≡ fed.0 = (reported_of (old.store.held file) bytes (λ held. held ≡ fed.0) holds_bytes (λ held reported. let is = fed.1 held reported in (is.0, is.1, is.2.0))) in
         subst (λ (list : List ℕ). HasFed (partial list) (status_of ending)) (sym same) (bytes_complete accepted.0 fed.0 old new ending fed.2 out_still err_still)
   ]
 ]
 
-pub feed_completes : (config file : List ℕ) (held held' : Content) (old new : Reports) (after : SinkReport) (text bytes : List ℕ) (read : Config) (ending : Ending)
-    → FeedEnds held held' old new ending → Says config file ending new.err after → IsHeld held text → IsConfigOf text read → length text ≤ CONFIG_LIMIT
-    → IsHeld held' bytes → length bytes ≤ FILE_LIMIT
+pub feed_completes : (config file : List ℕ) (old new : Reports) (Unasked : Type 0) (after : SinkReport) (text bytes : List ℕ) (read : Config)
+    (ending : Ending) → FeedEnds config file old new Unasked ending → Says ending new.err after → IsHeld (old.store.held config) text
+    → IsConfigOf text read → length text ≤ CONFIG_LIMIT → IsHeld (old.store.held file) bytes → length bytes ≤ FILE_LIMIT
     → IsStill old.store.faults new.store.faults → IsStill old.out.faults new.out.faults → IsStill old.err.faults after.faults
     → IsStill old.patterns.refusals new.patterns.refusals → HasFed (partial bytes) (status_of ending)
-feed_completes config file held held' old new after text bytes read ending ends says holds is fits holds_bytes bytes_fit reads_still out_still err_still still =
-    feed_complete held held' old new text bytes read ending ends holds is fits holds_bytes bytes_fit reads_still out_still
-    (still_before config file old.err new.err after ending says err_still) still
+feed_completes config file old new Unasked after text bytes read ending ends says holds is fits holds_bytes bytes_fit reads_still out_still err_still still =
+    feed_complete config file old new Unasked text bytes read ending ends holds is fits holds_bytes bytes_fit reads_still out_still
+    (still_before old.err new.err after ending says err_still) still

@@ -1,6 +1,6 @@
 -- What `feed CONFIG FILE` promises.
-use Rattle.std.specs.Prelude.{◌≡◌, ◌≢◌, ℕ, ◌≤◌, ◌⊎◌, List, [], ◌∷◌, length, Err}
-use Rattle.file_run.specs.command_io.Endings.{HasNoConfig, IsComplete, ReadsFiles, Says, status_of}
+use Rattle.std.specs.Prelude.{◌≡◌, ◌≢◌, ℕ, ◌≤◌, ◌⊎◌, List, [], length, Err}
+use Rattle.file_run.specs.command_io.Endings.{IsComplete, Says, status_of}
 use Rattle.file_run.specs.command_io.Reports.{IsIdle, Reports}
 use Rattle.file_run.specs.command_io.declared.ending.Ending.{Ending}
 use Rattle.file_run.specs.command_io.declared.ending.Ending.TheVariants.{Finished, BytesLeft, WriteFailed, OutOfMemory}
@@ -10,7 +10,7 @@ use Rattle.file_run.specs.command_io.declared.status.Status.TheVariants.{Done, M
 use Rattle.file_run.specs.command_io.Accepting.{RefusesSetup}
 use Rattle.command_setup.specs.Setups.{SetsUp, run_report_of}
 use Rattle.file_run.specs.conn_core.declared.hub.Hub.{Hub}
-use Rattle.file_run.specs.Files.{IsFile, ReadCounts, RefusesFile}
+use Rattle.file_run.specs.Files.{IsFile, ReadsBoth, RefusesFile, StopsAtConfig}
 use Rattle.file_run.specs.Runs.{RunsScript, most_turns}
 use Rattle.framing.specs.Frames.{partial}
 use Rattle.file_run.specs.hub_meaning.Runs.{state_after}
@@ -22,7 +22,7 @@ use Rattle.file_run.specs.hub_run.declared.setup.Setup.{Setup}
 use Rattle.ports.specs.Counts.{IsStill, Rose}
 use Rattle.ports.specs.Pieces.{feed_script}
 use Rattle.ports.specs.Playing.{IsScriptedRun}
-use Rattle.ports.specs.Reading.{Content, IsHeld}
+use Rattle.ports.specs.Reading.{IsHeld}
 use Rattle.ports.specs.Writing.{Got, GotPrefix, SinkReport}
 use Rattle.ports.specs.declared.entry.Entry.{Entry}
 use Rattle.ports.specs.declared.links.TheConstants.{PIECE_LIMIT}
@@ -61,17 +61,19 @@ BytesEnd setup bytes old new _ = ⊥
 -- ---- the command
 
 -- the file was refused and nothing was run, or it was fed
-abbrev pub FileEnds : Setup → Content → Reports → Reports → Ending → Type 0
-FileEnds setup content old new ending =
-    (RefusesFile content old.store new.store ending × (new.patterns ≡ old.patterns) × (new.err ≡ old.err) × IsIdle old new)
-    ⊎ ((bytes : List ℕ) × IsFile content bytes × BytesEnd setup bytes old new ending)
+abbrev pub FileEnds : Setup → List ℕ → Reports → Reports → Ending → Type 0
+FileEnds setup file old new ending =
+    (RefusesFile file old.store new.store ending × (new.patterns ≡ old.patterns) × (new.err ≡ old.err) × IsIdle old new)
+    ⊎ ((bytes : List ℕ) × IsFile (old.store.held file) bytes × BytesEnd setup bytes old new ending)
 
--- The configuration was refused and nothing was run, or it was accepted. The error stream is as it was before the line
--- of the ending.
-abbrev pub FeedEnds : Content → Content → Reports → Reports → Ending → Type 0
-FeedEnds config file old new ending =
-    (RefusesSetup config old.store new.store old.patterns new.patterns ending × (new.err ≡ old.err) × IsIdle old new)
-    ⊎ ((setup : Setup) × SetsUp config setup × FileEnds setup file old new ending)
+-- The configuration was refused, nothing was run and the file was not read; or it was accepted, and both files were read.
+-- The error stream is as it was before the line of the ending. `Unasked` is that no pattern was asked for.
+abbrev pub FeedEnds : List ℕ → List ℕ → Reports → Reports → Type 0 → Ending → Type 0
+FeedEnds config file old new Unasked ending =
+    (RefusesSetup config old.store new.store old.patterns new.patterns ending × (new.err ≡ old.err) × IsIdle old new
+    × StopsAtConfig config old.store.reads new.store.reads Unasked ending)
+    ⊎ ((setup : Setup) × SetsUp (old.store.held config) setup
+    × ReadsBoth config file old.store.reads new.store.reads ending × FileEnds setup file old new ending)
 
 -- the status of a call that met no fault and no refusal, by the bytes after the last whole frame
 abbrev pub HasFed : List ℕ → Status → Type 0
@@ -96,14 +98,11 @@ pub record Feeds (config file : List ℕ) (old new : Reports) (Unasked : Type 0)
   pub ended : status ≡ status_of ending
   -- the error stream before that line
   pub before : SinkReport
-  pub says : Says config file ending before new.err
-  -- why it ended so, and what was run and written
-  pub ends : FeedEnds (old.store.held config) (old.store.held file) old (record new { err = before }) ending
+  pub says : Says ending before new.err
+  -- why it ended so, and what was read, run and written
+  pub ends : FeedEnds config file old (record new { err = before }) Unasked ending
   -- the links that were handed in were not called
   pub untouched : new.links ≡ old.links
-  pub reads : ReadsFiles (config ∷ (file ∷ [])) (ReadCounts (old.store.held config) ending) old.store.reads new.store.reads ending
-  -- patterns are asked for once there is a configuration
-  pub unasked : HasNoConfig ending → Unasked
   -- where it did all that it had to, no read failed, and no write of a notice line or of the replies
   pub quiet : IsComplete ending
       → (new.store.faults ≡ old.store.faults) × (new.out.faults ≡ old.out.faults) × (before.faults ≡ old.err.faults)

@@ -1,10 +1,10 @@
-ghost use Rattle.std.specs.Prelude.{◌≡◌, ◌≢◌, ◌≤◌, ◌⊎◌, [], ◌∷◌};
+ghost use Rattle.std.specs.Prelude.{◌≡◌, ◌≢◌, ◌≤◌, ◌⊎◌};
 ghost use Rattle.std.specs.Option.{ForSome};
-ghost use Rattle.file_run.specs.command_io.Endings.{HasNoConfig, IsComplete, IsRefusalOrMemory, ReadsFiles, status_of};
+ghost use Rattle.file_run.specs.command_io.Endings.{IsComplete, IsRefusalOrMemory, status_of};
 ghost use Rattle.ports.specs.Calls.{LinksReport};
 ghost use Rattle.file_run.specs.command_io.Reports.{reports};
 ghost use Rattle.feed_command.specs.Feeds.{FeedEnds, Feeds, FileEnds};
-ghost use Rattle.file_run.specs.Files.{OtherReads, ReadCounts};
+ghost use Rattle.file_run.specs.Files.{OtherReads};
 ghost use Rattle.ports.specs.Counts.{Rose};
 
 use crate::serve::serve_bytes;
@@ -58,34 +58,29 @@ pub fn feed<S: Store, O: Sink, E: Sink, P: Patterns, G: Ledger>(
     ensures untouched { IsRefusalOrMemory result → out.new ≡ out.old }
 {
     let ending = feed_files(alloc, config, file, store, out, err, patterns, steps);
-    report(ending, config, file, err)
+    report(ending, err)
 }
 
 /// Reads the configuration and the file, and feeds the file.
-fn feed_files<S: Store, O: Sink, E: Sink, P: Patterns, G: Ledger>(
+fn feed_files<'a, S: Store, O: Sink, E: Sink, P: Patterns, G: Ledger>(
     alloc: Global,
-    config: &Text,
-    file: &Text,
+    config: &'a Text,
+    file: &'a Text,
     store: &mut S,
     out: &mut O,
     err: &mut E,
     patterns: &mut P,
     steps: &mut Steps<G>,
-) -> Ending
-    ensures ends { (links : LinksReport) → FeedEnds ((S.report store.old).held config.now)
-        ((S.report store.old).held file.now)
+) -> Ending<'a>
+    ensures ends { (links : LinksReport) → FeedEnds config.now file.now
         (reports (S.report store.old) links (O.report out.old) (E.report err.old)
         (P.report patterns.old) steps.old.forks)
         (reports (S.report store.new) links (O.report out.new) (E.report err.new)
-        (P.report patterns.new) steps.new.forks) result }
-    ensures reads { ReadsFiles (config.now ∷ (file.now ∷ []))
-        (ReadCounts ((S.report store.old).held config.now) result) (S.report store.old).reads
-        (S.report store.new).reads result }
+        (P.report patterns.new) steps.new.forks) (patterns.new ≡ patterns.old) result }
     ensures quiet { IsComplete result → ((S.report store.new).faults ≡ (S.report store.old).faults)
         × ((O.report out.new).faults ≡ (O.report out.old).faults) ×
         ((E.report err.new).faults ≡ (E.report err.old).faults) }
     ensures untouched { IsRefusalOrMemory (status_of result) → out.new ≡ out.old }
-    ensures unasked { HasNoConfig result → patterns.new ≡ patterns.old }
 {
     match fetch_setup(alloc, config, store, patterns) {
         Ok(setup) => feed_file(alloc, setup, file, store, out, err, patterns, steps),
@@ -94,19 +89,19 @@ fn feed_files<S: Store, O: Sink, E: Sink, P: Patterns, G: Ledger>(
 }
 
 /// Reads the file, and feeds it.
-fn feed_file<S: Store, O: Sink, E: Sink, P: Patterns, G: Ledger>(
+fn feed_file<'a, S: Store, O: Sink, E: Sink, P: Patterns, G: Ledger>(
     alloc: Global,
     setup: Setup,
-    file: &Text,
+    file: &'a Text,
     store: &mut S,
     out: &mut O,
     err: &mut E,
     patterns: &mut P,
     steps: &mut Steps<G>,
-) -> Ending
+) -> Ending<'a>
     requires interval { ForSome setup.expiry (λ set. (1 ≤ set.interval) ×
         (set.interval ≤ 604800)) }
-    ensures ends { (links : LinksReport) → FileEnds setup ((S.report store.old).held file.now)
+    ensures ends { (links : LinksReport) → FileEnds setup file.now
         (reports (S.report store.old) links (O.report out.old) (E.report err.old)
         (P.report patterns.old) steps.old.forks)
         (reports (S.report store.new) links (O.report out.new) (E.report err.new)
@@ -117,7 +112,6 @@ fn feed_file<S: Store, O: Sink, E: Sink, P: Patterns, G: Ledger>(
         × ((O.report out.new).faults ≡ (O.report out.old).faults) ×
         ((E.report err.new).faults ≡ (E.report err.old).faults) }
     ensures untouched { IsRefusalOrMemory (status_of result) → out.new ≡ out.old }
-    ensures asked { HasNoConfig result → ⊥ }
 {
     match read_other(alloc, file, store) {
         Ok(bytes) => serve_bytes(alloc, setup, bytes, out, err, patterns, steps),

@@ -24,7 +24,7 @@ use step_count::{Ledger, Steps};
 
 /// Runs a server to which the bytes come on link 0. The notices are written to `err`, and then the
 /// replies to `out`.
-pub(crate) fn serve_bytes<O: Sink, E: Sink, P: Patterns, G: Ledger>(
+pub(crate) fn serve_bytes<'a, O: Sink, E: Sink, P: Patterns, G: Ledger>(
     alloc: Global,
     setup: Setup,
     bytes: Blob,
@@ -32,7 +32,7 @@ pub(crate) fn serve_bytes<O: Sink, E: Sink, P: Patterns, G: Ledger>(
     err: &mut E,
     patterns: &mut P,
     steps: &mut Steps<G>,
-) -> Ending
+) -> Ending<'a>
     requires interval { ForSome setup.expiry (λ set. (1 ≤ set.interval) ×
         (set.interval ≤ 604800)) }
     ensures ends { (store store' : StoreReport) (links : LinksReport) →
@@ -53,7 +53,7 @@ pub(crate) fn serve_bytes<O: Sink, E: Sink, P: Patterns, G: Ledger>(
 }
 
 /// Runs a server over links that hand out bytes, of which `left` come after the last whole frame.
-fn serve_links<O: Sink, E: Sink, P: Patterns, G: Ledger>(
+fn serve_links<'a, O: Sink, E: Sink, P: Patterns, G: Ledger>(
     alloc: Global,
     setup: Setup,
     left: usize,
@@ -62,7 +62,7 @@ fn serve_links<O: Sink, E: Sink, P: Patterns, G: Ledger>(
     err: &mut E,
     patterns: &mut P,
     steps: &mut Steps<G>,
-) -> Ending
+) -> Ending<'a>
     requires interval { ForSome setup.expiry (λ set. (1 ≤ set.interval) ×
         (set.interval ≤ 604800)) }
     requires begins { links.log ≡ [] }
@@ -87,7 +87,7 @@ fn serve_links<O: Sink, E: Sink, P: Patterns, G: Ledger>(
 }
 
 /// Writes the replies to a file, of which `left` bytes come after the last whole frame.
-fn write_replies<O: Sink>(replies: &[u8], left: usize, out: &mut O) -> Ending
+fn write_replies<'a, O: Sink>(replies: &[u8], left: usize, out: &mut O) -> Ending<'a>
     ensures after { IsAfterRun result }
     ensures writes { (rest : List ℕ) → left ≡ length rest →
         WritesReplies replies.now rest (O.report out.old) (O.report out.new) result }

@@ -1,13 +1,13 @@
 -- How a call of the command ends.
 use Rattle.std.proofs.Common.{◌≡◌, ◌≢◌, ℕ, ◌+◌, ◌<◌, ◌≤◌, ◌⊎◌, List, [], ◌∷◌, ◌++◌, length, take, get_or, Option, Some, None, Result, Ok, Err, refl, sym, ◌∙◌, ap, subst, arith, inl, inr, append-nil}
 use Rattle.std.proofs.lemmas.Grind.{flat_map-append}
+use Rattle.std.specs.Borrow.{Bor}
 use Rattle.std.proofs.lemmas.List.{take_more}
 use Rattle.command_io.proofs.EndingLaws.{not_over, reported_of}
 use Rattle.command_io.specs.Endings.{GotLineOf, IsRefusalOrMemory, Says, status_of}
 use Rattle.command_io.specs.Fetches.{ending_of_file}
 use Rattle.command_io.specs.Files.{IsFileFault, ReadMore, good_read, reads_of}
 use Rattle.command_io.specs.Reports.{Reports}
-use Rattle.command_io.specs.declared.ending.Source.TheVariants.{OtherFile}
 use Rattle.command_io.specs.declared.limits.TheConstants.{FILE_LIMIT}
 use Rattle.command_io.specs.declared.read.FileFault.{FileFault}
 use Rattle.command_io.specs.declared.read.FileFault.TheVariants as file
@@ -97,23 +97,23 @@ converted_reads name host_part text out out' err err' reads reads' Tests ends gr
 converted_reads name host_part text out out' err err' reads reads' Verdict ends grew = grew
 
 -- the file was not read
-pub fault_ends : (name : List ℕ) (host_part : Option ℕ) (old new : Reports) (fault : FileFault)
+pub fault_ends : (name : List ℕ) (shown : Bor (List ℕ)) (host_part : Option ℕ) (old new : Reports) (fault : FileFault) → shown.now ≡ name
     → IsFileFault (old.store.held name) FILE_LIMIT old.store.faults new.store.faults old.store.taken new.store.taken fault → new.out ≡ old.out
-    → Says name name (ending_of_file OtherFile fault) old.err new.err → ConvertEnds name host_part old new (status_of (ending_of_file OtherFile fault))
-fault_ends name host_part old new file.Unread cause same says = (cause, same, says)
-fault_ends name host_part old new file.TooLong cause same says = (cause.0, cause.1, same, says)
-fault_ends name host_part old new file.Memory cause same says = (same, says)
+    → Says (ending_of_file shown FILE_LIMIT fault) old.err new.err → ConvertEnds name host_part old new (status_of (ending_of_file shown FILE_LIMIT fault))
+fault_ends name shown host_part old new file.Unread is cause same says = (cause, same, rw is at says)
+fault_ends name shown host_part old new file.TooLong is cause same says = (cause.0, cause.1, same, rw is at says)
+fault_ends name shown host_part old new file.Memory is cause same says = (same, says)
 
-pub fault_reads : (name : List ℕ) (reads reads' : Option (List StoreRead)) (fault : FileFault) → ReadMore (reads_of name (Err fault)) reads reads'
-    → ReadsOnce name reads reads' (status_of (ending_of_file OtherFile fault))
-fault_reads name reads reads' file.Unread grew = grew
-fault_reads name reads reads' file.TooLong grew = grew
-fault_reads name reads reads' file.Memory grew = inl grew
+pub fault_reads : (name : List ℕ) (shown : Bor (List ℕ)) (reads reads' : Option (List StoreRead)) (fault : FileFault)
+    → ReadMore (reads_of name (Err fault)) reads reads' → ReadsOnce name reads reads' (status_of (ending_of_file shown FILE_LIMIT fault))
+fault_reads name shown reads reads' file.Unread grew = grew
+fault_reads name shown reads reads' file.TooLong grew = grew
+fault_reads name shown reads reads' file.Memory grew = inl grew
 
-pub fault_not_converted : (fault : FileFault) → IsConverted (status_of (ending_of_file OtherFile fault)) → ⊥
-fault_not_converted file.Unread done = done
-fault_not_converted file.TooLong done = done
-fault_not_converted file.Memory done = done
+pub fault_not_converted : (shown : Bor (List ℕ)) (fault : FileFault) → IsConverted (status_of (ending_of_file shown FILE_LIMIT fault)) → ⊥
+fault_not_converted shown file.Unread done = done
+fault_not_converted shown file.TooLong done = done
+fault_not_converted shown file.Memory done = done
 
 -- ---- completeness
 

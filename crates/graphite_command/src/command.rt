@@ -8,7 +8,7 @@ ghost use Rattle.ports.specs.Calls.{LinksReport};
 ghost use Rattle.ports.specs.Counts.{Rose};
 
 use crate::text::convert_text;
-use command_io::{FILE_LIMIT, Source, Status, read_file, report};
+use command_io::{FILE_LIMIT, Status, read_file, report};
 use ev_types::Text;
 use ports::{Sink, Store};
 use std::alloc::Global;
@@ -52,6 +52,6 @@ pub fn graphite<S: Store, O: Sink, E: Sink>(
 {
     match read_file(alloc, file, FILE_LIMIT, store) {
         Ok(text) => convert_text(alloc, text.as_slice(), host_part, out, err),
-        Err(fault) => report(fault.ending(Source::OtherFile), file, file, err),
+        Err(fault) => report(fault.ending(file.as_str(), FILE_LIMIT), err),
     }
 }

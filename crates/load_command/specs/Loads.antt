@@ -3,7 +3,7 @@ use Rattle.std.specs.Prelude.{◌≡◌, ℕ, ◌≤◌, ◌⊎◌, List, [], �
 use Rattle.command_setup.specs.hub_meaning.Verdicts.{PatternsReport}
 use Rattle.command_setup.specs.hub_run.declared.setup.Setup.{Setup}
 use Rattle.ports.specs.Counts.{IsStill, Rose}
-use Rattle.ports.specs.Reading.{Content, IsHeld}
+use Rattle.ports.specs.Reading.{IsHeld}
 use Rattle.ports.specs.Writing.{Got, GotPrefix, SinkReport}
 use Rattle.command_setup.specs.sexp_config.declared.config.Config.{Config}
 use Rattle.command_setup.specs.sexp_config.Config.{IsConfigOf}
@@ -31,12 +31,11 @@ RunEnds setup count start patterns patterns' forks forks' out out' ending =
     ((ending ≡ OutOfMemory) × IsCutOff setup count start patterns patterns' forks forks' × (out' ≡ out))
     ⊎ ((summary : Summary) × IsPlayed setup count start patterns patterns' forks forks' summary × WritesSummary summary out out' ending)
 
--- The configuration was refused and nothing was run, or its server was run over the load. The content is that of the
--- configuration's file.
-abbrev pub LoadEnds : Content → ℕ → ℕ → Reports → Reports → Ending → Type 0
-LoadEnds content count start old new ending =
-    (RefusesSetup content old.store new.store old.patterns new.patterns ending × IsIdle old new)
-    ⊎ ((setup : Setup) × SetsUp content setup
+-- The configuration in the file of the name was refused and nothing was run, or its server was run over the load.
+abbrev pub LoadEnds : List ℕ → ℕ → ℕ → Reports → Reports → Ending → Type 0
+LoadEnds config count start old new ending =
+    (RefusesSetup config old.store new.store old.patterns new.patterns ending × IsIdle old new)
+    ⊎ ((setup : Setup) × SetsUp (old.store.held config) setup
     × RunEnds setup count start old.patterns new.patterns old.forks new.forks old.out new.out ending)
 
 -- with a configuration within its limit, no fault and no pattern refused, the load is played and its summary written, or
@@ -52,9 +51,9 @@ pub record Loads (config : List ℕ) (count start : ℕ) (old new : Reports) (Un
   -- how it ended, as the status and the line on the error stream say
   pub ending : Ending
   pub ended : status ≡ status_of ending
-  pub says : Says config config ending old.err new.err
+  pub says : Says ending old.err new.err
   -- the run and what was written of it, or why there was none
-  pub ends : LoadEnds (old.store.held config) count start old new ending
+  pub ends : LoadEnds config count start old new ending
   -- the links that were handed in were not called
   pub untouched : new.links ≡ old.links
   -- what it read

@@ -57,23 +57,23 @@ pub fn load<S: Store, O: Sink, E: Sink, P: Patterns, G: Ledger>(
     ensures no_line { HasNoLine result → err.new ≡ err.old }
 {
     let ending = load_config(alloc, config, count, start, store, out, patterns, steps);
-    report(ending, config, config, err)
+    report(ending, err)
 }
 
 /// Reads the configuration, and runs its server.
-fn load_config<S: Store, O: Sink, P: Patterns, G: Ledger>(
+fn load_config<'a, S: Store, O: Sink, P: Patterns, G: Ledger>(
     alloc: Global,
-    config: &Text,
+    config: &'a Text,
     count: u64,
     start: u64,
     store: &mut S,
     out: &mut O,
     patterns: &mut P,
     steps: &mut Steps<G>,
-) -> Ending
+) -> Ending<'a>
     requires few { count ≤ EVENT_LIMIT }
     ensures ends { (links : LinksReport) (err err' : SinkReport) →
-        LoadEnds ((S.report store.old).held config.now) count start
+        LoadEnds config.now count start
         (reports (S.report store.old) links (O.report out.old) err (P.report patterns.old)
         steps.old.forks) (reports (S.report store.new) links (O.report out.new) err'
         (P.report patterns.new) steps.new.forks) result }
@@ -91,7 +91,7 @@ fn load_config<S: Store, O: Sink, P: Patterns, G: Ledger>(
 }
 
 /// Runs a server over the load, and writes what it came to.
-fn run_load<O: Sink, P: Patterns, G: Ledger>(
+fn run_load<'a, O: Sink, P: Patterns, G: Ledger>(
     alloc: Global,
     setup: Setup,
     count: u64,
@@ -99,7 +99,7 @@ fn run_load<O: Sink, P: Patterns, G: Ledger>(
     out: &mut O,
     patterns: &mut P,
     steps: &mut Steps<G>,
-) -> Ending
+) -> Ending<'a>
     requires few { count ≤ EVENT_LIMIT }
     requires interval { ForSome setup.expiry (λ set. (1 ≤ set.interval) ×
         (set.interval ≤ 604800)) }
@@ -115,7 +115,7 @@ fn run_load<O: Sink, P: Patterns, G: Ledger>(
 }
 
 /// Writes the summary as a line, in one put.
-fn write_summary<O: Sink>(alloc: Global, summary: &Summary, out: &mut O) -> Ending
+fn write_summary<'a, O: Sink>(alloc: Global, summary: &Summary, out: &mut O) -> Ending<'a>
     ensures writes { WritesSummary summary.now (O.report out.old) (O.report out.new) result }
     ensures untouched { IsRefusalOrMemory (status_of result) → out.new ≡ out.old }
     ensures asked { HasNoConfig result → ⊥ }

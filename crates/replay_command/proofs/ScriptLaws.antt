@@ -23,35 +23,35 @@ pub for_file : (content : Content) (bytes : List ℕ) (P : List ℕ → Type 0) 
 for_file content bytes P is fact = λ held reported. let file = is held reported in
     (file.0, file.1, (rw file.2.0 file.2.1, subst P (sym file.2.0) fact))
 
-pub text_refused : (content : Content) (bytes : List ℕ) (old new : StoreReport) (ending : Ending) → IsFile content bytes → RefusesText bytes ending
-    → RefusesScript content old new ending
-text_refused content bytes old new Finished is refuses = absurd refuses
-text_refused content bytes old new (ConfigRefused refusal) is refuses = absurd refuses
-text_refused content bytes old new (Unread source) is refuses = absurd refuses
-text_refused content bytes old new (OverLimit source) is refuses = absurd refuses
-text_refused content bytes old new (BytesLeft count) is refuses = absurd refuses
-text_refused content bytes old new WriteFailed is refuses = absurd refuses
-text_refused content bytes old new LinksFailed is refuses = absurd refuses
-text_refused content bytes old new (ScriptRefused line) is refuses = for_file content bytes (λ text. script_of text ≡ Err line) is refuses
-text_refused content bytes old new OutOfMemory is refuses = tt
+pub text_refused : (name bytes : List ℕ) (old new : StoreReport) (ending : Ending) → IsFile (old.held name) bytes → RefusesText bytes ending
+    → RefusesScript name old new ending
+text_refused name bytes old new Finished is refuses = absurd refuses
+text_refused name bytes old new (ConfigRefused refusal) is refuses = absurd refuses
+text_refused name bytes old new (Unread unread) is refuses = absurd refuses
+text_refused name bytes old new (OverLimit over limit) is refuses = absurd refuses
+text_refused name bytes old new (BytesLeft count) is refuses = absurd refuses
+text_refused name bytes old new WriteFailed is refuses = absurd refuses
+text_refused name bytes old new LinksFailed is refuses = absurd refuses
+text_refused name bytes old new (ScriptRefused line) is refuses = for_file (old.held name) bytes (λ text. script_of text ≡ Err line) is refuses
+text_refused name bytes old new OutOfMemory is refuses = tt
 
-pub file_refused : (content : Content) (old new : StoreReport) (ending : Ending) → RefusesFile content old new ending → RefusesScript content old new ending
-file_refused content old new Finished refuses = refuses
-file_refused content old new (ConfigRefused refusal) refuses = refuses
-file_refused content old new (Unread source) refuses = refuses
-file_refused content old new (OverLimit source) refuses = refuses
-file_refused content old new (BytesLeft count) refuses = refuses
-file_refused content old new WriteFailed refuses = refuses
-file_refused content old new LinksFailed refuses = refuses
-file_refused content old new (ScriptRefused line) refuses = absurd refuses
-file_refused content old new OutOfMemory refuses = refuses
+pub file_refused : (name : List ℕ) (old new : StoreReport) (ending : Ending) → RefusesFile name old new ending → RefusesScript name old new ending
+file_refused name old new Finished refuses = refuses
+file_refused name old new (ConfigRefused refusal) refuses = refuses
+file_refused name old new (Unread unread) refuses = refuses
+file_refused name old new (OverLimit over limit) refuses = refuses
+file_refused name old new (BytesLeft count) refuses = refuses
+file_refused name old new WriteFailed refuses = refuses
+file_refused name old new LinksFailed refuses = refuses
+file_refused name old new (ScriptRefused line) refuses = absurd refuses
+file_refused name old new OutOfMemory refuses = refuses
 
 refused_read : (old new : Option (List StoreRead)) (name text : List ℕ) (ending : Ending) → RefusesText text ending → ReadMore (good_read name ∷ []) old new
     → OtherReads name old new ending
 refused_read old new name text Finished refuses grew = absurd refuses
 refused_read old new name text (ConfigRefused refusal) refuses grew = absurd refuses
-refused_read old new name text (Unread source) refuses grew = absurd refuses
-refused_read old new name text (OverLimit source) refuses grew = absurd refuses
+refused_read old new name text (Unread unread) refuses grew = absurd refuses
+refused_read old new name text (OverLimit over limit) refuses grew = absurd refuses
 refused_read old new name text (BytesLeft count) refuses grew = absurd refuses
 refused_read old new name text WriteFailed refuses grew = absurd refuses
 refused_read old new name text LinksFailed refuses grew = absurd refuses
@@ -68,53 +68,54 @@ text_read old new name text (Err ending) refuses grew = refused_read old new nam
 
 -- ---- there is no script
 
-pub script_not_complete : (content : Content) (old new : StoreReport) (ending : Ending) → RefusesScript content old new ending → IsComplete ending → ⊥
-script_not_complete content old new Finished refuses complete = refuses
-script_not_complete content old new (ConfigRefused refusal) refuses complete = complete
-script_not_complete content old new (Unread source) refuses complete = complete
-script_not_complete content old new (OverLimit source) refuses complete = complete
-script_not_complete content old new (BytesLeft count) refuses complete = refuses
-script_not_complete content old new WriteFailed refuses complete = complete
-script_not_complete content old new LinksFailed refuses complete = complete
-script_not_complete content old new (ScriptRefused line) refuses complete = complete
-script_not_complete content old new OutOfMemory refuses complete = complete
+pub script_not_complete : (name : List ℕ) (old new : StoreReport) (ending : Ending) → RefusesScript name old new ending → IsComplete ending → ⊥
+script_not_complete name old new Finished refuses complete = refuses
+script_not_complete name old new (ConfigRefused refusal) refuses complete = complete
+script_not_complete name old new (Unread unread) refuses complete = complete
+script_not_complete name old new (OverLimit over limit) refuses complete = complete
+script_not_complete name old new (BytesLeft count) refuses complete = refuses
+script_not_complete name old new WriteFailed refuses complete = complete
+script_not_complete name old new LinksFailed refuses complete = complete
+script_not_complete name old new (ScriptRefused line) refuses complete = complete
+script_not_complete name old new OutOfMemory refuses complete = complete
 
-pub script_refused_since : (content : Content) (old mid new : StoreReport) (ending : Ending) → mid.faults ≡ old.faults → old.taken ≤ mid.taken
-    → RefusesScript content mid new ending → RefusesScript content old new ending
-script_refused_since content old mid new Finished same rises refuses = absurd refuses
-script_refused_since content old mid new (ConfigRefused refusal) same rises refuses = absurd refuses
-script_refused_since content old mid new (Unread source) same rises refuses = file_refused_since content old mid new (Unread source) same rises refuses
-script_refused_since content old mid new (OverLimit source) same rises refuses = file_refused_since content old mid new (OverLimit source) same rises refuses
-script_refused_since content old mid new (BytesLeft count) same rises refuses = absurd refuses
-script_refused_since content old mid new WriteFailed same rises refuses = absurd refuses
-script_refused_since content old mid new LinksFailed same rises refuses = absurd refuses
-script_refused_since content old mid new (ScriptRefused line) same rises refuses = refuses
-script_refused_since content old mid new OutOfMemory same rises refuses = tt
+pub script_refused_since : (name : List ℕ) (old mid new : StoreReport) (ending : Ending) → mid.faults ≡ old.faults → old.taken ≤ mid.taken
+    → mid.held ≡ old.held → RefusesScript name mid new ending → RefusesScript name old new ending
+script_refused_since name old mid new Finished same rises held refuses = absurd refuses
+script_refused_since name old mid new (ConfigRefused refusal) same rises held refuses = absurd refuses
+script_refused_since name old mid new (Unread unread) same rises held refuses = file_refused_since name old mid new (Unread unread) same rises held refuses
+script_refused_since name old mid new (OverLimit over limit) same rises held refuses = file_refused_since name old mid new (OverLimit over limit) same rises held refuses
+script_refused_since name old mid new (BytesLeft count) same rises held refuses = absurd refuses
+script_refused_since name old mid new WriteFailed same rises held refuses = absurd refuses
+script_refused_since name old mid new LinksFailed same rises held refuses = absurd refuses
+script_refused_since name old mid new (ScriptRefused line) same rises held refuses =
+    subst (λ (files : List ℕ → Content). ForHeld (files name) (λ text. (length text ≤ FILE_LIMIT) × (script_of text ≡ Err line))) held refuses
+script_refused_since name old mid new OutOfMemory same rises held refuses = tt
 
-pub script_rose : (content : Content) (old new : StoreReport) (ending : Ending) → RefusesScript content old new ending → status_of ending ≡ ReadFault
+pub script_rose : (name : List ℕ) (old new : StoreReport) (ending : Ending) → RefusesScript name old new ending → status_of ending ≡ ReadFault
     → Rose old.faults new.faults
-script_rose content old new Finished refuses e = cc
-script_rose content old new (ConfigRefused refusal) refuses e = cc
-script_rose content old new (Unread source) refuses e = file_rose content old new (Unread source) refuses e
-script_rose content old new (OverLimit source) refuses e = cc
-script_rose content old new (BytesLeft count) refuses e = cc
-script_rose content old new WriteFailed refuses e = cc
-script_rose content old new LinksFailed refuses e = cc
-script_rose content old new (ScriptRefused line) refuses e = cc
-script_rose content old new OutOfMemory refuses e = cc
+script_rose name old new Finished refuses e = cc
+script_rose name old new (ConfigRefused refusal) refuses e = cc
+script_rose name old new (Unread unread) refuses e = file_rose name old new (Unread unread) refuses e
+script_rose name old new (OverLimit over limit) refuses e = cc
+script_rose name old new (BytesLeft count) refuses e = cc
+script_rose name old new WriteFailed refuses e = cc
+script_rose name old new LinksFailed refuses e = cc
+script_rose name old new (ScriptRefused line) refuses e = cc
+script_rose name old new OutOfMemory refuses e = cc
 
 -- a script within its limit is refused only for lack of memory, where no fault is counted
-pub script_refused_for_memory : (content : Content) (text : List ℕ) (script : Script) (old new : StoreReport) (ending : Ending) → IsHeld content text
-    → script_of text ≡ Ok script → length text ≤ FILE_LIMIT → IsStill old.faults new.faults → RefusesScript content old new ending → ending ≡ OutOfMemory
-script_refused_for_memory content text script old new Finished holds is fits still refuses = absurd refuses
-script_refused_for_memory content text script old new (ConfigRefused refusal) holds is fits still refuses = absurd refuses
-script_refused_for_memory content text script old new (Unread source) holds is fits still refuses =
-    file_refused_for_memory content text old new (Unread source) holds fits still refuses
-script_refused_for_memory content text script old new (OverLimit source) holds is fits still refuses =
-    file_refused_for_memory content text old new (OverLimit source) holds fits still refuses
-script_refused_for_memory content text script old new (BytesLeft count) holds is fits still refuses = absurd refuses
-script_refused_for_memory content text script old new WriteFailed holds is fits still refuses = absurd refuses
-script_refused_for_memory content text script old new LinksFailed holds is fits still refuses = absurd refuses
-script_refused_for_memory content text script old new (ScriptRefused line) holds is fits still refuses =
-    let refused : script_of text ≡ Err line = (reported_of content text _ holds refuses).1 in cc
-script_refused_for_memory content text script old new OutOfMemory holds is fits still refuses = refl
+pub script_refused_for_memory : (name text : List ℕ) (script : Script) (old new : StoreReport) (ending : Ending) → IsHeld (old.held name) text
+    → script_of text ≡ Ok script → length text ≤ FILE_LIMIT → IsStill old.faults new.faults → RefusesScript name old new ending → ending ≡ OutOfMemory
+script_refused_for_memory name text script old new Finished holds is fits still refuses = absurd refuses
+script_refused_for_memory name text script old new (ConfigRefused refusal) holds is fits still refuses = absurd refuses
+script_refused_for_memory name text script old new (Unread unread) holds is fits still refuses =
+    file_refused_for_memory name text old new (Unread unread) holds fits still refuses
+script_refused_for_memory name text script old new (OverLimit over limit) holds is fits still refuses =
+    file_refused_for_memory name text old new (OverLimit over limit) holds fits still refuses
+script_refused_for_memory name text script old new (BytesLeft count) holds is fits still refuses = absurd refuses
+script_refused_for_memory name text script old new WriteFailed holds is fits still refuses = absurd refuses
+script_refused_for_memory name text script old new LinksFailed holds is fits still refuses = absurd refuses
+script_refused_for_memory name text script old new (ScriptRefused line) holds is fits still refuses =
+    let refused : script_of text ≡ Err line = (reported_of (old.held name) text _ holds refuses).1 in cc
+script_refused_for_memory name text script old new OutOfMemory holds is fits still refuses = refl

@@ -1,6 +1,6 @@
 -- What `replay CONFIG SCRIPT` promises.
-use Rattle.std.specs.Prelude.{◌≡◌, ℕ, ◌≤◌, ◌⊎◌, List, [], ◌∷◌, length, Option, Ok, Err}
-use Rattle.file_run.specs.command_io.Endings.{HasNoConfig, IsComplete, IsDoneOrMemory, ReadsFiles, Says, status_of}
+use Rattle.std.specs.Prelude.{◌≡◌, ℕ, ◌≤◌, ◌⊎◌, List, length, Option, Ok, Err}
+use Rattle.file_run.specs.command_io.Endings.{IsComplete, IsDoneOrMemory, Says, status_of}
 use Rattle.file_run.specs.command_io.Reports.{IsIdle, Reports}
 use Rattle.file_run.specs.command_io.declared.ending.Ending.{Ending}
 use Rattle.file_run.specs.command_io.declared.ending.Ending.TheVariants.{Finished, WriteFailed, OutOfMemory}
@@ -8,14 +8,14 @@ use Rattle.file_run.specs.command_io.declared.limits.TheConstants.{CONFIG_LIMIT,
 use Rattle.file_run.specs.command_io.declared.status.Status.{Status}
 use Rattle.file_run.specs.command_io.Accepting.{RefusesSetup}
 use Rattle.command_setup.specs.Setups.{SetsUp, run_report_of}
-use Rattle.file_run.specs.Files.{ReadCounts}
+use Rattle.file_run.specs.Files.{ReadsBoth, StopsAtConfig}
 use Rattle.file_run.specs.Runs.{RunsScript, RunsWhole}
 use Rattle.file_run.specs.hub_run.declared.fault.RunFault.{RunFault}
 use Rattle.file_run.specs.hub_run.declared.fault.RunFault.TheVariants as cause
 use Rattle.file_run.specs.hub_run.declared.setup.Setup.{Setup}
 use Rattle.link_lines.specs.LinkLines.{link_lines}
 use Rattle.ports.specs.Counts.{IsStill, Rose}
-use Rattle.ports.specs.Reading.{Content, IsHeld}
+use Rattle.ports.specs.Reading.{IsHeld}
 use Rattle.ports.specs.Writing.{Got, GotPrefix, SinkReport}
 use Rattle.ports.specs.declared.entry.Entry.{Entry}
 use Rattle.ports.specs.declared.script.Script.{Script}
@@ -55,16 +55,19 @@ PlayEnds setup script old new _ = ⊥
 -- ---- the command
 
 -- the script was refused and nothing was run, or it was played
-abbrev pub ScriptEnds : Setup → Content → Reports → Reports → Ending → Type 0
-ScriptEnds setup content old new ending =
-    (RefusesScript content old.store new.store ending × (new.patterns ≡ old.patterns) × IsIdle old new)
-    ⊎ ((script : Script) × IsScript content script × PlayEnds setup script old new ending)
+abbrev pub ScriptEnds : Setup → List ℕ → Reports → Reports → Ending → Type 0
+ScriptEnds setup name old new ending =
+    (RefusesScript name old.store new.store ending × (new.patterns ≡ old.patterns) × IsIdle old new)
+    ⊎ ((script : Script) × IsScript (old.store.held name) script × PlayEnds setup script old new ending)
 
--- the configuration was refused and nothing was run, or it was accepted
-abbrev pub ReplayEnds : Content → Content → Reports → Reports → Ending → Type 0
-ReplayEnds config script old new ending =
-    (RefusesSetup config old.store new.store old.patterns new.patterns ending × IsIdle old new)
-    ⊎ ((setup : Setup) × SetsUp config setup × ScriptEnds setup script old new ending)
+-- The configuration was refused, nothing was run and the script was not read; or it was accepted, and both files were read.
+-- `Unasked` is that no pattern was asked for.
+abbrev pub ReplayEnds : List ℕ → List ℕ → Reports → Reports → Type 0 → Ending → Type 0
+ReplayEnds config script old new Unasked ending =
+    (RefusesSetup config old.store new.store old.patterns new.patterns ending × IsIdle old new
+    × StopsAtConfig config old.store.reads new.store.reads Unasked ending)
+    ⊎ ((setup : Setup) × SetsUp (old.store.held config) setup
+    × ReadsBoth config script old.store.reads new.store.reads ending × ScriptEnds setup script old new ending)
 
 -- With files within their limits, a configuration, a script, no fault and no pattern refused, the script is played to
 -- its end and all is written, or memory runs out.
@@ -80,14 +83,11 @@ pub record Replays (config script : List ℕ) (old new : Reports) (Unasked : Typ
   -- how it ended, as the status and the line on the error stream say
   pub ending : Ending
   pub ended : status ≡ status_of ending
-  pub says : Says config script ending old.err new.err
-  -- why it ended so, and what was run and written
-  pub ends : ReplayEnds (old.store.held config) (old.store.held script) old new ending
+  pub says : Says ending old.err new.err
+  -- why it ended so, and what was read, run and written
+  pub ends : ReplayEnds config script old new Unasked ending
   -- the links that were handed in were not called
   pub untouched : new.links ≡ old.links
-  pub reads : ReadsFiles (config ∷ (script ∷ [])) (ReadCounts (old.store.held config) ending) old.store.reads new.store.reads ending
-  -- patterns are asked for once there is a configuration
-  pub unasked : HasNoConfig ending → Unasked
   -- where it did all that it had to, no read and no write of its lines failed
   pub quiet : IsComplete ending → (new.store.faults ≡ old.store.faults) × (new.out.faults ≡ old.out.faults)
   pub complete : ReplayCompletes config script old new status

@@ -19,7 +19,8 @@ RefusesText text (ScriptRefused line) = script_of text ≡ Err line
 RefusesText text OutOfMemory = Unit {0}
 RefusesText text _ = ⊥
 
--- why there is no script: the file was not read, or its text is not one
-abbrev pub RefusesScript : Content → StoreReport → StoreReport → Ending → Type 0
-RefusesScript content old new (ScriptRefused line) = ForHeld content (λ text. (length text ≤ FILE_LIMIT) × (script_of text ≡ Err line))
-RefusesScript content old new ending = RefusesFile content old new ending
+-- why there is no script: the file of the name was not read, or its text is not one
+abbrev pub RefusesScript : List ℕ → StoreReport → StoreReport → Ending → Type 0
+RefusesScript name old new (ScriptRefused line) =
+    ForHeld (old.held name) (λ text. (length text ≤ FILE_LIMIT) × (script_of text ≡ Err line))
+RefusesScript name old new ending = RefusesFile name old new ending

@@ -1,10 +1,10 @@
-ghost use Rattle.std.specs.Prelude.{◌≡◌, ◌≢◌, ◌≤◌, [], ◌∷◌};
+ghost use Rattle.std.specs.Prelude.{◌≡◌, ◌≢◌, ◌≤◌};
 ghost use Rattle.std.specs.Option.{ForSome};
-ghost use Rattle.file_run.specs.command_io.Endings.{HasNoConfig, HasNoLine, IsComplete, IsRefusal, ReadsFiles, status_of};
+ghost use Rattle.file_run.specs.command_io.Endings.{HasNoLine, IsComplete, IsRefusal, status_of};
 ghost use Rattle.ports.specs.Calls.{LinksReport};
 ghost use Rattle.ports.specs.Writing.{SinkReport};
 ghost use Rattle.file_run.specs.command_io.Reports.{reports};
-ghost use Rattle.file_run.specs.Files.{OtherReads, ReadCounts};
+ghost use Rattle.file_run.specs.Files.{OtherReads};
 ghost use Rattle.ports.specs.Counts.{Rose};
 ghost use Rattle.replay_command.specs.Replays.{ReplayEnds, Replays, ScriptEnds};
 
@@ -60,31 +60,27 @@ pub fn replay<S: Store, O: Sink, E: Sink, P: Patterns, G: Ledger>(
     ensures no_line { HasNoLine result → err.new ≡ err.old }
 {
     let ending = replay_files(alloc, config, script, store, out, patterns, steps);
-    report(ending, config, script, err)
+    report(ending, err)
 }
 
 /// Reads the configuration and the script, and plays the script.
-fn replay_files<S: Store, O: Sink, P: Patterns, G: Ledger>(
+fn replay_files<'a, S: Store, O: Sink, P: Patterns, G: Ledger>(
     alloc: Global,
-    config: &Text,
-    script: &Text,
+    config: &'a Text,
+    script: &'a Text,
     store: &mut S,
     out: &mut O,
     patterns: &mut P,
     steps: &mut Steps<G>,
-) -> Ending
+) -> Ending<'a>
     ensures ends { (links : LinksReport) (err err' : SinkReport) →
-        ReplayEnds ((S.report store.old).held config.now) ((S.report store.old).held script.now)
+        ReplayEnds config.now script.now
         (reports (S.report store.old) links (O.report out.old) err (P.report patterns.old)
         steps.old.forks) (reports (S.report store.new) links (O.report out.new) err'
-        (P.report patterns.new) steps.new.forks) result }
-    ensures reads { ReadsFiles (config.now ∷ (script.now ∷ []))
-        (ReadCounts ((S.report store.old).held config.now) result) (S.report store.old).reads
-        (S.report store.new).reads result }
+        (P.report patterns.new) steps.new.forks) (patterns.new ≡ patterns.old) result }
     ensures quiet { IsComplete result → ((S.report store.new).faults ≡ (S.report store.old).faults)
         × ((O.report out.new).faults ≡ (O.report out.old).faults) }
     ensures untouched { IsRefusal (status_of result) → out.new ≡ out.old }
-    ensures unasked { HasNoConfig result → patterns.new ≡ patterns.old }
 {
     match fetch_setup(alloc, config, store, patterns) {
         Ok(setup) => replay_script(alloc, setup, script, store, out, patterns, steps),
@@ -93,19 +89,19 @@ fn replay_files<S: Store, O: Sink, P: Patterns, G: Ledger>(
 }
 
 /// Reads the script, and plays it.
-fn replay_script<S: Store, O: Sink, P: Patterns, G: Ledger>(
+fn replay_script<'a, S: Store, O: Sink, P: Patterns, G: Ledger>(
     alloc: Global,
     setup: Setup,
-    script: &Text,
+    script: &'a Text,
     store: &mut S,
     out: &mut O,
     patterns: &mut P,
     steps: &mut Steps<G>,
-) -> Ending
+) -> Ending<'a>
     requires interval { ForSome setup.expiry (λ set. (1 ≤ set.interval) ×
         (set.interval ≤ 604800)) }
     ensures ends { (links : LinksReport) (err err' : SinkReport) →
-        ScriptEnds setup ((S.report store.old).held script.now)
+        ScriptEnds setup script.now
         (reports (S.report store.old) links (O.report out.old) err (P.report patterns.old)
         steps.old.forks) (reports (S.report store.new) links (O.report out.new) err'
         (P.report patterns.new) steps.new.forks) result }
@@ -114,7 +110,6 @@ fn replay_script<S: Store, O: Sink, P: Patterns, G: Ledger>(
     ensures quiet { IsComplete result → ((S.report store.new).faults ≡ (S.report store.old).faults)
         × ((O.report out.new).faults ≡ (O.report out.old).faults) }
     ensures untouched { IsRefusal (status_of result) → out.new ≡ out.old }
-    ensures asked { HasNoConfig result → ⊥ }
 {
     match fetch_script(alloc, script, store) {
         Ok(links) => play(alloc, setup, links, out, patterns, steps),

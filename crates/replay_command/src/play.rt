@@ -1,6 +1,6 @@
 ghost use Rattle.std.specs.Prelude.{◌≡◌, ◌≤◌, [], Ok, IfErr, IfOk, OnOk};
 ghost use Rattle.std.specs.Option.{ForSome};
-ghost use Rattle.file_run.specs.command_io.Endings.{HasNoConfig, IsComplete};
+ghost use Rattle.file_run.specs.command_io.Endings.{IsComplete};
 ghost use Rattle.ports.specs.Calls.{LinksReport};
 ghost use Rattle.ports.specs.Writing.{SinkReport};
 ghost use Rattle.ports.specs.Reading.{StoreReport};
@@ -25,19 +25,18 @@ use std::alloc::Global;
 use step_count::{Ledger, Steps};
 
 /// Reads the script in the file of the name, and gives links that play it.
-pub(crate) fn fetch_script<S: Store>(
+pub(crate) fn fetch_script<'a, S: Store>(
     alloc: Global,
-    name: &Text,
+    name: &'a Text,
     store: &mut S,
-) -> Result<ScriptLinks, Ending>
+) -> Result<ScriptLinks, Ending<'a>>
     ensures script { IfOk result
         (λ links. IsScript ((S.report store.old).held name.now) links.script) }
     ensures begins { IfOk result (λ links. links.log ≡ []) }
-    ensures refused { IfErr result (λ ending. RefusesScript ((S.report store.old).held name.now)
-        (S.report store.old) (S.report store.new) ending) }
+    ensures refused { IfErr result
+        (RefusesScript name.now (S.report store.old) (S.report store.new)) }
     ensures reads { ReadsOther name.now (S.report store.old).reads (S.report store.new).reads
         result }
-    ensures asked { IfErr result (λ ending. HasNoConfig ending → ⊥) }
     ensures quiet { OnOk result ((S.report store.new).faults ≡ (S.report store.old).faults) }
 {
     match read_other(alloc, name, store) {
@@ -47,11 +46,10 @@ pub(crate) fn fetch_script<S: Store>(
 }
 
 /// Links that play the script that the text is.
-fn read_text(alloc: Global, text: &[u8]) -> Result<ScriptLinks, Ending>
+fn read_text<'a>(alloc: Global, text: &[u8]) -> Result<ScriptLinks, Ending<'a>>
     ensures script { IfOk result (λ links. script_of text.now ≡ Ok links.script) }
     ensures begins { IfOk result (λ links. links.log ≡ []) }
     ensures refused { IfErr result (RefusesText text.now) }
-    ensures asked { IfErr result (λ ending. HasNoConfig ending → ⊥) }
 {
     match read_script(alloc, text) {
         Ok(links) => Ok(links),
@@ -61,14 +59,14 @@ fn read_text(alloc: Global, text: &[u8]) -> Result<ScriptLinks, Ending>
 }
 
 /// Plays the script of the links to a server, and writes what each link was sent.
-pub(crate) fn play<O: Sink, P: Patterns, G: Ledger>(
+pub(crate) fn play<'a, O: Sink, P: Patterns, G: Ledger>(
     alloc: Global,
     setup: Setup,
     mut links: ScriptLinks,
     out: &mut O,
     patterns: &mut P,
     steps: &mut Steps<G>,
-) -> Ending
+) -> Ending<'a>
     requires interval { ForSome setup.expiry (λ set. (1 ≤ set.interval) ×
         (set.interval ≤ 604800)) }
     requires begins { links.log ≡ [] }
@@ -87,7 +85,7 @@ pub(crate) fn play<O: Sink, P: Patterns, G: Ledger>(
 }
 
 /// Writes what each link was sent.
-fn write_links<O: Sink>(alloc: Global, links: &ScriptLinks, out: &mut O) -> Ending
+fn write_links<'a, O: Sink>(alloc: Global, links: &ScriptLinks, out: &mut O) -> Ending<'a>
     ensures after { IsAfterRun result }
     ensures writes { WritesLines (link_lines links.now.script links.now.log) (O.report out.old)
         (O.report out.new) result }

@@ -17,8 +17,8 @@ use Rattle.script_text.specs.Words.{number_of}
 no_ending : (ending : Ending) → status_of ending ≡ Usage → ⊥
 no_ending Finished e = cc
 no_ending (ConfigRefused refusal) e = cc
-no_ending (Unread source) e = cc
-no_ending (OverLimit source) e = cc
+no_ending (Unread unread) e = cc
+no_ending (OverLimit over limit) e = cc
 no_ending (BytesLeft count) e = cc
 no_ending WriteFailed e = cc
 no_ending LinksFailed e = cc

@@ -6,7 +6,7 @@ use Rattle.command_setup.specs.hub_run.declared.fault.RunFault.{RunFault}
 use Rattle.command_setup.specs.hub_run.declared.fault.RunFault.TheVariants.{Links, Sink, Memory}
 use Rattle.command_setup.specs.hub_run.declared.setup.Setup.{Setup}
 use Rattle.ports.specs.Counts.{IsStill, Rose}
-use Rattle.ports.specs.Reading.{Content, IsHeld}
+use Rattle.ports.specs.Reading.{IsHeld}
 use Rattle.command_setup.specs.sexp_config.declared.config.Config.{Config}
 use Rattle.command_setup.specs.sexp_config.Config.{IsConfigOf}
 use Rattle.command_setup.specs.command_io.declared.ending.Ending.{Ending}
@@ -29,20 +29,20 @@ abbrev pub RanOn : Setup → ℕ → Reports → Reports → Result Hub RunFault
 RanOn setup turns old new result =
     AddsRun old.links new.links (RunsTo setup turns (run_report_of old old.out) (run_report_of new new.out) result)
 
--- What happened before it ended so. The content is that of the configuration's file. Where nothing was run, no link was
+-- What happened before it ended so, with the configuration in the file of the name. Where nothing was run, no link was
 -- called.
-abbrev pub ServeEnds : Content → ℕ → Reports → Reports → Ending → Type 0
-ServeEnds content turns old new Finished =
-    (setup : Setup) × SetsUp content setup × ((hub : Hub) × RanOn setup turns old new (Ok hub))
-ServeEnds content turns old new LinksFailed =
-    (setup : Setup) × SetsUp content setup × RanOn setup turns old new (Err Links) × Rose old.links.faults new.links.faults
-ServeEnds content turns old new WriteFailed =
-    (setup : Setup) × SetsUp content setup × RanOn setup turns old new (Err Sink) × Rose old.out.faults new.out.faults
-ServeEnds content turns old new OutOfMemory =
-    (RefusesSetup content old.store new.store old.patterns new.patterns OutOfMemory × IsIdle old new)
-    ⊎ ((setup : Setup) × SetsUp content setup × RanOn setup turns old new (Err Memory)
+abbrev pub ServeEnds : List ℕ → ℕ → Reports → Reports → Ending → Type 0
+ServeEnds config turns old new Finished =
+    (setup : Setup) × SetsUp (old.store.held config) setup × ((hub : Hub) × RanOn setup turns old new (Ok hub))
+ServeEnds config turns old new LinksFailed =
+    (setup : Setup) × SetsUp (old.store.held config) setup × RanOn setup turns old new (Err Links) × Rose old.links.faults new.links.faults
+ServeEnds config turns old new WriteFailed =
+    (setup : Setup) × SetsUp (old.store.held config) setup × RanOn setup turns old new (Err Sink) × Rose old.out.faults new.out.faults
+ServeEnds config turns old new OutOfMemory =
+    (RefusesSetup config old.store new.store old.patterns new.patterns OutOfMemory × IsIdle old new)
+    ⊎ ((setup : Setup) × SetsUp (old.store.held config) setup × RanOn setup turns old new (Err Memory)
     × (new.links.faults ≡ old.links.faults) × (new.out.faults ≡ old.out.faults))
-ServeEnds content turns old new ending = RefusesSetup content old.store new.store old.patterns new.patterns ending × IsIdle old new
+ServeEnds config turns old new ending = RefusesSetup config old.store new.store old.patterns new.patterns ending × IsIdle old new
 
 -- with a configuration within its limit, no fault and no pattern refused, all turns are taken, or memory runs out
 abbrev pub ServeCompletes : List ℕ → Reports → Reports → Status → Type 0
@@ -56,9 +56,9 @@ pub record Serves (config : List ℕ) (turns : ℕ) (old new : Reports) (Unasked
   -- how it ended, as the status and the line on the error stream say
   pub ending : Ending
   pub ended : status ≡ status_of ending
-  pub says : Says config config ending old.err new.err
+  pub says : Says ending old.err new.err
   -- the run, or why there was none
-  pub ends : ServeEnds (old.store.held config) turns old new ending
+  pub ends : ServeEnds config turns old new ending
   -- what it read
   pub reads : ReadsFiles (config ∷ []) (IsReadOnce ending) old.store.reads new.store.reads ending
   -- patterns are asked for once there is a configuration

@@ -54,21 +54,21 @@ pub fn serve<S: Store, L: Links, O: Sink, E: Sink, P: Patterns, G: Ledger>(
     ensures no_line { HasNoLine result → err.new ≡ err.old }
 {
     let ending = serve_links(alloc, config, turns, store, links, out, patterns, steps);
-    report(ending, config, config, err)
+    report(ending, err)
 }
 
 /// Reads the configuration, and runs its server.
-fn serve_links<S: Store, L: Links, O: Sink, P: Patterns, G: Ledger>(
+fn serve_links<'a, S: Store, L: Links, O: Sink, P: Patterns, G: Ledger>(
     alloc: Global,
-    config: &Text,
+    config: &'a Text,
     turns: u64,
     store: &mut S,
     links: &mut L,
     out: &mut O,
     patterns: &mut P,
     steps: &mut Steps<G>,
-) -> Ending
-    ensures ends { (err err' : SinkReport) → ServeEnds ((S.report store.old).held config.now) turns
+) -> Ending<'a>
+    ensures ends { (err err' : SinkReport) → ServeEnds config.now turns
         (reports (S.report store.old) (L.report links.old) (O.report out.old) err
         (P.report patterns.old) steps.old.forks)
         (reports (S.report store.new) (L.report links.new) (O.report out.new) err'
@@ -89,7 +89,7 @@ fn serve_links<S: Store, L: Links, O: Sink, P: Patterns, G: Ledger>(
 }
 
 /// How the command ends after such a run.
-fn ending_of_run(ran: Result<Hub, RunFault>) -> Ending
+fn ending_of_run<'a>(ran: Result<Hub, RunFault>) -> Ending<'a>
     ensures { result ≡ ending_of_run ran }
 {
     match ran {

@@ -5,7 +5,7 @@ use Rattle.command_io.specs.Configs.{ReadsAs}
 use Rattle.command_io.specs.hub_meaning.Verdicts.{PatternsReport}
 use Rattle.command_io.specs.declared.ending.ConfigRefusal.{ConfigRefusal}
 use Rattle.command_io.specs.declared.ending.ConfigRefusal.TheVariants.{Refused, Pattern}
-use Rattle.command_io.specs.declared.ending.Source.TheVariants.{ConfigFile, OtherFile}
+use Rattle.test_command.specs.declared.ending.Source.TheVariants.{ConfigFile, TestsFile}
 use Rattle.command_io.specs.declared.limits.TheConstants.{CONFIG_LIMIT}
 use Rattle.command_io.specs.declared.status.Status.TheVariants.{Usage, ReadFault, SinkFault, LinkFault}
 use Rattle.config_tests.specs.Tests.{AreTestsOf}
@@ -35,7 +35,7 @@ suite_since config tests old mid new run run' ending same rises (inr ran) = inr 
 
 config_rose : (content : Content) (old new : StoreReport) (ending : TestsEnding) → RefusesConfig content old new ending → status_of ending ≡ ReadFault → Rose old.faults new.faults
 config_rose content old new (Unread ConfigFile) refuses e = refuses
-config_rose content old new (Unread OtherFile) refuses e = absurd refuses
+config_rose content old new (Unread TestsFile) refuses e = absurd refuses
 config_rose content old new Passed refuses e = cc
 config_rose content old new Differed refuses e = cc
 config_rose content old new (ConfigRefused refusal) refuses e = cc
@@ -46,7 +46,7 @@ config_rose content old new OutOfMemory refuses e = cc
 
 tests_rose : (content : Content) (old new : StoreReport) (ending : TestsEnding) → RefusesTests content old new ending → status_of ending ≡ ReadFault → Rose old.faults new.faults
 tests_rose content old new (Unread ConfigFile) refuses e = absurd refuses
-tests_rose content old new (Unread OtherFile) refuses e = refuses
+tests_rose content old new (Unread TestsFile) refuses e = refuses
 tests_rose content old new Passed refuses e = cc
 tests_rose content old new Differed refuses e = cc
 tests_rose content old new (ConfigRefused refusal) refuses e = cc
@@ -147,9 +147,9 @@ module _ (read : Config) (given : List Test) (text lines : List ℕ) (is : IsCon
   config_shown config (ConfigRefused (Refused place why)) holds refuses = absurd ((reported_of config text _ holds refuses).1.unread read is)
   config_shown config (ConfigRefused (Pattern number)) holds refuses = absurd refuses
   config_shown config (Unread ConfigFile) holds refuses = absurd (omega (arith, refuses, reads_still.0, reads_still.1))
-  config_shown config (Unread OtherFile) holds refuses = absurd refuses
+  config_shown config (Unread TestsFile) holds refuses = absurd refuses
   config_shown config (OverLimit ConfigFile) holds refuses = absurd (not_over config text CONFIG_LIMIT holds few refuses.0)
-  config_shown config (OverLimit OtherFile) holds refuses = absurd refuses
+  config_shown config (OverLimit TestsFile) holds refuses = absurd refuses
   config_shown config OutOfMemory holds refuses = tt
   config_shown config Passed holds refuses = absurd refuses
   config_shown config Differed holds refuses = absurd refuses
@@ -159,9 +159,9 @@ module _ (read : Config) (given : List Test) (text lines : List ℕ) (is : IsCon
   tests_shown : (tests : Content) (ending : TestsEnding) → IsHeld tests lines → RefusesTests tests store store' ending → HasShown (core_of read) given (status_of ending)
   tests_shown tests (TestsRefused place why) holds refuses = absurd ((reported_of tests lines _ holds refuses).1.unread given are)
   tests_shown tests (Unread ConfigFile) holds refuses = absurd refuses
-  tests_shown tests (Unread OtherFile) holds refuses = absurd (omega (arith, refuses, reads_still.0, reads_still.1))
+  tests_shown tests (Unread TestsFile) holds refuses = absurd (omega (arith, refuses, reads_still.0, reads_still.1))
   tests_shown tests (OverLimit ConfigFile) holds refuses = absurd refuses
-  tests_shown tests (OverLimit OtherFile) holds refuses = absurd (not_over tests lines CONFIG_LIMIT holds short refuses.0)
+  tests_shown tests (OverLimit TestsFile) holds refuses = absurd (not_over tests lines CONFIG_LIMIT holds short refuses.0)
   tests_shown tests OutOfMemory holds refuses = tt
   tests_shown tests Passed holds refuses = absurd refuses
   tests_shown tests Differed holds refuses = absurd refuses

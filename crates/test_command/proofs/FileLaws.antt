@@ -6,8 +6,8 @@ use Rattle.command_io.specs.Configs.{IsRefused, ReadsAs}
 use Rattle.command_io.specs.Files.{ForHeld, IsFileFault, ReadMore, bad_read, good_read, reads_of}
 use Rattle.command_io.specs.declared.ending.ConfigRefusal.{ConfigRefusal}
 use Rattle.command_io.specs.declared.ending.ConfigRefusal.TheVariants.{Refused, Pattern}
-use Rattle.command_io.specs.declared.ending.Source.{Source}
-use Rattle.command_io.specs.declared.ending.Source.TheVariants.{ConfigFile, OtherFile}
+use Rattle.test_command.specs.declared.ending.Source.{Source}
+use Rattle.test_command.specs.declared.ending.Source.TheVariants.{ConfigFile, TestsFile}
 use Rattle.command_io.specs.declared.limits.TheConstants.{CONFIG_LIMIT}
 use Rattle.command_io.specs.declared.read.FileFault.{FileFault}
 use Rattle.command_io.specs.declared.read.FileFault.TheVariants as file
@@ -75,7 +75,7 @@ tests_text_refused content text old new (OverLimit source) has refuses = absurd 
 tests_text_refused content text old new WriteFailed has refuses = refuses
 
 pub tests_file_refused : (content : Content) (old new : StoreReport) (fault : FileFault)
-    → IsFileFault content CONFIG_LIMIT old.faults new.faults old.taken new.taken fault → RefusesTests content old new (ending_of_file OtherFile fault)
+    → IsFileFault content CONFIG_LIMIT old.faults new.faults old.taken new.taken fault → RefusesTests content old new (ending_of_file TestsFile fault)
 tests_file_refused content old new file.Unread cause = cause
 tests_file_refused content old new file.TooLong cause = cause
 tests_file_refused content old new file.Memory cause = tt
@@ -84,8 +84,8 @@ tests_file_refused content old new file.Memory cause = tt
 pub tests_refused_since : (content : Content) (old mid new : StoreReport) (ending : TestsEnding) → mid.faults ≡ old.faults → old.taken ≤ mid.taken
     → RefusesTests content mid new ending → RefusesTests content old new ending
 tests_refused_since content old mid new (TestsRefused place why) same rises refuses = refuses
-tests_refused_since content old mid new (Unread OtherFile) same rises refuses = rw same at refuses
-tests_refused_since content old mid new (OverLimit OtherFile) same rises refuses = (refuses.0, λ small. omega (arith, refuses.1 small))
+tests_refused_since content old mid new (Unread TestsFile) same rises refuses = rw same at refuses
+tests_refused_since content old mid new (OverLimit TestsFile) same rises refuses = (refuses.0, λ small. omega (arith, refuses.1 small))
 tests_refused_since content old mid new OutOfMemory same rises refuses = tt
 tests_refused_since content old mid new (Unread ConfigFile) same rises refuses = refuses
 tests_refused_since content old mid new (OverLimit ConfigFile) same rises refuses = refuses
@@ -134,7 +134,7 @@ config_read name text old new (OverLimit source) refuses grew = grew
 config_read name text old new WriteFailed refuses grew = grew
 
 pub tests_unread : (name : List ℕ) (old new : Option (List StoreRead)) (fault : FileFault) → ReadMore (reads_of name (Err fault)) old new
-    → ReadsTests name old new (ending_of_file OtherFile fault)
+    → ReadsTests name old new (ending_of_file TestsFile fault)
 tests_unread name old new file.Unread grew = grew
 tests_unread name old new file.TooLong grew = grew
 tests_unread name old new file.Memory grew = inl grew
@@ -182,9 +182,9 @@ pub first_read : (config tests : List ℕ) (reads reads' : Option (List StoreRea
 first_read config tests reads reads' content old new (ConfigRefused (Refused place why)) refuses grew = grew
 first_read config tests reads reads' content old new (ConfigRefused (Pattern number)) refuses grew = absurd refuses
 first_read config tests reads reads' content old new (Unread ConfigFile) refuses grew = grew
-first_read config tests reads reads' content old new (Unread OtherFile) refuses grew = absurd refuses
+first_read config tests reads reads' content old new (Unread TestsFile) refuses grew = absurd refuses
 first_read config tests reads reads' content old new (OverLimit ConfigFile) refuses grew = grew
-first_read config tests reads reads' content old new (OverLimit OtherFile) refuses grew = absurd refuses
+first_read config tests reads reads' content old new (OverLimit TestsFile) refuses grew = absurd refuses
 first_read config tests reads reads' content old new OutOfMemory refuses (inl none) = (0, none)
 first_read config tests reads reads' content old new OutOfMemory refuses (inr one) = (1, one)
 first_read config tests reads reads' content old new Passed refuses grew = absurd refuses
@@ -204,9 +204,9 @@ both_read config tests old mid new (ConfigRefused (Refused place why)) first gre
 both_read config tests old mid new (ConfigRefused (Pattern number)) first grew = read_twice old mid new (good_read config ∷ []) (good_read tests ∷ []) first grew
 both_read config tests old mid new (TestsRefused place why) first grew = read_twice old mid new (good_read config ∷ []) (good_read tests ∷ []) first grew
 both_read config tests old mid new (Unread ConfigFile) first grew = absurd grew
-both_read config tests old mid new (Unread OtherFile) first grew = read_twice old mid new (good_read config ∷ []) (bad_read tests ∷ []) first grew
+both_read config tests old mid new (Unread TestsFile) first grew = read_twice old mid new (good_read config ∷ []) (bad_read tests ∷ []) first grew
 both_read config tests old mid new (OverLimit ConfigFile) first grew = absurd grew
-both_read config tests old mid new (OverLimit OtherFile) first grew = read_twice old mid new (good_read config ∷ []) (good_read tests ∷ []) first grew
+both_read config tests old mid new (OverLimit TestsFile) first grew = read_twice old mid new (good_read config ∷ []) (good_read tests ∷ []) first grew
 both_read config tests old mid new WriteFailed first grew = read_twice old mid new (good_read config ∷ []) (good_read tests ∷ []) first grew
 both_read config tests old mid new OutOfMemory first (inl none) = (1, read_twice old mid new (good_read config ∷ []) [] first none)
 both_read config tests old mid new OutOfMemory first (inr one) = (2, read_twice old mid new (good_read config ∷ []) (good_read tests ∷ []) first one)

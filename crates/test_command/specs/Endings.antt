@@ -1,7 +1,7 @@
 -- How the command ends: its status and its line.
 use Rattle.std.specs.Prelude.{◌≡◌, ℕ, List, [], ◌∷◌, ◌++◌, codes}
 use Rattle.std.specs.Fmt.{decimal}
-use Rattle.command_io.specs.Endings.{GotLineOf, of_source}
+use Rattle.command_io.specs.Endings.{GotLineOf}
 use Rattle.command_io.specs.Lines.{memory_line, refusal_line, too_long_line, unread_line}
 use Rattle.command_io.specs.declared.ending.ConfigRefusal.TheVariants.{Refused}
 use Rattle.command_io.specs.declared.limits.TheConstants.{CONFIG_LIMIT}
@@ -10,6 +10,8 @@ use Rattle.command_io.specs.declared.status.Status.TheVariants.{Done, Config, Re
 use Rattle.config_terms.specs.Names.{why_name}
 use Rattle.config_terms.specs.declared.fault.ConfigWhy.{ConfigWhy}
 use Rattle.ports.specs.Writing.{SinkReport}
+use Rattle.test_command.specs.declared.ending.Source.{Source}
+use Rattle.test_command.specs.declared.ending.Source.TheVariants.{ConfigFile, TestsFile}
 use Rattle.test_command.specs.declared.ending.TestsEnding.{TestsEnding}
 use Rattle.test_command.specs.declared.ending.TestsEnding.TheVariants.{Passed, Differed, ConfigRefused, TestsRefused, Unread, OverLimit, WriteFailed, OutOfMemory}
 
@@ -23,6 +25,11 @@ status_of (OverLimit source) = TooLong
 status_of WriteFailed = SinkFault
 status_of OutOfMemory = Memory
 
+-- the name of one of the two files
+abbrev pub name_of : List ℕ → List ℕ → Source → List ℕ
+name_of config tests ConfigFile = config
+name_of config tests TestsFile = tests
+
 abbrev pub tests_line : ℕ → ConfigWhy → List ℕ
 tests_line place why = codes "riemann: tests refused at " ++ (decimal place ++ (codes ": " ++ (why_name why ++ 10 ∷ [])))
 
@@ -30,8 +37,8 @@ tests_line place why = codes "riemann: tests refused at " ++ (decimal place ++ (
 abbrev pub line_of : List ℕ → List ℕ → TestsEnding → List ℕ
 line_of config tests (ConfigRefused refusal) = refusal_line refusal
 line_of config tests (TestsRefused place why) = tests_line place why
-line_of config tests (Unread source) = unread_line (of_source config tests source)
-line_of config tests (OverLimit source) = too_long_line (of_source config tests source) CONFIG_LIMIT
+line_of config tests (Unread source) = unread_line (name_of config tests source)
+line_of config tests (OverLimit source) = too_long_line (name_of config tests source) CONFIG_LIMIT
 line_of config tests OutOfMemory = memory_line
 line_of config tests _ = []
 

@@ -3,7 +3,7 @@ use Rattle.std.specs.Prelude.{◌≡◌, ℕ, ◌+◌, ◌≤◌, List, length}
 use Rattle.command_io.specs.Configs.{ForRefused, IsRefused, ReadsAs}
 use Rattle.command_io.specs.Files.{ForHeld}
 use Rattle.command_io.specs.declared.ending.ConfigRefusal.TheVariants.{Refused}
-use Rattle.command_io.specs.declared.ending.Source.TheVariants.{ConfigFile, OtherFile}
+use Rattle.test_command.specs.declared.ending.Source.TheVariants.{ConfigFile, TestsFile}
 use Rattle.command_io.specs.declared.limits.TheConstants.{CONFIG_LIMIT}
 use Rattle.config_terms.specs.declared.fault.ConfigWhy.{ConfigWhy}
 use Rattle.config_tests.specs.Tests.{AreTestsOf, IsTestsFault}
@@ -76,7 +76,7 @@ RefusesTestsText text _ = ⊥
 -- why there are no tests, from what the store reports before and after
 abbrev pub RefusesTests : Content → StoreReport → StoreReport → TestsEnding → Type 0
 RefusesTests content old new (TestsRefused place why) = ForHeld content (λ text. (length text ≤ CONFIG_LIMIT) × AreRefused text place why)
-RefusesTests content old new (Unread OtherFile) = Rose old.faults new.faults
-RefusesTests content old new (OverLimit OtherFile) = IsOverLimit content CONFIG_LIMIT × RoseBy (CONFIG_LIMIT + 1) old.taken new.taken
+RefusesTests content old new (Unread TestsFile) = Rose old.faults new.faults
+RefusesTests content old new (OverLimit TestsFile) = IsOverLimit content CONFIG_LIMIT × RoseBy (CONFIG_LIMIT + 1) old.taken new.taken
 RefusesTests content old new OutOfMemory = Unit {0}
 RefusesTests content old new _ = ⊥

@@ -2,8 +2,8 @@
 use Rattle.std.specs.Prelude.{ℕ, ◌⊎◌, List, [], ◌∷◌, take, Option}
 use Rattle.command_io.specs.Files.{ReadMore, bad_read, good_read}
 use Rattle.command_io.specs.declared.ending.ConfigRefusal.TheVariants.{Refused}
-use Rattle.command_io.specs.declared.ending.Source.{Source}
-use Rattle.command_io.specs.declared.ending.Source.TheVariants.{ConfigFile, OtherFile}
+use Rattle.test_command.specs.declared.ending.Source.{Source}
+use Rattle.test_command.specs.declared.ending.Source.TheVariants.{ConfigFile, TestsFile}
 use Rattle.command_io.specs.declared.read.FileFault.{FileFault}
 use Rattle.command_io.specs.declared.read.FileFault.TheVariants as file
 use Rattle.ports.specs.declared.store.StoreRead.{StoreRead}
@@ -22,7 +22,7 @@ abbrev pub ReadsBoth : List ℕ → List ℕ → Option (List StoreRead) → Opt
 ReadsBoth config tests old new (Unread ConfigFile) = ReadMore (bad_read config ∷ []) old new
 ReadsBoth config tests old new (OverLimit ConfigFile) = ReadMore (good_read config ∷ []) old new
 ReadsBoth config tests old new (ConfigRefused (Refused place why)) = ReadMore (good_read config ∷ []) old new
-ReadsBoth config tests old new (Unread OtherFile) = ReadMore (good_read config ∷ (bad_read tests ∷ [])) old new
+ReadsBoth config tests old new (Unread TestsFile) = ReadMore (good_read config ∷ (bad_read tests ∷ [])) old new
 ReadsBoth config tests old new OutOfMemory = (count : ℕ) × ReadMore (take count (good_read config ∷ (good_read tests ∷ []))) old new
 ReadsBoth config tests old new _ = ReadMore (good_read config ∷ (good_read tests ∷ [])) old new
 
@@ -37,6 +37,6 @@ abbrev pub ReadsTests : List ℕ → Option (List StoreRead) → Option (List St
 ReadsTests name old new (Unread ConfigFile) = ⊥
 ReadsTests name old new (OverLimit ConfigFile) = ⊥
 ReadsTests name old new (ConfigRefused (Refused place why)) = ⊥
-ReadsTests name old new (Unread OtherFile) = ReadMore (bad_read name ∷ []) old new
+ReadsTests name old new (Unread TestsFile) = ReadMore (bad_read name ∷ []) old new
 ReadsTests name old new OutOfMemory = ReadMore [] old new ⊎ ReadMore (good_read name ∷ []) old new
 ReadsTests name old new _ = ReadMore (good_read name ∷ []) old new

@@ -1,12 +1,12 @@
 //! How the command ends.
 
 ghost use Rattle.std.specs.Prelude.{◌≡◌};
-ghost use Rattle.command_io.specs.Endings.{HasNoLine, Says as SaysShared, of_source};
+ghost use Rattle.command_io.specs.Endings.{HasNoLine, Says as SaysShared};
 ghost use Rattle.ports.specs.Writing.{GotLine};
-ghost use Rattle.test_command.specs.Endings.{Says, status_of, tests_line};
+ghost use Rattle.test_command.specs.Endings.{Says, name_of, status_of, tests_line};
 
 use command_io::sexp_config::ConfigWhy;
-use command_io::{ConfigRefusal, Ending, MEMORY_LINE, Source, Status, put_line, report};
+use command_io::{CONFIG_LIMIT, ConfigRefusal, Ending, MEMORY_LINE, Status, put_line, report};
 use ev_types::Text;
 use itoa::Buffer;
 use ports::Sink;
@@ -28,6 +28,13 @@ pub(crate) enum TestsEnding {
     /// The line of a verdict could not be written. The line of the ending does not count.
     WriteFailed,
     OutOfMemory,
+}
+
+/// One of the two files of the command.
+#[derive(Clone, Copy)]
+pub(crate) enum Source {
+    ConfigFile,
+    TestsFile,
 }
 
 impl TestsEnding {
@@ -69,25 +76,31 @@ fn report_line<E: Sink>(ending: TestsEnding, config: &Text, tests: &Text, err: &
 {
     match ending {
         TestsEnding::Passed | TestsEnding::Differed | TestsEnding::WriteFailed => {}
-        TestsEnding::ConfigRefused(refusal) => say(Ending::ConfigRefused(refusal), config, err),
+        TestsEnding::ConfigRefused(refusal) => say(Ending::ConfigRefused(refusal), err),
         TestsEnding::TestsRefused { place, why } => report_tests(place, why, err),
         TestsEnding::Unread(source) => {
             let name = name_of(source, config, tests);
-            say(Ending::Unread(Source::ConfigFile), name, err)
+            say(Ending::Unread { name }, err)
         }
         TestsEnding::OverLimit(source) => {
             let name = name_of(source, config, tests);
-            say(Ending::OverLimit(Source::ConfigFile), name, err)
+            say(
+                Ending::OverLimit {
+                    name,
+                    limit: CONFIG_LIMIT,
+                },
+                err,
+            )
         }
         TestsEnding::OutOfMemory => put_line(err, &[MEMORY_LINE]),
     }
 }
 
-/// Writes the line of an ending that other commands have too, of the file of the name.
-fn say<E: Sink>(ending: Ending, name: &Text, err: &mut E)
-    ensures { SaysShared name.now name.now ending (E.report err.old) (E.report err.new) }
+/// Writes the line of an ending that other commands have too.
+fn say<E: Sink>(ending: Ending, err: &mut E)
+    ensures { SaysShared ending.entry (E.report err.old) (E.report err.new) }
 {
-    let _status = report(ending, name, name, err);
+    let _status = report(ending, err);
 }
 
 fn report_tests<E: Sink>(place: usize, why: ConfigWhy, err: &mut E)
@@ -101,11 +114,11 @@ fn report_tests<E: Sink>(place: usize, why: ConfigWhy, err: &mut E)
     );
 }
 
-fn name_of<'a>(source: Source, config: &'a Text, tests: &'a Text) -> &'a Text
-    ensures { result.now ≡ of_source config.now tests.now source }
+fn name_of<'a>(source: Source, config: &'a Text, tests: &'a Text) -> &'a str
+    ensures { result.now ≡ name_of config.now tests.now source }
 {
     match source {
-        Source::ConfigFile => config,
-        Source::OtherFile => tests,
+        Source::ConfigFile => config.as_str(),
+        Source::TestsFile => tests.as_str(),
     }
 }

@@ -7,9 +7,9 @@ ghost use Rattle.command_io.specs.Files.{ReadMore, good_read};
 ghost use Rattle.test_command.specs.Given.{HasTests, HoldsConfig, IsReadConfig, ReadsAsTests, RefusesConfig, RefusesConfigText, RefusesTests, RefusesTestsText};
 ghost use Rattle.test_command.specs.Reading.{ReadsConfig, ReadsTests, ending_of_file};
 
-use crate::ending::TestsEnding;
+use crate::ending::{Source, TestsEnding};
 use command_io::sexp_config::{ConfigFault, read_config};
-use command_io::{CONFIG_LIMIT, ConfigRefusal, FileFault, Source, read_file};
+use command_io::{CONFIG_LIMIT, ConfigRefusal, FileFault, read_file};
 use ev_types::{Blob, Text};
 use ports::Store;
 use std::alloc::Global;
@@ -81,7 +81,7 @@ pub(crate) fn fetch_tests<S: Store>(
 {
     match read_file(alloc, name, CONFIG_LIMIT, store) {
         Ok(text) => read_text(alloc, text.as_slice()),
-        Err(fault) => Err(ending_of_file(fault, Source::OtherFile)),
+        Err(fault) => Err(ending_of_file(fault, Source::TestsFile)),
     }
 }
 

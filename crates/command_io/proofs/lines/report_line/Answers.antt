@@ -13,7 +13,7 @@ pub returns-in-OutOfMemory-clause-says : goal.returns-in-OutOfMemory-clause-says
 returns-in-OutOfMemory-clause-says g c = rw c.in-OutOfMemory.is c.put_line-in-OutOfMemory.ensures
 
 pub returns-in-Unread-clause-says : goal.returns-in-Unread-clause-says
-returns-in-Unread-clause-says g c = rw c.in-Unread.is (rw c.name_of.ensures at c.report_unread.ensures)
+returns-in-Unread-clause-says g c = rw c.in-Unread.is c.report_unread.ensures
 
 pub returns-in-OverLimit-clause-says : goal.returns-in-OverLimit-clause-says
-returns-in-OverLimit-clause-says g c = rw c.in-OverLimit.is (rw (c.name_of-in-OverLimit.ensures, c.limit_of.ensures) at c.report_too_long.ensures)
+returns-in-OverLimit-clause-says g c = rw c.in-OverLimit.is c.report_too_long.ensures

@@ -14,8 +14,8 @@ returns-clause-promise g c = λ links.
     (g.O.Sink.report c.feed_files-ending.new.out) (g.E.Sink.report c.feed_files-ending.new.err)
     (g.P.Patterns.report c.feed_files-ending.new.patterns) c.feed_files-ending.new.steps.forks in
     let after = (g.E.Sink.report c.report.new.err) in
-    let held = (g.S.Store.report c.args.store.now).held c.args.config.now in
-    let held' = (g.S.Store.report c.args.store.now).held c.args.file.now in
+    let config = c.args.config.now in
+    let file = c.args.file.now in
     let ending = c.feed_files-ending.result in
     let ends = c.feed_files-ending.ensures.ends links in
     record {
@@ -25,11 +25,9 @@ returns-clause-promise g c = λ links.
       says = c.report.ensures.says;
       ends = ends;
       untouched = refl {a = links};
-      reads = c.feed_files-ending.ensures.reads;
-      unasked = c.feed_files-ending.ensures.unasked;
       quiet = c.feed_files-ending.ensures.quiet;
       complete = λ text bytes read holds is fits holds_bytes bytes_fit reads_still out_still err_still still.
-          rw c.report.ensures.status (feed_completes c.args.config.now c.args.file.now held held' old new after text bytes read ending ends
+          rw c.report.ensures.status (feed_completes config file old new _ after text bytes read ending ends
           c.report.ensures.says holds is fits holds_bytes bytes_fit reads_still out_still err_still still);
     }
 
@@ -42,11 +40,11 @@ returns-clause-read_fault g c =
     let new = reports (g.S.Store.report c.feed_files-ending.new.store) links
     (g.O.Sink.report c.feed_files-ending.new.out) (g.E.Sink.report c.feed_files-ending.new.err)
     (g.P.Patterns.report c.feed_files-ending.new.patterns) c.feed_files-ending.new.steps.forks in
-    let held = (g.S.Store.report c.args.store.now).held c.args.config.now in
-    let held' = (g.S.Store.report c.args.store.now).held c.args.file.now in
+    let config = c.args.config.now in
+    let file = c.args.file.now in
     let ending = c.feed_files-ending.result in
     let ends = c.feed_files-ending.ensures.ends links in
-    λ e. feed_read_rose held held' old new ending ends (rw c.report.ensures.status at e)
+    λ e. feed_read_rose config file old new _ ending ends (rw c.report.ensures.status at e)
 
 pub returns-clause-sink_fault : goal.returns-clause-sink_fault
 returns-clause-sink_fault g c =
@@ -58,11 +56,11 @@ returns-clause-sink_fault g c =
     (g.O.Sink.report c.feed_files-ending.new.out) (g.E.Sink.report c.feed_files-ending.new.err)
     (g.P.Patterns.report c.feed_files-ending.new.patterns) c.feed_files-ending.new.steps.forks in
     let after = (g.E.Sink.report c.report.new.err) in
-    let held = (g.S.Store.report c.args.store.now).held c.args.config.now in
-    let held' = (g.S.Store.report c.args.store.now).held c.args.file.now in
+    let config = c.args.config.now in
+    let file = c.args.file.now in
     let ending = c.feed_files-ending.result in
     let ends = c.feed_files-ending.ensures.ends links in
-    λ e. feed_write_rose c.args.config.now c.args.file.now held held' old new after ending ends c.report.ensures.says (rw c.report.ensures.status at e)
+    λ e. feed_write_rose config file old new _ after ending ends c.report.ensures.says (rw c.report.ensures.status at e)
 
 pub returns-clause-links_work : goal.returns-clause-links_work
 returns-clause-links_work g c =
@@ -73,8 +71,8 @@ returns-clause-links_work g c =
     let new = reports (g.S.Store.report c.feed_files-ending.new.store) links
     (g.O.Sink.report c.feed_files-ending.new.out) (g.E.Sink.report c.feed_files-ending.new.err)
     (g.P.Patterns.report c.feed_files-ending.new.patterns) c.feed_files-ending.new.steps.forks in
-    let held = (g.S.Store.report c.args.store.now).held c.args.config.now in
-    let held' = (g.S.Store.report c.args.store.now).held c.args.file.now in
+    let config = c.args.config.now in
+    let file = c.args.file.now in
     let ending = c.feed_files-ending.result in
     let ends = c.feed_files-ending.ensures.ends links in
-    λ e. feed_not_linked held held' old new ending ends (rw c.report.ensures.status at e)
+    λ e. feed_not_linked config file old new _ ending ends (rw c.report.ensures.status at e)

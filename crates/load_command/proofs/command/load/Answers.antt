@@ -12,7 +12,7 @@ returns-clause-promise g c = λ links.
     let new = reports (g.S.Store.report c.load_config-ending.new.store) links
     (g.O.Sink.report c.load_config-ending.new.out) (g.E.Sink.report c.report.new.err)
     (g.P.Patterns.report c.load_config-ending.new.patterns) c.load_config-ending.new.steps.forks in
-    let content = (g.S.Store.report c.args.store.now).held c.args.config.now in
+    let config = c.args.config.now in
     let ending = c.load_config-ending.result in
     let ends = c.load_config-ending.ensures.ends links old.err new.err in
     record {
@@ -25,7 +25,7 @@ returns-clause-promise g c = λ links.
       unasked = c.load_config-ending.ensures.unasked;
       quiet = c.load_config-ending.ensures.quiet;
       complete = λ text read holds is fits reads_still out_still still.
-          rw c.report.ensures.status (load_complete content c.args.count c.args.start text read old new ending holds is fits reads_still out_still still ends);
+          rw c.report.ensures.status (load_complete config c.args.count c.args.start text read old new ending holds is fits reads_still out_still still ends);
     }
 
 pub returns-clause-read_fault : goal.returns-clause-read_fault
@@ -36,10 +36,10 @@ returns-clause-read_fault g c =
     let new = reports (g.S.Store.report c.load_config-ending.new.store) (record { log = None; script = None; faults = 0 })
     (g.O.Sink.report c.load_config-ending.new.out) (g.E.Sink.report c.report.new.err)
     (g.P.Patterns.report c.load_config-ending.new.patterns) c.load_config-ending.new.steps.forks in
-    let content = (g.S.Store.report c.args.store.now).held c.args.config.now in
+    let config = c.args.config.now in
     let ending = c.load_config-ending.result in
     let ends = c.load_config-ending.ensures.ends (record { log = None; script = None; faults = 0 }) old.err new.err in
-    λ e. load_read_rose content c.args.count c.args.start old new ending ends (rw c.report.ensures.status at e)
+    λ e. load_read_rose config c.args.count c.args.start old new ending ends (rw c.report.ensures.status at e)
 
 pub returns-clause-sink_fault : goal.returns-clause-sink_fault
 returns-clause-sink_fault g c =
@@ -49,10 +49,10 @@ returns-clause-sink_fault g c =
     let new = reports (g.S.Store.report c.load_config-ending.new.store) (record { log = None; script = None; faults = 0 })
     (g.O.Sink.report c.load_config-ending.new.out) (g.E.Sink.report c.report.new.err)
     (g.P.Patterns.report c.load_config-ending.new.patterns) c.load_config-ending.new.steps.forks in
-    let content = (g.S.Store.report c.args.store.now).held c.args.config.now in
+    let config = c.args.config.now in
     let ending = c.load_config-ending.result in
     let ends = c.load_config-ending.ensures.ends (record { log = None; script = None; faults = 0 }) old.err new.err in
-    λ e. load_sink_rose content c.args.count c.args.start old new ending ends (rw c.report.ensures.status at e)
+    λ e. load_sink_rose config c.args.count c.args.start old new ending ends (rw c.report.ensures.status at e)
 
 pub returns-clause-links_work : goal.returns-clause-links_work
 returns-clause-links_work g c =
@@ -62,7 +62,7 @@ returns-clause-links_work g c =
     let new = reports (g.S.Store.report c.load_config-ending.new.store) (record { log = None; script = None; faults = 0 })
     (g.O.Sink.report c.load_config-ending.new.out) (g.E.Sink.report c.report.new.err)
     (g.P.Patterns.report c.load_config-ending.new.patterns) c.load_config-ending.new.steps.forks in
-    let content = (g.S.Store.report c.args.store.now).held c.args.config.now in
+    let config = c.args.config.now in
     let ending = c.load_config-ending.result in
     let ends = c.load_config-ending.ensures.ends (record { log = None; script = None; faults = 0 }) old.err new.err in
-    λ e. load_not_linked content c.args.count c.args.start old new ending ends (rw c.report.ensures.status at e)
+    λ e. load_not_linked config c.args.count c.args.start old new ending ends (rw c.report.ensures.status at e)

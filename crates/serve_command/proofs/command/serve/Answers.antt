@@ -10,7 +10,7 @@ returns-clause-promise g c =
     let new = reports (g.S.Store.report c.serve_links-ending.new.store)
     (g.L.Links.report c.serve_links-ending.new.links) (g.O.Sink.report c.serve_links-ending.new.out)
     (g.E.Sink.report c.report.new.err) (g.P.Patterns.report c.serve_links-ending.new.patterns) c.serve_links-ending.new.steps.forks in
-    let content = (g.S.Store.report c.args.store.now).held c.args.config.now in
+    let config = c.args.config.now in
     let turns = c.args.turns in
     let ending = c.serve_links-ending.result in
     let ends = c.serve_links-ending.ensures.ends (g.E.Sink.report c.args.err.now) (g.E.Sink.report c.report.new.err) in
@@ -23,7 +23,7 @@ returns-clause-promise g c =
       unasked = c.serve_links-ending.ensures.unasked;
       quiet = c.serve_links-ending.ensures.quiet;
       complete = λ text read holds is fits reads_still links_still out_still still.
-          rw c.report.ensures.status (serve_complete content turns text read old new ending holds is fits reads_still links_still out_still still ends);
+          rw c.report.ensures.status (serve_complete config turns text read old new ending holds is fits reads_still links_still out_still still ends);
     }
 
 pub returns-clause-read_fault : goal.returns-clause-read_fault
@@ -34,11 +34,11 @@ returns-clause-read_fault g c =
     let new = reports (g.S.Store.report c.serve_links-ending.new.store)
     (g.L.Links.report c.serve_links-ending.new.links) (g.O.Sink.report c.serve_links-ending.new.out)
     (g.E.Sink.report c.report.new.err) (g.P.Patterns.report c.serve_links-ending.new.patterns) c.serve_links-ending.new.steps.forks in
-    let content = (g.S.Store.report c.args.store.now).held c.args.config.now in
+    let config = c.args.config.now in
     let turns = c.args.turns in
     let ending = c.serve_links-ending.result in
     let ends = c.serve_links-ending.ensures.ends (g.E.Sink.report c.args.err.now) (g.E.Sink.report c.report.new.err) in
-    λ e. serve_read_rose content turns old new ending ends (rw c.report.ensures.status at e)
+    λ e. serve_read_rose config turns old new ending ends (rw c.report.ensures.status at e)
 
 pub returns-clause-sink_fault : goal.returns-clause-sink_fault
 returns-clause-sink_fault g c =
@@ -48,11 +48,11 @@ returns-clause-sink_fault g c =
     let new = reports (g.S.Store.report c.serve_links-ending.new.store)
     (g.L.Links.report c.serve_links-ending.new.links) (g.O.Sink.report c.serve_links-ending.new.out)
     (g.E.Sink.report c.report.new.err) (g.P.Patterns.report c.serve_links-ending.new.patterns) c.serve_links-ending.new.steps.forks in
-    let content = (g.S.Store.report c.args.store.now).held c.args.config.now in
+    let config = c.args.config.now in
     let turns = c.args.turns in
     let ending = c.serve_links-ending.result in
     let ends = c.serve_links-ending.ensures.ends (g.E.Sink.report c.args.err.now) (g.E.Sink.report c.report.new.err) in
-    λ e. serve_sink_rose content turns old new ending ends (rw c.report.ensures.status at e)
+    λ e. serve_sink_rose config turns old new ending ends (rw c.report.ensures.status at e)
 
 pub returns-clause-link_fault : goal.returns-clause-link_fault
 returns-clause-link_fault g c =
@@ -62,8 +62,8 @@ returns-clause-link_fault g c =
     let new = reports (g.S.Store.report c.serve_links-ending.new.store)
     (g.L.Links.report c.serve_links-ending.new.links) (g.O.Sink.report c.serve_links-ending.new.out)
     (g.E.Sink.report c.report.new.err) (g.P.Patterns.report c.serve_links-ending.new.patterns) c.serve_links-ending.new.steps.forks in
-    let content = (g.S.Store.report c.args.store.now).held c.args.config.now in
+    let config = c.args.config.now in
     let turns = c.args.turns in
     let ending = c.serve_links-ending.result in
     let ends = c.serve_links-ending.ensures.ends (g.E.Sink.report c.args.err.now) (g.E.Sink.report c.report.new.err) in
-    λ e. serve_links_rose content turns old new ending ends (rw c.report.ensures.status at e)
+    λ e. serve_links_rose config turns old new ending ends (rw c.report.ensures.status at e)

@@ -10,7 +10,7 @@ returns-in-Ok-clause-ends g c = λ err err'.
     let new = reports (g.S.Store.report c.fetch_setup.new.store)
     (g.L.Links.report c.run.new.links) (g.O.Sink.report c.run.new.sink)
     err' (g.P.Patterns.report c.run.new.patterns) c.run.new.steps.forks in
-    rw c.ending_of_run.ensures (served ((g.S.Store.report c.args.store.now).held c.args.config.now) c.args.turns c.in-Ok.setup old new c.run.result
+    rw c.ending_of_run.ensures (served c.args.config.now c.args.turns c.in-Ok.setup old new c.run.result
     c.in-Ok.ensures.setup (rw c.in-Ok.ensures.same at c.run.ensures.runs) c.run.ensures.links_fault c.run.ensures.sink_fault c.run.ensures.links_quiet c.run.ensures.sink_quiet)
 
 pub returns-in-Ok-clause-unasked : goal.returns-in-Ok-clause-unasked
