@@ -7,7 +7,7 @@ use Rattle.command_io.specs.declared.ending.ConfigRefusal.TheVariants.{Refused}
 use Rattle.command_io.specs.declared.ending.Ending.{Ending}
 use Rattle.command_io.specs.declared.ending.Ending.TheVariants.{Finished, ConfigRefused, Unread, OverLimit, BytesLeft, WriteFailed, LinksFailed, ScriptRefused, OutOfMemory}
 use Rattle.command_io.specs.declared.status.Status.{Status}
-use Rattle.command_io.specs.declared.status.Status.TheVariants.{Done, Usage, Config, ReadFault, SinkFault, LinkFault, Memory, Script, Truncated, TooLong, Lines, Tests, Verdict}
+use Rattle.command_io.specs.declared.status.Status.TheVariants.{Done, Usage, Config, ReadFault, SinkFault, LinkFault, Memory, Script, Truncated, TooLong, Lines, Tests, Verdict, Unanswered, BadReply}
 use Rattle.command_io.specs.Files.{LastFailed, NoneFailed, ReadMore, read_name}
 use Rattle.command_io.specs.Lines.{left_line, links_line, memory_line, refusal_line, script_line, too_long_line, unread_line}
 
@@ -26,6 +26,8 @@ code_of TooLong = 9
 code_of Lines = 10
 code_of Tests = 11
 code_of Verdict = 12
+code_of Unanswered = 13
+code_of BadReply = 14
 
 abbrev pub status_of : Ending → Status
 status_of Finished = Done

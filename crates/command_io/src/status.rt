@@ -30,6 +30,10 @@ pub enum Status {
     Tests,
     /// All tests were run, and one did not pass.
     Verdict,
+    /// Requests are left without a reply, and no reply can come, or no turn is left.
+    Unanswered,
+    /// A reply came whole before its request was sent whole, or is not a message.
+    BadReply,
 }
 
 impl Status {
@@ -53,6 +57,8 @@ impl Status {
             Status::Lines => 10,
             Status::Tests => 11,
             Status::Verdict => 12,
+            Status::Unanswered => 13,
+            Status::BadReply => 14,
         }
     }
 }

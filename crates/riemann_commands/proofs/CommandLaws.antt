@@ -4,14 +4,16 @@ use Rattle.std.specs.Option.{ForSome}
 use Rattle.command_io.specs.declared.ending.Ending.{Ending}
 use Rattle.command_io.specs.declared.ending.Ending.TheVariants.{Finished, ConfigRefused, Unread, OverLimit, BytesLeft, WriteFailed, LinksFailed, ScriptRefused, OutOfMemory}
 use Rattle.command_io.specs.declared.status.Status.{Status}
-use Rattle.command_io.specs.declared.status.Status.TheVariants.{Done, Usage, Config, ReadFault, SinkFault, LinkFault, Memory, Script, Truncated, TooLong, Lines, Tests, Verdict}
+use Rattle.command_io.specs.declared.status.Status.TheVariants.{Done, Usage, Config, ReadFault, SinkFault, LinkFault, Memory, Script, Truncated, TooLong, Lines, Tests, Verdict, Unanswered, BadReply}
 use Rattle.command_io.specs.Reports.{Reports}
+use Rattle.client_command.specs.Asks.{Asks}
+use Rattle.client_command.specs.Sends.{Sends}
 use Rattle.graphite_command.specs.Converts.{ConvertEnds, Converts}
 use Rattle.command_io.specs.Endings.{HasNoLine, IsRefusal, IsRefusalOrMemory, status_of}
 use Rattle.riemann_commands.specs.declared.command.Command.{Command}
-use Rattle.riemann_commands.specs.declared.command.Command.TheVariants.{Feed, Check, Replay, Serve, Load, Graphite, Test}
+use Rattle.riemann_commands.specs.declared.command.Command.TheVariants.{Feed, Check, Replay, Serve, Load, Graphite, Test, Send, Query}
 use Rattle.riemann_commands.specs.Commands.{IsCommandOf}
-use Rattle.riemann_commands.specs.Words.{IsGraphite, IsUsage, graphite_host_words, graphite_words}
+use Rattle.riemann_commands.specs.Words.{IsGraphite, IsQuery, IsSend, IsUsage, graphite_host_words, graphite_words, query_turns_words, query_words, send_turns_words, send_words}
 use Rattle.script_text.specs.Words.{number_of}
 
 no_ending : (ending : Ending) → status_of ending ≡ Usage → ⊥
@@ -36,6 +38,8 @@ named words (Serve config turns) is usage = usage.3 config.now turns is
 named words (Load config count start) is usage = usage.4 config.now count start is
 named words (Graphite file host_part) is usage = usage.5 file.now host_part is
 named words (Test config tests) is usage = usage.6 config.now tests.now is
+named words (Send address file turns) is usage = usage.7 address.now file.now turns is
+named words (Query address text turns) is usage = usage.8 address.now text.now turns is
 
 -- the command that converts has an end of its own
 pub not_usage_converting : (file : List ℕ) (host_part : Option ℕ) (old new : Reports) (status : Status) → Converts file host_part old new status → status ≡ Usage → ⊥
@@ -71,6 +75,56 @@ converts_named words file file' part part' old new status is promise is' =
     let same = same_converting words file file' part part' is is' in
     subst (λ (f : List ℕ). Converts f part' old new status) same.0 (subst (λ (p : Option ℕ). Converts file p old new status) same.1 promise)
 
+-- the arguments name one address, one file and one number of turns
+record SameWords (first first' second second' : List ℕ) (turns turns' : ℕ) : Type 0 where
+  pub one : first ≡ first'
+  pub two : second ≡ second'
+  pub three : turns ≡ turns'
+
+same_sending : (words : List (List ℕ)) (address address' file file' : List ℕ) (turns turns' : ℕ) → IsSend words address file turns → IsSend words address' file' turns'
+    → SameWords address address' file file' turns turns'
+same_sending words address address' file file' turns turns' (inl (are, most)) (inl (are', most')) =
+    let both : send_words address file ≡ send_words address' file' = sym are ∙ are' in record { one = cc; two = cc; three = most ∙ sym most' }
+same_sending words address address' file file' turns turns' (inl (are, most)) (inr (number', are', is')) =
+    let both : send_words address file ≡ send_turns_words address' file' number' = sym are ∙ are' in absurd cc
+same_sending words address address' file file' turns turns' (inr (number, are, is)) (inl (are', most')) =
+    let both : send_turns_words address file number ≡ send_words address' file' = sym are ∙ are' in absurd cc
+same_sending words address address' file file' turns turns' (inr (number, are, is)) (inr (number', are', is')) =
+    let both : send_turns_words address file number ≡ send_turns_words address' file' number' = sym are ∙ are' in
+    let named : number ≡ number' = cc in
+    let digits : Some turns ≡ Some turns' = sym is ∙ (ap number_of named ∙ is') in
+    record { one = cc; two = cc; three = cc }
+
+pub sends_named : (words : List (List ℕ)) (address address' file file' : List ℕ) (turns turns' : ℕ) (old new : Reports) (status : Status) → IsSend words address file turns
+    → Sends address file turns old new status → IsSend words address' file' turns' → Sends address' file' turns' old new status
+sends_named words address address' file file' turns turns' old new status is promise is' =
+    let same = same_sending words address address' file file' turns turns' is is' in
+    subst (λ (a : List ℕ). Sends a file' turns' old new status) same.one
+    (subst (λ (f : List ℕ). Sends address f turns' old new status) same.two
+    (subst (λ (n : ℕ). Sends address file n old new status) same.three promise))
+
+same_asking : (words : List (List ℕ)) (address address' text text' : List ℕ) (turns turns' : ℕ) → IsQuery words address text turns → IsQuery words address' text' turns'
+    → SameWords address address' text text' turns turns'
+same_asking words address address' text text' turns turns' (short, inl (are, most)) (short', inl (are', most')) =
+    let both : query_words address text ≡ query_words address' text' = sym are ∙ are' in record { one = cc; two = cc; three = most ∙ sym most' }
+same_asking words address address' text text' turns turns' (short, inl (are, most)) (short', inr (number', are', is')) =
+    let both : query_words address text ≡ query_turns_words address' text' number' = sym are ∙ are' in absurd cc
+same_asking words address address' text text' turns turns' (short, inr (number, are, is)) (short', inl (are', most')) =
+    let both : query_turns_words address text number ≡ query_words address' text' = sym are ∙ are' in absurd cc
+same_asking words address address' text text' turns turns' (short, inr (number, are, is)) (short', inr (number', are', is')) =
+    let both : query_turns_words address text number ≡ query_turns_words address' text' number' = sym are ∙ are' in
+    let named : number ≡ number' = cc in
+    let digits : Some turns ≡ Some turns' = sym is ∙ (ap number_of named ∙ is') in
+    record { one = cc; two = cc; three = cc }
+
+pub asks_named : (words : List (List ℕ)) (address address' text text' : List ℕ) (turns turns' : ℕ) (old new : Reports) (status : Status) → IsQuery words address text turns
+    → Asks address text turns old new status → IsQuery words address' text' turns' → Asks address' text' turns' old new status
+asks_named words address address' text text' turns turns' old new status is promise is' =
+    let same = same_asking words address address' text text' turns turns' is is' in
+    subst (λ (a : List ℕ). Asks a text' turns' old new status) same.one
+    (subst (λ (t : List ℕ). Asks address t turns' old new status) same.two
+    (subst (λ (n : ℕ). Asks address text n old new status) same.three promise))
+
 -- ---- what was not written
 
 pub refusal_or_memory : (status : Status) → IsRefusal status → IsRefusalOrMemory status
@@ -87,6 +141,8 @@ refusal_or_memory TooLong refused = refused
 refusal_or_memory Lines refused = refused
 refusal_or_memory Tests refused = refused
 refusal_or_memory Verdict refused = refused
+refusal_or_memory Unanswered refused = refused
+refusal_or_memory BadReply refused = refused
 
 pub out_of_memory : (status : Status) → status ≡ Memory → IsRefusalOrMemory status
 out_of_memory status e = rw e tt

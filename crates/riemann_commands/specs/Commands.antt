@@ -1,8 +1,8 @@
 -- The command that matches the arguments.
 use Rattle.std.specs.Prelude.{◌≡◌, ℕ, List}
 use Rattle.riemann_commands.specs.declared.command.Command.{Command}
-use Rattle.riemann_commands.specs.declared.command.Command.TheVariants.{Feed, Check, Replay, Serve, Load, Graphite, Test}
-use Rattle.riemann_commands.specs.Words.{IsGraphite, IsLoad, IsServe, check_words, feed_words, replay_words, test_words}
+use Rattle.riemann_commands.specs.declared.command.Command.TheVariants.{Feed, Check, Replay, Serve, Load, Graphite, Test, Send, Query}
+use Rattle.riemann_commands.specs.Words.{IsGraphite, IsLoad, IsQuery, IsSend, IsServe, check_words, feed_words, replay_words, test_words}
 
 -- the arguments are those of the command
 abbrev pub IsCommandOf : List (List ℕ) → Command → Type 0
@@ -13,6 +13,8 @@ IsCommandOf words (Serve config turns) = IsServe words config.now turns
 IsCommandOf words (Load config count start) = IsLoad words config.now count start
 IsCommandOf words (Graphite file host_part) = IsGraphite words file.now host_part
 IsCommandOf words (Test config tests) = words ≡ test_words config.now tests.now
+IsCommandOf words (Send address file turns) = IsSend words address.now file.now turns
+IsCommandOf words (Query address text turns) = IsQuery words address.now text.now turns
 
 -- a command matches the arguments
 abbrev pub IsCommand : List (List ℕ) → Type 0

@@ -1,6 +1,8 @@
 -- What the call of a command promises, as one fact of the words and of all that it was handed.
 use Rattle.std.specs.Prelude.{◌≡◌, ◌≢◌, ◌↔◌, ◌⊎◌, ℕ, List, [], ◌∷◌, codes}
 use Rattle.check_command.specs.Checks.{Checks}
+use Rattle.client_command.specs.Asks.{Asks}
+use Rattle.client_command.specs.Sends.{Sends}
 use Rattle.command_io.specs.Endings.{GotLineOf, HasNoLine, IsRefusal}
 use Rattle.command_io.specs.Lines.{usage_line}
 use Rattle.command_io.specs.Reports.{Reports}
@@ -15,7 +17,7 @@ use Rattle.replay_command.specs.Replays.{Replays}
 use Rattle.serve_command.specs.Serves.{Serves}
 use Rattle.test_command.specs.RunsTests.{RunsTests}
 use Rattle.riemann_commands.specs.Commands.{IsCommand}
-use Rattle.riemann_commands.specs.Words.{IsUsage, OnCheck, OnFeed, OnGraphite, OnLoad, OnReplay, OnServe, OnTest}
+use Rattle.riemann_commands.specs.Words.{IsUsage, OnCheck, OnFeed, OnGraphite, OnLoad, OnQuery, OnReplay, OnSend, OnServe, OnTest}
 
 -- the facts that each of the objects that were handed in is as it was
 pub record Sameness : Type 1 where
@@ -51,6 +53,8 @@ pub record Promises (words : List (List ℕ)) (old new : Reports) (same : Samene
   pub load : OnLoad words (λ config count start. Loads config count start old new same.Patterns status)
   pub graphite : OnGraphite words (λ file host_part. Converts file host_part old new status)
   pub test : OnTest words (λ config tests. RunsTests config tests old new same.Patterns same.Out status)
+  pub send : OnSend words (λ address file turns. Sends address file turns old new status)
+  pub query : OnQuery words (λ address text turns. Asks address text turns old new status)
 
 -- ---- the options, which the program answers itself
 

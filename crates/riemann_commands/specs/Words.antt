@@ -2,6 +2,7 @@
 use Rattle.std.specs.Prelude.{◌≡◌, ℕ, ◌≤◌, ◌⊎◌, List, [], ◌∷◌, length, codes, Option, Some, None}
 use Rattle.load_command.specs.declared.play.TheConstants.{EVENT_LIMIT}
 use Rattle.ports.specs.Counts.{greatest}
+use Rattle.query_lang.specs.declared.read.TheConstants.{MAX_BYTES}
 use Rattle.script_text.specs.Words.{number_of}
 
 abbrev pub feed_words : List ℕ → List ℕ → List (List ℕ)
@@ -57,6 +58,33 @@ IsGraphite words file host_part = ((words ≡ graphite_words file) × (host_part
 abbrev pub test_words : List ℕ → List ℕ → List (List ℕ)
 test_words config tests = codes "test" ∷ (config ∷ (tests ∷ []))
 
+abbrev pub send_words : List ℕ → List ℕ → List (List ℕ)
+send_words address file = codes "send" ∷ (address ∷ (file ∷ []))
+
+abbrev pub send_turns_words : List ℕ → List ℕ → List ℕ → List (List ℕ)
+send_turns_words address file number = codes "send" ∷ (address ∷ (file ∷ (codes "--turns" ∷ (number ∷ []))))
+
+-- the arguments are `send ADDRESS FILE --turns N` with this number, or `send ADDRESS FILE` and it is the greatest one
+abbrev pub IsSend : List (List ℕ) → List ℕ → List ℕ → ℕ → Type 0
+IsSend words address file turns = ((words ≡ send_words address file) × (turns ≡ greatest))
+    ⊎ ((number : List ℕ) × (words ≡ send_turns_words address file number) × (number_of number ≡ Some turns))
+
+abbrev pub query_words : List ℕ → List ℕ → List (List ℕ)
+query_words address text = codes "query" ∷ (address ∷ (text ∷ []))
+
+abbrev pub query_turns_words : List ℕ → List ℕ → List ℕ → List (List ℕ)
+query_turns_words address text number = codes "query" ∷ (address ∷ (text ∷ (codes "--turns" ∷ (number ∷ []))))
+
+-- the same of `query ADDRESS TEXT`, and the text is within the limit of a query
+abbrev pub IsQuery : List (List ℕ) → List ℕ → List ℕ → ℕ → Type 0
+IsQuery words address text turns = (length text ≤ MAX_BYTES) × (((words ≡ query_words address text) × (turns ≡ greatest))
+    ⊎ ((number : List ℕ) × (words ≡ query_turns_words address text number) × (number_of number ≡ Some turns)))
+
+-- the first argument names a command of a client
+abbrev pub IsOfClient : List (List ℕ) → Type 0
+IsOfClient [] = ⊥
+IsOfClient (command ∷ rest) = (command ≡ codes "send") ⊎ (command ≡ codes "query")
+
 -- ---- facts of the names, where the arguments are those of the command
 
 abbrev pub OnFeed : List (List ℕ) → (List ℕ → List ℕ → Type 0) → Type 0
@@ -80,8 +108,15 @@ OnGraphite words P = (file : List ℕ) (host_part : Option ℕ) → IsGraphite w
 abbrev pub OnTest : List (List ℕ) → (List ℕ → List ℕ → Type 0) → Type 0
 OnTest words P = (config tests : List ℕ) → words ≡ test_words config tests → P config tests
 
+abbrev pub OnSend : List (List ℕ) → (List ℕ → List ℕ → ℕ → Type 0) → Type 0
+OnSend words P = (address file : List ℕ) (turns : ℕ) → IsSend words address file turns → P address file turns
+
+abbrev pub OnQuery : List (List ℕ) → (List ℕ → List ℕ → ℕ → Type 0) → Type 0
+OnQuery words P = (address text : List ℕ) (turns : ℕ) → IsQuery words address text turns → P address text turns
+
 -- no command matches the arguments
 abbrev pub IsUsage : List (List ℕ) → Type 0
 IsUsage words = OnFeed words (λ config file. ⊥) × OnCheck words (λ config. ⊥)
     × OnReplay words (λ config script. ⊥) × OnServe words (λ config turns. ⊥) × OnLoad words (λ config count start. ⊥)
     × OnGraphite words (λ file host_part. ⊥) × OnTest words (λ config tests. ⊥)
+    × OnSend words (λ address file turns. ⊥) × OnQuery words (λ address text turns. ⊥)

@@ -1,7 +1,9 @@
-ghost use Rattle.std.specs.Prelude.{◌≡◌, [], ◌∷◌, codes, MatchOption};
+ghost use Rattle.std.specs.Prelude.{◌≡◌, ◌≢◌, ◌↔◌, ◌≤◌, [], ◌∷◌, codes, length, IsTrue, MatchOption};
+ghost use Rattle.query_lang.specs.declared.read.TheConstants.{MAX_BYTES};
 ghost use Rattle.riemann_commands.specs.Commands.{IsCommandOf};
 ghost use Rattle.riemann_commands.specs.Words.{IsUsage, load_words};
 
+use client_command::MAX_BYTES;
 use ev_types::Text;
 use load_command::EVENT_LIMIT;
 use script_text::read_number;
@@ -39,6 +41,18 @@ pub(crate) enum Command<'a> {
         file: &'a Text,
         host_part: Option<u32>,
     },
+    /// It takes at most `turns` turns.
+    Send {
+        address: &'a Text,
+        file: &'a Text,
+        turns: u64,
+    },
+    /// The same. The text has at most [`MAX_BYTES`] bytes.
+    Query {
+        address: &'a Text,
+        text: &'a Text,
+        turns: u64,
+    },
 }
 
 /// The greatest number of the part of a path that is the host.
@@ -55,6 +69,9 @@ pub(crate) fn command_of<'a>(words: &'a [Text]) -> Option<Command<'a>>
         [command, config] => command_on_one(command, config),
         [command, config, file] => command_on_two(command, config, file),
         [command, config, second, third] => command_on_three(command, config, second, third),
+        [command, address, second, option, number] => {
+            command_on_four(command, address, second, option, number)
+        }
         _ => None,
     }
 }
@@ -82,21 +99,50 @@ fn command_on_one<'a>(command: &'a Text, name: &'a Text) -> Option<Command<'a>>
 }
 
 /// The command with two arguments after its name.
-fn command_on_two<'a>(command: &'a Text, config: &'a Text, file: &'a Text) -> Option<Command<'a>>
-    ensures { MatchOption result (IsUsage (command.now ∷ (config.now ∷ (file.now ∷ []))))
-        (λ found. IsCommandOf (command.now ∷ (config.now ∷ (file.now ∷ []))) found) }
+fn command_on_two<'a>(command: &'a Text, first: &'a Text, second: &'a Text) -> Option<Command<'a>>
+    ensures { MatchOption result (IsUsage (command.now ∷ (first.now ∷ (second.now ∷ []))))
+        (λ found. IsCommandOf (command.now ∷ (first.now ∷ (second.now ∷ []))) found) }
 {
     if command.is(b"feed") {
-        Some(Command::Feed { config, file })
+        Some(Command::Feed {
+            config: first,
+            file: second,
+        })
     } else if command.is(b"replay") {
         Some(Command::Replay {
-            config,
-            script: file,
+            config: first,
+            script: second,
         })
     } else if command.is(b"test") {
         Some(Command::Test {
-            config,
-            tests: file,
+            config: first,
+            tests: second,
+        })
+    } else {
+        client_on_two(command, first, second)
+    }
+}
+
+/// The command of a client with two arguments after its name.
+fn client_on_two<'a>(command: &'a Text, address: &'a Text, second: &'a Text) -> Option<Command<'a>>
+    requires feed { command.now ≢ codes "feed" }
+    requires replay { command.now ≢ codes "replay" }
+    requires test { command.now ≢ codes "test" }
+    ensures { MatchOption result (IsUsage (command.now ∷ (address.now ∷ (second.now ∷ []))))
+        (λ found. IsCommandOf (command.now ∷ (address.now ∷ (second.now ∷ []))) found) }
+{
+    let turns = u64::MAX;
+    if command.is(b"send") {
+        Some(Command::Send {
+            address,
+            file: second,
+            turns,
+        })
+    } else if command.is(b"query") && is_short(second) {
+        Some(Command::Query {
+            address,
+            text: second,
+            turns,
         })
     } else {
         None
@@ -128,6 +174,47 @@ fn command_on_three<'a>(
         Some(turns) => Some(Command::Serve { config, turns }),
         None => None,
     }
+}
+
+/// The command with four arguments after its name, which is one of a client.
+fn command_on_four<'a>(
+    command: &'a Text,
+    address: &'a Text,
+    second: &'a Text,
+    option: &'a Text,
+    number: &'a Text,
+) -> Option<Command<'a>>
+    ensures { MatchOption result (IsUsage
+        (command.now ∷ (address.now ∷ (second.now ∷ (option.now ∷ (number.now ∷ []))))))
+        (λ found. IsCommandOf
+        (command.now ∷ (address.now ∷ (second.now ∷ (option.now ∷ (number.now ∷ []))))) found) }
+{
+    if !option.is(b"--turns") {
+        return None;
+    }
+    let turns = read_number(number.as_bytes())?;
+    if command.is(b"send") {
+        Some(Command::Send {
+            address,
+            file: second,
+            turns,
+        })
+    } else if command.is(b"query") && is_short(second) {
+        Some(Command::Query {
+            address,
+            text: second,
+            turns,
+        })
+    } else {
+        None
+    }
+}
+
+/// Whether the text is within the limit of a query.
+fn is_short(text: &Text) -> bool
+    ensures { IsTrue result ↔ length text.now ≤ MAX_BYTES }
+{
+    text.as_bytes().len() <= MAX_BYTES
 }
 
 /// The command `load` with these numbers.

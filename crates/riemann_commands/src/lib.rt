@@ -6,5 +6,5 @@ mod command;
 mod program;
 mod server;
 
-pub use program::{ArgumentsFault, arguments, run};
+pub use program::{ArgumentsFault, arguments, is_of_client, run};
 pub use server::riemann;

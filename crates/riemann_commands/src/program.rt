@@ -1,9 +1,10 @@
-ghost use Rattle.std.specs.Prelude.{◌≡◌, ◌≢◌, IfOk};
+ghost use Rattle.std.specs.Prelude.{◌≡◌, ◌≢◌, ◌↔◌, IfOk, IsTrue};
 ghost use Rattle.command_io.specs.Endings.{GotLineOf};
 ghost use Rattle.command_io.specs.Lines.{memory_line, usage_line};
 ghost use Rattle.command_io.specs.Reports.{reports};
 ghost use Rattle.ports.specs.Counts.{Rose};
 ghost use Rattle.ports.specs.Writing.{Got};
+ghost use Rattle.riemann_commands.specs.Words.{IsOfClient};
 ghost use Rattle.riemann_commands.specs.Promises.{IsNoOption, Promises, WritesText, help_words, sameness, version_words};
 
 use crate::server::riemann;
@@ -32,6 +33,11 @@ commands:
   graphite FILE           convert lines of a path, a value and a time to frames
   graphite FILE --host K  the same; part K of a path is the host
   test CONFIG TESTS       run the tests TESTS of the configuration CONFIG; write a line for each
+  send ADDRESS FILE       send the messages in FILE to the server at ADDRESS, as HOST:PORT;
+                          write its replies
+  query ADDRESS TEXT      ask the server at ADDRESS the query TEXT; write its reply
+  send .. --turns N, query .. --turns N
+                          the same, for at most N turns of at most 100 milliseconds
 
 options:
   --help                  write this text
@@ -63,6 +69,25 @@ fn fault_of(error: io::Error) -> ArgumentsFault {
         ArgumentsFault::Memory
     } else {
         ArgumentsFault::NotUtf8
+    }
+}
+
+/// Whether the first argument names a command of a client. Its links are to connect to a server.
+pub fn is_of_client(arguments: &Result<Vec<Text>, ArgumentsFault>) -> bool
+    ensures { IfOk arguments.now (λ given. IsTrue result ↔ IsOfClient given.items) }
+{
+    match arguments {
+        Ok(words) => names_client(words.as_slice()),
+        Err(_) => false,
+    }
+}
+
+fn names_client(words: &[Text]) -> bool
+    ensures { IsTrue result ↔ IsOfClient words.now }
+{
+    match words.first() {
+        Some(command) => command.is(b"send") || command.is(b"query"),
+        None => false,
     }
 }
 

@@ -1,5 +1,7 @@
 ghost use Rattle.std.specs.Prelude.{◌≡◌, ◌≢◌, ◌↔◌, ◌⊎◌};
 ghost use Rattle.check_command.specs.Checks.{Checks};
+ghost use Rattle.client_command.specs.Asks.{Asks};
+ghost use Rattle.client_command.specs.Sends.{Sends};
 ghost use Rattle.command_io.specs.Endings.{GotLineOf, HasNoLine, IsRefusal};
 ghost use Rattle.command_io.specs.Lines.{usage_line};
 ghost use Rattle.command_io.specs.Reports.{reports};
@@ -11,10 +13,11 @@ ghost use Rattle.replay_command.specs.Replays.{Replays};
 ghost use Rattle.serve_command.specs.Serves.{Serves};
 ghost use Rattle.test_command.specs.RunsTests.{RunsTests};
 ghost use Rattle.riemann_commands.specs.Commands.{IsCommand};
-ghost use Rattle.riemann_commands.specs.Words.{IsUsage, OnCheck, OnFeed, OnGraphite, OnLoad, OnReplay, OnServe, OnTest};
+ghost use Rattle.riemann_commands.specs.Words.{IsUsage, OnCheck, OnFeed, OnGraphite, OnLoad, OnQuery, OnReplay, OnSend, OnServe, OnTest};
 
 use crate::command::{Command, command_of};
 use check_command::check;
+use client_command::{query, send};
 use command_io::{Status, USAGE, put_line};
 use ev_types::Text;
 use feed_command::feed;
@@ -41,6 +44,10 @@ use test_command::run_tests;
 /// | `graphite FILE` | converts lines after Graphite's plain text to frames, which go to `out`, and then a line for each that is refused to `err` |
 /// | `graphite FILE --host K` | the same, where part K of a path is the host |
 /// | `test CONFIG TESTS` | runs tests of a configuration, and writes a line for each to `out` |
+/// | `send ADDRESS FILE` | sends the frames of the file over `links`, which connect to the address, and writes the replies to `out` |
+/// | `send ADDRESS FILE --turns N` | the same, in at most N turns |
+/// | `query ADDRESS TEXT` | asks the query over `links`, and writes the reply to `out` |
+/// | `query ADDRESS TEXT --turns N` | the same, in at most N turns |
 ///
 /// Patterns are built by `patterns`, and the forks that are entered are counted in `steps`. A status other than `Done` and
 /// `SinkFault` has a line on `err`, which is cut where a write to `err` fails.
@@ -121,6 +128,16 @@ pub fn riemann<S: Store, L: Links, O: Sink, E: Sink, P: Patterns, G: Ledger>(
         (reports (S.report store.new) (L.report links.new) (O.report out.new) (E.report err.new)
         (P.report patterns.new) steps.new.forks) (patterns.new ≡ patterns.old)
         (out.new ≡ out.old) result) }
+    ensures send { OnSend words.now (λ address file turns. Sends address file turns
+        (reports (S.report store.old) (L.report links.old) (O.report out.old) (E.report err.old)
+        (P.report patterns.old) steps.old.forks)
+        (reports (S.report store.new) (L.report links.new) (O.report out.new) (E.report err.new)
+        (P.report patterns.new) steps.new.forks) result) }
+    ensures query { OnQuery words.now (λ address text turns. Asks address text turns
+        (reports (S.report store.old) (L.report links.old) (O.report out.old) (E.report err.old)
+        (P.report patterns.old) steps.old.forks)
+        (reports (S.report store.new) (L.report links.new) (O.report out.new) (E.report err.new)
+        (P.report patterns.new) steps.new.forks) result) }
 {
     match command_of(words) {
         Some(Command::Feed { config, file }) => {
@@ -150,6 +167,20 @@ pub fn riemann<S: Store, L: Links, O: Sink, E: Sink, P: Patterns, G: Ledger>(
         Some(Command::Test { config, tests }) => run_tests(
             alloc, config, tests, store, out, err, patterns, steps,
         ),
+        Some(
+            Command::Send {
+                address,
+                file,
+                turns,
+            },
+        ) => send(alloc, address, file, turns, store, links, out, err),
+        Some(
+            Command::Query {
+                address,
+                text,
+                turns,
+            },
+        ) => query(alloc, address, text, turns, links, out, err),
         None => {
             put_line(err, &[USAGE]);
             Status::Usage

@@ -6,10 +6,10 @@ ghost use Rattle.std.specs.Process.{exit_status};
 ghost use Rattle.command_io.specs.Endings.{code_of};
 
 use command_io::{MEMORY_LINE, Status, put_line};
-use mio_links::MioLinks;
+use mio_links::{DialLinks, MioLinks};
 use ports::{FileStore, StreamSink};
 use pred_eval::RegexPatterns;
-use riemann_commands::{arguments, run};
+use riemann_commands::{arguments, is_of_client, run};
 use std::process::ExitCode;
 use step_count::{NoLedger, Steps};
 
@@ -19,11 +19,28 @@ fn main(rt: HostRuntime) -> ExitCode {
     let mut err = StreamSink::fresh(rt.stderr());
     let mut patterns = RegexPatterns { refusals: 0 };
     let mut steps = Steps::fresh(NoLedger);
+    let words = arguments(&rt);
+    if is_of_client(&words) {
+        let Ok(mut links) = DialLinks::fresh(&rt, rt.alloc()) else {
+            put_line(&mut err, &[MEMORY_LINE]);
+            return exit_code(Status::Memory);
+        };
+        let status = run(
+            rt.alloc(),
+            words,
+            &mut store,
+            &mut links,
+            &mut out,
+            &mut err,
+            &mut patterns,
+            &mut steps,
+        );
+        return exit_code(status);
+    }
     let Ok(mut links) = MioLinks::fresh(&rt, rt.alloc()) else {
         put_line(&mut err, &[MEMORY_LINE]);
         return exit_code(Status::Memory);
     };
-    let words = arguments(&rt);
     let status = run(
         rt.alloc(),
         words,

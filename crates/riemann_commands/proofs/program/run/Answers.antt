@@ -20,4 +20,6 @@ returns-in-Ok-clause-command g c = rw c.in-Ok.is (λ none. rw (sym c.as_slice.en
   load = c.riemann.ensures.load;
   graphite = c.riemann.ensures.graphite;
   test = c.riemann.ensures.test;
+  send = c.riemann.ensures.send;
+  query = c.riemann.ensures.query;
 }))

@@ -1,5 +1,5 @@
 use Rattle.std.proofs.Common.{refl}
-use Rattle.riemann_commands.proofs.CommandLaws.{converts_named, done_has_no_line, host_part_within, named, not_usage, not_usage_converting, out_of_memory, refusal_or_memory}
+use Rattle.riemann_commands.proofs.CommandLaws.{asks_named, converts_named, done_has_no_line, host_part_within, named, not_usage, not_usage_converting, out_of_memory, refusal_or_memory, sends_named}
 use Rattle.riemann_commands.proofs.server.riemann.Goals as goal
 
 pub returns-in-Some-Feed-clause-usage : goal.returns-in-Some-Feed-clause-usage
@@ -149,3 +149,52 @@ returns-in-Some-Replay-clause-untouched g c = λ refused. ((λ not_test. c.repla
 
 pub returns-in-Some-Serve-clause-untouched : goal.returns-in-Some-Serve-clause-untouched
 returns-in-Some-Serve-clause-untouched g c = λ refused. let same = c.serve.ensures.untouched refused in ((λ not_test. same.0), same.1)
+
+pub returns-in-Some-Send-clause-usage : goal.returns-in-Some-Send-clause-usage
+returns-in-Some-Send-clause-usage g c = (λ e. absurd (c.send.ensures.not_usage e), λ usage. absurd (named _ _ c.in-Some-Send.ensures usage))
+
+pub returns-in-Some-Send-clause-idle : goal.returns-in-Some-Send-clause-idle
+returns-in-Some-Send-clause-idle g c = λ e. absurd (c.send.ensures.not_usage e)
+
+pub returns-in-Some-Send-clause-untouched : goal.returns-in-Some-Send-clause-untouched
+returns-in-Some-Send-clause-untouched g c = λ refused. ((λ not_test. c.send.ensures.untouched (refusal_or_memory c.send.result refused)), c.send.ensures.uncalled refused)
+
+pub returns-in-Some-Send-clause-memory : goal.returns-in-Some-Send-clause-memory
+returns-in-Some-Send-clause-memory g c = λ e not_replay not_serve not_test. c.send.ensures.untouched (out_of_memory c.send.result e)
+
+pub returns-in-Some-Send-clause-done : goal.returns-in-Some-Send-clause-done
+returns-in-Some-Send-clause-done g c = λ e not_feed. c.send.ensures.no_line (done_has_no_line c.send.result e)
+
+pub returns-in-Some-Send-clause-send : goal.returns-in-Some-Send-clause-send
+returns-in-Some-Send-clause-send g c =
+    let promise = c.send.ensures.promise (g.P.Patterns.report c.args.patterns.now) c.args.steps.now.forks in
+    λ address file turns is. sends_named _ _ _ _ _ _ _ _ _ _ (rw c.in-Some-Send.field-0-is at c.in-Some-Send.ensures) promise is
+
+pub returns-in-Some-Query-clause-usage : goal.returns-in-Some-Query-clause-usage
+returns-in-Some-Query-clause-usage g c = (λ e. absurd (c.query.ensures.not_usage e), λ usage. absurd (named _ _ c.in-Some-Query.ensures usage))
+
+pub returns-in-Some-Query-clause-idle : goal.returns-in-Some-Query-clause-idle
+returns-in-Some-Query-clause-idle g c = λ e. absurd (c.query.ensures.not_usage e)
+
+pub returns-in-Some-Query-clause-untouched : goal.returns-in-Some-Query-clause-untouched
+returns-in-Some-Query-clause-untouched g c = λ refused. ((λ not_test. c.query.ensures.untouched (refusal_or_memory c.query.result refused)), c.query.ensures.uncalled refused)
+
+pub returns-in-Some-Query-clause-memory : goal.returns-in-Some-Query-clause-memory
+returns-in-Some-Query-clause-memory g c = λ e not_replay not_serve not_test. c.query.ensures.untouched (out_of_memory c.query.result e)
+
+pub returns-in-Some-Query-clause-done : goal.returns-in-Some-Query-clause-done
+returns-in-Some-Query-clause-done g c = λ e not_feed. c.query.ensures.no_line (done_has_no_line c.query.result e)
+
+pub returns-in-Some-Query-clause-query : goal.returns-in-Some-Query-clause-query
+returns-in-Some-Query-clause-query g c =
+    let promise = c.query.ensures.promise (g.S.Store.report c.args.store.now) (g.P.Patterns.report c.args.patterns.now) c.args.steps.now.forks in
+    λ address text turns is. asks_named _ _ _ _ _ _ _ _ _ _ (rw c.in-Some-Query.field-0-is at c.in-Some-Query.ensures) promise is
+
+pub query-requires : goal.query-requires
+query-requires g c = (rw c.in-Some-Query.field-0-is at c.in-Some-Query.ensures).0
+
+pub returns-in-None-clause-send : goal.returns-in-None-clause-send
+returns-in-None-clause-send g c = λ address file turns is. absurd (c.in-None.ensures.7 address file turns is)
+
+pub returns-in-None-clause-query : goal.returns-in-None-clause-query
+returns-in-None-clause-query g c = λ address text turns is. absurd (c.in-None.ensures.8 address text turns is)

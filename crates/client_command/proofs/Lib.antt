@@ -1,0 +1,4 @@
+pub mod ReplyLaws
+pub mod QueryLaws
+pub mod ExchangeLaws
+pub mod SendLaws

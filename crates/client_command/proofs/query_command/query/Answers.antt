@@ -1,0 +1,20 @@
+use Rattle.std.proofs.Common.{refl}
+use Rattle.client_command.proofs.ExchangeLaws.{asked_shown, is_links_failed}
+use Rattle.client_command.proofs.query_command.query.Goals as goal
+
+pub returns-clause-promise : goal.returns-clause-promise
+returns-clause-promise g c = λ store patterns forks. record {
+  ending = c.ask-ending.result;
+  ended = c.report_ending.ensures.status;
+  says = c.report_ending.ensures.says;
+  one = c.queries_are_requests.ensures c.args.text.now c.requires;
+  ends = c.ask-ending.ensures.ends;
+  works = c.ask-ending.ensures.links_quiet;
+  idle = (refl, refl, refl);
+  complete = λ links_still out_still.
+      rw c.report_ending.ensures.status (asked_shown _ _ _ (g.L.Links.report c.args.links.now) (g.L.Links.report c.ask-ending.new.links) (g.O.Sink.report c.args.out.now) (g.O.Sink.report c.ask-ending.new.out)
+      c.ask-ending.result c.ask-ending.ensures.ends c.ask-ending.ensures.link_fault links_still out_still);
+}
+
+pub returns-clause-link_fault : goal.returns-clause-link_fault
+returns-clause-link_fault g c = λ e. c.ask-ending.ensures.link_fault (is_links_failed c.ask-ending.result (rw c.report_ending.ensures.status at e))
