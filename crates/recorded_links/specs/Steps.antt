@@ -95,6 +95,25 @@ pub data NextStep (old new : Seen) (wants : List Want) (buf : List ℕ) (turn : 
   next_full : IsReady old → IsFull old.kept → turn ≡ record { secs = 0; what = Stopped } → Rests old new → NextStep old new wants buf turn
   next_taken : Takes old new wants buf turn → NextStep old new wants buf turn
 
+-- ---- a turn that is not one of the inner links
+
+-- the record of the turn was added before it was handed out
+pub record TakesOwn (old new : Seen) (asked turn : Turn) : Type 0 where
+  pub ready : IsReady old
+  pub room : old.kept.gate + step_limit < journal_limit
+  pub inner : new.inner ≡ old.inner
+  pub hands : HandsOut asked.what asked turn
+  pub records : AddsRecord (record_bytes (entry_of old.sends asked [])) (is_recorded turn.what) old.kept new.kept
+  pub faults : FailedIf (is_lost asked.what turn.what) old.faults new.faults
+  pub cleared : is_recorded turn.what ≡ true → new.sends ≡ []
+  pub uncleared : is_recorded turn.what ≡ false → new.sends ≡ old.sends
+  pub begun : new.kept.has_record ≡ true
+
+pub data OwnStep (old new : Seen) (asked turn : Turn) : Type 0 where
+  own_refused : (old.spent ≡ true) ⊎ (old.kept.has_record ≡ false) → turn.what ≡ Memory → Rests old new → OwnStep old new asked turn
+  own_full : IsReady old → IsFull old.kept → turn ≡ record { secs = 0; what = Stopped } → Rests old new → OwnStep old new asked turn
+  own_taken : TakesOwn old new asked turn → OwnStep old new asked turn
+
 -- ---- `listen`
 
 -- The inner links were asked to listen, and the record was added before their answer was handed out.

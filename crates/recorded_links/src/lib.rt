@@ -4,6 +4,7 @@
 mod ask;
 mod call_log;
 mod links;
+mod own;
 mod recorder;
 mod sends;
 

@@ -327,7 +327,7 @@ impl<'a, L: Links, D: Disk> Links for RecordedLinks<'a, L, D> {
 }
 
 /// Whether the journal with its closed gate there has room for one record more.
-fn has_room(gate: u64) -> bool
+pub(crate) fn has_room(gate: u64) -> bool
     ensures room { result ≡ true → gate + step_limit < journal_limit }
     ensures full { result ≡ false → journal_limit < gate + 1 + step_limit }
 {
@@ -373,7 +373,7 @@ fn log_send(log: &mut CallLog, link: u64, bytes: &[u8], answer: SendAnswer)
 }
 
 /// Whether a turn of the inner links was lost by a disk that failed.
-fn is_lost(asked: What, handed: What) -> bool
+pub(crate) fn is_lost(asked: What, handed: What) -> bool
     ensures { result ≡ is_lost asked handed }
 {
     asked != What::Failed && handed == What::Failed

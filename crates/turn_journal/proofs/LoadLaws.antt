@@ -1,13 +1,16 @@
 -- What is read of a file that a journal may be in.
-use Rattle.std.proofs.Common.{◌≡◌, ℕ, ◌+◌, ◌<◌, ◌≤◌, min, Bool, List, ◌∷◌, ◌++◌, take, drop, length, Option, Some, None, Result, Ok, Err, IfOk, refl, sym, ap, subst, ◌∙◌, append_assoc, arith}
+use Rattle.std.proofs.Common.{◌≡◌, ℕ, ◌+◌, ◌<◌, ◌≤◌, min, Bool, true, false, not, List, [], ◌∷◌, ◌++◌, take, drop, length, Option, Some, None, Result, Ok, Err, IfOk, refl, sym, ap, subst, ◌∙◌, append_assoc, length-append, arith}
+use Rattle.std.specs.Int.{w32, to_be_bytes}
 use Rattle.std.specs.Option.{ForSome, option_map}
 use Rattle.std.proofs.lemmas.List.{take-append-drop, take-take, take_min}
 use Rattle.std.proofs.lemmas.Option.{none-some, same_Some}
 use Rattle.disk_port.specs.Past.{Past, synced, text_of}
-use Rattle.journal_format.specs.Limits.{journal_limit}
-use Rattle.journal_format.specs.Journals.{HoldsAt, Journal}
+use Rattle.journal_format.specs.Limits.{config_limit, journal_limit}
+use Rattle.journal_format.specs.Journals.{AreRecords, HoldsAt, Journal, head_bytes, is_empty}
 use Rattle.journal_format.specs.Finding.{Ends}
 use Rattle.journal_format.specs.declared.finder.Found.{Found}
+use Rattle.journal_format.specs.declared.turn_record.TurnRecord.{TurnRecord}
+use Rattle.journal_format.proofs.NumberLaws.{wide32}
 use Rattle.turn_journal.specs.Loading.{IsLoaded}
 use Rattle.turn_journal.specs.Standing.{IsReady, Stands}
 
@@ -74,3 +77,15 @@ same_found told found gate has_record bytes gate_is has_is clause past is =
       stands = subst (λ (b : Bool). Stands (synced past) gate b at.journal) (sym has_is) stands;
       text = at.text ∙ ap (λ n. take (n + 1) (text_of past)) (sym gate_is);
     }
+
+-- the gate of a journal without a record
+pub blank_gate : (bytes : List ℕ) (found : Found) → Ends bytes found → found.has_record ≡ false → found.gate ≤ config_limit + 5
+blank_gate bytes found ends none =
+    let begins = ends.holds.begins in
+    let config = ends.journal.config in
+    let empty = no_run ends.journal.records begins.run (ends.has_record ∙ ap not none) begins.records in
+    omega (arith, ends.holds.gate, ap length begins.whole, length-append (head_bytes config) begins.run, length-append (to_be_bytes w32 (length config)) config, wide32.len (length config), begins.small, empty)
+  where
+    no_run : (records : List TurnRecord) (run : List ℕ) → is_empty records ≡ true → AreRecords true records run → length run ≡ 0
+    no_run [] run is are = ap length are
+    no_run (entry ∷ records) run is are = absurd (cc is)

@@ -94,6 +94,8 @@ impl<'a, D: Disk> JournalFile<'a, D> {
             loaded.1)) }
         ensures ready { IfOk result (λ loaded. IsReady (D.report loaded.0.disk.now).past
             loaded.0.gate loaded.0.has_record) }
+        ensures blank { IfOk result (λ loaded. loaded.0.has_record ≡ false →
+            loaded.0.gate ≤ config_limit + 5) }
         // Nothing was done but the sync, so every crash leaves that journal.
         ensures synced { IfOk result (λ loaded. (D.report loaded.0.disk.now).past
             ≡ option_map synced (D.report disk.entry.now).past) }

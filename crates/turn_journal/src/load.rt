@@ -1,8 +1,8 @@
-ghost use Rattle.std.specs.Prelude.{◌≡◌, ◌+◌, ◌≤◌, length, take, IfOk, IfErr, OnOk};
+ghost use Rattle.std.specs.Prelude.{◌≡◌, ◌+◌, ◌≤◌, false, length, take, IfOk, IfErr, OnOk};
 ghost use Rattle.std.specs.Option.{ForSome, option_map};
 ghost use Rattle.disk_port.specs.Past.{synced, text_of};
 ghost use Rattle.disk_port.specs.Calls.{HasCause};
-ghost use Rattle.journal_format.specs.Limits.{journal_limit};
+ghost use Rattle.journal_format.specs.Limits.{config_limit, journal_limit};
 ghost use Rattle.turn_journal.specs.Loading.{HasFaultCause, IsLoaded, IsSyncedOrNot, IsWhyRefused, IsWhyUnfit};
 ghost use Rattle.journal_format.specs.Finding.{Ends};
 ghost use Rattle.turn_journal.specs.Standing.{IsReady};
@@ -21,6 +21,9 @@ pub fn load_on<D: Disk>(alloc: Global, disk: &mut D) -> Result<(Found, Blob), Jo
         loaded.0.gate loaded.0.has_record) }
     ensures synced { OnOk result ((D.report disk.new).past
         ≡ option_map synced (D.report disk.old).past) }
+    // The gate of a journal without a record is at most so far from the start.
+    ensures blank { IfOk result (λ loaded. loaded.0.has_record ≡ false →
+        loaded.0.gate ≤ config_limit + 5) }
     ensures refused { IfErr result (λ fault. ForSome (D.report disk.old).past (λ past.
         IsWhyRefused (text_of past) fault)) }
     ensures any_moment { IsSyncedOrNot (D.report disk.old).past (D.report disk.new).past }
@@ -92,10 +95,13 @@ fn zeros(alloc: Global, count: usize) -> Result<Vec<u8>, Memory>
 }
 
 /// The end of the journal that the bytes hold, and its bytes.
+#[tactic(auto, using(crate::proofs::LoadLaws::blank_gate))]
 fn journal_in(alloc: Global, bytes: Vec<u8>) -> Result<(Found, Blob), JournalFault>
     requires { length bytes.items ≤ journal_limit }
     ensures found { IfOk result (λ loaded. Ends bytes.items loaded.0 ×
         (loaded.1 ≡ take (loaded.0.gate + 1) bytes.items)) }
+    ensures blank { IfOk result (λ loaded. loaded.0.has_record ≡ false →
+        loaded.0.gate ≤ config_limit + 5) }
     ensures refused { IfErr result (IsWhyUnfit bytes.items) }
 {
     let found = match find_gate(alloc, bytes.as_slice()) {
