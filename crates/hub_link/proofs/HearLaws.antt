@@ -28,7 +28,7 @@ body_of message = message.body
 abbrev pub verdict_of : Message → Option Refusal
 verdict_of message = message.refusal
 
-abbrev message_with : List ℕ → Option Refusal → Message
+abbrev pub message_with : List ℕ → Option Refusal → Message
 message_with body refusal = record { body = body; refusal = refusal }
 
 judged_all : (messages : List Message) → judged (map body_of messages) (map verdict_of messages) ≡ messages
@@ -40,12 +40,12 @@ judged_more : (messages : List Message) (body : List ℕ) (bodies : List (List �
 judged_more [] body bodies verdict = refl
 judged_more (message ∷ messages) body bodies verdict = ap (λ (ms : List Message). message ∷ ms) (judged_more messages body bodies verdict)
 
-all_answered_append : (config : CoreConfig) (now : ℕ) (first second : List Message) (talk : Talk)
+pub all_answered_append : (config : CoreConfig) (now : ℕ) (first second : List Message) (talk : Talk)
     → all_answered config now (first ++ second) talk ≡ all_answered config now second (all_answered config now first talk)
 all_answered_append config now [] second talk = refl
 all_answered_append config now (message ∷ first) second talk = all_answered_append config now first second (answered config now message talk)
 
-possible_append : (config : CoreConfig) (now : ℕ) (first second : List Message) (talk : Talk) → ArePossible config now first talk
+pub possible_append : (config : CoreConfig) (now : ℕ) (first second : List Message) (talk : Talk) → ArePossible config now first talk
     → ArePossible config now second (all_answered config now first talk) → ArePossible config now (first ++ second) talk
 possible_append config now [] second talk before after = after
 possible_append config now (message ∷ first) second talk before after =

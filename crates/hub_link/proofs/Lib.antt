@@ -2,6 +2,7 @@ pub mod AddedLaws
 pub mod LinkLaws
 pub mod SendLaws
 pub mod HearLaws
+pub mod PartLaws
 pub mod LoopLaws
 pub mod UnsentLaws
 pub use Rattle.msg_replies.proofs.EventCoreMoves

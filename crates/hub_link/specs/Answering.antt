@@ -1,5 +1,5 @@
 -- How the frames that bytes begin with are answered, one after another.
-use Rattle.std.specs.Prelude.{◌≡◌, ℕ, ◌+◌, ◌≤◌, List, ◌++◌, length, drop, Option, Some, None, Result, Ok, Err, OnOk}
+use Rattle.std.specs.Prelude.{◌≡◌, ℕ, ◌+◌, ◌-◌, ◌≤◌, nat_lt, if◌then◌else◌, List, ◌++◌, length, drop, Option, Some, None, Result, Ok, Err, OnOk}
 use Rattle.msg_replies.specs.event_core.declared.arrivals.Core.{Core}
 use Rattle.msg_replies.specs.event_core.Core.{Represents, config_of, now_of}
 use Rattle.framing.specs.Frames.{HasFrame, first_body, frames_of, length_at, partial}
@@ -58,3 +58,7 @@ pub record AnswersFrames {T : Type 0} (bytes left left' : List ℕ) (core core' 
 pub record AreTaken (bytes : List ℕ) (taken : ℕ) : Type 0 where
   pub within : taken ≤ length bytes
   pub rest : drop taken bytes ≡ partial bytes
+
+-- how many bytes the first frame lacks; where its length is not whole, how many the length lacks
+abbrev pub missing_bytes : List ℕ → ℕ
+missing_bytes bytes = if nat_lt (length bytes) 4 then 4 - length bytes else 4 + length_at bytes - length bytes

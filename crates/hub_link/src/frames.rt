@@ -1,6 +1,6 @@
-ghost use Rattle.std.specs.Prelude.{IfOk};
+ghost use Rattle.std.specs.Prelude.{◌≡◌, IfOk};
 ghost use Rattle.msg_replies.specs.Arriving.{reported};
-ghost use Rattle.hub_link.specs.Answering.{AnswersFirst, AnswersFrames, AreTaken};
+ghost use Rattle.hub_link.specs.Answering.{AnswersFirst, AnswersFrames, AreTaken, missing_bytes};
 
 use crate::unsent::Unsent;
 use ev_types::{Memory, Notices};
@@ -61,4 +61,16 @@ fn answer_first<P: Patterns, G: Ledger>(
         FirstFrame::NotYet => Ok(None),
         FirstFrame::TooLong { .. } => Ok(None),
     }
+}
+
+/// How many bytes the first frame lacks, or its length, if that is not whole. None, if the frame is whole.
+#[tactic(auto, unfolding(framing::specs::Frames::length_at))]
+pub(crate) fn missing_bytes(bytes: &[u8]) -> usize
+    ensures { result ≡ missing_bytes bytes.now }
+{
+    let Some((head, body)) = bytes.split_first_chunk::<4>() else {
+        return 4 - bytes.len();
+    };
+    let length = u32::from_be_bytes(*head) as usize;
+    length.saturating_sub(body.len())
 }

@@ -11,7 +11,7 @@ ghost use Rattle.hub_link.specs.Hearing.{HearsPiece, KeepsRest};
 ghost use Rattle.hub_link.specs.HubLink.{RepresentsChanged, RepresentsLink, number_of};
 ghost use Rattle.hub_link.specs.Sending.{IsSent, Sends, can_send, is_over_as, sendable};
 
-use crate::frames::answer_frames;
+use crate::frames::{answer_frames, missing_bytes};
 use crate::unsent::Unsent;
 use ev_types::{Memory, Notices};
 use frame_link::{FirstFrame, FrameBuffer, first_frame};
@@ -130,8 +130,36 @@ impl HubLink {
         self.input.push(alloc, &piece[taken..])
     }
 
-    /// The same by way of the bytes that are kept.
+    /// The same where there are bytes before it: what completes their frame is put after them, and the frames of the rest
+    /// are answered where they lie. Where too few bytes are kept to know a frame's length, the rest is put after them too.
     fn read_after<P: Patterns, G: Ledger>(
+        &mut self,
+        alloc: Global,
+        piece: &[u8],
+        spent: &mut SpentEvents,
+        core: &mut Core,
+        patterns: &mut P,
+        notices: &mut Notices,
+        steps: &mut Steps<G>,
+    ) -> Result<(), Memory>
+        ensures number { number_of self.new ≡ number_of self.old }
+        ensures frames { AnswersFrames (self.old.input ++ piece.now) self.old.unsent self.new.unsent
+            core.old core.new (P.report patterns.old) (P.report patterns.new)
+            (reported notices.old steps.old.forks) (reported notices.new steps.new.forks) result }
+        ensures keeps { OnOk result (KeepsRest piece.now self.old self.new) }
+    {
+        let missing = missing_bytes(self.input.as_slice());
+        let (head, rest) = piece.split_at(missing.min(piece.len()));
+        self.read_joined(alloc, head, spent, core, patterns, notices, steps)?;
+        if self.input.is_empty() {
+            self.read_alone(alloc, rest, spent, core, patterns, notices, steps)
+        } else {
+            self.read_joined(alloc, rest, spent, core, patterns, notices, steps)
+        }
+    }
+
+    /// The same by way of the bytes that are kept, after which the whole piece is put.
+    fn read_joined<P: Patterns, G: Ledger>(
         &mut self,
         alloc: Global,
         piece: &[u8],
