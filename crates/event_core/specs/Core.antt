@@ -1,6 +1,9 @@
 -- What a core represents, and what it gives for what arrives.
-use Rattle.std.specs.Prelude.{◌≡◌, ℕ, ◌+◌, ◌≤◌, Bool, false, List, ◌++◌}
+use Rattle.std.specs.Prelude.{◌≡◌, ℕ, ◌+◌, ◌≤◌, Bool, false, IsTrue, List, ◌++◌, Result, IsErr, OnErr, OnOk}
 use Rattle.ev_types.specs.declared.item.Notice.{Notice}
+use Rattle.list_laws.specs.declared.memory.Memory.{Memory}
+use Rattle.list_laws.specs.Prefix.{IsPrefix}
+use Rattle.step_count.specs.Count.{StepCount}
 use Rattle.stream_meaning.specs.History.{moment_of}
 use Rattle.stream_meaning.specs.Arrivals.{Arrival}
 pub use Rattle.stream_meaning.specs.Arrivals.{CoreConfig, state_by, notices_by}
@@ -45,3 +48,18 @@ visits_by config arrivals = visits_to config.plan (state_by config arrivals)
 -- after the first arrivals came more, and no more entries were visited than those need
 abbrev pub VisitedFor : CoreConfig → List Arrival → List Arrival → ℕ → ℕ → Type 0
 VisitedFor config first more entries_before entries_after = entries_after + visits_by config first ≤ entries_before + visits_by config (first ++ more)
+
+-- The core receives more arrivals: what it represents then, what notices it gave and what was counted. Or memory ran out.
+pub record Receives {G : Type 0} (more : List Arrival) (core core' : Core) (old new : List Notice) (before after : StepCount G) (result : Result (Unit {0}) Memory) : Type 0 where
+  pub config : config_of core' ≡ config_of core
+  pub represents : OnOk result ((arrivals : List Arrival) → Represents core arrivals
+      → Represents core' (arrivals ++ more))
+  pub heard : OnOk result ((arrivals : List Arrival) → Represents core arrivals
+      → Heard (config_of core) arrivals more old before.forks new after.forks)
+  pub entries : (arrivals : List Arrival) → Represents core arrivals
+      → VisitedFor (config_of core) arrivals more before.entries after.entries
+  pub began : (arrivals : List Arrival) → Represents core arrivals → after.began ≡ before.began
+  pub poisoned : IsTrue (is_poisoned core) → IsErr result
+  pub sound : OnOk result (is_poisoned core' ≡ false)
+  pub err : OnErr result (IsTrue (is_poisoned core'))
+  pub prefix : IsPrefix old new

@@ -6,7 +6,7 @@ ghost use Rattle.ev_types.specs.declared.item.Notice.{Notice as StoredNotice};
 ghost use Rattle.index_log.specs.Live.{live_events};
 ghost use Rattle.stream_meaning.specs.Arrivals.{Arrival, Elapsed, Post, matching_events};
 ghost use Rattle.live_index.specs.Index.{events_lent, visited};
-ghost use Rattle.event_core.specs.Core.{config_of, now_of, is_poisoned, state_by, Represents, Heard, VisitedFor};
+ghost use Rattle.event_core.specs.Core.{config_of, now_of, is_poisoned, state_by, Represents, Receives};
 
 use crate::clock::Clock;
 use crate::streams::IndexedStreams;
@@ -84,22 +84,9 @@ impl Core {
         requires from { now_of self.old ≤ to }
         requires hour { to ≤ now_of self.old + 3600 }
         requires bound { to ≤ 2 ^ 40 }
-        ensures config { config_of self.new ≡ config_of self.old }
         ensures now { OnOk result (now_of self.new ≡ to) }
-        ensures represents { OnOk result ((arrivals : List Arrival) → Represents self.old arrivals
-            → Represents self.new (arrivals ++ replicate (to - now_of self.old) Elapsed)) }
-        ensures heard { OnOk result ((arrivals : List Arrival) → Represents self.old arrivals
-            → Heard (config_of self.old) arrivals (replicate (to - now_of self.old) Elapsed)
-            out.old steps.old.forks out.new steps.new.forks) }
-        ensures entries { (arrivals : List Arrival) → Represents self.old arrivals
-            → VisitedFor (config_of self.old) arrivals (replicate (to - now_of self.old) Elapsed)
-            steps.old.entries steps.new.entries }
-        ensures began { (arrivals : List Arrival) → Represents self.old arrivals
-            → steps.new.began ≡ steps.old.began }
-        ensures poisoned { IsTrue (is_poisoned self.old) → IsErr result }
-        ensures sound { OnOk result (is_poisoned self.new ≡ false) }
-        ensures err { OnErr result (IsTrue (is_poisoned self.new)) }
-        ensures prefix { IsPrefix out.old out.new }
+        ensures receives { Receives (replicate (to - now_of self.old) Elapsed) self.old self.new
+            out.old out.new steps.old steps.new result }
     {
         if self.poisoned {
             return Err(Memory);
@@ -111,38 +98,8 @@ impl Core {
         Ok(())
     }
 
-    /// An event comes to the streams. The notices that they give are appended to `out`. After `Memory` `out` begins
-    /// with what it had.
-    pub fn post<G: Ledger>(
-        &mut self,
-        alloc: Global,
-        event: Event,
-        out: &mut Notices,
-        steps: &mut Steps<G>,
-    ) -> Result<(), Memory>
-        ensures config { config_of self.new ≡ config_of self.old }
-        ensures now { now_of self.new ≡ now_of self.old }
-        ensures represents { OnOk result ((arrivals : List Arrival) → Represents self.old arrivals
-            → Represents self.new (arrivals ++ Post event ∷ [])) }
-        ensures heard { OnOk result ((arrivals : List Arrival) → Represents self.old arrivals
-            → Heard (config_of self.old) arrivals (Post event ∷ [])
-            out.old steps.old.forks out.new steps.new.forks) }
-        ensures entries { (arrivals : List Arrival) → Represents self.old arrivals
-            → VisitedFor (config_of self.old) arrivals (Post event ∷ [])
-            steps.old.entries steps.new.entries }
-        ensures began { (arrivals : List Arrival) → Represents self.old arrivals
-            → steps.new.began ≡ steps.old.began }
-        ensures poisoned { IsTrue (is_poisoned self.old) → IsErr result }
-        ensures sound { OnOk result (is_poisoned self.new ≡ false) }
-        ensures err { OnErr result (IsTrue (is_poisoned self.new)) }
-        ensures prefix { IsPrefix out.old out.new }
-    {
-        let mut event = event;
-        self.post_from(alloc, &mut event, out, steps)?;
-        Ok(())
-    }
-
-    /// Posts as [`Core::post`] does, but moves the event out of `event`. What is left there is not specified.
+    /// An event comes to the streams. It is moved out of `event`, and what is left there is not specified. The notices that
+    /// the streams give are appended to `out`. After `Memory` `out` begins with what it had.
     pub fn post_from<G: Ledger>(
         &mut self,
         alloc: Global,
@@ -150,22 +107,9 @@ impl Core {
         out: &mut Notices,
         steps: &mut Steps<G>,
     ) -> Result<(), Memory>
-        ensures config { config_of self.new ≡ config_of self.old }
         ensures now { now_of self.new ≡ now_of self.old }
-        ensures represents { OnOk result ((arrivals : List Arrival) → Represents self.old arrivals
-            → Represents self.new (arrivals ++ Post event.old ∷ [])) }
-        ensures heard { OnOk result ((arrivals : List Arrival) → Represents self.old arrivals
-            → Heard (config_of self.old) arrivals (Post event.old ∷ [])
-            out.old steps.old.forks out.new steps.new.forks) }
-        ensures entries { (arrivals : List Arrival) → Represents self.old arrivals
-            → VisitedFor (config_of self.old) arrivals (Post event.old ∷ [])
-            steps.old.entries steps.new.entries }
-        ensures began { (arrivals : List Arrival) → Represents self.old arrivals
-            → steps.new.began ≡ steps.old.began }
-        ensures poisoned { IsTrue (is_poisoned self.old) → IsErr result }
-        ensures sound { OnOk result (is_poisoned self.new ≡ false) }
-        ensures err { OnErr result (IsTrue (is_poisoned self.new)) }
-        ensures prefix { IsPrefix out.old out.new }
+        ensures receives { Receives (Post event.old ∷ []) self.old self.new
+            out.old out.new steps.old steps.new result }
     {
         if self.poisoned {
             return Err(Memory);

@@ -2,6 +2,7 @@
 #![tactic(auto)]
 
 mod arrivals;
+mod by_value;
 mod clock;
 mod outputs;
 mod streams;

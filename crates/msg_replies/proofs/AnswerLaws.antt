@@ -3,8 +3,9 @@ use Rattle.std.proofs.Common.{◌≡◌, ◌≢◌, ℕ, ◌+◌, ◌<◌, Bool,
 use Rattle.std.proofs.lemmas.List.{drop-set, drop-set-lt, map-append, set-get_or, take_more}
 use Rattle.std.specs.Prelude.{Option, Some, None, Result, Ok, Err, OnOk, OnErr, option_and_then}
 use Rattle.ev_types.specs.declared.event.Event.{Event}
+use Rattle.ev_types.specs.declared.item.Notice.{Notice}
 use Rattle.event_core.specs.declared.arrivals.Core.{Core}
-use Rattle.event_core.specs.Core.{Heard, Represents, CoreConfig, now_of, notices_by, config_of, state_by}
+use Rattle.event_core.specs.Core.{Heard, Receives, Represents, CoreConfig, now_of, notices_by, config_of, state_by}
 use Rattle.index_log.specs.Live.{IndexLog}
 use Rattle.list_laws.specs.declared.memory.Memory.{Memory}
 use Rattle.pred_eval.specs.Tree.{Tree}
@@ -16,11 +17,12 @@ use Rattle.riemann_msg.specs.declared.fault.MsgWhy.{MsgWhy}
 use Rattle.riemann_msg.specs.declared.msg.Msg.{Msg}
 use Rattle.riemann_msg.specs.Fault.{Fault, fault_at, first_fault}
 use Rattle.riemann_msg.specs.Value.{message_of}
+use Rattle.step_count.specs.Count.{StepCount}
 use Rattle.stream_meaning.specs.Arrivals.{Arrival, Post}
 use Rattle.hub_meaning.specs.Messages.{posts_of, reading_of, rule_of, rule_of_query, rule_read}
 use Rattle.hub_meaning.specs.Replies.{answer_to_query, answer_to_text, framed, message_refusal, query_refusal, refused, reply_to}
 use Rattle.hub_meaning.specs.Verdicts.{PatternsReport, Refusal, built_rule, is_busy}
-use Rattle.msg_replies.specs.Arriving.{Arrives, Reported}
+use Rattle.msg_replies.specs.Arriving.{Arrives, Reported, reported}
 use Rattle.msg_replies.specs.Answering.{AfterVerdict, AnswersMessage, AnswersQuery, asked_of}
 use Rattle.msg_replies.proofs.VerdictLaws.{no_verdict}
 
@@ -67,6 +69,12 @@ arrives_then one two three arrivals first second a b c x y = record {
   heard = heard_then (config_of one) arrivals first second a b c x.heard
       (subst (λ config. Heard config (arrivals ++ first) second b.notices b.forks c.notices c.forks) x.config y.heard);
 }
+
+-- what a core received has arrived
+pub arrives_received : {G : Type 0} {more : List Arrival} {core core' : Core} {old new : List Notice} {before after : StepCount G}
+    → Receives more core core' old new before after (Ok tt) → (arrivals : List Arrival) → Represents core arrivals
+    → Arrives core core' arrivals more (reported old before.forks) (reported new after.forks)
+arrives_received received arrivals holds = record { represents = received.represents arrivals holds; config = received.config; heard = received.heard arrivals holds }
 
 -- ---- what a body is read as
 
@@ -186,20 +194,14 @@ answers_fault text fault core patterns replies replies' (Err memory) says other 
 }
 
 -- one event more
-pub posted_more : (one two three : Core) (arrivals : List Arrival) (events : List Event) (event : Event) (a b c : Reported)
-    → config_of three ≡ config_of two
-    → ((before : List Arrival) → Represents two before → Represents three (before ++ Post event ∷ []))
-    → ((before : List Arrival) → Represents two before → Heard (config_of two) before (Post event ∷ []) b.notices b.forks c.notices c.forks)
-    → Arrives one two arrivals (map Post events) a b
-    → Arrives one three arrivals (map Post (events ++ event ∷ [])) a c
-posted_more one two three arrivals events event a b c config represents heard before =
-    let last : Arrives two three (arrivals ++ map Post events) (Post event ∷ []) b c = record {
-      represents = represents (arrivals ++ map Post events) before.represents;
-      config = config;
-      heard = heard (arrivals ++ map Post events) before.represents;
-    } in
-    subst (λ (more : List Arrival). Arrives one three arrivals more a c) (sym (map-append Post events (event ∷ [])))
-    (arrives_then one two three arrivals (map Post events) (Post event ∷ []) a b c before last)
+pub posted_more : {G : Type 0} (one two three : Core) (arrivals : List Arrival) (events : List Event) (event : Event) (a : Reported) (old new : List Notice) (before after : StepCount G)
+    → Receives (Post event ∷ []) two three old new before after (Ok tt)
+    → Arrives one two arrivals (map Post events) a (reported old before.forks)
+    → Arrives one three arrivals (map Post (events ++ event ∷ [])) a (reported new after.forks)
+posted_more one two three arrivals events event a old new before after received arrived =
+    subst (λ (more : List Arrival). Arrives one three arrivals more a (reported new after.forks)) (sym (map-append Post events (event ∷ [])))
+    (arrives_then one two three arrivals (map Post events) (Post event ∷ []) a (reported old before.forks) (reported new after.forks)
+    arrived (arrives_received received (arrivals ++ map Post events) arrived.represents))
 
 -- ---- an event that is posted from its place in a list
 

@@ -29,6 +29,6 @@ loop-event-preserved g c =
       cleared_more c.loop-event.events i c.clear.new.self (subst (λ (n : ℕ). i < n) (sym c.loop-event.auto.events) c.loop-event-test.true) c.clear.ensures c.loop-event.invariant.2,
       λ arrivals holds. subst (λ (posted : List Event). Arrives c.args.core.now c.post_from.new.self arrivals (map Post posted) before after) (sym at.1)
           (posted_more c.args.core.now c.loop-event.core c.post_from.new.self arrivals (take i events) event
-          before (reported c.loop-event.notices c.loop-event.steps.forks) after
-          c.in_ok-post_from.ensures.config c.in_ok-post_from.ensures.represents c.in_ok-post_from.ensures.heard (c.loop-event.invariant.3 arrivals holds)),
+          before c.loop-event.notices c.post_from.new.out c.loop-event.steps c.post_from.new.steps
+          c.in_ok-post_from.ensures.receives (c.loop-event.invariant.3 arrivals holds)),
     )

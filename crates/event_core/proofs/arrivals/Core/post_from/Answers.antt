@@ -1,40 +1,30 @@
-use Rattle.std.proofs.Common.{false, [], ◌∷◌, ap, refl, sym}
+use Rattle.std.proofs.Common.{true, false, [], ◌∷◌, ap, refl, sym}
+use Rattle.std.proofs.lemmas.Result.{err_from_is_err_and}
 use Rattle.stream_meaning.specs.Arrivals.{Post}
 use Rattle.event_core.specs.Core.{config_of, state_by}
-use Rattle.event_core.proofs.Longer.{longer-represents, longer-heard}
-use Rattle.event_core.proofs.Visits.{longer-visited}
+use Rattle.event_core.proofs.Receiving.{receives-all, receives-nothing, receives-part}
 use Rattle.event_core.proofs.arrivals.Core.post_from.Goals as goal
 
-pub returns-clause-represents : goal.returns-clause-represents
-returns-clause-represents g c = λ arrivals before.
+pub returns-then-self-clause-receives : goal.returns-then-self-clause-receives
+returns-then-self-clause-receives g c = receives-nothing (Post c.args.event.now ∷ []) c.args.self.now c.args.out.now c.args.steps.now _ c.if-self.true
+
+pub returns-in_err-item-clause-receives : goal.returns-in_err-item-clause-receives
+returns-in_err-item-clause-receives g c =
     let old = c.args.self.now in
-    let config = config_of old in
-    let moved = c.in_ok-item.ensures.moved (state_by config arrivals) before.holds (sym before.now) in
-    longer-represents (record { streams = c.item.new.self; clock = old.clock; poisoned = false }) config arrivals (Post c.args.event.now ∷ [])
-    refl (ap (λ plan. record { plan = plan; expiry = old.clock.expiry; start = old.clock.start }) c.in_ok-item.ensures.plan) moved.holds before.now
+    let p = err_from_is_err_and c.from_residual.result c.from_residual.ensures.1 in
+    rw p.1 (receives-part (Post c.args.event.now ∷ []) old c.args.out.now c.args.steps.now
+    (record { streams = c.item.new.self; clock = old.clock; poisoned = true }) c.item.new.out c.item.new.steps
+    (ap (λ plan. record { plan = plan; expiry = old.clock.expiry; start = old.clock.start }) c.item.ensures.plan) c.item.ensures.prefix
+    (λ arrivals is. c.item.ensures.visited (state_by (config_of old) arrivals) is.holds (sym is.now))
+    (λ arrivals is. c.item.ensures.began (state_by (config_of old) arrivals) is.holds (sym is.now)) p.0 refl)
 
-pub returns-clause-heard : goal.returns-clause-heard
-returns-clause-heard g c = λ arrivals before.
-    let config = config_of c.args.self.now in
-    longer-heard config c.item.new.self arrivals (Post c.args.event.now ∷ []) c.args.out.now c.args.steps.now.forks c.item.new.out c.item.new.steps.forks
-    (c.in_ok-item.ensures.moved (state_by config arrivals) before.holds (sym before.now))
-
-pub returns-clause-entries : goal.returns-clause-entries
-returns-clause-entries g c = λ arrivals before.
-    let config = config_of c.args.self.now in
-    longer-visited config arrivals (Post c.args.event.now ∷ []) c.args.steps.now.entries c.item.new.steps.entries
-    (c.item.ensures.visited (state_by config arrivals) before.holds (sym before.now))
-
-pub returns-in_err-item-clause-entries : goal.returns-in_err-item-clause-entries
-returns-in_err-item-clause-entries g c = λ arrivals before.
-    let config = config_of c.args.self.now in
-    longer-visited config arrivals (Post c.args.event.now ∷ []) c.args.steps.now.entries c.item.new.steps.entries
-    (c.item.ensures.visited (state_by config arrivals) before.holds (sym before.now))
-
-pub returns-clause-began : goal.returns-clause-began
-returns-clause-began g c = λ arrivals before.
-    c.item.ensures.began (state_by (config_of c.args.self.now) arrivals) before.holds (sym before.now)
-
-pub returns-in_err-item-clause-began : goal.returns-in_err-item-clause-began
-returns-in_err-item-clause-began g c = λ arrivals before.
-    c.item.ensures.began (state_by (config_of c.args.self.now) arrivals) before.holds (sym before.now)
+pub returns-clause-receives : goal.returns-clause-receives
+returns-clause-receives g c =
+    let old = c.args.self.now in
+    receives-all (Post c.args.event.now ∷ []) old c.args.out.now c.args.steps.now
+    (record { streams = c.item.new.self; clock = old.clock; poisoned = false }) c.item.new.out c.item.new.steps
+    (ap (λ plan. record { plan = plan; expiry = old.clock.expiry; start = old.clock.start }) c.in_ok-item.ensures.plan) c.in_ok-item.ensures.prefix
+    (λ arrivals is. c.in_ok-item.ensures.visited (state_by (config_of old) arrivals) is.holds (sym is.now))
+    (λ arrivals is. c.in_ok-item.ensures.began (state_by (config_of old) arrivals) is.holds (sym is.now)) c.if-self.false refl
+    (λ arrivals is. c.in_ok-item.ensures.moved (state_by (config_of old) arrivals) is.holds (sym is.now))
+    (λ arrivals is. is.now)
