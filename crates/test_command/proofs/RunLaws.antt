@@ -5,6 +5,7 @@ use Rattle.std.specs.List.{AllByRecursion}
 use Rattle.std.specs.Option.{option_map}
 use Rattle.std.proofs.lemmas.List.{map-append, take_more}
 use Rattle.command_io.proofs.BuildLaws.{refused_pattern, same_report}
+use Rattle.command_io.specs.declared.ending.Ending.TheVariants.{Finished}
 use Rattle.command_io.specs.hub_meaning.Verdicts.{PatternsReport}
 use Rattle.config_tests.specs.declared.entry.Test.{Test}
 use Rattle.event_core.specs.Core.{CoreConfig, notices_by}
@@ -21,7 +22,7 @@ use Rattle.stream_tests.specs.declared.verdict.Verdict.TheVariants.{Pass, Differ
 use Rattle.test_command.specs.Lines.{IsJudged, Judged, is_pass, judged_line, judged_test, verdict_line}
 use Rattle.test_command.specs.Running.{AllPass, GotLines, Judges, Passes, RunEnds, RunReport, ShowsAll, ShowsOne, StopsAt, StopsRun, run_report}
 use Rattle.test_command.specs.Stopping.{CutsLine, IsUnrun, ending_of, stop_of}
-use Rattle.test_command.specs.declared.ending.TestsEnding.TheVariants.{Passed, Differed}
+use Rattle.test_command.specs.declared.ending.TestsEnding.TheVariants.{Shared, Differed}
 use Rattle.test_command.specs.declared.stop.Stop.{Stop}
 use Rattle.test_command.specs.declared.stop.Stop.TheVariants.{Pattern, Write, Memory}
 use Rattle.test_command.proofs.LineLaws.{lines_more, no_lines}
@@ -123,13 +124,13 @@ stops_at config tests i test all stop old mid new inside is shown stops = record
 
 -- ---- how a run ends
 
-pub ends_passed : (config : Config) (tests : List Test) (old new : RunReport) → ShowsAll config tests true old new → RunEnds config tests old new Passed
+pub ends_passed : (config : Config) (tests : List Test) (old new : RunReport) → ShowsAll config tests true old new → RunEnds config tests old new (Shared Finished)
 ends_passed config tests old new shown = (shown.judges, shown.passed, shown.no_refusal)
 
 pub ends_differed : (config : Config) (tests : List Test) (old new : RunReport) → ShowsAll config tests false old new → RunEnds config tests old new Differed
 ends_differed config tests old new shown = (shown.judges, shown.passed, shown.no_refusal)
 
-pub ends_stopped : (config : Config) (tests : List Test) (stop : Stop) (old new : RunReport) → StopsRun config tests stop old new → RunEnds config tests old new (ending_of stop)
+pub ends_stopped : (config : Config) (tests : List Test) (stop : Stop) (old new : RunReport) → StopsRun config tests stop old new → RunEnds config tests old new (Shared (ending_of stop))
 ends_stopped config tests (Pattern number) old new stops = stops
 ends_stopped config tests Write old new stops = stops
 ends_stopped config tests Memory old new stops = stops

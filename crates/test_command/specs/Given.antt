@@ -1,9 +1,10 @@
 -- The configuration and the tests of a command, and why there are none.
 use Rattle.std.specs.Prelude.{◌≡◌, ℕ, ◌+◌, ◌≤◌, List, length}
-use Rattle.command_io.specs.Configs.{ForRefused, IsRefused, ReadsAs}
+use Rattle.command_io.specs.Configs.{ForRefused, ReadsAs}
 use Rattle.command_io.specs.Files.{ForHeld}
 use Rattle.command_io.specs.declared.ending.ConfigRefusal.TheVariants.{Refused}
-use Rattle.test_command.specs.declared.ending.Source.TheVariants.{ConfigFile, TestsFile}
+use Rattle.command_io.specs.declared.ending.Ending.{Ending}
+use Rattle.command_io.specs.declared.ending.Ending.TheVariants.{ConfigRefused, Unread, OverLimit, OutOfMemory}
 use Rattle.command_io.specs.declared.limits.TheConstants.{CONFIG_LIMIT}
 use Rattle.config_terms.specs.declared.fault.ConfigWhy.{ConfigWhy}
 use Rattle.config_tests.specs.Tests.{AreTestsOf, IsTestsFault}
@@ -13,7 +14,17 @@ use Rattle.ports.specs.Reading.{Content, IsOverLimit, StoreReport}
 use Rattle.sexp_config.specs.Config.{IsConfigOf}
 use Rattle.sexp_config.specs.declared.config.Config.{Config}
 use Rattle.test_command.specs.declared.ending.TestsEnding.{TestsEnding}
-use Rattle.test_command.specs.declared.ending.TestsEnding.TheVariants.{ConfigRefused, TestsRefused, Unread, OverLimit, OutOfMemory}
+use Rattle.test_command.specs.declared.ending.TestsEnding.TheVariants.{Shared, Differed, TestsRefused}
+
+-- ---- a file
+
+-- why the file of the name was not read, from what the store reports before and after; the ending has this name and its limit
+abbrev pub RefusesFile : List ℕ → StoreReport → StoreReport → Ending → Type 0
+RefusesFile name old new (Unread unread) = Rose old.faults new.faults × (unread.now ≡ name)
+RefusesFile name old new (OverLimit over limit) = IsOverLimit (old.held name) CONFIG_LIMIT
+    × RoseBy (CONFIG_LIMIT + 1) old.taken new.taken × (over.now ≡ name) × (limit ≡ CONFIG_LIMIT)
+RefusesFile name old new OutOfMemory = Unit {0}
+RefusesFile name old new _ = ⊥
 
 -- ---- the configuration
 
@@ -35,19 +46,11 @@ pub record HoldsConfig (content : Content) (text : List ℕ) : Type 0 where
   pub is : ReadsAs text config
   pub holds : ForHeld content (λ held. (held ≡ text) × (length text ≤ CONFIG_LIMIT))
 
--- why a text is not a configuration
-abbrev pub RefusesConfigText : List ℕ → TestsEnding → Type 0
-RefusesConfigText text (ConfigRefused (Refused place why)) = IsRefused text place why
-RefusesConfigText text OutOfMemory = Unit {0}
-RefusesConfigText text _ = ⊥
-
--- why there is no configuration, from what the store reports before and after
-abbrev pub RefusesConfig : Content → StoreReport → StoreReport → TestsEnding → Type 0
-RefusesConfig content old new (ConfigRefused (Refused place why)) = ForRefused content place why
-RefusesConfig content old new (Unread ConfigFile) = Rose old.faults new.faults
-RefusesConfig content old new (OverLimit ConfigFile) = IsOverLimit content CONFIG_LIMIT × RoseBy (CONFIG_LIMIT + 1) old.taken new.taken
-RefusesConfig content old new OutOfMemory = Unit {0}
-RefusesConfig content old new _ = ⊥
+-- why there is no configuration in the file of the name, from what the store reports before and after
+abbrev pub RefusesConfig : List ℕ → StoreReport → StoreReport → TestsEnding → Type 0
+RefusesConfig name old new (Shared (ConfigRefused (Refused place why))) = ForRefused (old.held name) place why
+RefusesConfig name old new (Shared ending) = RefusesFile name old new ending
+RefusesConfig name old new _ = ⊥
 
 -- ---- the tests
 
@@ -70,13 +73,12 @@ HasTests content tests = ForHeld content (λ text. (length text ≤ CONFIG_LIMIT
 -- why a text is not tests
 abbrev pub RefusesTestsText : List ℕ → TestsEnding → Type 0
 RefusesTestsText text (TestsRefused place why) = AreRefused text place why
-RefusesTestsText text OutOfMemory = Unit {0}
+RefusesTestsText text (Shared OutOfMemory) = Unit {0}
 RefusesTestsText text _ = ⊥
 
--- why there are no tests, from what the store reports before and after
-abbrev pub RefusesTests : Content → StoreReport → StoreReport → TestsEnding → Type 0
-RefusesTests content old new (TestsRefused place why) = ForHeld content (λ text. (length text ≤ CONFIG_LIMIT) × AreRefused text place why)
-RefusesTests content old new (Unread TestsFile) = Rose old.faults new.faults
-RefusesTests content old new (OverLimit TestsFile) = IsOverLimit content CONFIG_LIMIT × RoseBy (CONFIG_LIMIT + 1) old.taken new.taken
-RefusesTests content old new OutOfMemory = Unit {0}
-RefusesTests content old new _ = ⊥
+-- why there are no tests in the file of the name, from what the store reports before and after
+abbrev pub RefusesTests : List ℕ → StoreReport → StoreReport → TestsEnding → Type 0
+RefusesTests name old new (Shared ending) = RefusesFile name old new ending
+RefusesTests name old new Differed = ⊥
+RefusesTests name old new (TestsRefused place why) =
+    ForHeld (old.held name) (λ text. (length text ≤ CONFIG_LIMIT) × AreRefused text place why)

@@ -3,6 +3,7 @@ use Rattle.std.specs.Prelude.{◌≡◌, ℕ, Bool, MatchBool, List, [], ◌∷�
 use Rattle.std.specs.List.{AllByRecursion, flat_map}
 use Rattle.command_io.specs.Building.{IsRefusedPattern}
 use Rattle.command_io.specs.declared.ending.ConfigRefusal.TheVariants as refusal
+use Rattle.command_io.specs.declared.ending.Ending.TheVariants.{Finished, ConfigRefused, WriteFailed, OutOfMemory}
 use Rattle.command_io.specs.hub_meaning.Verdicts.{PatternsReport}
 use Rattle.config_tests.specs.declared.entry.Test.{Test}
 use Rattle.event_core.specs.Core.{CoreConfig}
@@ -15,7 +16,7 @@ use Rattle.stream_tests.specs.declared.verdict.Verdict.{Verdict}
 use Rattle.stream_tests.specs.declared.verdict.Verdict.TheVariants.{Pass as passed}
 use Rattle.test_command.specs.Lines.{IsJudged, Judged, is_pass, judged_line, judged_test, verdict_line}
 use Rattle.test_command.specs.declared.ending.TestsEnding.{TestsEnding}
-use Rattle.test_command.specs.declared.ending.TestsEnding.TheVariants.{Passed, Differed, ConfigRefused, WriteFailed, OutOfMemory}
+use Rattle.test_command.specs.declared.ending.TestsEnding.TheVariants.{Shared, Differed}
 use Rattle.test_command.specs.declared.stop.Stop.{Stop}
 use Rattle.test_command.specs.declared.stop.Stop.TheVariants.{Pattern, Write, Memory}
 
@@ -101,9 +102,9 @@ pub record StopsRun (config : Config) (tests : List Test) (stop : Stop) (old new
 -- ---- how a run ends
 
 abbrev pub RunEnds : Config → List Test → RunReport → RunReport → TestsEnding → Type 0
-RunEnds config tests old new Passed = Judges (core_of config) tests old.out new.out × AllPass (core_of config) tests × (new.patterns ≡ old.patterns)
+RunEnds config tests old new (Shared Finished) = Judges (core_of config) tests old.out new.out × AllPass (core_of config) tests × (new.patterns ≡ old.patterns)
 RunEnds config tests old new Differed = Judges (core_of config) tests old.out new.out × (AllPass (core_of config) tests → ⊥) × (new.patterns ≡ old.patterns)
-RunEnds config tests old new (ConfigRefused (refusal.Pattern number)) = StopsRun config tests (Pattern number) old new
-RunEnds config tests old new WriteFailed = StopsRun config tests Write old new
-RunEnds config tests old new OutOfMemory = StopsRun config tests Memory old new
+RunEnds config tests old new (Shared (ConfigRefused (refusal.Pattern number))) = StopsRun config tests (Pattern number) old new
+RunEnds config tests old new (Shared WriteFailed) = StopsRun config tests Write old new
+RunEnds config tests old new (Shared OutOfMemory) = StopsRun config tests Memory old new
 RunEnds config tests old new _ = ⊥

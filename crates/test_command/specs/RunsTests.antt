@@ -1,5 +1,6 @@
 -- What `test CONFIG TESTS` promises.
-use Rattle.std.specs.Prelude.{◌≡◌, ℕ, ◌≤◌, ◌⊎◌, List, length}
+use Rattle.std.specs.Prelude.{◌≡◌, ℕ, ◌≤◌, ◌⊎◌, List, [], ◌∷◌, length}
+use Rattle.command_io.specs.Files.{good_read}
 use Rattle.command_io.specs.Reports.{Reports}
 use Rattle.command_io.specs.declared.limits.TheConstants.{CONFIG_LIMIT}
 use Rattle.command_io.specs.declared.status.Status.{Status}
@@ -8,30 +9,32 @@ use Rattle.config_tests.specs.Tests.{AreTestsOf}
 use Rattle.config_tests.specs.declared.entry.Test.{Test}
 use Rattle.event_core.specs.Core.{CoreConfig}
 use Rattle.ports.specs.Counts.{IsStill}
-use Rattle.ports.specs.Reading.{Content, IsHeld, StoreReport}
+use Rattle.ports.specs.Reading.{IsHeld, StoreReport}
 use Rattle.sexp_config.specs.Config.{IsConfigOf}
 use Rattle.sexp_config.specs.declared.config.Config.{Config as Configuration}
 use Rattle.stream_tests.specs.Running.{core_of}
 use Rattle.test_command.specs.Endings.{HasNoTests, IsComplete, Says, status_of}
 use Rattle.test_command.specs.Given.{HasConfig, HasTests, RefusesConfig, RefusesTests}
-use Rattle.test_command.specs.Reading.{ReadsBoth}
+use Rattle.test_command.specs.Reading.{ReadsOnce}
 use Rattle.test_command.specs.Running.{AllPass, RunEnds, RunReport, run_report}
 use Rattle.test_command.specs.declared.ending.TestsEnding.{TestsEnding}
 
 abbrev pub run_report_of : Reports → RunReport
 run_report_of reports = run_report reports.patterns reports.out
 
--- there are no tests and nothing was run, or they were run
-abbrev pub SuiteEnds : Configuration → Content → StoreReport → StoreReport → RunReport → RunReport → TestsEnding → Type 0
+-- there are no tests in the file of the name and nothing was run, or they were run
+abbrev pub SuiteEnds : Configuration → List ℕ → StoreReport → StoreReport → RunReport → RunReport → TestsEnding → Type 0
 SuiteEnds config tests store store' old new ending =
     (RefusesTests tests store store' ending × (new ≡ old))
-    ⊎ ((given : List Test) × HasTests tests given × RunEnds config given old new ending)
+    ⊎ ((given : List Test) × HasTests (store.held tests) given × RunEnds config given old new ending)
 
--- there is no configuration and nothing was run, or there is one
-abbrev pub TestsEnd : Content → Content → StoreReport → StoreReport → RunReport → RunReport → TestsEnding → Type 0
+-- There is no configuration in the file of the first name, and nothing was run and the tests were not read. Or there is
+-- one, and then the tests were read too.
+abbrev pub TestsEnd : List ℕ → List ℕ → StoreReport → StoreReport → RunReport → RunReport → TestsEnding → Type 0
 TestsEnd config tests store store' old new ending =
-    (RefusesConfig config store store' ending × (new ≡ old))
-    ⊎ ((read : Configuration) × HasConfig config read × SuiteEnds read tests store store' old new ending)
+    (RefusesConfig config store store' ending × (new ≡ old) × ReadsOnce [] config store.reads store'.reads ending)
+    ⊎ ((read : Configuration) × HasConfig (store.held config) read
+    × ReadsOnce (good_read config ∷ []) tests store.reads store'.reads ending × SuiteEnds read tests store store' old new ending)
 
 -- the status of a command that ran all tests, or ran out of memory
 abbrev pub HasShown : CoreConfig → List Test → Status → Type 0
@@ -54,10 +57,9 @@ pub record RunsTests (config tests : List ℕ) (old new : Reports) (Unasked Unto
   -- how it ended, as the status and the line on the error stream say
   pub ending : TestsEnding
   pub ended : status ≡ status_of ending
-  pub says : Says config tests ending old.err new.err
-  -- why it ended so, which tests were run, and what was written of them
-  pub ends : TestsEnd (old.store.held config) (old.store.held tests) old.store new.store (run_report_of old) (run_report_of new) ending
-  pub reads : ReadsBoth config tests old.store.reads new.store.reads ending
+  pub says : Says ending old.err new.err
+  -- why it ended so, what was read, which tests were run, and what was written of them
+  pub ends : TestsEnd config tests old.store new.store (run_report_of old) (run_report_of new) ending
   -- patterns are asked for and lines are written once there are tests
   pub unasked : HasNoTests ending → Unasked
   pub untouched : HasNoTests ending → Untouched

@@ -2,12 +2,12 @@
 use Rattle.std.specs.Prelude.{◌≡◌, ℕ, List}
 use Rattle.command_io.specs.Building.{IsRefusedPattern}
 use Rattle.command_io.specs.declared.ending.ConfigRefusal.TheVariants as refusal
+use Rattle.command_io.specs.declared.ending.Ending.{Ending}
+use Rattle.command_io.specs.declared.ending.Ending.TheVariants.{ConfigRefused, WriteFailed, OutOfMemory}
 use Rattle.command_io.specs.hub_meaning.Verdicts.{PatternsReport}
 use Rattle.ports.specs.Writing.{FailsToPut, SinkReport}
 use Rattle.stream_tests.specs.declared.fault.RunFault.{RunFault}
 use Rattle.stream_tests.specs.declared.fault.RunFault.TheVariants as fault
-use Rattle.test_command.specs.declared.ending.TestsEnding.{TestsEnding}
-use Rattle.test_command.specs.declared.ending.TestsEnding.TheVariants.{ConfigRefused, WriteFailed, OutOfMemory}
 use Rattle.test_command.specs.declared.stop.Stop.{Stop}
 use Rattle.test_command.specs.declared.stop.Stop.TheVariants.{Pattern, Write, Memory}
 
@@ -15,7 +15,7 @@ abbrev pub stop_of : RunFault → Stop
 stop_of (fault.Pattern number) = Pattern number
 stop_of fault.Memory = Memory
 
-abbrev pub ending_of : Stop → TestsEnding
+abbrev pub ending_of : Stop → Ending
 ending_of (Pattern number) = ConfigRefused (refusal.Pattern number)
 ending_of Write = WriteFailed
 ending_of Memory = OutOfMemory

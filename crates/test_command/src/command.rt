@@ -1,4 +1,4 @@
-ghost use Rattle.std.specs.Prelude.{◌≡◌, ◌≢◌};
+ghost use Rattle.std.specs.Prelude.{◌≡◌, ◌≢◌, []};
 ghost use Rattle.command_io.specs.Endings.{HasNoLine};
 ghost use Rattle.command_io.specs.Reports.{reports};
 ghost use Rattle.ports.specs.Calls.{LinksReport};
@@ -7,7 +7,7 @@ ghost use Rattle.sexp_config.specs.Config.{IsConfigOf};
 ghost use Rattle.sexp_config.specs.declared.config.Config.{Config as Configuration};
 ghost use Rattle.test_command.specs.Endings.{HasNoTests, IsComplete, status_of};
 ghost use Rattle.test_command.specs.Given.{IsConfig};
-ghost use Rattle.test_command.specs.Reading.{ReadsBoth, ReadsTests};
+ghost use Rattle.test_command.specs.Reading.{ReadsOnce};
 ghost use Rattle.test_command.specs.Running.{run_report};
 ghost use Rattle.test_command.specs.RunsTests.{RunsTests, SuiteEnds, TestsEnd};
 
@@ -65,25 +65,22 @@ pub fn run_tests<S: Store, O: Sink, E: Sink, P: Patterns, G: Ledger>(
     ensures no_line { HasNoLine result → err.new ≡ err.old }
 {
     let ending = run_files(alloc, config, tests, store, out, patterns, steps);
-    report_ending(ending, config, tests, err)
+    report_ending(ending, err)
 }
 
 /// Reads the two files, and runs the tests.
-fn run_files<S: Store, O: Sink, P: Patterns, G: Ledger>(
+fn run_files<'a, S: Store, O: Sink, P: Patterns, G: Ledger>(
     alloc: Global,
-    config: &Text,
-    tests: &Text,
+    config: &'a Text,
+    tests: &'a Text,
     store: &mut S,
     out: &mut O,
     patterns: &mut P,
     steps: &mut Steps<G>,
-) -> TestsEnding
-    ensures ends { TestsEnd ((S.report store.old).held config.now)
-        ((S.report store.old).held tests.now) (S.report store.old) (S.report store.new)
+) -> TestsEnding<'a>
+    ensures ends { TestsEnd config.now tests.now (S.report store.old) (S.report store.new)
         (run_report (P.report patterns.old) (O.report out.old))
         (run_report (P.report patterns.new) (O.report out.new)) result }
-    ensures reads { ReadsBoth config.now tests.now (S.report store.old).reads
-        (S.report store.new).reads result }
     ensures quiet { IsComplete result →
         (S.report store.new).faults ≡ (S.report store.old).faults }
     ensures unasked { HasNoTests result → patterns.new ≡ patterns.old }
@@ -91,26 +88,26 @@ fn run_files<S: Store, O: Sink, P: Patterns, G: Ledger>(
 {
     match fetch_config(alloc, config, store) {
         Ok(text) => run_text(alloc, text.as_slice(), tests, store, out, patterns, steps),
-        Err(ending) => ending,
+        Err(fault) => TestsEnding::Shared(fault.ending(config.as_str())),
     }
 }
 
 /// Reads the tests, and runs them with the configuration that the text is.
-fn run_text<S: Store, O: Sink, P: Patterns, G: Ledger>(
+fn run_text<'a, S: Store, O: Sink, P: Patterns, G: Ledger>(
     alloc: Global,
     config: &[u8],
-    tests: &Text,
+    tests: &'a Text,
     store: &mut S,
     out: &mut O,
     patterns: &mut P,
     steps: &mut Steps<G>,
-) -> TestsEnding
+) -> TestsEnding<'a>
     requires { IsConfig config.now }
     ensures ends { (read : Configuration) → IsConfigOf config.now read →
-        SuiteEnds read ((S.report store.old).held tests.now) (S.report store.old)
-        (S.report store.new) (run_report (P.report patterns.old) (O.report out.old))
+        SuiteEnds read tests.now (S.report store.old) (S.report store.new)
+        (run_report (P.report patterns.old) (O.report out.old))
         (run_report (P.report patterns.new) (O.report out.new)) result }
-    ensures reads { ReadsTests tests.now (S.report store.old).reads (S.report store.new).reads
+    ensures reads { ReadsOnce [] tests.now (S.report store.old).reads (S.report store.new).reads
         result }
     ensures quiet { IsComplete result →
         (S.report store.new).faults ≡ (S.report store.old).faults }

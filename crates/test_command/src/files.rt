@@ -1,15 +1,16 @@
 //! The two files of the command.
 
-ghost use Rattle.std.specs.Prelude.{◌≡◌, ◌≤◌, [], ◌∷◌, IfErr, IfOk, OnOk};
+ghost use Rattle.std.specs.Prelude.{◌≡◌, ◌≤◌, [], ◌∷◌, Err, IfErr, IfOk, OnOk};
 ghost use Rattle.std.specs.List.{AllByRecursion};
 ghost use Rattle.config_tests.specs.Events.{IsShort};
+ghost use Rattle.command_io.specs.Fetches.{IsFetchFault, IsTextFault, fetch_reads};
 ghost use Rattle.command_io.specs.Files.{ReadMore, good_read};
-ghost use Rattle.test_command.specs.Given.{HasTests, HoldsConfig, IsReadConfig, ReadsAsTests, RefusesConfig, RefusesConfigText, RefusesTests, RefusesTestsText};
-ghost use Rattle.test_command.specs.Reading.{ReadsConfig, ReadsTests, ending_of_file};
+ghost use Rattle.test_command.specs.Given.{HasTests, HoldsConfig, IsReadConfig, ReadsAsTests, RefusesTests, RefusesTestsText};
+ghost use Rattle.test_command.specs.Reading.{ReadsOnce};
 
-use crate::ending::{Source, TestsEnding};
-use command_io::sexp_config::{ConfigFault, read_config};
-use command_io::{CONFIG_LIMIT, ConfigRefusal, FileFault, read_file};
+use crate::ending::TestsEnding;
+use command_io::sexp_config::read_config;
+use command_io::{CONFIG_LIMIT, Ending, FetchFault, read_file};
 use ev_types::{Blob, Text};
 use ports::Store;
 use std::alloc::Global;
@@ -20,73 +21,71 @@ pub(crate) fn fetch_config<S: Store>(
     alloc: Global,
     name: &Text,
     store: &mut S,
-) -> Result<Blob, TestsEnding>
+) -> Result<Blob, FetchFault>
     ensures config { IfOk result (HoldsConfig ((S.report store.old).held name.now)) }
-    ensures refused { IfErr result (RefusesConfig ((S.report store.old).held name.now)
-        (S.report store.old) (S.report store.new)) }
+    ensures fault { IfErr result (IsFetchFault ((S.report store.old).held name.now)
+        (S.report store.old).faults (S.report store.new).faults (S.report store.old).taken
+        (S.report store.new).taken) }
     ensures read { OnOk result (ReadMore (good_read name.now ∷ []) (S.report store.old).reads
         (S.report store.new).reads) }
-    ensures reads { IfErr result (ReadsConfig name.now (S.report store.old).reads
-        (S.report store.new).reads) }
+    ensures reads { IfErr result (λ fault. ReadMore (fetch_reads name.now (Err fault))
+        (S.report store.old).reads (S.report store.new).reads) }
     ensures quiet { OnOk result ((S.report store.new).faults ≡ (S.report store.old).faults) }
     ensures held { (S.report store.new).held ≡ (S.report store.old).held }
     ensures taken { (S.report store.old).taken ≤ (S.report store.new).taken }
 {
     match read_file(alloc, name, CONFIG_LIMIT, store) {
         Ok(text) => config_text(alloc, text),
-        Err(fault) => Err(ending_of_file(fault, Source::ConfigFile)),
+        Err(fault) => Err(FetchFault::File(fault)),
     }
 }
 
 /// The text, once it was read as a configuration.
-fn config_text(alloc: Global, text: Blob) -> Result<Blob, TestsEnding>
+fn config_text(alloc: Global, text: Blob) -> Result<Blob, FetchFault>
     ensures config { IfOk result (λ same. (same ≡ text) × IsReadConfig text) }
-    ensures refused { IfErr result (RefusesConfigText text) }
+    ensures fault { IfErr result (IsTextFault text) }
 {
     match check_config(alloc, text.as_slice()) {
         Ok(()) => Ok(text),
-        Err(ending) => Err(ending),
+        Err(fault) => Err(fault),
     }
 }
 
 /// Reads the text as a configuration.
-fn check_config(alloc: Global, text: &[u8]) -> Result<(), TestsEnding>
+fn check_config(alloc: Global, text: &[u8]) -> Result<(), FetchFault>
     ensures config { OnOk result (IsReadConfig text.now) }
-    ensures refused { IfErr result (RefusesConfigText text.now) }
+    ensures fault { IfErr result (IsTextFault text.now) }
 {
     match read_config(alloc, text) {
         Ok(_read) => Ok(()),
-        Err(ConfigFault::Refused { place, why }) => Err(TestsEnding::ConfigRefused(
-            ConfigRefusal::Refused { place, why },
-        )),
-        Err(ConfigFault::Memory) => Err(TestsEnding::OutOfMemory),
+        Err(fault) => Err(FetchFault::Config(fault)),
     }
 }
 
 /// The tests in the file of the name.
-pub(crate) fn fetch_tests<S: Store>(
+pub(crate) fn fetch_tests<'a, S: Store>(
     alloc: Global,
-    name: &Text,
+    name: &'a Text,
     store: &mut S,
-) -> Result<Tests, TestsEnding>
+) -> Result<Tests, TestsEnding<'a>>
     ensures tests { IfOk result (HasTests ((S.report store.old).held name.now)) }
     ensures short { IfOk result (AllByRecursion IsShort) }
-    ensures refused { IfErr result (RefusesTests ((S.report store.old).held name.now)
-        (S.report store.old) (S.report store.new)) }
+    ensures refused { IfErr result
+        (RefusesTests name.now (S.report store.old) (S.report store.new)) }
     ensures read { OnOk result (ReadMore (good_read name.now ∷ []) (S.report store.old).reads
         (S.report store.new).reads) }
-    ensures reads { IfErr result (ReadsTests name.now (S.report store.old).reads
+    ensures reads { IfErr result (ReadsOnce [] name.now (S.report store.old).reads
         (S.report store.new).reads) }
     ensures quiet { OnOk result ((S.report store.new).faults ≡ (S.report store.old).faults) }
 {
     match read_file(alloc, name, CONFIG_LIMIT, store) {
         Ok(text) => read_text(alloc, text.as_slice()),
-        Err(fault) => Err(ending_of_file(fault, Source::TestsFile)),
+        Err(fault) => Err(TestsEnding::Shared(fault.ending(name.as_str(), CONFIG_LIMIT))),
     }
 }
 
 /// Reads the text as tests.
-fn read_text(alloc: Global, text: &[u8]) -> Result<Tests, TestsEnding>
+fn read_text<'a>(alloc: Global, text: &[u8]) -> Result<Tests, TestsEnding<'a>>
     ensures tests { IfOk result (ReadsAsTests text.now) }
     ensures short { IfOk result (AllByRecursion IsShort) }
     ensures refused { IfErr result (RefusesTestsText text.now) }
@@ -94,17 +93,6 @@ fn read_text(alloc: Global, text: &[u8]) -> Result<Tests, TestsEnding>
     match read_tests(alloc, text) {
         Ok(tests) => Ok(tests),
         Err(TestFault::Refused { place, why }) => Err(TestsEnding::TestsRefused { place, why }),
-        Err(TestFault::Memory) => Err(TestsEnding::OutOfMemory),
-    }
-}
-
-/// How the command ends whose file of this kind was not read.
-fn ending_of_file(fault: FileFault, source: Source) -> TestsEnding
-    ensures { result ≡ ending_of_file source fault }
-{
-    match fault {
-        FileFault::Unread => TestsEnding::Unread(source),
-        FileFault::TooLong => TestsEnding::OverLimit(source),
-        FileFault::Memory => TestsEnding::OutOfMemory,
+        Err(TestFault::Memory) => Err(TestsEnding::Shared(Ending::OutOfMemory)),
     }
 }

@@ -11,6 +11,7 @@ ghost use Rattle.test_command.specs.Running.{RunEnds, ShowsAll, StopsRun, run_re
 use crate::ending::TestsEnding;
 use crate::one::run_one;
 use crate::stop::Stop;
+use command_io::Ending;
 use ports::Sink;
 use pred_eval::Patterns;
 use std::alloc::Global;
@@ -18,14 +19,14 @@ use step_count::{Ledger, Steps};
 use stream_tests::{Test, verdicts_are_one};
 
 /// Runs the tests, in order, with the configuration that the text is.
-pub(crate) fn run_suite<O: Sink, P: Patterns, G: Ledger>(
+pub(crate) fn run_suite<'a, O: Sink, P: Patterns, G: Ledger>(
     alloc: Global,
     config: &[u8],
     tests: &[Test],
     out: &mut O,
     patterns: &mut P,
     steps: &mut Steps<G>,
-) -> TestsEnding
+) -> TestsEnding<'a>
     requires valid { IsConfig config.now }
     requires short { AllByRecursion IsShort tests.now }
     ensures { (read : Configuration) → IsConfigOf config.now read →
@@ -33,9 +34,9 @@ pub(crate) fn run_suite<O: Sink, P: Patterns, G: Ledger>(
         (run_report (P.report patterns.new) (O.report out.new)) result }
 {
     match run_all(alloc, config, tests, out, patterns, steps) {
-        Ok(true) => TestsEnding::Passed,
+        Ok(true) => TestsEnding::Shared(Ending::Finished),
         Ok(false) => TestsEnding::Differed,
-        Err(stop) => stop.ending(),
+        Err(stop) => TestsEnding::Shared(stop.ending()),
     }
 }
 

@@ -1,8 +1,7 @@
 ghost use Rattle.std.specs.Prelude.{◌≡◌};
 ghost use Rattle.test_command.specs.Stopping.{stop_of};
 
-use crate::ending::TestsEnding;
-use command_io::ConfigRefusal;
+use command_io::{ConfigRefusal, Ending};
 use stream_tests::RunFault;
 
 /// Why the tests were not all run.
@@ -19,15 +18,13 @@ impl Stop {
     ghost use Rattle.test_command.specs.Stopping.{ending_of};
 
     /// How the command ends.
-    pub(crate) fn ending(self) -> TestsEnding
+    pub(crate) fn ending<'a>(self) -> Ending<'a>
         ensures { result ≡ ending_of self }
     {
         match self {
-            Stop::Pattern { number } => {
-                TestsEnding::ConfigRefused(ConfigRefusal::Pattern { number })
-            }
-            Stop::Write => TestsEnding::WriteFailed,
-            Stop::Memory => TestsEnding::OutOfMemory,
+            Stop::Pattern { number } => Ending::ConfigRefused(ConfigRefusal::Pattern { number }),
+            Stop::Write => Ending::WriteFailed,
+            Stop::Memory => Ending::OutOfMemory,
         }
     }
 }

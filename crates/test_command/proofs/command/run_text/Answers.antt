@@ -18,4 +18,4 @@ pub returns-in-Err-clause-ends : goal.returns-in-Err-clause-ends
 returns-in-Err-clause-ends g c = λ read is. inl (c.in-Err.ensures.refused, refl)
 
 pub returns-in-Err-clause-quiet : goal.returns-in-Err-clause-quiet
-returns-in-Err-clause-quiet g c = λ complete. absurd (tests_not_complete _ (g.S.Store.report c.args.store.now) (g.S.Store.report c.fetch_tests.new.store) c.in-Err.ending c.in-Err.ensures.refused complete)
+returns-in-Err-clause-quiet g c = λ complete. absurd (tests_not_complete c.args.tests.now (g.S.Store.report c.args.store.now) (g.S.Store.report c.fetch_tests.new.store) c.in-Err.ending c.in-Err.ensures.refused complete)

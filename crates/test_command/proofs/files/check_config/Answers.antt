@@ -1,4 +1,5 @@
 use Rattle.std.proofs.Common.{sym}
+use Rattle.command_io.proofs.ConfigLaws.{text_fault}
 use Rattle.test_command.proofs.files.check_config.Goals as goal
 
 pub returns-in-Ok-clause-config : goal.returns-in-Ok-clause-config
@@ -11,9 +12,6 @@ returns-in-Ok-clause-config c = (
   },
 )
 
-pub returns-in-Err-Refused-clause-refused : goal.returns-in-Err-Refused-clause-refused
-returns-in-Err-Refused-clause-refused c = record {
-  fault = rw c.in-Err-Refused.field-0-is at c.in-Err-Refused.ensures.refused;
-  only = rw c.in-Err-Refused.field-0-is at c.in-Err-Refused.ensures.only_refused;
-  unread = λ other is. let wanting = c.in-Err-Refused.ensures.only other is in cc (wanting, c.in-Err-Refused.field-0-is);
-}
+pub returns-in-Err-clause-fault : goal.returns-in-Err-clause-fault
+returns-in-Err-clause-fault c =
+    text_fault c.args.text.now c.in-Err.fault c.in-Err.ensures.refused c.in-Err.ensures.only_refused c.in-Err.ensures.only
