@@ -1,2 +1,3 @@
+pub mod CarryLaws
 pub mod CommandLaws
 pub mod WordLaws

@@ -32,20 +32,28 @@ abbrev pub sameness : Type 0 → Type 0 → Type 0 → Type 0 → Type 0 → Typ
 sameness Store Links Out Err Patterns Steps =
     record { Store = Store; Links = Links; Out = Out; Err = Err; Patterns = Patterns; Steps = Steps }
 
--- The clauses of `riemann`, with the same names.
+-- What `riemann` promises: first what holds of all commands, then what each command promises by itself.
 pub record Promises (words : List (List ℕ)) (old new : Reports) (same : Sameness) (status : Status) : Type 0 where
+  -- the status is `Usage` exactly if no command matches the arguments
   pub usage : (status ≡ Usage) ↔ IsUsage words
   pub command : status ≢ Usage → IsCommand words
   pub idle : status ≡ Usage → same.Store × same.Links × same.Patterns × same.Steps × GotLineOf usage_line old.err new.err
+  -- of the commands only `test` may have written to `out` before it refused what it was given: a pattern, after the lines of
+  -- tests
   pub untouched : IsRefusal status → (OnTest words (λ config tests. ⊥) → same.Out) × same.Links
+  -- if memory runs out, only commands that write to `out` while they run have written to it
   pub memory : status ≡ Memory → OnReplay words (λ config script. ⊥) → OnServe words (λ config turns. ⊥)
       → OnTest words (λ config tests. ⊥) → same.Out
+  -- without a line of its own for the status, only `feed` writes to `err`, where its notices go, and `graphite`, if it could
+  -- not write a line for each refused one
   pub no_line : HasNoLine status → OnFeed words (λ config file. ⊥)
       → OnGraphite words (λ file host_part. ⊥) → same.Err
   pub done : status ≡ Done → OnFeed words (λ config file. ⊥) → same.Err
   pub read_fault : status ≡ ReadFault → Rose old.store.faults new.store.faults
   pub sink_fault : status ≡ SinkFault → Rose old.out.faults new.out.faults ⊎ Rose old.err.faults new.err.faults
   pub link_fault : status ≡ LinkFault → Rose old.links.faults new.links.faults
+  -- If it ran a server, that has the lines of its notices, and the notices of each host are its own (`Runs.antt` and
+  -- `Apart.antt` of `hub_run`). The sameness of patterns is for the fact that none was asked for.
   pub feed : OnFeed words (λ config file. Feeds config file old new same.Patterns status)
   pub check : OnCheck words (λ config. Checks config old new same.Patterns status)
   pub replay : OnReplay words (λ config script. Replays config script old new same.Patterns status)

@@ -1,0 +1,106 @@
+-- What a command that is carried out promises, whichever it is.
+use Rattle.std.specs.Prelude.{◌≡◌, ◌≢◌, ◌⊎◌, ◌≤◌, length}
+use Rattle.std.specs.Option.{ForSome}
+use Rattle.check_command.specs.Checks.{Checks}
+use Rattle.client_command.specs.Asks.{Asks}
+use Rattle.client_command.specs.Sends.{Sends}
+use Rattle.command_io.specs.Endings.{HasNoLine, IsRefusal}
+use Rattle.command_io.specs.Reports.{Reports}
+use Rattle.command_io.specs.declared.status.Status.{Status}
+use Rattle.command_io.specs.declared.status.Status.TheVariants.{Done, Usage, ReadFault, SinkFault, LinkFault, Memory}
+use Rattle.feed_command.specs.Feeds.{Feeds}
+use Rattle.graphite_command.specs.Converts.{Converts}
+use Rattle.load_command.specs.Loads.{Loads}
+use Rattle.load_command.specs.declared.play.TheConstants.{EVENT_LIMIT}
+use Rattle.ports.specs.Counts.{Rose}
+use Rattle.query_lang.specs.declared.read.TheConstants.{MAX_BYTES}
+use Rattle.replay_command.specs.Replays.{Replays}
+use Rattle.serve_command.specs.Serves.{Serves}
+use Rattle.test_command.specs.RunsTests.{RunsTests}
+use Rattle.riemann_commands.specs.declared.command.Command.{Command}
+use Rattle.riemann_commands.specs.declared.command.Command.TheVariants.{Feed, Check, Replay, Serve, Load, Graphite, Test, Send, Query}
+use Rattle.riemann_commands.specs.Promises.{Sameness}
+
+-- the numbers and the text of the command are within their limits
+abbrev pub IsWithinLimits : Command → Type 0
+IsWithinLimits (Feed config file) = Unit {0}
+IsWithinLimits (Check config) = Unit {0}
+IsWithinLimits (Replay config script) = Unit {0}
+IsWithinLimits (Serve config turns) = Unit {0}
+IsWithinLimits (Load config count start) = count ≤ EVENT_LIMIT
+IsWithinLimits (Graphite file host_part) = ForSome host_part (λ part. (1 ≤ part) × (part ≤ 64))
+IsWithinLimits (Test config tests) = Unit {0}
+IsWithinLimits (Send address file turns) = Unit {0}
+IsWithinLimits (Query address text turns) = length text.now ≤ MAX_BYTES
+
+-- what the command promises by itself
+abbrev pub PromiseOf : Command → Reports → Reports → Sameness → Status → Type 0
+PromiseOf (Feed config file) old new same status = Feeds config.now file.now old new same.Patterns status
+PromiseOf (Check config) old new same status = Checks config.now old new same.Patterns status
+PromiseOf (Replay config script) old new same status = Replays config.now script.now old new same.Patterns status
+PromiseOf (Serve config turns) old new same status = Serves config.now turns old new same.Patterns status
+PromiseOf (Load config count start) old new same status = Loads config.now count start old new same.Patterns status
+PromiseOf (Graphite file host_part) old new same status = Converts file.now host_part old new status
+PromiseOf (Test config tests) old new same status = RunsTests config.now tests.now old new same.Patterns same.Out status
+PromiseOf (Send address file turns) old new same status = Sends address.now file.now turns old new status
+PromiseOf (Query address text turns) old new same status = Asks address.now text.now turns old new status
+
+-- a fact that need not hold of the tests of a configuration, which may have written lines before a pattern was refused
+abbrev pub UnlessTest : Command → Type 0 → Type 0
+UnlessTest (Feed config file) P = P
+UnlessTest (Check config) P = P
+UnlessTest (Replay config script) P = P
+UnlessTest (Serve config turns) P = P
+UnlessTest (Load config count start) P = P
+UnlessTest (Graphite file host_part) P = P
+UnlessTest (Test config tests) P = Unit {0}
+UnlessTest (Send address file turns) P = P
+UnlessTest (Query address text turns) P = P
+
+-- nor of other commands that write to the output while they run
+abbrev pub UnlessRunning : Command → Type 0 → Type 0
+UnlessRunning (Feed config file) P = P
+UnlessRunning (Check config) P = P
+UnlessRunning (Replay config script) P = Unit {0}
+UnlessRunning (Serve config turns) P = Unit {0}
+UnlessRunning (Load config count start) P = P
+UnlessRunning (Graphite file host_part) P = P
+UnlessRunning (Test config tests) P = Unit {0}
+UnlessRunning (Send address file turns) P = P
+UnlessRunning (Query address text turns) P = P
+
+-- a fact that need not hold of the command whose notices go to the error stream
+abbrev pub UnlessFeed : Command → Type 0 → Type 0
+UnlessFeed (Feed config file) P = Unit {0}
+UnlessFeed (Check config) P = P
+UnlessFeed (Replay config script) P = P
+UnlessFeed (Serve config turns) P = P
+UnlessFeed (Load config count start) P = P
+UnlessFeed (Graphite file host_part) P = P
+UnlessFeed (Test config tests) P = P
+UnlessFeed (Send address file turns) P = P
+UnlessFeed (Query address text turns) P = P
+
+-- nor of the one that writes a line there for each line that it refuses
+abbrev pub UnlessLines : Command → Type 0 → Type 0
+UnlessLines (Feed config file) P = Unit {0}
+UnlessLines (Check config) P = P
+UnlessLines (Replay config script) P = P
+UnlessLines (Serve config turns) P = P
+UnlessLines (Load config count start) P = P
+UnlessLines (Graphite file host_part) P = Unit {0}
+UnlessLines (Test config tests) P = P
+UnlessLines (Send address file turns) P = P
+UnlessLines (Query address text turns) P = P
+
+-- The command kept its promise, and those that all commands give (`Promises`).
+pub record CarriesOut (command : Command) (old new : Reports) (same : Sameness) (status : Status) : Type 0 where
+  pub promise : PromiseOf command old new same status
+  pub not_usage : status ≢ Usage
+  pub untouched : IsRefusal status → UnlessTest command same.Out × same.Links
+  pub memory : status ≡ Memory → UnlessRunning command same.Out
+  pub no_line : HasNoLine status → UnlessLines command same.Err
+  pub done : status ≡ Done → UnlessFeed command same.Err
+  pub read_fault : status ≡ ReadFault → Rose old.store.faults new.store.faults
+  pub sink_fault : status ≡ SinkFault → Rose old.out.faults new.out.faults ⊎ Rose old.err.faults new.err.faults
+  pub link_fault : status ≡ LinkFault → Rose old.links.faults new.links.faults
