@@ -53,19 +53,8 @@ impl LiveIndex {
     }
 
     /// Writes an event in the place of the live one of its host and service. One whose state is "expired" only
-    /// removes that one. After `Memory` the index is poisoned.
-    pub fn write(&mut self, alloc: Global, event: Event) -> Result<(), Memory>
-        ensures ok { OnOk result ((log : IndexLog) → Represents self.old log →
-            Represents self.new (log ++ Write event ∷ [])) }
-        ensures sound { OnOk result (self.new.poisoned ≡ false) }
-        ensures err { OnErr result (IsTrue self.new.poisoned) }
-        ensures poisoned { IsTrue self.old.poisoned → IsErr result }
-    {
-        let mut event = event;
-        self.put(alloc, &mut event)
-    }
-
-    /// Writes as [`LiveIndex::write`] does, but moves the event out of `event`. What is left there is not specified.
+    /// removes that one. It is moved out of `event`, and what is left there is not specified. After `Memory` the
+    /// index is poisoned.
     pub fn put(&mut self, alloc: Global, event: &mut Event) -> Result<(), Memory>
         ensures ok { OnOk result ((log : IndexLog) → Represents self.old log →
             Represents self.new (log ++ Write event.old ∷ [])) }

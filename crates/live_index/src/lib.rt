@@ -1,6 +1,7 @@
 //! The events that are live, by host and service.
 #![tactic(auto)]
 
+mod by_value;
 mod hints;
 mod index;
 mod keyed;

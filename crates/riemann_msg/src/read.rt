@@ -651,19 +651,11 @@ impl Draft for MsgDraft {
     }
 }
 
-/// Reads the bytes as a message, at the moment `now` in seconds since 1970, which is less than 2^63. Its states are events
-/// too, and come before the others. An event without a time gets `now`. `Refused` comes for the first fault in the order of
-/// the fields, and then nothing was read. `Memory`: out of memory.
-pub fn read_msg(alloc: Global, body: &[u8], now: u64) -> Result<Msg, MsgFault>
-    requires { now < 2 ^ 63 }
-    ensures reads { Decodes (first_fault body.now) (message_of now body.now) result }
-    ensures spellable { IfOk result IsSpellable }
-{
-    read_msg_into(alloc, body, now, SpentEvents::fresh(alloc))
-}
-
-/// Reads as [`read_msg`] does, into the memory of `spent`.
+/// Reads the bytes as a message, at the moment `now` in seconds since 1970, which is less than 2^63, into the memory of
+/// `spent`. Its states are events too, and come before the others. An event without a time gets `now`. `Refused` comes for
+/// the first fault in the order of the fields, and then nothing was read. `Memory`: out of memory.
 #[tactic(auto, unfolding(crate::specs::Fault::first_fault))]
+#[inline(always)]
 pub fn read_msg_into(
     alloc: Global,
     body: &[u8],

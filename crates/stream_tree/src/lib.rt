@@ -1,6 +1,7 @@
 //! A plan of streams that runs: entries go down its streams one after another, and notices and writes come out.
 #![tactic(auto)]
 
+mod by_value;
 mod forest;
 mod fork;
 mod give;

@@ -11,7 +11,7 @@ use crate::forest::{Forest, fresh_forest};
 use crate::give::offer_forest;
 use crate::next::forest_due;
 use crate::run::run_forest;
-use ev_types::{Event, Memory, Output, Outputs};
+use ev_types::{Event, Memory, Outputs};
 use std::alloc::Global;
 use step_count::{Ledger, Steps};
 use stream_meaning::Entry;
@@ -26,7 +26,7 @@ pub struct Tree {
     forest: Forest,
     /// The moment at which it began, in seconds since 1970.
     start: u64,
-    poisoned: bool,
+    pub(crate) poisoned: bool,
 }
 
 impl Tree {
@@ -46,47 +46,10 @@ impl Tree {
         })
     }
 
-    /// The event comes to the streams at the moment `now`. Their outputs are appended to `out`. After `Memory` the tree
-    /// is poisoned, and a prefix of the outputs was appended.
-    pub fn item<G: Ledger>(
-        &mut self,
-        alloc: Global,
-        event: Event,
-        now: u64,
-        out: &mut Outputs,
-        steps: &mut Steps<G>,
-    ) -> Result<(), Memory>
-        requires { now ≤ 2 ^ 40 }
-        ensures plan { plan_of self.new ≡ plan_of self.old }
-        ensures grew { OnOk result ((h : History) → Represents self.old h →
-            moment_of h ≡ now →
-            Performs out.old steps.old out.new steps.new
-            (plan_effects (plan_of self.old) (h ▸ In (One event)))) }
-        ensures part { OnErr result ((h : History) → Represents self.old h →
-            moment_of h ≡ now →
-            PerformsPart out.old steps.old out.new steps.new
-            (plan_effects (plan_of self.old) (h ▸ In (One event)))) }
-        ensures represents { OnOk result ((h : History) → Represents self.old h →
-            moment_of h ≡ now →
-            Represents self.new (h ▸ In (One event))) }
-        ensures poisoned { IsTrue (is_poisoned self.old) → IsErr result }
-        ensures err { OnErr result (IsTrue (is_poisoned self.new)) }
-        ensures sound { OnOk result (is_poisoned self.new ≡ false) }
-        ensures prefix { IsPrefix out.old out.new }
-    {
-        let mut event = event;
-        if !self.offer(alloc, &mut event, now, out, steps)? {
-            return Ok(());
-        }
-        self.poisoned = true;
-        out.push(alloc, Output::Write(event))?;
-        self.poisoned = false;
-        Ok(())
-    }
-
-    /// The event comes to the streams as by [`Tree::item`], but the write of a last stream that is an `index` may be left
-    /// to the caller: the answer is then true, and `event` is as it was. Else the answer is false, and what is left in
-    /// `event` is not specified. After `Memory` the tree is poisoned, and a prefix of the outputs was appended.
+    /// The event comes to the streams at the moment `now`. Their outputs are appended to `out`, but the write of a last
+    /// stream that is an `index` may be left to the caller: the answer is then true, and `event` is as it was. Else the
+    /// answer is false, and what is left in `event` is not specified. After `Memory` the tree is poisoned, and a prefix of
+    /// the outputs was appended.
     pub fn offer<G: Ledger>(
         &mut self,
         alloc: Global,
