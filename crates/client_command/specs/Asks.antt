@@ -1,6 +1,7 @@
 -- What `query ADDRESS TEXT` promises.
 use Rattle.std.specs.Prelude.{◌≡◌, ◌≢◌, ℕ, ◌⊎◌, List, [], ◌∷◌}
 use Rattle.command_io.specs.Reports.{Reports}
+use Rattle.command_io.specs.declared.ending.Ending.TheVariants.{LinksFailed, OutOfMemory}
 use Rattle.command_io.specs.declared.status.Status.{Status}
 use Rattle.command_io.specs.declared.status.Status.TheVariants.{Done, Memory, Unanswered, BadReply}
 use Rattle.framing.specs.Frames.{frames_of}
@@ -12,11 +13,11 @@ use Rattle.client_command.specs.Endings.{Says, status_of}
 use Rattle.client_command.specs.Exchanges.{ExchangeEnds}
 use Rattle.client_command.specs.Queries.{asking, query_frame}
 use Rattle.client_command.specs.declared.ending.ClientEnding.{ClientEnding}
-use Rattle.client_command.specs.declared.ending.ClientEnding.TheVariants.{LinksFailed, OutOfMemory}
+use Rattle.client_command.specs.declared.ending.ClientEnding.TheVariants.{Shared}
 
 -- there was no memory for the request, and nothing was done
 pub record HasNoRequest (links links' : LinksReport) (out out' : SinkReport) (ending : ClientEnding) : Type 0 where
-  pub ended : ending ≡ OutOfMemory
+  pub ended : ending ≡ Shared OutOfMemory
   pub uncalled : links' ≡ links
   pub untouched : out' ≡ out
 
@@ -40,13 +41,13 @@ pub record Asks (address text : List ℕ) (limit : ℕ) (old new : Reports) (sta
   -- how it ended, as the status and the line on the error stream say
   pub ending : ClientEnding
   pub ended : status ≡ status_of ending
-  pub says : Says address ending old.err new.err
+  pub says : Says ending old.err new.err
   -- the one request is the message that asks the query
   pub one : frames_of (query_frame text) ≡ spelling (asking text) ∷ []
   -- why it ended so, which calls were made of the links, and what was written
   pub ends : QueryEnds address text limit old.links new.links old.out new.out ending
-  -- where the links did not fail, no call of them did
-  pub works : ending ≢ LinksFailed → new.links.faults ≡ old.links.faults
+  -- unless it ended with LinksFailed, no call of the links failed
+  pub works : ending ≢ Shared LinksFailed → new.links.faults ≡ old.links.faults
   -- it reads no file, builds no pattern, and enters no fork
   pub idle : (new.store ≡ old.store) × (new.patterns ≡ old.patterns) × (new.forks ≡ old.forks)
   pub complete : AskCompletes old new status

@@ -3,6 +3,7 @@ use Rattle.std.specs.Prelude.{◌≡◌, ℕ, ◌⊎◌, List, length, Ok, Err}
 use Rattle.client_run.specs.Runs.{AddsRun, RunsTo}
 use Rattle.client_run.specs.declared.outcome.Exchanged.{Exchanged}
 use Rattle.client_run.specs.declared.outcome.RunFault.{RunFault}
+use Rattle.command_io.specs.declared.ending.Ending.TheVariants.{WriteFailed, OutOfMemory}
 use Rattle.framing.specs.Frames.{frames_of}
 use Rattle.ports.specs.Calls.{LinksReport}
 use Rattle.ports.specs.Counts.{Rose}
@@ -10,7 +11,7 @@ use Rattle.ports.specs.Writing.{Got, GotPrefix, SinkReport}
 use Rattle.client_command.specs.Endings.{ending_of, ending_of_fault}
 use Rattle.client_command.specs.Replies.{replies_from}
 use Rattle.client_command.specs.declared.ending.ClientEnding.{ClientEnding}
-use Rattle.client_command.specs.declared.ending.ClientEnding.TheVariants.{WriteFailed, OutOfMemory}
+use Rattle.client_command.specs.declared.ending.ClientEnding.TheVariants.{Shared}
 
 -- the lines of all replies were written, and the command ends as the outcome says
 pub record WritesAll (requests : ℕ) (exchanged : Exchanged) (old new : SinkReport) (ending : ClientEnding) : Type 0 where
@@ -20,8 +21,8 @@ pub record WritesAll (requests : ℕ) (exchanged : Exchanged) (old new : SinkRep
 
 -- the same, or a prefix of them was, or memory ran out before
 abbrev pub WritesReplies : ℕ → Exchanged → SinkReport → SinkReport → ClientEnding → Type 0
-WritesReplies requests exchanged old new WriteFailed = GotPrefix old.text (replies_from 0 exchanged.replies) new.text × Rose old.faults new.faults
-WritesReplies requests exchanged old new OutOfMemory = new ≡ old
+WritesReplies requests exchanged old new (Shared WriteFailed) = GotPrefix old.text (replies_from 0 exchanged.replies) new.text × Rose old.faults new.faults
+WritesReplies requests exchanged old new (Shared OutOfMemory) = new ≡ old
 WritesReplies requests exchanged old new ending = WritesAll requests exchanged old new ending
 
 -- The requests are the frames in the stream. The exchange came to its end, and then its replies were written.
@@ -33,7 +34,7 @@ pub record WasHad (address stream : List ℕ) (limit : ℕ) (links links' : Link
 -- it did not come to its end, and nothing was written
 pub record WasCut (address stream : List ℕ) (limit : ℕ) (links links' : LinksReport) (out out' : SinkReport) (ending : ClientEnding) : Type 0 where
   pub fault : RunFault
-  pub ended : ending ≡ ending_of_fault fault
+  pub ended : ending ≡ Shared (ending_of_fault fault)
   pub ran : AddsRun links links' (RunsTo address stream limit (Err fault))
   pub untouched : out' ≡ out
 

@@ -2,6 +2,7 @@
 use Rattle.std.specs.Prelude.{◌≡◌, ◌≢◌, ℕ, ◌+◌, ◌≤◌, ◌⊎◌, List, [], ◌∷◌, length, Option}
 use Rattle.command_io.specs.Files.{ForHeld, ReadMore, bad_read, good_read}
 use Rattle.command_io.specs.Reports.{Reports}
+use Rattle.command_io.specs.declared.ending.Ending.TheVariants.{Unread, OverLimit, BytesLeft, LinksFailed, OutOfMemory}
 use Rattle.command_io.specs.declared.limits.TheConstants.{FILE_LIMIT}
 use Rattle.command_io.specs.declared.status.Status.{Status}
 use Rattle.command_io.specs.declared.status.Status.TheVariants.{Done, Memory, Truncated, Unanswered, BadReply}
@@ -14,13 +15,13 @@ use Rattle.ports.specs.declared.store.StoreRead.{StoreRead}
 use Rattle.client_command.specs.Endings.{HasRead, Says, status_of}
 use Rattle.client_command.specs.Exchanges.{ExchangeEnds}
 use Rattle.client_command.specs.declared.ending.ClientEnding.{ClientEnding}
-use Rattle.client_command.specs.declared.ending.ClientEnding.TheVariants.{Unread, OverLimit, BytesLeft, LinksFailed, OutOfMemory}
+use Rattle.client_command.specs.declared.ending.ClientEnding.TheVariants.{Shared}
 
 -- ---- the frames
 
 -- bytes are left after the last whole frame, and nothing was done
 pub record LeavesBytes (stream : List ℕ) (links links' : LinksReport) (out out' : SinkReport) (ending : ClientEnding) : Type 0 where
-  pub ended : ending ≡ BytesLeft (length (partial stream))
+  pub ended : ending ≡ Shared (BytesLeft (length (partial stream)))
   pub left : partial stream ≢ []
   pub uncalled : links' ≡ links
   pub untouched : out' ≡ out
@@ -36,16 +37,17 @@ FramesEnd address stream limit links links' out out' ending =
 
 -- ---- the file
 
--- why there are no frames
-abbrev pub IsUnread : Content → StoreReport → StoreReport → ClientEnding → Type 0
-IsUnread content store store' Unread = Rose store.faults store'.faults
-IsUnread content store store' OverLimit = IsOverLimit content FILE_LIMIT × RoseBy (FILE_LIMIT + 1) store.taken store'.taken
-IsUnread content store store' OutOfMemory = Unit {0}
-IsUnread content store store' _ = ⊥
+-- why there are no frames of the file of the name; the ending has this name and its limit
+abbrev pub IsUnread : List ℕ → StoreReport → StoreReport → ClientEnding → Type 0
+IsUnread file store store' (Shared (Unread name)) = Rose store.faults store'.faults × (name.now ≡ file)
+IsUnread file store store' (Shared (OverLimit name limit)) = IsOverLimit (store.held file) FILE_LIMIT
+    × RoseBy (FILE_LIMIT + 1) store.taken store'.taken × (name.now ≡ file) × (limit ≡ FILE_LIMIT)
+IsUnread file store store' (Shared OutOfMemory) = Unit {0}
+IsUnread file store store' _ = ⊥
 
 -- the file was not read, and nothing was done
-pub record RefusesFile (content : Content) (store store' : StoreReport) (links links' : LinksReport) (out out' : SinkReport) (ending : ClientEnding) : Type 0 where
-  pub unread : IsUnread content store store' ending
+pub record RefusesFile (file : List ℕ) (store store' : StoreReport) (links links' : LinksReport) (out out' : SinkReport) (ending : ClientEnding) : Type 0 where
+  pub unread : IsUnread file store store' ending
   pub uncalled : links' ≡ links
   pub untouched : out' ≡ out
 
@@ -55,15 +57,15 @@ pub record SendsFile (address : List ℕ) (limit : ℕ) (content : Content) (lin
   pub file : ForHeld content (λ held. (held ≡ frames) × (length frames ≤ FILE_LIMIT))
   pub ends : FramesEnd address frames limit links links' out out' ending
 
-abbrev pub FileEnds : List ℕ → ℕ → Content → StoreReport → StoreReport → LinksReport → LinksReport → SinkReport → SinkReport → ClientEnding → Type 0
-FileEnds address limit content store store' links links' out out' ending =
-    RefusesFile content store store' links links' out out' ending ⊎ SendsFile address limit content links links' out out' ending
+abbrev pub FileEnds : List ℕ → List ℕ → ℕ → StoreReport → StoreReport → LinksReport → LinksReport → SinkReport → SinkReport → ClientEnding → Type 0
+FileEnds address file limit store store' links links' out out' ending =
+    RefusesFile file store store' links links' out out' ending ⊎ SendsFile address limit (store.held file) links links' out out' ending
 
 -- The file was read once, and the read failed exactly where the ending says so. If memory ran out, it may not have been
 -- read.
 abbrev pub ReadsOnce : List ℕ → Option (List StoreRead) → Option (List StoreRead) → ClientEnding → Type 0
-ReadsOnce file old new Unread = ReadMore (bad_read file ∷ []) old new
-ReadsOnce file old new OutOfMemory = ReadMore [] old new ⊎ ReadMore (good_read file ∷ []) old new
+ReadsOnce file old new (Shared (Unread name)) = ReadMore (bad_read file ∷ []) old new
+ReadsOnce file old new (Shared OutOfMemory) = ReadMore [] old new ⊎ ReadMore (good_read file ∷ []) old new
 ReadsOnce file old new _ = ReadMore (good_read file ∷ []) old new
 
 -- ---- the command
@@ -88,14 +90,14 @@ pub record Sends (address file : List ℕ) (limit : ℕ) (old new : Reports) (st
   -- how it ended, as the status and the line on the error stream say
   pub ending : ClientEnding
   pub ended : status ≡ status_of ending
-  pub says : Says file ending old.err new.err
+  pub says : Says ending old.err new.err
   -- why it ended so, which calls were made of the links, and what was written
-  pub ends : FileEnds address limit (old.store.held file) old.store new.store old.links new.links old.out new.out ending
+  pub ends : FileEnds address file limit old.store new.store old.links new.links old.out new.out ending
   pub reads : ReadsOnce file old.store.reads new.store.reads ending
   -- where the file was read, its read did not fail
   pub quiet : HasRead ending → new.store.faults ≡ old.store.faults
-  -- where the links did not fail, no call of them did
-  pub works : ending ≢ LinksFailed → new.links.faults ≡ old.links.faults
+  -- unless it ended with LinksFailed, no call of the links failed
+  pub works : ending ≢ Shared LinksFailed → new.links.faults ≡ old.links.faults
   -- it builds no pattern and enters no fork
   pub idle : (new.patterns ≡ old.patterns) × (new.forks ≡ old.forks)
   pub complete : SendCompletes file old new status

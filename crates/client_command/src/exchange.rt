@@ -10,13 +10,13 @@ ghost use Rattle.ports.specs.Counts.{Rose};
 use crate::ending::{ClientEnding, ending_of};
 use crate::reply::replies_text;
 use client_run::{Exchanged, RunFault, exchange};
-use command_io::put_all;
+use command_io::{Ending, put_all};
 use ev_types::{Blob, Text};
 use ports::{Links, Sink};
 use std::alloc::Global;
 
 /// Has the exchange of the requests, whose number this is, and writes the lines of their replies to `out`, in one put.
-pub(crate) fn have_exchange<L: Links, O: Sink>(
+pub(crate) fn have_exchange<'a, L: Links, O: Sink>(
     alloc: Global,
     address: &Text,
     frames: Blob,
@@ -24,43 +24,43 @@ pub(crate) fn have_exchange<L: Links, O: Sink>(
     turns: u64,
     links: &mut L,
     out: &mut O,
-) -> ClientEnding
+) -> ClientEnding<'a>
     requires { requests ≡ length (frames_of frames) }
     ensures ends { ExchangeEnds address.now frames turns (L.report links.old) (L.report links.new)
         (O.report out.old) (O.report out.new) result }
-    ensures link_fault { result ≡ ClientEnding.LinksFailed →
+    ensures link_fault { result ≡ ClientEnding.Shared Ending.LinksFailed →
         Rose (L.report links.old).faults (L.report links.new).faults }
-    ensures links_quiet { result ≢ ClientEnding.LinksFailed →
+    ensures links_quiet { result ≢ ClientEnding.Shared Ending.LinksFailed →
         (L.report links.new).faults ≡ (L.report links.old).faults }
     ensures untouched { IsRefusalOrMemory (status_of result) → out.new ≡ out.old }
     ensures accepted { IsRefusal (status_of result) → ⊥ }
 {
     match exchange(alloc, address, frames, turns, links) {
         Ok(exchanged) => write_replies(alloc, requests, &exchanged, out),
-        Err(RunFault::Links) => ClientEnding::LinksFailed,
-        Err(RunFault::Memory) => ClientEnding::OutOfMemory,
+        Err(RunFault::Links) => ClientEnding::Shared(Ending::LinksFailed),
+        Err(RunFault::Memory) => ClientEnding::Shared(Ending::OutOfMemory),
     }
 }
 
 /// Writes the lines of the replies to so many requests.
 #[tactic(auto, using(crate::proofs::ExchangeLaws::outcome_goes_on, crate::proofs::ExchangeLaws::outcome_is_accepted, crate::proofs::ExchangeLaws::outcome_of_links, crate::proofs::ExchangeLaws::writes_outcome))]
-fn write_replies<O: Sink>(
+fn write_replies<'a, O: Sink>(
     alloc: Global,
     requests: usize,
     exchanged: &Exchanged,
     out: &mut O,
-) -> ClientEnding
+) -> ClientEnding<'a>
     ensures writes { WritesReplies requests exchanged.now (O.report out.old) (O.report out.new)
         result }
-    ensures links_work { result ≢ ClientEnding.LinksFailed }
+    ensures links_work { result ≢ ClientEnding.Shared Ending.LinksFailed }
     ensures untouched { IsRefusalOrMemory (status_of result) → out.new ≡ out.old }
     ensures accepted { IsRefusal (status_of result) → ⊥ }
 {
     let Ok(text) = replies_text(alloc, exchanged.replies.as_slice()) else {
-        return ClientEnding::OutOfMemory;
+        return ClientEnding::Shared(Ending::OutOfMemory);
     };
     match put_all(out, text.as_slice()) {
         Ok(()) => ending_of(exchanged.outcome, exchanged.replies.len(), requests),
-        Err(_) => ClientEnding::WriteFailed,
+        Err(_) => ClientEnding::Shared(Ending::WriteFailed),
     }
 }

@@ -12,7 +12,7 @@ use crate::ending::{ClientEnding, report_ending};
 use crate::exchange::have_exchange;
 use crate::law::queries_are_requests;
 use crate::request::query_frame;
-use command_io::Status;
+use command_io::{Ending, Status};
 use ev_types::Text;
 use ports::{Links, Sink};
 use std::alloc::Global;
@@ -48,24 +48,24 @@ pub fn query<L: Links, O: Sink, E: Sink>(
 {
     queries_are_requests();
     let ending = ask(alloc, address, text, turns, links, out);
-    report_ending(ending, address, err)
+    report_ending(ending, err)
 }
 
 /// Asks the query, and writes the reply.
-fn ask<L: Links, O: Sink>(
+fn ask<'a, L: Links, O: Sink>(
     alloc: Global,
     address: &Text,
     text: &Text,
     turns: u64,
     links: &mut L,
     out: &mut O,
-) -> ClientEnding
+) -> ClientEnding<'a>
     requires { length text.now ≤ MAX_BYTES }
     ensures ends { QueryEnds address.now text.now turns (L.report links.old) (L.report links.new)
         (O.report out.old) (O.report out.new) result }
-    ensures link_fault { result ≡ ClientEnding.LinksFailed →
+    ensures link_fault { result ≡ ClientEnding.Shared Ending.LinksFailed →
         Rose (L.report links.old).faults (L.report links.new).faults }
-    ensures links_quiet { result ≢ ClientEnding.LinksFailed →
+    ensures links_quiet { result ≢ ClientEnding.Shared Ending.LinksFailed →
         (L.report links.new).faults ≡ (L.report links.old).faults }
     ensures untouched { IsRefusalOrMemory (status_of result) → out.new ≡ out.old }
     ensures accepted { IsRefusal (status_of result) → ⊥ }
@@ -73,6 +73,6 @@ fn ask<L: Links, O: Sink>(
     queries_are_requests();
     match query_frame(alloc, text) {
         Ok(frames) => have_exchange(alloc, address, frames, 1, turns, links, out),
-        Err(_) => ClientEnding::OutOfMemory,
+        Err(_) => ClientEnding::Shared(Ending::OutOfMemory),
     }
 }

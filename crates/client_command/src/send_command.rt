@@ -6,9 +6,9 @@ ghost use Rattle.command_io.specs.Reports.{reports};
 ghost use Rattle.command_io.specs.hub_meaning.Verdicts.{PatternsReport};
 ghost use Rattle.ports.specs.Counts.{Rose};
 
-use crate::ending::{ClientEnding, ending_of_file, report_ending};
+use crate::ending::{ClientEnding, report_ending};
 use crate::exchange::have_exchange;
-use command_io::{FILE_LIMIT, Status, read_file};
+use command_io::{Ending, FILE_LIMIT, Status, read_file};
 use ev_types::{Blob, Text};
 use ports::{Links, Sink, Store};
 use riemann_client::count_requests;
@@ -61,61 +61,62 @@ pub fn send<S: Store, L: Links, O: Sink, E: Sink>(
     ensures no_line { HasNoLine result → err.new ≡ err.old }
 {
     let ending = send_file(alloc, address, file, turns, store, links, out);
-    report_ending(ending, file, err)
+    report_ending(ending, err)
 }
 
 /// Reads the file, and sends its frames.
-fn send_file<S: Store, L: Links, O: Sink>(
+fn send_file<'a, S: Store, L: Links, O: Sink>(
     alloc: Global,
     address: &Text,
-    file: &Text,
+    file: &'a Text,
     turns: u64,
     store: &mut S,
     links: &mut L,
     out: &mut O,
-) -> ClientEnding
-    ensures ends { FileEnds address.now turns ((S.report store.old).held file.now)
-        (S.report store.old) (S.report store.new) (L.report links.old) (L.report links.new)
-        (O.report out.old) (O.report out.new) result }
+) -> ClientEnding<'a>
+    ensures ends { FileEnds address.now file.now turns (S.report store.old) (S.report store.new)
+        (L.report links.old) (L.report links.new) (O.report out.old) (O.report out.new) result }
     ensures reads { ReadsOnce file.now (S.report store.old).reads (S.report store.new).reads
         result }
     ensures quiet { HasRead result → (S.report store.new).faults ≡ (S.report store.old).faults }
-    ensures link_fault { result ≡ ClientEnding.LinksFailed →
+    ensures read_fault { status_of result ≡ Status.ReadFault →
+        Rose (S.report store.old).faults (S.report store.new).faults }
+    ensures link_fault { result ≡ ClientEnding.Shared Ending.LinksFailed →
         Rose (L.report links.old).faults (L.report links.new).faults }
-    ensures links_quiet { result ≢ ClientEnding.LinksFailed →
+    ensures links_quiet { result ≢ ClientEnding.Shared Ending.LinksFailed →
         (L.report links.new).faults ≡ (L.report links.old).faults }
     ensures untouched { IsRefusalOrMemory (status_of result) → out.new ≡ out.old }
     ensures uncalled { IsRefusal (status_of result) → links.new ≡ links.old }
 {
     match read_file(alloc, file, FILE_LIMIT, store) {
         Ok(frames) => send_frames(alloc, address, frames, turns, links, out),
-        Err(fault) => ending_of_file(fault),
+        Err(fault) => ClientEnding::Shared(fault.ending(file.as_str(), FILE_LIMIT)),
     }
 }
 
 /// Sends the frames, after which no byte is left.
-fn send_frames<L: Links, O: Sink>(
+fn send_frames<'a, L: Links, O: Sink>(
     alloc: Global,
     address: &Text,
     frames: Blob,
     turns: u64,
     links: &mut L,
     out: &mut O,
-) -> ClientEnding
+) -> ClientEnding<'a>
     ensures ends { FramesEnd address.now frames turns (L.report links.old) (L.report links.new)
         (O.report out.old) (O.report out.new) result }
-    ensures link_fault { result ≡ ClientEnding.LinksFailed →
+    ensures link_fault { result ≡ ClientEnding.Shared Ending.LinksFailed →
         Rose (L.report links.old).faults (L.report links.new).faults }
-    ensures links_quiet { result ≢ ClientEnding.LinksFailed →
+    ensures links_quiet { result ≢ ClientEnding.Shared Ending.LinksFailed →
         (L.report links.new).faults ≡ (L.report links.old).faults }
     ensures untouched { IsRefusalOrMemory (status_of result) → out.new ≡ out.old }
-    ensures uncalled { IsRefusal (status_of result) → links.new ≡ links.old }
+    ensures accepted { IsRefusal (status_of result) → ⊥ }
 {
     let counted = count_requests(frames.as_slice());
     if counted.left > 0 {
-        return ClientEnding::BytesLeft {
+        return ClientEnding::Shared(Ending::BytesLeft {
             count: counted.left,
-        };
+        });
     }
     have_exchange(alloc, address, frames, counted.requests, turns, links, out)
 }
