@@ -1,22 +1,28 @@
 -- What was noticed once more arrived.
 use Rattle.std.proofs.Common.{◌≡◌, ℕ, suc, ◌+◌, ◌<◌, List, ◌∷◌, ◌++◌, length, drop, get_or, drop-cons, add-one, replicate, ap, sym, ◌∙◌, subst, append_assoc}
 use Rattle.std.proofs.lemmas.List.{replicate-append-replicate}
+use Rattle.std.specs.Prelude.{Result, Ok, Err, OnOk}
 use Rattle.ev_types.specs.declared.item.Notice.{Notice}
+use Rattle.list_laws.specs.declared.memory.Memory.{Memory}
+use Rattle.step_count.specs.Count.{StepCount}
 use Rattle.stream_meaning.specs.Arrivals.{Arrival, Elapsed}
 use Rattle.event_core.specs.declared.arrivals.Core.{Core}
-use Rattle.event_core.specs.Core.{CoreConfig, Represents, Heard, config_of, notices_by}
+use Rattle.event_core.specs.Core.{CoreConfig, Receives, config_of, notices_by}
 use Rattle.config_tests.specs.declared.entry.Entry.{Entry}
 use Rattle.config_tests.specs.Events.{seconds_in, seconds_of}
 use Rattle.stream_tests.specs.Playing.{Played}
 use Rattle.stream_tests.specs.Verdicts.{arrivals_by, arrivals_in}
 
-pub played_more : (before after : Core) (arrivals more : List Arrival) (old new : List Notice) (forks forks' : ℕ) → config_of after ≡ config_of before → Represents after (arrivals ++ more) →
-    Heard (config_of before) arrivals more old forks new forks' → old ≡ notices_by (config_of before) arrivals → Played after (arrivals ++ more) new
-played_more before after arrivals more old new forks forks' same state heard known =
+-- what a core received was played
+pub played_more : {G : Type 0} (more : List Arrival) (core core' : Core) (old new : List Notice) (before after : StepCount G) (result : Result (Unit {0}) Memory) → Receives more core core' old new before after result
+    → OnOk result ((arrivals : List Arrival) → Played core arrivals old → Played core' (arrivals ++ more) new)
+played_more more core core' old new before after (Ok done) received = λ arrivals played.
+    let heard = received.heard arrivals played.state in
     record {
-      state = state;
-      heard = heard.reported ∙ ap (λ (all : List Notice). all ++ heard.made) known ∙ sym heard.notices ∙ ap (λ (config : CoreConfig). notices_by config (arrivals ++ more)) (sym same);
+      state = received.represents arrivals played.state;
+      heard = heard.reported ∙ ap (λ (all : List Notice). all ++ heard.made) played.heard ∙ sym heard.notices ∙ ap (λ (config : CoreConfig). notices_by config (arrivals ++ more)) (sym received.config);
     }
+played_more more core core' old new before after (Err memory) received = tt
 
 -- some seconds, and then more
 pub seconds_then : (core : Core) (arrivals : List Arrival) (notices : List Notice) (some more : ℕ) → Played core ((arrivals ++ replicate some Elapsed) ++ replicate more Elapsed) notices →
