@@ -1,6 +1,6 @@
 -- What one call of recorded links adds to their own log and faults, and what is known of open links after it.
 use Rattle.std.proofs.Common.{◌≡◌, ◌≢◌, ◌⊎◌, inl, inr, ℕ, ◌+◌, ◌-◌, ◌^◌, ◌≤◌, ◌==◌, Bool, true, false, cond, not, ◌||◌, List, [], ◌∷◌, ◌++◌, filter, fold, length, refl, ap, sym, ◌∙◌, subst, arith, IsTrue}
-use Rattle.std.specs.Prelude.{Option, Some, None, nat_le, nat_lt}
+use Rattle.std.specs.Prelude.{◌&&◌, Option, Some, None, nat_le, nat_lt}
 use Rattle.std.specs.List.{list_any}
 use Rattle.std.specs.Option.{ForSome, option_map}
 use Rattle.std.proofs.lemmas.Bool.{eqb-true, eq-eqb, ne_eqb, leb-true}
@@ -10,7 +10,8 @@ use Rattle.std.proofs.lemmas.Option.{none-some}
 use Rattle.disk_port.specs.Calls.{DiskReport}
 use Rattle.ports.specs.Calls.{AddsCalls, LinksReport}
 use Rattle.ports.proofs.CallLemmas.{no_calls}
-use Rattle.ports.specs.Links.{HasNextCause, grown, next_entries, send_entries, unclosed, unclosed_after, unclosed_after_turn}
+use Rattle.ports.specs.Counts.{Rose}
+use Rattle.ports.specs.Links.{HasNextCause, grown, is_failed_turn, next_entries, send_entries, unclosed, unclosed_after, unclosed_after_turn}
 use Rattle.ports.specs.declared.entry.Entry.{Entry}
 use Rattle.ports.specs.declared.entry.Entry.TheVariants.{Close}
 use Rattle.ports.specs.declared.links.SendAnswer.{SendAnswer}
@@ -19,7 +20,7 @@ use Rattle.ports.specs.declared.links.Turn.{Turn}
 use Rattle.ports.specs.declared.links.Want.{Want}
 use Rattle.ports.specs.declared.links.What.{What}
 use Rattle.ports.specs.declared.links.What.TheVariants.{Idle, Opened, Read, Ended, Broken, Room, Stopped, Failed, Memory}
-use Rattle.recorded_links.specs.Keeping.{HandsOut}
+use Rattle.recorded_links.specs.Keeping.{HandsOut, is_lost}
 use Rattle.recorded_links.specs.Numbers.{Knows, inner_number, inner_wants, of_link, own_number, own_turn, own_what}
 use Rattle.journal_format.specs.declared.turn_record.Summary.{Summary}
 use Rattle.recorded_links.specs.Sending.{may_note}
@@ -277,3 +278,70 @@ knows_closed_both first own own' inner inner' link closed closed_is known calls 
         let apart : number ≢ closed = λ same. was.1 (omega (arith, same, here, gone)) in
         any-filter_same (λ (o : ℕ). o == number) (λ (o : ℕ). not (o == closed)) true
         (λ k test. ap not (ne_eqb k closed (λ same. apart (sym (eqb-true k number test) ∙ same)))) there ∙ held other number at was.0
+
+-- a send that was out of memory made no call that counts
+pub unsent_calls : (first link : ℕ) (bytes : List ℕ) (answer : SendAnswer) (sends : List Summary) (old new : LinksReport)
+    → ForSome (inner_number first link) (λ number. may_note link (length bytes) sends ≡ true → AddsCalls old new (send_entries number bytes answer))
+    → (inner_number first link ≡ None → (answer ≡ send.Later) × (new ≡ old)) → (may_note link (length bytes) sends ≡ false → (answer ≡ send.Later) × (new ≡ old)) → answer ≡ send.Memory → AddsCalls old new []
+unsent_calls first link bytes answer sends old new passed own unnoted memory = by_number (inner_number first link) refl
+  where
+    by_note : (number : ℕ) → inner_number first link ≡ Some number → (t : Bool) → may_note link (length bytes) sends ≡ t → AddsCalls old new []
+    by_note number is true may = subst (λ (answer : SendAnswer). AddsCalls old new (send_entries number bytes answer)) memory (passed number is may)
+    by_note number is false may = absurd (cc (memory, (unnoted may).0))
+
+    by_number : (found : Option ℕ) → inner_number first link ≡ found → AddsCalls old new []
+    by_number None is = absurd (cc (memory, (own is).0))
+    by_number (Some number) is = by_note number is (may_note link (length bytes) sends) refl
+
+-- no number makes a turn of a link fail
+link_fails : (link : Option ℕ) (what : ℕ → What) → ((number : ℕ) → is_failed_turn (what number) ≡ false) → is_failed_turn (of_link link what) ≡ false
+link_fails None what none = refl
+link_fails (Some number) what none = none number
+
+-- a turn that failed here failed there
+fails_there : (first : ℕ) (what : What) → is_failed_turn (own_what first what) ≡ true → what ≡ Failed
+fails_there first Idle is = absurd (cc is)
+fails_there first (Opened link) is = absurd (cc (is, link_fails (own_number first link) Opened (λ number. refl)))
+fails_there first (Read link count) is = absurd (cc (is, link_fails (own_number first link) (λ own. Read own count) (λ number. refl)))
+fails_there first (Ended link) is = absurd (cc (is, link_fails (own_number first link) Ended (λ number. refl)))
+fails_there first (Broken link) is = absurd (cc (is, link_fails (own_number first link) Broken (λ number. refl)))
+fails_there first (Room link) is = absurd (cc (is, link_fails (own_number first link) Room (λ number. refl)))
+fails_there first Stopped is = absurd (cc is)
+fails_there first Failed is = refl
+fails_there first Memory is = absurd (cc is)
+
+-- an answer that is Failed, and was not lost, was Failed
+lost_or_failed : (asked handed : What) → handed ≡ Failed → is_lost asked handed ≡ false → is_failed_turn asked ≡ true
+lost_or_failed asked handed failed kept = by_test (is_failed_turn asked) refl
+  where
+    by_test : (t : Bool) → is_failed_turn asked ≡ t → is_failed_turn asked ≡ true
+    by_test true is = is
+    by_test false is = absurd (cc (kept, ap (λ (what : What). is_lost asked what) failed, ap (λ (flag : Bool). not flag && true) is))
+
+-- where no answer was lost, a turn failed since the inner links failed
+pub inner_failed : (first : ℕ) (old new : LinksReport) (wants : List Want) (buf : List ℕ) (asked handed : Turn) → Asks first old new wants buf asked → handed.what ≡ Failed → is_lost asked.what handed.what ≡ false
+    → Rose old.faults new.faults
+inner_failed first old new wants buf asked handed (not_asked memory same) failed kept =
+    absurd (cc (ap is_failed_turn memory, lost_or_failed asked.what handed.what failed kept))
+inner_failed first old new wants buf asked handed (answered answer calls cause is) failed kept =
+    let there : answer.what ≡ Failed = fails_there first answer.what (ap (λ (turn : Turn). is_failed_turn turn.what) (sym is) ∙ lost_or_failed asked.what handed.what failed kept) in
+    subst (HasNextCause old.faults new.faults) there cause
+
+-- an answer that was lost by a disk that failed is Failed
+pub lost_fails : (asked handed : What) → is_lost asked handed ≡ true → handed ≡ Failed
+lost_fails asked handed lost = by_test (is_failed_turn asked) refl
+  where
+    failed_is : (what : What) → is_failed_turn what ≡ true → what ≡ Failed
+    failed_is Idle is = absurd (cc is)
+    failed_is (Opened link) is = absurd (cc is)
+    failed_is (Read link count) is = absurd (cc is)
+    failed_is (Ended link) is = absurd (cc is)
+    failed_is (Broken link) is = absurd (cc is)
+    failed_is (Room link) is = absurd (cc is)
+    failed_is Stopped is = absurd (cc is)
+    failed_is Failed is = refl
+    failed_is Memory is = absurd (cc is)
+
+    by_test : (t : Bool) → is_failed_turn asked ≡ t → handed ≡ Failed
+    by_test true is = absurd (cc (lost, ap (λ (flag : Bool). not flag && is_failed_turn handed) is))
+    by_test false is = failed_is handed (sym (ap (λ (flag : Bool). not flag && is_failed_turn handed) is) ∙ lost)

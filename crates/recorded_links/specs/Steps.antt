@@ -3,7 +3,7 @@ use Rattle.std.specs.Prelude.{◌≡◌, ◌⊎◌, ℕ, ◌+◌, ◌<◌, Bool,
 use Rattle.std.specs.Option.{option_map}
 use Rattle.disk_port.specs.Calls.{DiskReport}
 use Rattle.journal_format.specs.Limits.{journal_limit, step_limit}
-use Rattle.journal_format.specs.Spelling.{record_bytes}
+use Rattle.journal_format.specs.Spelling.{IsRecord, record_bytes}
 use Rattle.journal_format.specs.declared.turn_record.Summary.{Summary}
 use Rattle.ports.specs.Calls.{AddsCalls, LinksReport}
 use Rattle.ports.specs.Links.{HasListenCause, HasNextCause, listen_entries, next_entries, piece_of, send_entries}
@@ -79,12 +79,14 @@ pub record Takes (old new : Seen) (wants : List Want) (buf : List ℕ) (turn : T
   pub asked : Turn
   pub asks : Asks old.first old.inner new.inner wants buf asked
   pub hands : HandsOut asked.what asked turn
+  pub allowed : is_recorded asked.what ≡ true → IsRecord (entry_of old.sends asked (piece_of asked.what buf))
   pub records : is_recorded asked.what ≡ true → AddsRecord (record_bytes (entry_of old.sends asked (piece_of asked.what buf))) (is_recorded turn.what) old.kept new.kept
   pub other : is_recorded asked.what ≡ false → new.kept ≡ old.kept
   pub faults : FailedIf (is_lost asked.what turn.what) old.faults new.faults
   pub cleared : is_recorded turn.what ≡ true → new.sends ≡ []
   pub uncleared : is_recorded turn.what ≡ false → new.sends ≡ old.sends
   pub begun : new.kept.has_record ≡ true
+  pub spent : is_lost asked.what turn.what ≡ true → new.spent ≡ true
 
 -- there is no room in the journal for one more record and a gate
 abbrev pub IsFull : Kept → Type 0
@@ -103,11 +105,13 @@ pub record TakesOwn (old new : Seen) (asked turn : Turn) : Type 0 where
   pub room : old.kept.gate + step_limit < journal_limit
   pub inner : new.inner ≡ old.inner
   pub hands : HandsOut asked.what asked turn
+  pub allowed : IsRecord (entry_of old.sends asked [])
   pub records : AddsRecord (record_bytes (entry_of old.sends asked [])) (is_recorded turn.what) old.kept new.kept
   pub faults : FailedIf (is_lost asked.what turn.what) old.faults new.faults
   pub cleared : is_recorded turn.what ≡ true → new.sends ≡ []
   pub uncleared : is_recorded turn.what ≡ false → new.sends ≡ old.sends
   pub begun : new.kept.has_record ≡ true
+  pub spent : is_lost asked.what turn.what ≡ true → new.spent ≡ true
 
 pub data OwnStep (old new : Seen) (asked turn : Turn) : Type 0 where
   own_refused : (old.spent ≡ true) ⊎ (old.kept.has_record ≡ false) → turn.what ≡ Memory → Rests old new → OwnStep old new asked turn
@@ -124,12 +128,14 @@ pub record TakesListen (old new : Seen) (address : List ℕ) (answer : ListenAns
   pub asks : AddsCalls old.inner new.inner (listen_entries address asked)
   pub cause : HasListenCause old.inner.faults new.inner.faults asked
   pub hands : HandsListen asked answer
+  pub allowed : (secs : ℕ) → asked ≡ listen.Ready secs → IsRecord (listen_entry old.sends secs)
   pub records : (secs : ℕ) → asked ≡ listen.Ready secs → AddsRecord (record_bytes (listen_entry old.sends secs)) (is_ready answer) old.kept new.kept
   pub other : is_ready asked ≡ false → new.kept ≡ old.kept
   pub faults : FailedIf (is_lost_listen asked answer) old.faults new.faults
   pub cleared : is_ready answer ≡ true → new.sends ≡ []
   pub uncleared : is_ready answer ≡ false → new.sends ≡ old.sends
   pub begun : new.kept.has_record ≡ is_ready answer
+  pub spent : is_lost_listen asked answer ≡ true → new.spent ≡ true
 
 pub data ListenStep (old new : Seen) (address : List ℕ) (answer : ListenAnswer) : Type 0 where
   listen_refused : (old.spent ≡ true) ⊎ (old.kept.has_record ≡ true) → answer ≡ listen.Memory → Rests old new → ListenStep old new address answer
@@ -146,6 +152,14 @@ pub record SendStep (old new : Seen) (link : ℕ) (bytes : List ℕ) (answer : S
   pub sends : new.sends ≡ after_send link answer old.sends
   pub kept : new.kept ≡ old.kept
   pub faults : new.faults ≡ old.faults
+  pub spent : old.spent ≡ true → new.spent ≡ true
+
+-- memory ran out in a send: no byte was taken, and nothing else was done
+pub record Unsent (old new : Seen) : Type 0 where
+  pub calls : AddsCalls old.inner new.inner []
+  pub sends : new.sends ≡ old.sends
+  pub kept : new.kept ≡ old.kept
+  pub faults : new.faults ≡ old.faults
 
 -- the close was passed to the inner links, where the link is one of theirs
 pub record CloseStep (old new : Seen) (link : ℕ) : Type 0 where
@@ -154,3 +168,4 @@ pub record CloseStep (old new : Seen) (link : ℕ) : Type 0 where
   pub sends : new.sends ≡ old.sends
   pub kept : new.kept ≡ old.kept
   pub faults : new.faults ≡ old.faults
+  pub spent : old.spent ≡ true → new.spent ≡ true

@@ -2,11 +2,12 @@ ghost use Rattle.std.specs.Prelude.{◌≡◌, ◌≢◌, ℕ, List, ◌+◌, �
 ghost use Rattle.std.specs.Option.{ForSome};
 ghost use Rattle.journal_format.specs.Limits.{config_limit, journal_limit, step_limit};
 ghost use Rattle.ports.specs.Calls.{AddsCalls};
+ghost use Rattle.ports.specs.Counts.{Rose};
 ghost use Rattle.ports.specs.Links.{HasListenCause, HasNextCause, IsPieceWithin, IsWithin, MayClose, listen_entries, next_entries, piece_of, send_entries};
 ghost use Rattle.ports.specs.declared.entry.Entry.TheVariants.{Close};
 ghost use Rattle.recorded_links.specs.Keeping.{FailedIf, is_lost, is_lost_listen};
 ghost use Rattle.recorded_links.specs.Numbers.{Knows, first_after};
-ghost use Rattle.recorded_links.specs.Steps.{CloseStep, ListenStep, NextStep, SendStep, own_report, seen};
+ghost use Rattle.recorded_links.specs.Steps.{CloseStep, ListenStep, NextStep, SendStep, Unsent, own_report, seen};
 ghost use Rattle.turn_journal.specs.Beginning.{StandsBlank};
 
 use crate::ask::{ask, inner_number, offer};
@@ -144,6 +145,9 @@ impl<'a, L: Links, D: Disk> Links for RecordedLinks<'a, L, D> {
             (D.report self.old.recorder.journal.disk.now).faults
             (D.report self.new.recorder.journal.disk.now).faults }
         ensures log { self.new.log ≡ self.old.log ++ listen_entries address.now result }
+        ensures failed { result ≡ ListenAnswer.Failed → self.new.disk_failed ≡ false →
+            Rose (L.report self.old.inner.now).faults (L.report self.new.inner.now).faults }
+        ensures lost { self.new.disk_failed ≡ true → result ≡ ListenAnswer.Failed }
         ensures memory { result ≡ ListenAnswer.Memory → self.new.spent ≡ true }
         ensures fault { self.new.disk_failed ≡ true → self.new.spent ≡ true }
         ensures opened { (D.report self.new.recorder.journal.disk.now).opened
@@ -199,6 +203,9 @@ impl<'a, L: Links, D: Disk> Links for RecordedLinks<'a, L, D> {
             (D.report self.old.recorder.journal.disk.now).faults
             (D.report self.new.recorder.journal.disk.now).faults }
         ensures log { self.new.log ≡ self.old.log ++ next_entries wants.now buf.new result }
+        ensures failed { result.what ≡ What.Failed → self.new.disk_failed ≡ false →
+            Rose (L.report self.old.inner.now).faults (L.report self.new.inner.now).faults }
+        ensures lost { self.new.disk_failed ≡ true → result.what ≡ What.Failed }
         ensures memory { result.what ≡ What.Memory → self.new.spent ≡ true }
         ensures fault { self.new.disk_failed ≡ true → self.new.spent ≡ true }
         ensures opened { (D.report self.new.recorder.journal.disk.now).opened
@@ -260,6 +267,15 @@ impl<'a, L: Links, D: Disk> Links for RecordedLinks<'a, L, D> {
             self.new.recorder.journal.has_record self.new.recorder.sends.summaries.items
             self.new.spent)
             link bytes.now result }
+        ensures unsent { result ≡ SendAnswer.Memory → Unsent
+            (seen (L.report self.old.inner.now) (first_after self.old.last)
+            (D.report self.old.recorder.journal.disk.now) self.old.recorder.journal.gate
+            self.old.recorder.journal.has_record self.old.recorder.sends.summaries.items
+            self.old.spent)
+            (seen (L.report self.new.inner.now) (first_after self.new.last)
+            (D.report self.new.recorder.journal.disk.now) self.new.recorder.journal.gate
+            self.new.recorder.journal.has_record self.new.recorder.sends.summaries.items
+            self.new.spent) }
         ensures spent { result ≡ SendAnswer.Memory → self.new.spent ≡ true }
         ensures disk_failed { self.new.disk_failed ≡ false }
         ensures log { self.new.log ≡ self.old.log ++ send_entries link bytes.now result }

@@ -3,7 +3,7 @@
 ghost use Rattle.std.specs.Prelude.{◌≡◌, ℕ, ◌+◌, ◌<◌, ◌≤◌, [], Err, false, true, is_ok, length, OnErr, OnOk};
 ghost use Rattle.disk_port.specs.Calls.{HasCause};
 ghost use Rattle.journal_format.specs.Limits.{journal_limit, step_limit};
-ghost use Rattle.journal_format.specs.Spelling.{IsWord, record_bytes};
+ghost use Rattle.journal_format.specs.Spelling.{IsRecord, IsWord, record_bytes};
 ghost use Rattle.recorded_links.specs.Keeping.{AddsRecord, FailedIf, HandsListen, HandsOut, HasPiece, IsTurn, entry_of, is_lost, is_lost_listen, is_ready, is_recorded, kept_of, listen_entry};
 ghost use Rattle.turn_journal.specs.Standing.{IsNext};
 
@@ -44,6 +44,8 @@ impl<'a, D: Disk> TurnRecorder<'a, D> {
         requires room { self.old.journal.gate + step_limit < journal_limit }
         requires sound { self.old.journal.failed ≡ false }
         ensures hands { HandsOut asked.what asked result }
+        ensures allowed { is_recorded asked.what ≡ true →
+            IsRecord (entry_of self.old.sends.summaries.items asked piece.now) }
         ensures records { is_recorded asked.what ≡ true →
             AddsRecord (record_bytes (entry_of self.old.sends.summaries.items asked piece.now))
             (is_recorded result.what)
@@ -80,6 +82,7 @@ impl<'a, D: Disk> TurnRecorder<'a, D> {
         requires begun { self.old.journal.has_record ≡ true }
         requires room { self.old.journal.gate + step_limit < journal_limit }
         requires sound { self.old.journal.failed ≡ false }
+        ensures allowed { IsRecord (entry_of self.old.sends.summaries.items turn piece.now) }
         ensures records { AddsRecord
             (record_bytes (entry_of self.old.sends.summaries.items turn piece.now)) (is_ok result)
             (kept_of (D.report self.old.journal.disk.now).past self.old.journal.gate
@@ -141,6 +144,8 @@ impl<'a, D: Disk> TurnRecorder<'a, D> {
         requires room { self.old.journal.gate + step_limit < journal_limit }
         requires sound { self.old.journal.failed ≡ false }
         ensures hands { HandsListen asked result }
+        ensures allowed { (secs : ℕ) → asked ≡ ListenAnswer.Ready secs →
+            IsRecord (listen_entry self.old.sends.summaries.items secs) }
         ensures records { (secs : ℕ) → asked ≡ ListenAnswer.Ready secs →
             AddsRecord (record_bytes (listen_entry self.old.sends.summaries.items secs))
             (is_ready result)
@@ -180,6 +185,7 @@ impl<'a, D: Disk> TurnRecorder<'a, D> {
         requires unbegun { self.old.journal.has_record ≡ false }
         requires room { self.old.journal.gate + step_limit < journal_limit }
         requires sound { self.old.journal.failed ≡ false }
+        ensures allowed { IsRecord (listen_entry self.old.sends.summaries.items secs) }
         ensures records { AddsRecord
             (record_bytes (listen_entry self.old.sends.summaries.items secs)) (is_ok result)
             (kept_of (D.report self.old.journal.disk.now).past self.old.journal.gate

@@ -19,3 +19,11 @@ add-requires-clause-short g c =
 pub returns-in-Err-clause-records : goal.returns-in-Err-clause-records
 returns-in-Err-clause-records g c =
     untouched (record_bytes (listen_entry c.args.self.now.sends.summaries.items c.args.secs)) (kept_of (g.D.Disk.report c.args.self.now.journal.disk.now).past c.args.self.now.journal.gate c.args.self.now.journal.has_record) (kept_of (g.D.Disk.report c.args.self.now.journal.disk.now).past c.args.self.now.journal.gate c.args.self.now.journal.has_record) refl
+
+pub returns-in-Ok-clause-allowed : goal.returns-in-Ok-clause-allowed
+returns-in-Ok-clause-allowed g c =
+    listen_allowed c.args.self.now.sends.summaries.items c.args.secs c.args.self.now.sends.few c.args.self.now.sends.words c.args.self.now.sends.distinct c.ranges.secs.fits
+
+pub returns-in-Err-clause-allowed : goal.returns-in-Err-clause-allowed
+returns-in-Err-clause-allowed g c =
+    listen_allowed c.args.self.now.sends.summaries.items c.args.secs c.args.self.now.sends.few c.args.self.now.sends.words c.args.self.now.sends.distinct c.ranges.secs.fits

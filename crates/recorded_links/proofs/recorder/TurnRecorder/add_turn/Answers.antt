@@ -19,3 +19,11 @@ add-requires-clause-short g c =
 pub returns-in-Err-clause-records : goal.returns-in-Err-clause-records
 returns-in-Err-clause-records g c =
     untouched (record_bytes (entry_of c.args.self.now.sends.summaries.items c.args.turn c.args.piece.now)) (kept_of (g.D.Disk.report c.args.self.now.journal.disk.now).past c.args.self.now.journal.gate c.args.self.now.journal.has_record) (kept_of (g.D.Disk.report c.args.self.now.journal.disk.now).past c.args.self.now.journal.gate c.args.self.now.journal.has_record) refl
+
+pub returns-in-Ok-clause-allowed : goal.returns-in-Ok-clause-allowed
+returns-in-Ok-clause-allowed g c =
+    turn_allowed c.args.self.now.sends.summaries.items c.args.turn c.args.piece.now c.args.self.now.sends.few c.args.self.now.sends.words c.args.self.now.sends.distinct c.fill_turn.ensures.fits.0 c.fill_turn.ensures.fits.1 c.requires.piece
+
+pub returns-in-Err-clause-allowed : goal.returns-in-Err-clause-allowed
+returns-in-Err-clause-allowed g c =
+    turn_allowed c.args.self.now.sends.summaries.items c.args.turn c.args.piece.now c.args.self.now.sends.few c.args.self.now.sends.words c.args.self.now.sends.distinct c.fill_turn.ensures.fits.0 c.fill_turn.ensures.fits.1 c.requires.piece
