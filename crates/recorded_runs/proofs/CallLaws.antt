@@ -1,0 +1,262 @@
+-- What each call of links that record does to the journal.
+use Rattle.std.proofs.Common.{◌≡◌, ◌≢◌, ◌⊎◌, inl, inr, ℕ, Bool, true, false, cond, not, List, [], ◌∷◌, ◌++◌, fold, refl, sym, ◌∙◌, ap, subst}
+use Rattle.std.specs.Prelude.{◌&&◌}
+use Rattle.std.proofs.lemmas.List.Sums.{fold-append}
+use Rattle.journal_format.specs.Spelling.{IsRecord, Spells, is_listen, record_bytes}
+use Rattle.journal_format.specs.declared.turn_record.Summary.{Summary}
+use Rattle.journal_format.specs.declared.turn_record.TurnRecord.{TurnRecord}
+use Rattle.ports.specs.Links.{is_failed_turn, listen_entries, next_entries, piece_of, send_entries}
+use Rattle.ports.specs.declared.entry.Entry.{Entry}
+use Rattle.ports.specs.declared.entry.Entry.TheVariants.{Listen, Next, Send, Close}
+use Rattle.ports.specs.declared.links.ListenAnswer.{ListenAnswer}
+use Rattle.ports.specs.declared.links.ListenAnswer.TheVariants as listen
+use Rattle.ports.specs.declared.links.SendAnswer.{SendAnswer}
+use Rattle.ports.specs.declared.links.SendAnswer.TheVariants as send
+use Rattle.ports.specs.declared.links.Turn.{Turn}
+use Rattle.ports.specs.declared.links.Want.{Want}
+use Rattle.ports.specs.declared.links.What.{What}
+use Rattle.ports.specs.declared.links.What.TheVariants.{Idle, Opened, Read, Ended, Broken, Room, Stopped, Failed, Memory}
+use Rattle.recorded_links.specs.Keeping.{AddsRecord, HandsListen, HandsOut, entry_of, event_of, is_lost, is_lost_listen, is_ready, is_recorded, listen_entry}
+use Rattle.recorded_links.specs.Sending.{after_send}
+use Rattle.recorded_links.specs.Steps.{CloseStep, ListenStep, NextStep, Seen, SendStep, Takes, TakesListen, Unsent, listen_refused, listen_taken, next_full, next_refused, next_taken}
+use Rattle.recorded_runs.specs.Lending.{Keeps, Lent}
+use Rattle.recorded_runs.specs.Noting.{Noted, after_call, after_listen, after_turn, noted, with_entry}
+use Rattle.recorded_runs.proofs.JournalLaws.{keeps_added, keeps_lost, keeps_same}
+
+noted_more : (calls more : List Entry) → noted (calls ++ more) ≡ fold after_call (noted calls) more
+noted_more calls more = fold-append after_call (record { records = []; sends = [] }) calls more
+
+-- ---- `next`
+
+-- the entry of a turn, if it has one
+noted_turn : (so_far : Noted) (wants : List Want) (buf : List ℕ) (turn : Turn) → fold after_call so_far (next_entries wants buf turn) ≡ after_turn so_far turn (piece_of turn.what buf)
+noted_turn so_far wants buf turn = by_what turn.what refl
+  where
+    by_what : (what : What) → turn.what ≡ what → fold after_call so_far (next_entries wants buf turn) ≡ after_turn so_far turn (piece_of turn.what buf)
+    by_what Idle is = rw is refl
+    by_what (Opened other) is = rw is refl
+    by_what (Read other count) is = rw is refl
+    by_what (Ended other) is = rw is refl
+    by_what (Broken other) is = rw is refl
+    by_what (Room other) is = rw is refl
+    by_what Stopped is = rw is refl
+    by_what Failed is = rw is refl
+    by_what Memory is = rw is refl
+
+turn_noted : (calls calls' : List Entry) (wants : List Want) (buf : List ℕ) (turn : Turn) → calls' ≡ calls ++ next_entries wants buf turn
+    → noted calls' ≡ cond (is_recorded turn.what) (with_entry (entry_of (noted calls).sends turn (piece_of turn.what buf)) (noted calls)) (noted calls)
+turn_noted calls calls' wants buf turn log = ap noted log ∙ noted_more calls (next_entries wants buf turn) ∙ noted_turn (noted calls) wants buf turn
+
+turn_added : (calls calls' : List Entry) (wants : List Want) (buf : List ℕ) (turn : Turn) → calls' ≡ calls ++ next_entries wants buf turn → is_recorded turn.what ≡ true
+    → noted calls' ≡ with_entry (entry_of (noted calls).sends turn (piece_of turn.what buf)) (noted calls)
+turn_added calls calls' wants buf turn log is =
+    turn_noted calls calls' wants buf turn log ∙ ap (λ (flag : Bool). cond flag (with_entry (entry_of (noted calls).sends turn (piece_of turn.what buf)) (noted calls)) (noted calls)) is
+
+turn_quiet : (calls calls' : List Entry) (wants : List Want) (buf : List ℕ) (turn : Turn) → calls' ≡ calls ++ next_entries wants buf turn → is_recorded turn.what ≡ false → noted calls' ≡ noted calls
+turn_quiet calls calls' wants buf turn log is =
+    turn_noted calls calls' wants buf turn log ∙ ap (λ (flag : Bool). cond flag (with_entry (entry_of (noted calls).sends turn (piece_of turn.what buf)) (noted calls)) (noted calls)) is
+
+-- what is not recorded is handed out as what is not
+unrecorded_out : (asked turn : Turn) → HandsOut asked.what asked turn → is_recorded asked.what ≡ false → is_recorded turn.what ≡ false
+unrecorded_out asked turn hands is = by_what asked.what refl hands is
+  where
+    by_what : (what : What) → asked.what ≡ what → HandsOut what asked turn → is_recorded what ≡ false → is_recorded turn.what ≡ false
+    by_what Idle same hands is = absurd (cc is)
+    by_what (Opened other) same hands is = absurd (cc is)
+    by_what (Read other count) same hands is = absurd (cc is)
+    by_what (Ended other) same hands is = absurd (cc is)
+    by_what (Broken other) same hands is = absurd (cc is)
+    by_what (Room other) same hands is = absurd (cc is)
+    by_what Stopped same hands is = ap (λ (turn : Turn). is_recorded turn.what) hands
+    by_what Failed same hands is = ap (λ (turn : Turn). is_recorded turn.what) hands ∙ ap is_recorded same
+    by_what Memory same hands is = ap (λ (turn : Turn). is_recorded turn.what) hands ∙ ap is_recorded same
+
+-- what is recorded is handed out, or lost
+recorded_out : (asked turn : Turn) → HandsOut asked.what asked turn → is_recorded asked.what ≡ true → (turn ≡ asked) ⊎ ((turn.what ≡ Failed) ⊎ (turn.what ≡ Memory))
+recorded_out asked turn hands is = by_what asked.what hands is
+  where
+    by_what : (what : What) → HandsOut what asked turn → is_recorded what ≡ true → (turn ≡ asked) ⊎ ((turn.what ≡ Failed) ⊎ (turn.what ≡ Memory))
+    by_what Idle hands is = hands
+    by_what (Opened other) hands is = hands
+    by_what (Read other count) hands is = hands
+    by_what (Ended other) hands is = hands
+    by_what (Broken other) hands is = hands
+    by_what (Room other) hands is = hands
+    by_what Stopped hands is = absurd (cc is)
+    by_what Failed hands is = absurd (cc is)
+    by_what Memory hands is = absurd (cc is)
+
+unfailed : (what : What) → is_recorded what ≡ true → is_failed_turn what ≡ false
+unfailed Idle is = refl
+unfailed (Opened other) is = refl
+unfailed (Read other count) is = refl
+unfailed (Ended other) is = refl
+unfailed (Broken other) is = refl
+unfailed (Room other) is = refl
+unfailed Stopped is = refl
+unfailed Failed is = absurd (cc is)
+unfailed Memory is = refl
+
+no_listen : (what : What) (piece : List ℕ) → is_listen (event_of what piece) ≡ false
+no_listen Idle piece = refl
+no_listen (Opened link) piece = refl
+no_listen (Read link count) piece = refl
+no_listen (Ended link) piece = refl
+no_listen (Broken link) piece = refl
+no_listen (Room link) piece = refl
+no_listen Stopped piece = refl
+no_listen Failed piece = refl
+no_listen Memory piece = refl
+
+-- the record of a turn whose bytes are in the buffer
+abbrev entry_at : List ℕ → List Summary → Turn → TurnRecord
+entry_at buf sends turn = entry_of sends turn (piece_of turn.what buf)
+
+keeps_takes : (lent : Lent) (calls calls' : List Entry) (old new : Seen) (wants : List Want) (buf : List ℕ) (turn : Turn) → Keeps lent calls old.kept old.sends old.spent → calls' ≡ calls ++ next_entries wants buf turn
+    → Takes old new wants buf turn → (turn.what ≡ Memory → new.spent ≡ true) → Keeps lent calls' new.kept new.sends new.spent
+keeps_takes lent calls calls' old new wants buf turn keeps log takes spends = by_recorded (is_recorded takes.asked.what) refl
+  where
+    spelled : (sends : List Summary) (turn : Turn) → IsRecord (entry_at buf sends turn) → Spells (not old.kept.has_record) (entry_at buf sends turn) (record_bytes (entry_at buf sends turn))
+    spelled sends turn allowed = record { allowed = allowed; order = no_listen turn.what (piece_of turn.what buf) ∙ sym (ap not takes.ready.begun); text = refl }
+
+    handed : is_recorded takes.asked.what ≡ true → turn ≡ takes.asked → Keeps lent calls' new.kept new.sends new.spent
+    handed is same =
+        let also : is_recorded turn.what ≡ true = ap (λ (turn : Turn). is_recorded turn.what) same ∙ is in
+        let entry_is : entry_at buf old.sends takes.asked ≡ entry_at buf (noted calls).sends turn = ap (entry_at buf old.sends) (sym same) ∙ ap (λ (sends : List Summary). entry_at buf sends turn) (sym keeps.sends_are) in
+        let added : AddsRecord (record_bytes (entry_at buf (noted calls).sends turn)) true old.kept new.kept =
+        subst (λ (flag : Bool). AddsRecord (record_bytes (entry_at buf (noted calls).sends turn)) flag old.kept new.kept) also
+        (subst (λ (entry : TurnRecord). AddsRecord (record_bytes entry) (is_recorded turn.what) old.kept new.kept) entry_is (takes.records is)) in
+        keeps_added lent calls calls' old.kept new.kept old.sends new.sends old.spent new.spent (entry_at buf (noted calls).sends turn) (record_bytes (entry_at buf (noted calls).sends turn)) keeps takes.ready.unspent
+        (spelled (noted calls).sends turn (subst IsRecord entry_is (takes.allowed is))) added (turn_added calls calls' wants buf turn log also) (takes.cleared also)
+
+    lost : is_recorded takes.asked.what ≡ true → is_recorded turn.what ≡ false → new.spent ≡ true → Keeps lent calls' new.kept new.sends new.spent
+    lost is unrecorded spent_is =
+        keeps_lost lent calls calls' old.kept new.kept old.sends new.sends old.spent new.spent (is_recorded turn.what) (entry_at buf old.sends takes.asked) (record_bytes (entry_at buf old.sends takes.asked)) keeps takes.ready.unspent
+        (spelled old.sends takes.asked (takes.allowed is)) (takes.records is) (turn_quiet calls calls' wants buf turn log unrecorded) (takes.uncleared unrecorded) spent_is
+
+    by_recorded : (t : Bool) → is_recorded takes.asked.what ≡ t → Keeps lent calls' new.kept new.sends new.spent
+    by_recorded false is =
+        let unrecorded = unrecorded_out takes.asked turn takes.hands is in
+        let same = turn_quiet calls calls' wants buf turn log unrecorded in
+        keeps_same lent calls calls' old.kept new.kept old.sends new.sends old.spent new.spent keeps (ap (λ so_far. so_far.records) same) (ap (λ so_far. so_far.sends) same ∙ keeps.sends_are ∙ sym (takes.uncleared unrecorded)) (takes.other is)
+        (λ was. absurd (cc (takes.ready.unspent, was)))
+    by_recorded true is = elim (recorded_out takes.asked turn takes.hands is) [
+      | inl same ↦ handed is same
+      | inr gone ↦ elim gone [
+        | inl failed ↦ lost is (ap is_recorded failed) (takes.spent (ap (λ (asked : Bool). not asked && is_failed_turn turn.what) (unfailed takes.asked.what is) ∙ ap is_failed_turn failed))
+        | inr memory ↦ lost is (ap is_recorded memory) (spends memory)
+      ]
+    ]
+
+pub keeps_next : (lent : Lent) (calls calls' : List Entry) (old new : Seen) (wants : List Want) (buf : List ℕ) (turn : Turn) → Keeps lent calls old.kept old.sends old.spent → calls' ≡ calls ++ next_entries wants buf turn
+    → NextStep old new wants buf turn → (turn.what ≡ Memory → new.spent ≡ true) → Keeps lent calls' new.kept new.sends new.spent
+keeps_next lent calls calls' old new wants buf turn keeps log (next_refused why memory rests) spends =
+    let same = turn_quiet calls calls' wants buf turn log (ap is_recorded memory) in
+    keeps_same lent calls calls' old.kept new.kept old.sends new.sends old.spent new.spent keeps (ap (λ so_far. so_far.records) same) (ap (λ so_far. so_far.sends) same ∙ keeps.sends_are ∙ sym rests.sends) rests.kept (λ was. spends memory)
+keeps_next lent calls calls' old new wants buf turn keeps log (next_full ready full stopped rests) spends =
+    let same = turn_quiet calls calls' wants buf turn log (ap (λ (turn : Turn). is_recorded turn.what) stopped) in
+    keeps_same lent calls calls' old.kept new.kept old.sends new.sends old.spent new.spent keeps (ap (λ so_far. so_far.records) same) (ap (λ so_far. so_far.sends) same ∙ keeps.sends_are ∙ sym rests.sends) rests.kept (λ was. absurd (cc (ready.unspent, was)))
+keeps_next lent calls calls' old new wants buf turn keeps log (next_taken takes) spends = keeps_takes lent calls calls' old new wants buf turn keeps log takes spends
+
+-- ---- `listen`
+
+listen_noted : (calls calls' : List Entry) (address : List ℕ) (answer : ListenAnswer) → calls' ≡ calls ++ listen_entries address answer → noted calls' ≡ after_listen (noted calls) answer
+listen_noted calls calls' address (listen.Ready secs) log = ap noted log ∙ noted_more calls (Listen address (listen.Ready secs) ∷ [])
+listen_noted calls calls' address listen.Failed log = ap noted log ∙ noted_more calls (Listen address listen.Failed ∷ [])
+listen_noted calls calls' address listen.Memory log = ap noted log ∙ noted_more calls []
+
+listen_quiet : (calls calls' : List Entry) (address : List ℕ) (answer : ListenAnswer) → calls' ≡ calls ++ listen_entries address answer → is_ready answer ≡ false → noted calls' ≡ noted calls
+listen_quiet calls calls' address (listen.Ready secs) log is = absurd (cc is)
+listen_quiet calls calls' address listen.Failed log is = listen_noted calls calls' address listen.Failed log
+listen_quiet calls calls' address listen.Memory log is = listen_noted calls calls' address listen.Memory log
+
+keeps_listens : (lent : Lent) (calls calls' : List Entry) (old new : Seen) (address : List ℕ) (answer : ListenAnswer) → Keeps lent calls old.kept old.sends old.spent → calls' ≡ calls ++ listen_entries address answer
+    → TakesListen old new address answer → (answer ≡ listen.Memory → new.spent ≡ true) → Keeps lent calls' new.kept new.sends new.spent
+keeps_listens lent calls calls' old new address answer keeps log takes spends = by_asked takes.asked refl
+  where
+    spelled : (sends : List Summary) (secs : ℕ) → IsRecord (listen_entry sends secs) → Spells (not old.kept.has_record) (listen_entry sends secs) (record_bytes (listen_entry sends secs))
+    spelled sends secs allowed = record { allowed = allowed; order = sym (ap not takes.unbegun); text = refl }
+
+    quiet : is_ready answer ≡ false → new.kept ≡ old.kept → Keeps lent calls' new.kept new.sends new.spent
+    quiet unready kept_is =
+        let same = listen_quiet calls calls' address answer log unready in
+        keeps_same lent calls calls' old.kept new.kept old.sends new.sends old.spent new.spent keeps (ap (λ so_far. so_far.records) same) (ap (λ so_far. so_far.sends) same ∙ keeps.sends_are ∙ sym (takes.uncleared unready)) kept_is
+        (λ was. absurd (cc (takes.unspent, was)))
+
+    handed : (secs : ℕ) → takes.asked ≡ listen.Ready secs → answer ≡ listen.Ready secs → Keeps lent calls' new.kept new.sends new.spent
+    handed secs is same =
+        let ready : is_ready answer ≡ true = ap is_ready same in
+        let entry_is : listen_entry old.sends secs ≡ listen_entry (noted calls).sends secs = ap (λ (sends : List Summary). listen_entry sends secs) (sym keeps.sends_are) in
+        let added : AddsRecord (record_bytes (listen_entry (noted calls).sends secs)) true old.kept new.kept =
+        subst (λ (flag : Bool). AddsRecord (record_bytes (listen_entry (noted calls).sends secs)) flag old.kept new.kept) ready
+        (subst (λ (entry : TurnRecord). AddsRecord (record_bytes entry) (is_ready answer) old.kept new.kept) entry_is (takes.records secs is)) in
+        keeps_added lent calls calls' old.kept new.kept old.sends new.sends old.spent new.spent (listen_entry (noted calls).sends secs) (record_bytes (listen_entry (noted calls).sends secs)) keeps takes.unspent
+        (spelled (noted calls).sends secs (subst IsRecord entry_is (takes.allowed secs is))) added
+        (listen_noted calls calls' address answer log ∙ ap (after_listen (noted calls)) same) (takes.cleared ready)
+
+    lost : (secs : ℕ) → takes.asked ≡ listen.Ready secs → is_ready answer ≡ false → new.spent ≡ true → Keeps lent calls' new.kept new.sends new.spent
+    lost secs is unready spent_is =
+        keeps_lost lent calls calls' old.kept new.kept old.sends new.sends old.spent new.spent (is_ready answer) (listen_entry old.sends secs) (record_bytes (listen_entry old.sends secs)) keeps takes.unspent
+        (spelled old.sends secs (takes.allowed secs is)) (takes.records secs is) (listen_quiet calls calls' address answer log unready) (takes.uncleared unready) spent_is
+
+    by_asked : (asked : ListenAnswer) → takes.asked ≡ asked → Keeps lent calls' new.kept new.sends new.spent
+    by_asked (listen.Ready secs) is =
+        let hands : (answer ≡ listen.Ready secs) ⊎ ((answer ≡ listen.Failed) ⊎ (answer ≡ listen.Memory)) = subst (λ (asked : ListenAnswer). HandsListen asked answer) is takes.hands in
+        elim hands [
+          | inl same ↦ handed secs is same
+          | inr gone ↦ elim gone [
+            | inl failed ↦ lost secs is (ap is_ready failed) (takes.spent (ap (λ (asked : ListenAnswer). is_lost_listen asked answer) is ∙ ap (is_lost_listen (listen.Ready secs)) failed))
+            | inr memory ↦ lost secs is (ap is_ready memory) (spends memory)
+          ]
+        ]
+    by_asked listen.Failed is =
+        let failed : answer ≡ listen.Failed = subst (λ (asked : ListenAnswer). HandsListen asked answer) is takes.hands in
+        quiet (ap is_ready failed) (takes.other (ap is_ready is))
+    by_asked listen.Memory is =
+        let memory : answer ≡ listen.Memory = subst (λ (asked : ListenAnswer). HandsListen asked answer) is takes.hands in
+        quiet (ap is_ready memory) (takes.other (ap is_ready is))
+
+pub keeps_listen : (lent : Lent) (calls calls' : List Entry) (old new : Seen) (address : List ℕ) (answer : ListenAnswer) → Keeps lent calls old.kept old.sends old.spent → calls' ≡ calls ++ listen_entries address answer
+    → ListenStep old new address answer → (answer ≡ listen.Memory → new.spent ≡ true) → Keeps lent calls' new.kept new.sends new.spent
+keeps_listen lent calls calls' old new address answer keeps log (listen_refused why memory rests) spends =
+    let same = listen_quiet calls calls' address answer log (ap is_ready memory) in
+    keeps_same lent calls calls' old.kept new.kept old.sends new.sends old.spent new.spent keeps (ap (λ so_far. so_far.records) same) (ap (λ so_far. so_far.sends) same ∙ keeps.sends_are ∙ sym rests.sends) rests.kept (λ was. spends memory)
+keeps_listen lent calls calls' old new address answer keeps log (listen_taken takes) spends = keeps_listens lent calls calls' old new address answer keeps log takes spends
+
+-- ---- `send` and `close`
+
+-- the record after next has one send more
+abbrev with_send : ℕ → SendAnswer → Noted → Noted
+with_send link answer so_far = record { records = so_far.records; sends = after_send link answer so_far.sends }
+
+send_noted : (calls calls' : List Entry) (link : ℕ) (bytes : List ℕ) (answer : SendAnswer) → calls' ≡ calls ++ send_entries link bytes answer → noted calls' ≡ with_send link answer (noted calls)
+send_noted calls calls' link bytes (send.Took count) log = ap noted log ∙ noted_more calls (Send link bytes (send.Took count) ∷ [])
+send_noted calls calls' link bytes send.Later log = ap noted log ∙ noted_more calls (Send link bytes send.Later ∷ [])
+send_noted calls calls' link bytes send.Failed log = ap noted log ∙ noted_more calls (Send link bytes send.Failed ∷ [])
+send_noted calls calls' link bytes send.Memory log = ap noted log ∙ noted_more calls []
+
+pub keeps_send : (lent : Lent) (calls calls' : List Entry) (old new : Seen) (link : ℕ) (bytes : List ℕ) (answer : SendAnswer) → Keeps lent calls old.kept old.sends old.spent → calls' ≡ calls ++ send_entries link bytes answer
+    → (answer ≢ send.Memory → SendStep old new link bytes answer) → (answer ≡ send.Memory → Unsent old new) → (answer ≡ send.Memory → new.spent ≡ true) → Keeps lent calls' new.kept new.sends new.spent
+keeps_send lent calls calls' old new link bytes answer keeps log step unsent spends = by_answer answer refl
+  where
+    noted_is : noted calls' ≡ with_send link answer (noted calls)
+    noted_is = send_noted calls calls' link bytes answer log
+
+    sent : SendStep old new link bytes answer → Keeps lent calls' new.kept new.sends new.spent
+    sent step =
+        keeps_same lent calls calls' old.kept new.kept old.sends new.sends old.spent new.spent keeps (ap (λ so_far. so_far.records) noted_is) (ap (λ so_far. so_far.sends) noted_is ∙ ap (after_send link answer) keeps.sends_are ∙ sym step.sends) step.kept step.spent
+
+    by_answer : (asked : SendAnswer) → answer ≡ asked → Keeps lent calls' new.kept new.sends new.spent
+    by_answer (send.Took count) is = sent (step (λ memory. absurd (cc (is, memory))))
+    by_answer send.Later is = sent (step (λ memory. absurd (cc (is, memory))))
+    by_answer send.Failed is = sent (step (λ memory. absurd (cc (is, memory))))
+    by_answer send.Memory is =
+        let nothing = unsent is in
+        keeps_same lent calls calls' old.kept new.kept old.sends new.sends old.spent new.spent keeps (ap (λ so_far. so_far.records) noted_is)
+        (ap (λ so_far. so_far.sends) noted_is ∙ ap (λ (answer : SendAnswer). after_send link answer (noted calls).sends) is ∙ keeps.sends_are ∙ sym nothing.sends) nothing.kept (λ was. spends is)
+
+pub keeps_close : (lent : Lent) (calls calls' : List Entry) (old new : Seen) (link : ℕ) → Keeps lent calls old.kept old.sends old.spent → calls' ≡ calls ++ Close link ∷ [] → CloseStep old new link
+    → Keeps lent calls' new.kept new.sends new.spent
+keeps_close lent calls calls' old new link keeps log step =
+    let same : noted calls' ≡ noted calls = ap noted log ∙ noted_more calls (Close link ∷ []) in
+    keeps_same lent calls calls' old.kept new.kept old.sends new.sends old.spent new.spent keeps (ap (λ so_far. so_far.records) same) (ap (λ so_far. so_far.sends) same ∙ keeps.sends_are ∙ sym step.sends) step.kept step.spent

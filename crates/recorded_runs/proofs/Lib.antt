@@ -1,0 +1,6 @@
+pub mod JournalLaws
+pub mod CallLaws
+pub mod FaultLaws
+pub mod CrashLaws
+pub mod PassLaws
+pub mod TraceLaws

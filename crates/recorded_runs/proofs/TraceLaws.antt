@@ -1,0 +1,55 @@
+-- What each call of links that record does to the journal and to the inner links.
+use Rattle.std.proofs.Common.{◌≡◌, ◌≢◌, ℕ, true, List, [], ◌∷◌, ◌++◌, sym, ap, subst}
+use Rattle.std.proofs.Math.Logic.{∥∥₁_map}
+use Rattle.ports.specs.Calls.{LinksReport}
+use Rattle.ports.specs.Links.{listen_entries, next_entries, send_entries}
+use Rattle.ports.specs.declared.entry.Entry.{Entry}
+use Rattle.ports.specs.declared.entry.Entry.TheVariants.{Close}
+use Rattle.ports.specs.declared.links.ListenAnswer.{ListenAnswer}
+use Rattle.ports.specs.declared.links.ListenAnswer.TheVariants as listen
+use Rattle.ports.specs.declared.links.SendAnswer.{SendAnswer}
+use Rattle.ports.specs.declared.links.SendAnswer.TheVariants as send
+use Rattle.ports.specs.declared.links.Turn.{Turn}
+use Rattle.ports.specs.declared.links.Want.{Want}
+use Rattle.ports.specs.declared.links.What.TheVariants.{Memory}
+use Rattle.recorded_links.specs.Keeping.{kept_of}
+use Rattle.recorded_links.specs.Steps.{CloseStep, ListenStep, NextStep, Seen, SendStep, Unsent}
+use Rattle.recorded_runs.specs.Lending.{Lent, Passed, Traces}
+use Rattle.recorded_runs.proofs.CallLaws.{keeps_close, keeps_listen, keeps_next, keeps_send}
+use Rattle.recorded_runs.proofs.JournalLaws.{keeps_begun}
+use Rattle.recorded_runs.proofs.PassLaws.{passed_close, passed_listen, passed_next, passed_none, passed_send}
+
+pub traces_begun : (lent : Lent) (calls : List Entry) (seen : Seen) → calls ≡ [] → seen.kept ≡ kept_of lent.disk.past lent.found.gate lent.found.has_record → seen.sends ≡ [] → seen.inner ≡ lent.links → Traces lent calls seen
+traces_begun lent calls seen fresh kept_is unsent same =
+    subst (λ (calls : List Entry). Traces lent calls seen) (sym fresh) (record { keeps = keeps_begun lent seen.kept seen.sends seen.spent kept_is unsent; passed = passed_none seen.first lent.links seen.inner same })
+
+-- the numbers of the inner links begin where they did
+renumbered : (lent : LinksReport) (calls : List Entry) (old new : Seen) → new.first ≡ old.first → Passed old.first lent calls new.inner → Passed new.first lent calls new.inner
+renumbered lent calls old new same = subst (λ (first : ℕ). Passed first lent calls new.inner) (sym same)
+
+pub traces_next : (lent : Lent) (calls calls' : List Entry) (old new : Seen) (wants : List Want) (buf : List ℕ) (turn : Turn) → ∥ Traces lent calls old ∥₁ → calls' ≡ calls ++ next_entries wants buf turn → new.first ≡ old.first
+    → NextStep old new wants buf turn → (turn.what ≡ Memory → new.spent ≡ true) → ∥ Traces lent calls' new ∥₁
+traces_next lent calls calls' old new wants buf turn traces log same step spends = ∥∥₁_map traces (λ (before : Traces lent calls old). record {
+  keeps = keeps_next lent calls calls' old new wants buf turn before.keeps log step spends;
+  passed = renumbered lent.links calls' old new same (passed_next lent.links old new calls calls' wants buf turn before.passed log step);
+})
+
+pub traces_listen : (lent : Lent) (calls calls' : List Entry) (old new : Seen) (address : List ℕ) (answer : ListenAnswer) → ∥ Traces lent calls old ∥₁ → calls' ≡ calls ++ listen_entries address answer → new.first ≡ old.first
+    → ListenStep old new address answer → (answer ≡ listen.Memory → new.spent ≡ true) → ∥ Traces lent calls' new ∥₁
+traces_listen lent calls calls' old new address answer traces log same step spends = ∥∥₁_map traces (λ (before : Traces lent calls old). record {
+  keeps = keeps_listen lent calls calls' old new address answer before.keeps log step spends;
+  passed = renumbered lent.links calls' old new same (passed_listen lent.links old new calls calls' address answer before.passed log step);
+})
+
+pub traces_send : (lent : Lent) (calls calls' : List Entry) (old new : Seen) (link : ℕ) (bytes : List ℕ) (answer : SendAnswer) → ∥ Traces lent calls old ∥₁ → calls' ≡ calls ++ send_entries link bytes answer → new.first ≡ old.first
+    → (answer ≢ send.Memory → SendStep old new link bytes answer) → (answer ≡ send.Memory → Unsent old new) → (answer ≡ send.Memory → new.spent ≡ true) → ∥ Traces lent calls' new ∥₁
+traces_send lent calls calls' old new link bytes answer traces log same step unsent spends = ∥∥₁_map traces (λ (before : Traces lent calls old). record {
+  keeps = keeps_send lent calls calls' old new link bytes answer before.keeps log step unsent spends;
+  passed = renumbered lent.links calls' old new same (passed_send lent.links old new calls calls' link bytes answer before.passed before.keeps.sends_are log step unsent);
+})
+
+pub traces_close : (lent : Lent) (calls calls' : List Entry) (old new : Seen) (link : ℕ) → ∥ Traces lent calls old ∥₁ → calls' ≡ calls ++ Close link ∷ [] → new.first ≡ old.first → CloseStep old new link → ∥ Traces lent calls' new ∥₁
+traces_close lent calls calls' old new link traces log same step = ∥∥₁_map traces (λ (before : Traces lent calls old). record {
+  keeps = keeps_close lent calls calls' old new link before.keeps log step;
+  passed = renumbered lent.links calls' old new same (passed_close lent.links old new calls calls' link before.passed log step);
+})

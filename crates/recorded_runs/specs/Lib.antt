@@ -1,0 +1,5 @@
+pub mod Noting
+pub mod Passing
+pub mod Recording
+pub mod Lending
+pub mod Laws

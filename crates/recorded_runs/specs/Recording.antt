@@ -1,0 +1,39 @@
+-- What the file of a journal goes through while the turns of a run are recorded in it.
+use Rattle.std.specs.Prelude.{◌≡◌, ◌⊎◌, ℕ, List, [], ◌∷◌, ◌++◌}
+use Rattle.disk_port.specs.Past.{Leaves, LeavesOnly, Past}
+use Rattle.journal_format.specs.Journals.{Holds, Journal, with_record}
+use Rattle.journal_format.specs.Spelling.{IsRecord}
+use Rattle.journal_format.specs.declared.turn_record.TurnRecord.{TurnRecord}
+use Rattle.ports.specs.declared.entry.Entry.{Entry}
+use Rattle.recorded_runs.specs.Noting.{noted}
+use Rattle.turn_journal.specs.Standing.{HoldsOrWith}
+
+-- the journal with these records more
+abbrev pub with_records : Journal → List TurnRecord → Journal
+with_records journal entries = record { config = journal.config; records = journal.records ++ entries }
+
+-- Until `now` a crash left the journal, or the journal with this record whole. Since then every crash leaves the latter.
+pub record IsKept (journal : Journal) (entry : TurnRecord) (past now : Past) : Type 0 where
+  pub until : LeavesOnly past now (HoldsOrWith journal entry)
+  pub since : (image : List ℕ) → Leaves now image → Holds (with_record journal entry) image
+
+-- Each of these turns was handed out once its record was kept, after those before it. `now` is what was done to the file
+-- when the last of them was.
+pub data KeepsTurns (journal : Journal) (start : Past) : List TurnRecord → Past → Type 0 where
+  none_yet : {turns : List TurnRecord} {now : Past} → turns ≡ [] → now ≡ start → KeepsTurns journal start turns now
+  one_more : {turns : List TurnRecord} {now : Past} → (before : List TurnRecord) (entry : TurnRecord) (past : Past) → KeepsTurns journal start before past
+      → turns ≡ before ++ entry ∷ [] → IsKept (with_records journal before) entry past now → KeepsTurns journal start turns now
+
+-- The record of one turn more was begun. A crash leaves the journal, or the journal with this record whole.
+pub record IsBegun (journal : Journal) (past now : Past) : Type 0 where
+  pub entry : TurnRecord
+  pub allowed : IsRecord entry
+  pub leaves : LeavesOnly past now (HoldsOrWith journal entry)
+
+-- In a file that held the journal these calls were recorded: a crash at any moment leaves the journal with the turns that
+-- were handed out, in order. Beyond them it leaves one at most, whole, whose record was begun last.
+pub record Recorded (journal : Journal) (start : Past) (calls : List Entry) (now : Past) : Type 0 where
+  -- when the last turn was handed out
+  pub past : Past
+  pub turns : KeepsTurns journal start (noted calls).records past
+  pub last : (now ≡ past) ⊎ IsBegun (with_records journal (noted calls).records) past now

@@ -1,0 +1,10 @@
+//! Links that record a run, and what is known after it of the links and the disk that were lent to them.
+#![tactic(auto)]
+
+mod law;
+mod loan;
+mod traced;
+
+pub use law::crashes_leave_turns;
+pub use loan::Loan;
+pub use traced::TracedLinks;
