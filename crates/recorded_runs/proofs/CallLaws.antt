@@ -7,7 +7,7 @@ use Rattle.journal_format.specs.declared.turn_record.Summary.{Summary}
 use Rattle.journal_format.specs.declared.turn_record.TurnRecord.{TurnRecord}
 use Rattle.ports.specs.Links.{is_failed_turn, listen_entries, next_entries, piece_of, send_entries}
 use Rattle.ports.specs.declared.entry.Entry.{Entry}
-use Rattle.ports.specs.declared.entry.Entry.TheVariants.{Listen, Next, Send, Close}
+use Rattle.ports.specs.declared.entry.Entry.TheVariants.{Listen, Send, Close}
 use Rattle.ports.specs.declared.links.ListenAnswer.{ListenAnswer}
 use Rattle.ports.specs.declared.links.ListenAnswer.TheVariants as listen
 use Rattle.ports.specs.declared.links.SendAnswer.{SendAnswer}
@@ -16,7 +16,7 @@ use Rattle.ports.specs.declared.links.Turn.{Turn}
 use Rattle.ports.specs.declared.links.Want.{Want}
 use Rattle.ports.specs.declared.links.What.{What}
 use Rattle.ports.specs.declared.links.What.TheVariants.{Idle, Opened, Read, Ended, Broken, Room, Stopped, Failed, Memory}
-use Rattle.recorded_links.specs.Keeping.{AddsRecord, HandsListen, HandsOut, entry_of, event_of, is_lost, is_lost_listen, is_ready, is_recorded, listen_entry}
+use Rattle.recorded_links.specs.Keeping.{AddsRecord, HandsListen, HandsOut, entry_of, event_of, is_lost_listen, is_ready, is_recorded, listen_entry}
 use Rattle.recorded_links.specs.Sending.{after_send}
 use Rattle.recorded_links.specs.Steps.{CloseStep, ListenStep, NextStep, Seen, SendStep, Takes, TakesListen, Unsent, listen_refused, listen_taken, next_full, next_refused, next_taken}
 use Rattle.recorded_runs.specs.Lending.{Keeps, Lent}

@@ -1,13 +1,13 @@
 -- What a crash leaves of a run that was recorded.
-use Rattle.std.proofs.Common.{◌≡◌, ◌⊎◌, inl, inr, ℕ, ◌≤◌, List, [], ◌∷◌, ◌++◌, refl, sym, ◌∙◌, ap, subst, append-nil, append_assoc, arith}
+use Rattle.std.proofs.Common.{◌≡◌, ◌⊎◌, inl, inr, ℕ, List, [], ◌∷◌, ◌++◌, refl, sym, ◌∙◌, ap, subst, append-nil, append_assoc, arith}
 use Rattle.disk_port.specs.Past.{Leaves, LeavesOnly, Past}
 use Rattle.disk_port.proofs.PastLaws.{begins, then_more, weaker}
-use Rattle.journal_format.specs.Journals.{Holds, Journal, with_record}
+use Rattle.journal_format.specs.Journals.{Holds, Journal}
 use Rattle.journal_format.specs.declared.turn_record.TurnRecord.{TurnRecord}
 use Rattle.ports.specs.declared.entry.Entry.{Entry}
 use Rattle.recorded_runs.specs.Laws.{AreAll, AreFirst, HoldsMore}
 use Rattle.recorded_runs.specs.Noting.{noted}
-use Rattle.recorded_runs.specs.Recording.{IsBegun, IsKept, KeepsTurns, Recorded, none_yet, one_more, with_records}
+use Rattle.recorded_runs.specs.Recording.{IsBegun, KeepsTurns, Recorded, none_yet, one_more, with_records}
 use Rattle.recorded_runs.proofs.JournalLaws.{with_more, with_none}
 use Rattle.turn_journal.specs.Standing.{HoldsOrWith}
 

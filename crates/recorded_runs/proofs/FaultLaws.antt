@@ -1,9 +1,8 @@
 -- What each call of links that record adds to what they report, and to the faults of those that were lent to them.
-use Rattle.std.proofs.Common.{◌≡◌, ◌≢◌, ℕ, ◌+◌, ◌<◌, ◌≤◌, Bool, true, false, ◌||◌, List, [], ◌∷◌, ◌++◌, refl, sym, ◌∙◌, ap, subst, arith, IsTrue}
+use Rattle.std.proofs.Common.{◌≡◌, ◌≢◌, ℕ, ◌+◌, ◌<◌, ◌≤◌, Bool, true, false, ◌||◌, List, ◌++◌, refl, sym, ◌∙◌, ap, subst, arith, IsTrue}
 use Rattle.std.specs.Prelude.{Option, Some, None}
 use Rattle.std.specs.Option.{ForSome, option_map}
-use Rattle.std.proofs.lemmas.Option.{same_Some}
-use Rattle.disk_port.specs.Calls.{DiskReport, Fails}
+use Rattle.disk_port.specs.Calls.{DiskReport}
 use Rattle.list_laws.specs.Counts.{Rose, greatest}
 use Rattle.ports.specs.Calls.{AddsCalls, LinksReport}
 use Rattle.ports.specs.Links.{HasListenCause, HasNextCause, MayClose, is_unclosed}

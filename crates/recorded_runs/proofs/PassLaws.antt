@@ -1,24 +1,22 @@
 -- Which call of the inner links is made for one of links that record.
-use Rattle.std.proofs.Common.{◌≡◌, ◌≢◌, ◌⊎◌, inl, inr, ℕ, Bool, true, false, List, [], ◌∷◌, ◌++◌, length, refl, sym, ◌∙◌, ap, subst, append-nil}
+use Rattle.std.proofs.Common.{◌≡◌, ◌≢◌, ◌⊎◌, inl, inr, ℕ, Bool, true, false, List, [], ◌∷◌, ◌++◌, length, refl, sym, ◌∙◌, ap, subst}
 use Rattle.std.specs.Prelude.{Option, Some, None}
-use Rattle.journal_format.specs.declared.turn_record.Summary.{Summary}
 use Rattle.ports.specs.Calls.{AddsCalls, LinksReport}
 use Rattle.ports.specs.Links.{listen_entries, next_entries, send_entries}
 use Rattle.ports.specs.declared.entry.Entry.{Entry}
-use Rattle.ports.specs.declared.entry.Entry.TheVariants.{Listen, Next, Send, Close}
+use Rattle.ports.specs.declared.entry.Entry.TheVariants.{Close}
 use Rattle.ports.specs.declared.links.ListenAnswer.{ListenAnswer}
-use Rattle.ports.specs.declared.links.ListenAnswer.TheVariants as listen
 use Rattle.ports.specs.declared.links.SendAnswer.{SendAnswer}
 use Rattle.ports.specs.declared.links.SendAnswer.TheVariants as send
 use Rattle.ports.specs.declared.links.Turn.{Turn}
 use Rattle.ports.specs.declared.links.Want.{Want}
 use Rattle.ports.specs.declared.links.What.{What}
-use Rattle.ports.specs.declared.links.What.TheVariants.{Stopped, Memory}
+use Rattle.ports.specs.declared.links.What.TheVariants.{Memory}
 use Rattle.ports.proofs.CallLemmas.{calls_then, no_calls}
 use Rattle.recorded_links.specs.Keeping.{HandsOut}
-use Rattle.recorded_links.specs.Numbers.{inner_number, own_turn}
+use Rattle.recorded_links.specs.Numbers.{inner_number}
 use Rattle.recorded_links.specs.Sending.{may_note}
-use Rattle.recorded_links.specs.Steps.{Asks, CloseStep, ListenStep, NextStep, Seen, SendStep, Takes, Unsent, answered, listen_refused, listen_taken, next_full, next_refused, next_taken, not_asked}
+use Rattle.recorded_links.specs.Steps.{Asks, CloseStep, ListenStep, NextStep, Seen, SendStep, Unsent, answered, listen_refused, listen_taken, next_full, next_refused, next_taken, not_asked}
 use Rattle.recorded_runs.specs.Lending.{Passed}
 use Rattle.recorded_runs.specs.Noting.{noted}
 use Rattle.recorded_runs.specs.Passing.{IsPassed, closed, closed_own, listens, none_made, one_made, sent, stops, turns, unasked, unsent}

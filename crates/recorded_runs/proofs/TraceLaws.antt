@@ -1,5 +1,5 @@
 -- What each call of links that record does to the journal and to the inner links.
-use Rattle.std.proofs.Common.{◌≡◌, ◌≢◌, ℕ, true, List, [], ◌∷◌, ◌++◌, sym, ap, subst}
+use Rattle.std.proofs.Common.{◌≡◌, ◌≢◌, ℕ, true, List, [], ◌∷◌, ◌++◌, sym, subst}
 use Rattle.std.proofs.Math.Logic.{∥∥₁_map}
 use Rattle.ports.specs.Calls.{LinksReport}
 use Rattle.ports.specs.Links.{listen_entries, next_entries, send_entries}

@@ -1,4 +1,4 @@
-use Rattle.std.proofs.Common.{◌≡◌, ◌≤◌, ◌+◌, ◌∙◌, ◌∷◌, [], ℕ, sym, ap, subst, arith}
+use Rattle.std.proofs.Common.{◌∙◌, ◌∷◌, [], sym, ap, subst, arith}
 use Rattle.list_laws.specs.Counts.{Rose}
 use Rattle.ports.specs.declared.entry.Entry.TheVariants.{Close}
 use Rattle.recorded_links.specs.Numbers.{first_after}

@@ -1,4 +1,4 @@
-use Rattle.std.proofs.Common.{◌≡◌, ◌≤◌, ◌+◌, ◌||◌, ℕ, Bool, sym, ◌∙◌, ap, subst, arith}
+use Rattle.std.proofs.Common.{◌+◌, Bool, sym, ◌∙◌, ap, subst, arith}
 use Rattle.ports.specs.Calls.{AddsCalls}
 use Rattle.ports.specs.Links.{HasListenCause, listen_entries}
 use Rattle.recorded_links.specs.Numbers.{first_after}
