@@ -27,7 +27,7 @@ impl OpenLinks {
     }
 
     /// Notes a turn.
-    pub(crate) fn turned(&mut self, what: What) -> Result<(), Memory>
+    pub fn turned(&mut self, what: What) -> Result<(), Memory>
         ensures ok { OnOk result
             (self.new.numbers.keys ≡ opened_after what self.old.numbers.keys) }
         ensures err { OnErr result (self.new.numbers.keys ≡ self.old.numbers.keys) }
@@ -39,14 +39,14 @@ impl OpenLinks {
     }
 
     /// Notes a close.
-    pub(crate) fn closed(&mut self, link: u64)
+    pub fn closed(&mut self, link: u64)
         ensures { self.new.numbers.keys ≡ closed_after link self.old.numbers.keys }
     {
         let _ = self.numbers.remove(&link);
     }
 
     /// The first link, if there is one.
-    pub(crate) fn first(&self) -> Option<u64>
+    pub fn first(&self) -> Option<u64>
         ensures { result ≡ slice_get self.now.numbers.keys 0 }
     {
         match self.numbers.first() {

@@ -1,0 +1,4 @@
+pub mod PassLaws
+pub mod CallLaws
+pub mod GiveLaws
+pub mod ResumeLaws

@@ -1,0 +1,166 @@
+//! How links begin a journal, and how they resume one.
+
+use crate::links::JournalLinks;
+use disk_port::Disk;
+use ev_types::{Blob, Memory};
+use ports::Links;
+use recorded_links::{CallLog, RecordedLinks};
+use replayed_links::{OpenLinks, last_opened};
+use std::alloc::Global;
+use turn_journal::{JournalFault, JournalFile};
+use turn_replay::{Replay, TurnRecords, read_journal};
+
+impl<'a, L: Links, D: Disk> JournalLinks<'a, L, D> {
+    ghost use Rattle.std.specs.Prelude.{◌≡◌, ◌+◌, ◌<◌, ◌≤◌, [], None, false, true, length, IfOk};
+    ghost use Rattle.std.specs.List.{list_all};
+    ghost use Rattle.std.specs.Option.{ForSome, option_map};
+    ghost use Rattle.disk_port.specs.Past.{synced};
+    ghost use Rattle.journal_format.specs.Limits.{config_limit, journal_limit, step_limit};
+    ghost use Rattle.journal_links.specs.Resuming.{Resumes};
+    ghost use Rattle.recorded_links.specs.Numbers.{first_after};
+    ghost use Rattle.replayed_links.specs.Opened.{first_free};
+    ghost use Rattle.turn_journal.specs.Beginning.{StandsBlank};
+    ghost use Rattle.turn_replay.specs.Reading.{has_event};
+    ghost use Rattle.turn_replay.specs.Replaying.{summaries_next};
+
+    /// Links that give the turns of these records again, and record the turns after them in this journal.
+    pub fn over(
+        alloc: Global,
+        inner: &'a mut L,
+        journal: JournalFile<'a, D>,
+        config: Blob,
+        records: TurnRecords,
+    ) -> Result<JournalLinks<'a, L, D>, Memory>
+        requires sound { journal.failed ≡ false }
+        requires room { journal.has_record ≡ false → journal.gate + step_limit < journal_limit }
+        requires events { list_all has_event records ≡ true }
+        ensures inner { IfOk result (λ links. links.recorded.inner.now ≡ inner.entry.now) }
+        ensures inner_same { IfOk result (λ links.
+            links.recorded.inner.ghost_name ≡ inner.entry.ghost_name) }
+        ensures journal { IfOk result (λ links.
+            links.recorded.recorder.journal ≡ journal.entry) }
+        ensures sends { IfOk result (λ links.
+            links.recorded.recorder.sends.summaries.items ≡ []) }
+        ensures last { IfOk result (λ links.
+            first_after links.recorded.last ≡ first_free records) }
+        ensures ready { IfOk result (λ links. links.recorded.spent ≡ false) }
+        ensures quiet { IfOk result (λ links. links.recorded.disk_failed ≡ false) }
+        ensures log { IfOk result (λ links. links.log ≡ []) }
+        ensures config { IfOk result (λ links. links.config ≡ config) }
+        ensures records { IfOk result (λ links. links.replay.records ≡ records) }
+        ensures given { IfOk result (λ links. links.replay.given ≡ 0) }
+        ensures left { IfOk result (λ links. links.replay.left.items ≡ summaries_next records) }
+        ensures opened { IfOk result (λ links. links.opened.numbers.keys ≡ []) }
+    {
+        let last = last_opened(records.as_slice());
+        let replay = Replay::over(alloc, records)?;
+        let recorded = RecordedLinks::over(alloc, inner, journal, last);
+        Ok(JournalLinks {
+            recorded,
+            replay,
+            opened: OpenLinks::fresh(alloc),
+            log: CallLog::fresh(),
+            config,
+        })
+    }
+
+    /// Begins a journal of this configuration in the disk's file, and records all turns in it. What is known after an
+    /// error [`turn_journal::begin_on`] says.
+    pub fn record(
+        alloc: Global,
+        inner: &'a mut L,
+        disk: &'a mut D,
+        config: &[u8],
+    ) -> Result<JournalLinks<'a, L, D>, JournalFault>
+        requires { length config.now ≤ config_limit }
+        // Once it has answered Ok, every crash leaves the journal.
+        ensures begun { IfOk result (λ links. ForSome (D.report disk.entry.now).past (λ _.
+            StandsBlank config.now (record {
+            gate = links.recorded.recorder.journal.gate;
+            has_record = links.recorded.recorder.journal.has_record; })
+            (D.report links.recorded.recorder.journal.disk.now).past)) }
+        ensures inner { IfOk result (λ links. links.recorded.inner.now ≡ inner.entry.now) }
+        ensures inner_same { IfOk result (λ links.
+            links.recorded.inner.ghost_name ≡ inner.entry.ghost_name) }
+        ensures disk_same { IfOk result (λ links.
+            links.recorded.recorder.journal.disk.ghost_name ≡ disk.entry.ghost_name) }
+        ensures no_fault { IfOk result (λ links.
+            (D.report links.recorded.recorder.journal.disk.now).faults
+            ≡ (D.report disk.entry.now).faults) }
+        ensures opened { IfOk result (λ links.
+            (D.report links.recorded.recorder.journal.disk.now).opened
+            ≡ (D.report disk.entry.now).opened) }
+        ensures unbegun { IfOk result (λ links.
+            links.recorded.recorder.journal.has_record ≡ false) }
+        ensures sends { IfOk result (λ links.
+            links.recorded.recorder.sends.summaries.items ≡ []) }
+        ensures last { IfOk result (λ links. first_after links.recorded.last ≡ 0) }
+        ensures ready { IfOk result (λ links. links.recorded.spent ≡ false) }
+        ensures quiet { IfOk result (λ links. links.recorded.disk_failed ≡ false) }
+        ensures log { IfOk result (λ links. links.log ≡ []) }
+        ensures config { IfOk result (λ links. links.config ≡ config.now) }
+        ensures records { IfOk result (λ links. links.replay.records ≡ []) }
+        ensures given { IfOk result (λ links. links.replay.given ≡ 0) }
+        ensures opened_links { IfOk result (λ links. links.opened.numbers.keys ≡ []) }
+    {
+        let kept = Blob::from_slice(alloc, config)?;
+        let journal = match JournalFile::begin(alloc, disk, config) {
+            Ok(journal) => journal,
+            Err(fault) => return Err(fault),
+        };
+        let records = TurnRecords::fresh(alloc);
+        let links = JournalLinks::over(alloc, inner, journal, kept, records)?;
+        Ok(links)
+    }
+
+    /// Loads the journal in the disk's file, gives its turns again, and records the turns after them in it. What is
+    /// known after an error [`turn_journal::load_on`] says, and after it out of memory alone is possible.
+    pub fn resume(
+        alloc: Global,
+        inner: &'a mut L,
+        disk: &'a mut D,
+    ) -> Result<JournalLinks<'a, L, D>, JournalFault>
+        // Once it has answered Ok, every crash leaves the journal.
+        ensures resumed { IfOk result (λ links. ForSome (D.report disk.entry.now).past (λ past.
+            Resumes past (record {
+            gate = links.recorded.recorder.journal.gate;
+            has_record = links.recorded.recorder.journal.has_record; })
+            links.config links.replay.records)) }
+        ensures synced { IfOk result (λ links.
+            (D.report links.recorded.recorder.journal.disk.now).past
+            ≡ option_map synced (D.report disk.entry.now).past) }
+        ensures inner { IfOk result (λ links. links.recorded.inner.now ≡ inner.entry.now) }
+        ensures inner_same { IfOk result (λ links.
+            links.recorded.inner.ghost_name ≡ inner.entry.ghost_name) }
+        ensures disk_same { IfOk result (λ links.
+            links.recorded.recorder.journal.disk.ghost_name ≡ disk.entry.ghost_name) }
+        ensures no_fault { IfOk result (λ links.
+            (D.report links.recorded.recorder.journal.disk.now).faults
+            ≡ (D.report disk.entry.now).faults) }
+        ensures opened { IfOk result (λ links.
+            (D.report links.recorded.recorder.journal.disk.now).opened
+            ≡ (D.report disk.entry.now).opened) }
+        ensures sends { IfOk result (λ links.
+            links.recorded.recorder.sends.summaries.items ≡ []) }
+        ensures last { IfOk result (λ links.
+            first_after links.recorded.last ≡ first_free links.replay.records) }
+        ensures ready { IfOk result (λ links. links.recorded.spent ≡ false) }
+        ensures quiet { IfOk result (λ links. links.recorded.disk_failed ≡ false) }
+        ensures log { IfOk result (λ links. links.log ≡ []) }
+        ensures given { IfOk result (λ links. links.replay.given ≡ 0) }
+        ensures left { IfOk result (λ links.
+            links.replay.left.items ≡ summaries_next links.replay.records) }
+        ensures opened_links { IfOk result (λ links. links.opened.numbers.keys ≡ []) }
+    {
+        let (journal, bytes) = match JournalFile::load(alloc, disk) {
+            Ok(loaded) => loaded,
+            Err(fault) => return Err(fault),
+        };
+        let (config, records) = match read_journal(alloc, bytes.as_slice()) {
+            Ok(read) => read,
+            Err(fault) => return Err(fault),
+        };
+        let links = JournalLinks::over(alloc, inner, journal, config, records)?;
+        Ok(links)
+    }
+}
