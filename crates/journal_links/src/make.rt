@@ -76,8 +76,9 @@ impl<'a, L: Links, D: Disk> JournalLinks<'a, L, D> {
         // Once it has answered Ok, every crash leaves the journal.
         ensures begun { IfOk result (λ links. ForSome (D.report disk.entry.now).past (λ _.
             StandsBlank config.now (record {
-            gate = links.recorded.recorder.journal.gate;
-            has_record = links.recorded.recorder.journal.has_record; })
+              gate = links.recorded.recorder.journal.gate;
+              has_record = links.recorded.recorder.journal.has_record;
+            })
             (D.report links.recorded.recorder.journal.disk.now).past)) }
         ensures inner { IfOk result (λ links. links.recorded.inner.now ≡ inner.entry.now) }
         ensures inner_same { IfOk result (λ links.
@@ -123,8 +124,9 @@ impl<'a, L: Links, D: Disk> JournalLinks<'a, L, D> {
         // Once it has answered Ok, every crash leaves the journal.
         ensures resumed { IfOk result (λ links. ForSome (D.report disk.entry.now).past (λ past.
             Resumes past (record {
-            gate = links.recorded.recorder.journal.gate;
-            has_record = links.recorded.recorder.journal.has_record; })
+              gate = links.recorded.recorder.journal.gate;
+              has_record = links.recorded.recorder.journal.has_record;
+            })
             links.config links.replay.records)) }
         ensures synced { IfOk result (λ links.
             (D.report links.recorded.recorder.journal.disk.now).past
