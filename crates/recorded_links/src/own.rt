@@ -10,7 +10,7 @@ impl<'a, L: Links, D: Disk> RecordedLinks<'a, L, D> {
     ghost use Rattle.std.specs.Prelude.{◌≡◌, [], true};
     ghost use Rattle.ports.specs.Calls.{AddsCalls};
     ghost use Rattle.ports.specs.Links.{HasListenCause, listen_entries};
-    ghost use Rattle.recorded_links.specs.Keeping.{FailedIf, HasPiece, is_recorded};
+    ghost use Rattle.recorded_links.specs.Keeping.{FailedIf, HasPiece, is_lost, is_recorded};
     ghost use Rattle.recorded_links.specs.Numbers.{first_after};
     ghost use Rattle.recorded_links.specs.Steps.{OwnStep, seen};
 
@@ -47,6 +47,7 @@ impl<'a, L: Links, D: Disk> RecordedLinks<'a, L, D> {
         ensures disk_failed { FailedIf self.new.disk_failed
             (D.report self.old.recorder.journal.disk.now).faults
             (D.report self.new.recorder.journal.disk.now).faults }
+        ensures lost { self.new.disk_failed ≡ is_lost turn.what result.what }
         ensures memory { result.what ≡ What.Memory → self.new.spent ≡ true }
         ensures fault { self.new.disk_failed ≡ true → self.new.spent ≡ true }
         ensures opened { (D.report self.new.recorder.journal.disk.now).opened
