@@ -14,7 +14,7 @@ use Rattle.ports.specs.declared.links.SendAnswer.TheVariants as send
 use Rattle.ports.specs.declared.links.What.{What}
 use Rattle.ports.specs.declared.links.What.TheVariants.{Idle, Opened, Read, Ended, Broken, Room, Stopped, Failed, Memory}
 use Rattle.recorded_links.specs.Keeping.{FailedIf}
-use Rattle.recorded_links.specs.Steps.{Seen, SendStep, own_report}
+use Rattle.recorded_links.specs.Steps.{Seen, SendStep, Unsent, own_report}
 use Rattle.recorded_links.proofs.StepLaws.{own_calls}
 
 -- the same calls, in another log
@@ -65,8 +65,8 @@ no_cause Failed old new is same = absurd (cc is)
 no_cause Memory old new is same = same
 
 -- a send that was passed on, or of which memory ran out
-pub send_of : (old new : Seen) (was is : Progress) (link : ℕ) (bytes : List ℕ) (answer : SendAnswer) → is_over was ≡ true → Stays was is → (answer ≢ send.Memory → SendStep old new link bytes answer) → SendOf old new was is link bytes answer
-send_of old new was is link bytes (send.Took count) over stays step = send_passed over (step (λ same. cc)) stays
-send_of old new was is link bytes send.Later over stays step = send_passed over (step (λ same. cc)) stays
-send_of old new was is link bytes send.Failed over stays step = send_passed over (step (λ same. cc)) stays
-send_of old new was is link bytes send.Memory over stays step = send_memory over refl stays
+pub send_of : (old new : Seen) (was is : Progress) (link : ℕ) (bytes : List ℕ) (answer : SendAnswer) → is_over was ≡ true → Stays was is → (answer ≢ send.Memory → SendStep old new link bytes answer) → (answer ≡ send.Memory → Unsent old new) → SendOf old new was is link bytes answer
+send_of old new was is link bytes (send.Took count) over stays step unsent = send_passed over (step (λ same. cc)) stays
+send_of old new was is link bytes send.Later over stays step unsent = send_passed over (step (λ same. cc)) stays
+send_of old new was is link bytes send.Failed over stays step unsent = send_passed over (step (λ same. cc)) stays
+send_of old new was is link bytes send.Memory over stays step unsent = send_memory over refl (unsent refl) stays

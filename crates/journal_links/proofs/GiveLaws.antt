@@ -8,13 +8,14 @@ use Rattle.journal_format.specs.declared.turn_record.TurnEvent.TheVariants as ev
 use Rattle.journal_format.specs.declared.turn_record.TurnRecord.{TurnRecord}
 use Rattle.journal_links.specs.Steps.{HandsAgain, opens_before}
 use Rattle.ports.specs.Calls.{LinksReport}
+use Rattle.ports.specs.Counts.{Rose}
 use Rattle.ports.specs.Links.{HasListenCause, HasNextCause, IsPieceWithin, is_failed_turn, is_memory_turn}
 use Rattle.ports.specs.declared.links.ListenAnswer.{ListenAnswer}
 use Rattle.ports.specs.declared.links.ListenAnswer.TheVariants as listen
 use Rattle.ports.specs.declared.links.Turn.{Turn}
 use Rattle.ports.specs.declared.links.What.{What}
 use Rattle.ports.specs.declared.links.What.TheVariants.{Idle, Opened, Read, Ended, Broken, Room, Stopped, Failed, Memory}
-use Rattle.recorded_links.specs.Keeping.{FailedIf, is_lost}
+use Rattle.recorded_links.specs.Keeping.{FailedIf, is_lost, is_ready}
 use Rattle.recorded_links.specs.Steps.{OwnStep, Seen, own_full, own_refused, own_taken}
 use Rattle.replayed_links.specs.Opened.{is_before, number_after}
 use Rattle.turn_replay.specs.Replaying.{what_of}
@@ -123,6 +124,13 @@ again_cause listen.Failed answer inner inner' disk disk' cause hands same =
     subst (HasListenCause (inner + disk) (inner' + disk')) (sym hands) (λ less. let rose : inner < inner' = cause (omega (arith, less)) in omega (arith, rose, same))
 again_cause listen.Memory answer inner inner' disk disk' cause hands same =
     let none : inner' ≡ inner = cause in subst (HasListenCause (inner + disk) (inner' + disk')) (sym hands) (omega (arith, none, same))
+
+-- it failed since the inner links did
+pub again_failed : (asked answer : ListenAnswer) (inner inner' : ℕ) → HasListenCause inner inner' asked → HandsAgain asked answer → answer ≡ listen.Failed → Rose inner inner'
+again_failed (listen.Ready secs) answer inner inner' cause (inl ready) failed = absurd (cc (ap is_ready failed, ready))
+again_failed (listen.Ready secs) answer inner inner' cause (inr memory) failed = absurd (cc (memory, failed))
+again_failed listen.Failed answer inner inner' cause hands failed = cause
+again_failed listen.Memory answer inner inner' cause hands failed = absurd (cc (hands, failed))
 
 -- ---- what a record is given as
 

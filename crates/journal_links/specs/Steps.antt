@@ -14,7 +14,7 @@ use Rattle.ports.specs.declared.links.What.{What}
 use Rattle.ports.specs.declared.links.What.TheVariants.{Broken, Memory, Opened}
 use Rattle.recorded_links.specs.Keeping.{is_ready}
 use Rattle.recorded_links.specs.Numbers.{inner_number}
-use Rattle.recorded_links.specs.Steps.{CloseStep, ListenStep, NextStep, OwnStep, Rests, Seen, SendStep}
+use Rattle.recorded_links.specs.Steps.{CloseStep, ListenStep, NextStep, OwnStep, Rests, Seen, SendStep, Unsent}
 use Rattle.replayed_links.specs.Opened.{closed_after, opened_after}
 use Rattle.turn_replay.specs.Replaying.{GivesListen, GivesNext, answer_again, left_after}
 
@@ -132,11 +132,11 @@ pub data NextOf (old new : Seen) (was is : Progress) (wants : List Want) (buf : 
 -- A send before all turns were given again is answered by the summaries of the next record. One after them is passed on.
 pub data SendOf (old new : Seen) (was is : Progress) (link : ℕ) (bytes : List ℕ) (answer : SendAnswer) : Type 0 where
   send_again : is_over was ≡ false → answer ≡ answer_again link (length bytes) was.left → is.left ≡ left_after link (length bytes) was.left
-      → is.records ≡ was.records → is.given ≡ was.given → is.opened ≡ was.opened → Rests old new → SendOf old new was is link bytes answer
+      → is.records ≡ was.records → is.given ≡ was.given → is.opened ≡ was.opened → Rests old new → (old.spent ≡ true → new.spent ≡ true) → SendOf old new was is link bytes answer
   send_passed : is_over was ≡ true → SendStep old new link bytes answer → Stays was is → SendOf old new was is link bytes answer
-  send_memory : is_over was ≡ true → answer ≡ send.Memory → Stays was is → SendOf old new was is link bytes answer
+  send_memory : is_over was ≡ true → answer ≡ send.Memory → Unsent old new → Stays was is → SendOf old new was is link bytes answer
 
 -- The close of an inner link is passed on. Any other is that of a link of the journal.
 pub data CloseOf (old new : Seen) (was is : Progress) (link : ℕ) : Type 0 where
-  close_again : inner_number old.first link ≡ None → is.opened ≡ closed_after link was.opened → is.records ≡ was.records → is.given ≡ was.given → is.left ≡ was.left → Rests old new → CloseOf old new was is link
+  close_again : inner_number old.first link ≡ None → is.opened ≡ closed_after link was.opened → is.records ≡ was.records → is.given ≡ was.given → is.left ≡ was.left → Rests old new → (old.spent ≡ true → new.spent ≡ true) → CloseOf old new was is link
   close_passed : (number : ℕ) → inner_number old.first link ≡ Some number → CloseStep old new link → Stays was is → CloseOf old new was is link

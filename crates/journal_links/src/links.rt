@@ -2,6 +2,7 @@ ghost use Rattle.std.specs.Prelude.{◌≡◌, List, ◌++◌, ◌<◌, [], ◌�
 ghost use Rattle.std.specs.List.{list_all};
 ghost use Rattle.journal_links.specs.Steps.{CloseOf, ListenOf, ListensAgain, NextOf, SendOf, is_replayed, last_secs, opens_before, progress_of};
 ghost use Rattle.ports.specs.Calls.{AddsCalls};
+ghost use Rattle.ports.specs.Counts.{Rose};
 ghost use Rattle.ports.specs.Links.{HasListenCause, HasNextCause, IsPieceWithin, IsWithin, MayClose, is_failed_turn, listen_entries, next_entries, send_entries};
 ghost use Rattle.ports.specs.declared.entry.Entry.{Entry};
 ghost use Rattle.ports.specs.declared.entry.Entry.TheVariants.{Close};
@@ -94,6 +95,9 @@ impl<'a, L: Links, D: Disk> JournalLinks<'a, L, D> {
             (progress_of self.new.replay.records self.new.replay.given self.new.replay.left.items
             self.new.opened.numbers.keys)
             address.now result }
+        ensures failed { result ≡ ListenAnswer.Failed → self.new.recorded.disk_failed ≡ false →
+            Rose (L.report self.old.recorded.inner.now).faults
+            (L.report self.new.recorded.inner.now).faults }
         ensures memory { result ≡ ListenAnswer.Memory → self.new.recorded.spent ≡ true }
         ensures fault { self.new.recorded.disk_failed ≡ true → self.new.recorded.spent ≡ true }
         ensures disk_failed { FailedIf self.new.recorded.disk_failed
@@ -155,6 +159,9 @@ impl<'a, L: Links, D: Disk> JournalLinks<'a, L, D> {
             (progress_of self.new.replay.records self.new.replay.given self.new.replay.left.items
             self.new.opened.numbers.keys)
             address.now result }
+        ensures failed { result ≡ ListenAnswer.Failed →
+            Rose (L.report self.old.recorded.inner.now).faults
+            (L.report self.new.recorded.inner.now).faults }
         ensures memory { result ≡ ListenAnswer.Memory → self.new.recorded.spent ≡ true }
         ensures disk_failed { self.new.recorded.disk_failed ≡ false }
         ensures faults { (D.report self.new.recorded.recorder.journal.disk.now).faults
@@ -208,6 +215,9 @@ impl<'a, L: Links, D: Disk> JournalLinks<'a, L, D> {
             (progress_of self.new.replay.records self.new.replay.given self.new.replay.left.items
             self.new.opened.numbers.keys)
             wants.now buf.new result }
+        ensures failed { result.what ≡ What.Failed → self.new.recorded.disk_failed ≡ false →
+            Rose (L.report self.old.recorded.inner.now).faults
+            (L.report self.new.recorded.inner.now).faults }
         ensures memory { result.what ≡ What.Memory → self.new.recorded.spent ≡ true }
         ensures fault { self.new.recorded.disk_failed ≡ true → self.new.recorded.spent ≡ true }
         ensures disk_failed { FailedIf self.new.recorded.disk_failed
@@ -309,6 +319,7 @@ impl<'a, L: Links, D: Disk> JournalLinks<'a, L, D> {
             (D.report self.old.recorded.recorder.journal.disk.now)).faults
             (own_report self.new.log (L.report self.new.recorded.inner.now)
             (D.report self.new.recorded.recorder.journal.disk.now)).faults result.what }
+        ensures failed { result.what ≡ What.Failed → self.new.recorded.disk_failed ≡ true }
         ensures memory { result.what ≡ What.Memory → self.new.recorded.spent ≡ true }
         ensures fault { self.new.recorded.disk_failed ≡ true → self.new.recorded.spent ≡ true }
         ensures inner { L.report self.new.recorded.inner.now
@@ -426,6 +437,9 @@ impl<'a, L: Links, D: Disk> Links for JournalLinks<'a, L, D> {
         ensures disk_failed { FailedIf self.new.recorded.disk_failed
             (D.report self.old.recorded.recorder.journal.disk.now).faults
             (D.report self.new.recorded.recorder.journal.disk.now).faults }
+        ensures failed { result ≡ ListenAnswer.Failed → self.new.recorded.disk_failed ≡ false →
+            Rose (L.report self.old.recorded.inner.now).faults
+            (L.report self.new.recorded.inner.now).faults }
         ensures memory { result ≡ ListenAnswer.Memory → self.new.recorded.spent ≡ true }
         ensures fault { self.new.recorded.disk_failed ≡ true → self.new.recorded.spent ≡ true }
         ensures log { self.new.log ≡ self.old.log ++ listen_entries address.now result }
@@ -478,6 +492,9 @@ impl<'a, L: Links, D: Disk> Links for JournalLinks<'a, L, D> {
         ensures disk_failed { FailedIf self.new.recorded.disk_failed
             (D.report self.old.recorded.recorder.journal.disk.now).faults
             (D.report self.new.recorded.recorder.journal.disk.now).faults }
+        ensures failed { result.what ≡ What.Failed → self.new.recorded.disk_failed ≡ false →
+            Rose (L.report self.old.recorded.inner.now).faults
+            (L.report self.new.recorded.inner.now).faults }
         ensures memory { result.what ≡ What.Memory → self.new.recorded.spent ≡ true }
         ensures fault { self.new.recorded.disk_failed ≡ true → self.new.recorded.spent ≡ true }
         ensures log { self.new.log ≡ self.old.log ++ next_entries wants.now buf.new result }

@@ -15,7 +15,7 @@ returns-then-is_over-clause-passes g c =
     (passes_send (first_after c.args.self.now.recorded.last) c.args.self.now.log c.args.self.now.recorded.log c.send.new.self.log c.args.link c.args.bytes.now c.send.result c.send.ensures.log c.args.self.now.passes)
 
 pub returns-then-is_over-clause-step : goal.returns-then-is_over-clause-step
-returns-then-is_over-clause-step g c = send_of _ _ _ _ c.args.link c.args.bytes.now c.send.result (search rules) (record { records = refl; given = refl; left = refl; opened = refl }) c.send.ensures.step
+returns-then-is_over-clause-step g c = send_of _ _ _ _ c.args.link c.args.bytes.now c.send.result (search rules) (record { records = refl; given = refl; left = refl; opened = refl }) c.send.ensures.step c.send.ensures.unsent
 
 pub invariant_of-self-clause-passes : goal.invariant_of-self-clause-passes
 invariant_of-self-clause-passes g c =

@@ -1,6 +1,6 @@
 use Rattle.std.proofs.Common.{◌≡◌, ◌++◌, refl, ap, sym, subst, arith}
 use Rattle.disk_port.specs.Calls.{DiskReport}
-use Rattle.journal_links.proofs.GiveLaws.{again_cause}
+use Rattle.journal_links.proofs.GiveLaws.{again_cause, again_failed}
 use Rattle.journal_links.proofs.PassLaws.{passes_listen_here, same_last}
 use Rattle.ports.specs.Links.{listen_entries}
 use Rattle.recorded_links.specs.Numbers.{first_after}
@@ -43,3 +43,6 @@ returns-clause-again g c = record {
   faults = cc;
   sends = cc;
 }
+
+pub returns-clause-failed : goal.returns-clause-failed
+returns-clause-failed g c = λ failed. again_failed c.listen_again-asked.result c.first_answer-answer.result (g.L.Links.report c.args.self.now.recorded.inner.now).faults (g.L.Links.report c.listen_again-asked.new.self.inner.now).faults c.listen_again-asked.ensures.cause c.first_answer-answer.ensures.hands failed

@@ -3,7 +3,7 @@ use Rattle.journal_links.specs.Steps.{next_broken, next_inner}
 use Rattle.journal_links.proofs.CallLaws.{no_cause, other_calls, own_quiet, risen_if, unfailed}
 use Rattle.journal_links.proofs.PassLaws.{passes_quiet, passes_turn, passes_turn_there, same_before, same_last}
 use Rattle.ports.specs.Calls.{LinksReport}
-use Rattle.ports.specs.Links.{next_entries}
+use Rattle.ports.specs.Links.{is_failed_turn, next_entries}
 use Rattle.recorded_links.specs.Numbers.{first_after}
 use Rattle.turn_replay.specs.declared.replay.Replay.{Replay}
 use Rattle.journal_links.proofs.links.JournalLinks.turn.Goals as goal
@@ -67,3 +67,9 @@ invariant_of-self-clause-passes g c =
 
 pub invariant_of-self-clause-before : goal.invariant_of-self-clause-before
 invariant_of-self-clause-before g c = same_before c.args.self.now.recorded.last c.next.new.self.last c.args.self.now.replay.records c.next.ensures.last c.args.self.now.before
+
+pub returns-then-not-is_over-clause-failed : goal.returns-then-not-is_over-clause-failed
+returns-then-not-is_over-clause-failed g c = λ failed quiet. absurd (cc (ap is_failed_turn failed, c.turn_again.ensures.unfailed))
+
+pub returns-in-Some-clause-failed : goal.returns-in-Some-clause-failed
+returns-in-Some-clause-failed g c = λ failed quiet. absurd (cc (c.break_link.ensures.failed failed, quiet))
