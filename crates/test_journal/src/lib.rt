@@ -11,3 +11,5 @@ mod journals;
 mod recorded;
 #[cfg(test)]
 mod replayed;
+#[cfg(test)]
+mod resumed;

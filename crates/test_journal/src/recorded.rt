@@ -13,19 +13,19 @@ use turn_journal::JournalFault;
 pub(crate) const RECORDED: &[u8; 96] =
     b"\x01\x00\x00\x00\x0f(streams index)\x01\x00\x00\x00\x00\x00\x00\x00\x00\x00\x00\x00\x01\x00\x00\x00\x00\x00\x00\x00\x00\x00\x00\x02\x00\x00\x00\x00\x00\x00\x00\x00\x01\x00\x01\x00\x00\x00\x00\x00\x00\x00\x00\x00\x00\x00\x00\x00\x00\x00\x03\x00\x00\x00\x00\x00\x00\x00\x00\x00\x03\x00\x00\x00\x00\x00\x00\x00\x00\x00\x00\x00\x02hi\x00";
 
-fn buffer(alloc: Global) -> Result<Vec<u8>, Memory> {
+pub(crate) fn buffer(alloc: Global) -> Result<Vec<u8>, Memory> {
     let buf = vec![in alloc; 0; 65_536]?;
     Ok(buf)
 }
 
 /// Whether the next turn is this one, at second 0.
-fn is_next<L: Links>(alloc: Global, links: &mut L, buf: &mut [u8], what: What) -> bool {
+pub(crate) fn is_next<L: Links>(alloc: Global, links: &mut L, buf: &mut [u8], what: What) -> bool {
     let wants = Wants::fresh(alloc);
     buf.len() == PIECE_LIMIT && links.next(alloc, &wants, buf) == Turn { secs: 0, what }
 }
 
 /// Whether a `listen` and two turns are given, and a send between them is taken.
-fn is_played<L: Links>(alloc: Global, links: &mut L) -> Result<bool, Memory> {
+pub(crate) fn is_played<L: Links>(alloc: Global, links: &mut L) -> Result<bool, Memory> {
     let address = Text::from_str(alloc, "h:1")?;
     let ready = links.listen(alloc, &address) == ListenAnswer::Ready { secs: 0 };
     let mut buf = buffer(alloc)?;
@@ -60,12 +60,12 @@ fn is_lost<L: Links, D: Disk>(
 }
 
 /// Links on which link 0 opens and reads two bytes.
-fn two_turns(alloc: Global) -> Result<ScriptLinks, Memory> {
+pub(crate) fn two_turns(alloc: Global) -> Result<ScriptLinks, Memory> {
     feed_links(alloc, Blob::from_slice(alloc, b"hi")?)
 }
 
 /// A disk in memory without bytes, which stops at the call of that number, if it is one.
-fn empty_disk(alloc: Global, stop: Option<u64>) -> Result<MemDisk, Memory> {
+pub(crate) fn empty_disk(alloc: Global, stop: Option<u64>) -> Result<MemDisk, Memory> {
     MemDisk::fresh(alloc, Blob::fresh(alloc), Vec::new(alloc), stop)
 }
 
