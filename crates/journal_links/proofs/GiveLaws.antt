@@ -23,13 +23,13 @@ use Rattle.turn_replay.specs.Replaying.{what_of}
 -- ---- the next record
 
 -- the record that is next, of which a test that all pass holds
-record Next (test : TurnRecord → Bool) (n : ℕ) (records : List TurnRecord) : Type 0 where
-  entry : TurnRecord
-  later : List TurnRecord
-  is : drop n records ≡ entry ∷ later
-  passes : test entry ≡ true
+pub record Next (test : TurnRecord → Bool) (n : ℕ) (records : List TurnRecord) : Type 0 where
+  pub entry : TurnRecord
+  pub later : List TurnRecord
+  pub is : drop n records ≡ entry ∷ later
+  pub passes : test entry ≡ true
 
-next : (test : TurnRecord → Bool) (n : ℕ) (records : List TurnRecord) → n < length records → list_all test records ≡ true → Next test n records
+pub next : (test : TurnRecord → Bool) (n : ℕ) (records : List TurnRecord) → n < length records → list_all test records ≡ true → Next test n records
 next test n [] less all = absurd (omega (arith, less))
 next test zero (entry ∷ records) less all = record { entry = entry; later = records; is = refl; passes = (and_parts (test entry) (list_all test records) all).0 }
 next test (suc n) (entry ∷ records) less all =

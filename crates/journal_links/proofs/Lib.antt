@@ -2,3 +2,4 @@ pub mod PassLaws
 pub mod CallLaws
 pub mod GiveLaws
 pub mod ResumeLaws
+pub mod TurnLaws

@@ -3,7 +3,9 @@
 
 mod again;
 mod calls;
+mod law;
 mod links;
 mod make;
 
+pub use law::turns_are_kept;
 pub use links::JournalLinks;

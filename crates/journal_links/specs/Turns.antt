@@ -1,0 +1,89 @@
+-- The turns that a run handed out, and those that its journal has.
+use Rattle.std.specs.Prelude.{◌≡◌, ℕ, ◌≤◌, Bool, true, false, not, if◌then◌else◌, List, [], ◌∷◌, ◌++◌, drop, length, map, Option, Some}
+use Rattle.std.specs.List.{flat_map, list_all}
+use Rattle.disk_port.specs.Past.{LeavesOnly, Past}
+use Rattle.journal_format.specs.Journals.{Holds, Journal}
+use Rattle.journal_format.specs.Spelling.{is_listen}
+use Rattle.journal_format.specs.declared.turn_record.TurnEvent.{TurnEvent}
+use Rattle.journal_format.specs.declared.turn_record.TurnEvent.TheVariants as event
+use Rattle.journal_format.specs.declared.turn_record.TurnRecord.{TurnRecord}
+use Rattle.journal_links.specs.Steps.{NextOf, Progress}
+use Rattle.ports.specs.Links.{is_failed_turn, is_memory_turn, next_entries}
+use Rattle.ports.specs.declared.entry.Entry.{Entry}
+use Rattle.ports.specs.declared.entry.Entry.TheVariants.{Listen, Next, Send, Close}
+use Rattle.ports.specs.declared.links.ListenAnswer.{ListenAnswer}
+use Rattle.ports.specs.declared.links.ListenAnswer.TheVariants as listen
+use Rattle.ports.specs.declared.links.Turn.{Turn}
+use Rattle.ports.specs.declared.links.Want.{Want}
+use Rattle.recorded_links.specs.Keeping.{Kept, event_of, is_recorded}
+use Rattle.recorded_links.specs.Steps.{Seen}
+use Rattle.turn_journal.specs.Standing.{Stands}
+
+-- a turn, without the sends before it
+pub record PlainTurn : Type 0 where
+  pub secs : ℕ
+  pub event : TurnEvent
+
+abbrev pub plain : TurnRecord → PlainTurn
+plain entry = record { secs = entry.secs; event = entry.event }
+
+abbrev pub turns_in : List TurnRecord → List PlainTurn
+turns_in records = map plain records
+
+-- the turn of an answer, if it is recorded
+abbrev pub listened : ListenAnswer → List PlainTurn
+listened (listen.Ready secs) = record { secs = secs; event = event.Listen } ∷ []
+listened listen.Failed = []
+listened listen.Memory = []
+
+abbrev pub turned : Turn → List ℕ → List PlainTurn
+turned turn piece = if is_recorded turn.what then record { secs = turn.secs; event = event_of turn.what piece } ∷ [] else []
+
+abbrev pub handed_by : Entry → List PlainTurn
+handed_by (Listen address answer) = listened answer
+handed_by (Next wants turn piece) = turned turn piece
+handed_by (Send link bytes answer) = []
+handed_by (Close link) = []
+
+-- all turns that were handed out in these calls but Stopped
+abbrev pub handed : List Entry → List PlainTurn
+handed log = flat_map handed_by log
+
+-- only the first record is that of a `listen`
+abbrev pub is_turn : TurnRecord → Bool
+is_turn entry = not (is_listen entry.event)
+
+abbrev pub AreTurns : List TurnRecord → Type 0
+AreTurns records = list_all is_turn (drop 1 records) ≡ true
+
+-- The journal on the disk begins with all turns that were handed out. Beyond them it has those of the journal that was
+-- resumed, as far as they were not given yet.
+pub record KeepsTurns (log : List Entry) (progress : Progress) (kept : Kept) : Type 0 where
+  pub past : Past
+  pub journal : Journal
+  pub told : kept.past ≡ Some past
+  pub stands : Stands past kept.gate kept.has_record journal
+  pub begins : turns_in journal.records ≡ handed log ++ turns_in (drop progress.given progress.records)
+
+-- The file holds such a journal, or such a one with one turn more, whole.
+pub record HoldsTurns (log : List Entry) (progress : Progress) (file : List ℕ) : Type 0 where
+  pub journal : Journal
+  pub more : List PlainTurn
+  pub holds : Holds journal file
+  pub begins : turns_in journal.records ≡ handed log ++ (turns_in (drop progress.given progress.records) ++ more)
+  pub one : length more ≤ 1
+
+-- A crash at any moment of a call leaves a journal with the turns that were handed out before it. Once it has handed out a
+-- turn, or said that the run stops, every crash leaves one with the turns that were handed out.
+pub record StaysJournal (log log' : List Entry) (old new : Kept) (was is : Progress) (done : Bool) (keeps : KeepsTurns log was old) : Type 0 where
+  pub now : Past
+  pub told : new.past ≡ Some now
+  pub leaves : LeavesOnly keeps.past now (HoldsTurns log was)
+  pub after : done ≡ true → KeepsTurns log' is new
+
+abbrev pub is_done : Turn → Bool
+is_done turn = if is_failed_turn turn.what then false else not (is_memory_turn turn.what)
+
+abbrev pub NextKeepsTurns : Type 0
+NextKeepsTurns = (old new : Seen) (was is : Progress) (wants : List Want) (buf : List ℕ) (turn : Turn) (log : List Entry) (keeps : KeepsTurns log was old.kept) → AreTurns was.records
+    → NextOf old new was is wants buf turn → StaysJournal log (log ++ next_entries wants buf turn) old.kept new.kept was is (is_done turn) keeps
