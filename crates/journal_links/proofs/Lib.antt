@@ -3,3 +3,4 @@ pub mod CallLaws
 pub mod GiveLaws
 pub mod ResumeLaws
 pub mod TurnLaws
+pub mod KeepLaws

@@ -1,18 +1,17 @@
 -- What a crash leaves of the turns that were handed out.
-use Rattle.std.proofs.Common.{◌≡◌, ◌⊎◌, inl, inr, ℕ, zero, suc, ◌+◌, ◌<◌, ◌≤◌, Bool, true, false, not, cond, List, [], ◌∷◌, ◌++◌, drop, length, refl, ap, sym, ◌∙◌, subst, append-nil, append_assoc, arith}
-use Rattle.std.specs.Prelude.{Option, Some, None, map, slice_get}
-use Rattle.std.specs.List.{flat_map, list_all}
+use Rattle.std.proofs.Common.{◌≡◌, ◌⊎◌, inl, inr, ℕ, zero, suc, ◌<◌, Bool, true, false, not, cond, List, [], ◌∷◌, ◌++◌, drop, length, refl, ap, sym, ◌∙◌, subst, append-nil, append_assoc, arith}
+use Rattle.std.specs.List.{flat_map}
 use Rattle.std.proofs.lemmas.Bool.{leb-false, leb-true}
 use Rattle.std.proofs.lemmas.Grind.{flat_map-append}
 use Rattle.std.proofs.lemmas.List.{drop_all, map-append}
 use Rattle.disk_port.proofs.PastLaws.{begins, weaker}
-use Rattle.disk_port.specs.Past.{Leaves, LeavesOnly, Past}
+use Rattle.disk_port.specs.Past.{Leaves}
 use Rattle.journal_format.specs.Journals.{HoldsAt, with_record}
 use Rattle.journal_format.specs.Spelling.{IsRecord, is_listen, record_bytes}
 use Rattle.journal_format.specs.declared.turn_record.TurnEvent.{TurnEvent}
 use Rattle.journal_format.specs.declared.turn_record.TurnEvent.TheVariants as event
 use Rattle.journal_format.specs.declared.turn_record.TurnRecord.{TurnRecord}
-use Rattle.journal_links.specs.Steps.{Breaks, GivesAgain, NextOf, Progress, Stays, is_over, last_secs, next_again, next_broken, next_inner, next_unasked}
+use Rattle.journal_links.specs.Steps.{Progress, is_over, last_secs, next_again, next_broken, next_inner, next_unasked}
 use Rattle.journal_links.specs.Turns.{AreTurns, HoldsTurns, KeepsTurns, NextKeepsTurns, PlainTurn, StaysJournal, handed, handed_by, is_done, is_turn, plain, turned, turns_in}
 use Rattle.journal_links.proofs.GiveLaws.{Next, next}
 use Rattle.ports.specs.Links.{is_failed_turn, is_memory_turn, next_entries, piece_of}
@@ -22,9 +21,9 @@ use Rattle.ports.specs.declared.links.Want.{Want}
 use Rattle.ports.specs.declared.links.What.{What}
 use Rattle.ports.specs.declared.links.What.TheVariants.{Idle, Opened, Read, Ended, Broken, Room, Stopped, Failed, Memory}
 use Rattle.recorded_links.specs.Keeping.{AddsRecord, HandsOut, Kept, entry_of, event_of, is_recorded}
-use Rattle.recorded_links.specs.Steps.{NextStep, OwnStep, Seen, next_full, next_refused, next_taken, own_full, own_refused, own_taken}
+use Rattle.recorded_links.specs.Steps.{NextStep, OwnStep, next_full, next_refused, next_taken, own_full, own_refused, own_taken}
 use Rattle.turn_journal.specs.Standing.{Adds, HoldsOrWith, Stands}
-use Rattle.turn_replay.specs.Replaying.{bytes_of, turn_of, what_of}
+use Rattle.turn_replay.specs.Replaying.{bytes_of, what_of}
 
 -- ---- one turn
 
@@ -68,7 +67,7 @@ memory_unrecorded Stopped is = absurd (cc is)
 memory_unrecorded Failed is = absurd (cc is)
 memory_unrecorded Memory is = refl
 
-plain_is : (secs secs' : ℕ) (given given' : TurnEvent) → secs ≡ secs' → given ≡ given' → ◌≡◌ {A = PlainTurn} (record { secs = secs; event = given }) (record { secs = secs'; event = given' })
+pub plain_is : (secs secs' : ℕ) (given given' : TurnEvent) → secs ≡ secs' → given ≡ given' → ◌≡◌ {A = PlainTurn} (record { secs = secs; event = given }) (record { secs = secs'; event = given' })
 plain_is secs secs' given given' same other =
     subst (λ (s : ℕ). ◌≡◌ {A = PlainTurn} (record { secs = secs; event = given }) (record { secs = s; event = given' })) same
     (ap (λ (e : TurnEvent). let turn : PlainTurn = record { secs = secs; event = e } in turn) other)
@@ -111,7 +110,7 @@ module _ (log : List Entry) (was : Progress) (old : Kept) (keeps : KeepsTurns lo
     one = omega arith;
   }
 
-  quiet : (log' : List Entry) (new : Kept) (is : Progress) (done : Bool) → new ≡ old → (done ≡ true → handed log ++ turns_in (drop was.given was.records) ≡ handed log' ++ turns_in (drop is.given is.records))
+  pub quiet : (log' : List Entry) (new : Kept) (is : Progress) (done : Bool) → new ≡ old → (done ≡ true → handed log ++ turns_in (drop was.given was.records) ≡ handed log' ++ turns_in (drop is.given is.records))
       → StaysJournal log log' old new was is done keeps
   quiet log' new is done same goes = record {
     now = keeps.past;
@@ -127,7 +126,7 @@ module _ (log : List Entry) (was : Progress) (old : Kept) (keeps : KeepsTurns lo
   }
 
   -- nothing was given, and nothing handed out
-  still : (log' : List Entry) (new : Kept) (is : Progress) (done : Bool) → new ≡ old → handed log' ≡ handed log → is.records ≡ was.records → is.given ≡ was.given → StaysJournal log log' old new was is done keeps
+  pub still : (log' : List Entry) (new : Kept) (is : Progress) (done : Bool) → new ≡ old → handed log' ≡ handed log → is.records ≡ was.records → is.given ≡ was.given → StaysJournal log log' old new was is done keeps
   still log' new is done same handed_same records given =
       let dropped : drop is.given is.records ≡ drop was.given was.records = cc in
       quiet log' new is done same (λ over. ap (λ (turns : List PlainTurn). turns ++ turns_in (drop was.given was.records)) (sym handed_same) ∙ ap (λ (entries : List TurnRecord). handed log' ++ turns_in entries) (sym dropped))
@@ -154,7 +153,7 @@ module _ (log : List Entry) (was : Progress) (old : Kept) (keeps : KeepsTurns lo
     one = omega arith;
   }
 
-  added : (log' : List Entry) (new : Kept) (is : Progress) (done : Bool) (entry : TurnRecord) (was_added : Bool) → drop was.given was.records ≡ [] → drop is.given is.records ≡ [] → IsRecord entry
+  pub added : (log' : List Entry) (new : Kept) (is : Progress) (done : Bool) (entry : TurnRecord) (was_added : Bool) → drop was.given was.records ≡ [] → drop is.given is.records ≡ [] → IsRecord entry
       → is_listen entry.event ≡ not old.has_record → AddsRecord (record_bytes entry) was_added old new → (done ≡ true → (was_added ≡ true) × (handed log' ≡ handed log ++ plain entry ∷ [])) → StaysJournal log log' old new was is done keeps
   added log' new is done entry was_added none_left none_after allowed order records goes =
       let adds : Adds old.past old.gate old.has_record (record_bytes entry) = record { past = keeps.past; journal = keeps.journal; entry = entry; is_told = keeps.told; stands = keeps.stands; spells = record { allowed = allowed; order = order; text = refl } } in
@@ -215,7 +214,7 @@ goes_on log wants buf asked turn entry recorded is (inr (inl lost)) done =
 goes_on log wants buf asked turn entry recorded is (inr (inr out)) done =
     let none : is_done turn ≡ false = ap (done_of turn) out in absurd (cc (done, none))
 
-none_left : (was : Progress) → is_over was ≡ true → drop was.given was.records ≡ []
+pub none_left : (was : Progress) → is_over was ≡ true → drop was.given was.records ≡ []
 none_left was over = drop_all was.given was.records (leb-true (length was.records) was.given over)
 
 pub next_keeps : NextKeepsTurns
@@ -239,14 +238,14 @@ next_keeps old new was is wants buf turn log keeps are (next_again over gives) =
         let given = (gives.gives memory at.entry at.later at.is).0 in
         let recorded : is_recorded turn.what ≡ true = ap (λ (t : Turn). is_recorded t.what) given.turn_is ∙ again_recorded at.entry.event in
         let event_is : event_of turn.what (piece_of turn.what buf) ≡ at.entry.event =
-            ap (λ (piece : List ℕ). event_of turn.what piece) given.piece ∙ (ap (λ (t : Turn). event_of t.what (bytes_of at.entry.event)) given.turn_is ∙ again_event at.entry.event at.passes) in
+        ap (λ (piece : List ℕ). event_of turn.what piece) given.piece ∙ (ap (λ (t : Turn). event_of t.what (bytes_of at.entry.event)) given.turn_is ∙ again_event at.entry.event at.passes) in
         let plain_same : plain_turn turn buf ≡ plain at.entry = plain_is turn.secs at.entry.secs (event_of turn.what (piece_of turn.what buf)) at.entry.event (ap (λ (t : Turn). t.secs) given.turn_is) event_is in
         let handed_more : handed (log ++ next_entries wants buf turn) ≡ handed log ++ plain at.entry ∷ [] = handed_one log wants buf turn recorded ∙ ap (λ (t : PlainTurn). handed log ++ t ∷ []) plain_same in
         quiet log was old.kept keeps (log ++ next_entries wants buf turn) new.kept is (is_done turn) gives.rests.kept (λ done.
-          ap (λ (entries : List TurnRecord). handed log ++ turns_in entries) at.is
-          ∙ (sym (append_assoc (handed log) (plain at.entry ∷ []) (turns_in at.later))
-          ∙ (ap (λ (turns : List PlainTurn). turns ++ turns_in at.later) (sym handed_more)
-          ∙ ap (λ (entries : List TurnRecord). handed (log ++ next_entries wants buf turn) ++ turns_in entries) (sym given.rest_is))))
+        ap (λ (entries : List TurnRecord). handed log ++ turns_in entries) at.is
+        ∙ (sym (append_assoc (handed log) (plain at.entry ∷ []) (turns_in at.later))
+        ∙ (ap (λ (turns : List PlainTurn). turns ++ turns_in at.later) (sym handed_more)
+        ∙ ap (λ (entries : List TurnRecord). handed (log ++ next_entries wants buf turn) ++ turns_in entries) (sym given.rest_is))))
 next_keeps old new was is wants buf turn log keeps are (next_broken over breaks) = by_step breaks.gives
   where
     still_so : new.kept ≡ old.kept → is_recorded turn.what ≡ false → StaysJournal log (log ++ next_entries wants buf turn) old.kept new.kept was is (is_done turn) keeps

@@ -75,6 +75,7 @@ pub record GivesFirst (was is : Progress) (answer : ListenAnswer) : Type 0 where
 pub record ListensAgain (old new : Seen) (was is : Progress) (address : List ℕ) (answer : ListenAnswer) : Type 0 where
   pub unspent : old.spent ≡ false
   pub unbegun : was.given ≡ 0
+  pub some : was.given < length was.records
   pub asked : ListenAnswer
   pub asks : AddsCalls old.inner new.inner (listen_entries address asked)
   pub cause : HasListenCause old.inner.faults new.inner.faults asked

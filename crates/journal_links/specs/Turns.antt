@@ -1,22 +1,25 @@
 -- The turns that a run handed out, and those that its journal has.
-use Rattle.std.specs.Prelude.{◌≡◌, ℕ, ◌≤◌, Bool, true, false, not, if◌then◌else◌, List, [], ◌∷◌, ◌++◌, drop, length, map, Option, Some}
+use Rattle.std.specs.Prelude.{◌≡◌, ℕ, ◌≤◌, Bool, true, false, not, if◌then◌else◌, List, [], ◌∷◌, ◌++◌, drop, length, map, Some}
 use Rattle.std.specs.List.{flat_map, list_all}
-use Rattle.disk_port.specs.Past.{LeavesOnly, Past}
+use Rattle.disk_port.specs.Past.{LeavesOnly, Past, synced}
 use Rattle.journal_format.specs.Journals.{Holds, Journal}
 use Rattle.journal_format.specs.Spelling.{is_listen}
 use Rattle.journal_format.specs.declared.turn_record.TurnEvent.{TurnEvent}
 use Rattle.journal_format.specs.declared.turn_record.TurnEvent.TheVariants as event
 use Rattle.journal_format.specs.declared.turn_record.TurnRecord.{TurnRecord}
-use Rattle.journal_links.specs.Steps.{NextOf, Progress}
-use Rattle.ports.specs.Links.{is_failed_turn, is_memory_turn, next_entries}
+use Rattle.journal_links.specs.Resuming.{Resumes}
+use Rattle.journal_links.specs.Steps.{CloseOf, ListenOf, NextOf, Progress, SendOf}
+use Rattle.ports.specs.Links.{is_failed_turn, is_memory_turn, listen_entries, next_entries, send_entries}
 use Rattle.ports.specs.declared.entry.Entry.{Entry}
 use Rattle.ports.specs.declared.entry.Entry.TheVariants.{Listen, Next, Send, Close}
 use Rattle.ports.specs.declared.links.ListenAnswer.{ListenAnswer}
 use Rattle.ports.specs.declared.links.ListenAnswer.TheVariants as listen
+use Rattle.ports.specs.declared.links.SendAnswer.{SendAnswer}
 use Rattle.ports.specs.declared.links.Turn.{Turn}
 use Rattle.ports.specs.declared.links.Want.{Want}
-use Rattle.recorded_links.specs.Keeping.{Kept, event_of, is_recorded}
+use Rattle.recorded_links.specs.Keeping.{Kept, event_of, is_ready, is_recorded}
 use Rattle.recorded_links.specs.Steps.{Seen}
+use Rattle.turn_journal.specs.Beginning.{StandsBlank}
 use Rattle.turn_journal.specs.Standing.{Stands}
 
 -- a turn, without the sends before it
@@ -56,6 +59,10 @@ is_turn entry = not (is_listen entry.event)
 abbrev pub AreTurns : List TurnRecord → Type 0
 AreTurns records = list_all is_turn (drop 1 records) ≡ true
 
+-- the first record, if there is one, is that of a `listen`
+abbrev pub BeginsWithListen : List TurnRecord → Type 0
+BeginsWithListen records = (entry : TurnRecord) (later : List TurnRecord) → records ≡ entry ∷ later → is_listen entry.event ≡ true
+
 -- The journal on the disk begins with all turns that were handed out. Beyond them it has those of the journal that was
 -- resumed, as far as they were not given yet.
 pub record KeepsTurns (log : List Entry) (progress : Progress) (kept : Kept) : Type 0 where
@@ -87,3 +94,30 @@ is_done turn = if is_failed_turn turn.what then false else not (is_memory_turn t
 abbrev pub NextKeepsTurns : Type 0
 NextKeepsTurns = (old new : Seen) (was is : Progress) (wants : List Want) (buf : List ℕ) (turn : Turn) (log : List Entry) (keeps : KeepsTurns log was old.kept) → AreTurns was.records
     → NextOf old new was is wants buf turn → StaysJournal log (log ++ next_entries wants buf turn) old.kept new.kept was is (is_done turn) keeps
+
+abbrev pub ListenKeepsTurns : Type 0
+ListenKeepsTurns = (old new : Seen) (was is : Progress) (address : List ℕ) (answer : ListenAnswer) (log : List Entry) (keeps : KeepsTurns log was old.kept) → BeginsWithListen was.records
+    → ListenOf old new was is address answer → StaysJournal log (log ++ listen_entries address answer) old.kept new.kept was is (is_ready answer) keeps
+
+abbrev pub SendKeepsTurns : Type 0
+SendKeepsTurns = (old new : Seen) (was is : Progress) (link : ℕ) (bytes : List ℕ) (answer : SendAnswer) (log : List Entry) (keeps : KeepsTurns log was old.kept)
+    → SendOf old new was is link bytes answer → StaysJournal log (log ++ send_entries link bytes answer) old.kept new.kept was is true keeps
+
+abbrev pub CloseKeepsTurns : Type 0
+CloseKeepsTurns = (old new : Seen) (was is : Progress) (link : ℕ) (log : List Entry) (keeps : KeepsTurns log was old.kept)
+    → CloseOf old new was is link → StaysJournal log (log ++ Close link ∷ []) old.kept new.kept was is true keeps
+
+-- a journal that begins has no turn yet
+abbrev pub BegunKeepsTurns : Type 0
+BegunKeepsTurns = (config : List ℕ) (kept : Kept) (progress : Progress) → progress.records ≡ [] → progress.given ≡ 0
+    → StandsBlank config (record { gate = kept.gate; has_record = kept.has_record }) kept.past → KeepsTurns [] progress kept
+
+-- of one that is resumed all turns are still to be given
+pub record ResumedKeeps (progress : Progress) (kept : Kept) : Type 0 where
+  pub keeps : KeepsTurns [] progress kept
+  pub first : BeginsWithListen progress.records
+  pub others : AreTurns progress.records
+
+abbrev pub ResumedKeepsTurns : Type 0
+ResumedKeepsTurns = (past : Past) (config : List ℕ) (kept : Kept) (progress : Progress) → kept.past ≡ Some (synced past) → progress.given ≡ 0
+    → Resumes past (record { gate = kept.gate; has_record = kept.has_record }) config progress.records → ResumedKeeps progress kept

@@ -7,5 +7,5 @@ mod law;
 mod links;
 mod make;
 
-pub use law::turns_are_kept;
+pub use law::{journals_have_turns, turns_are_kept};
 pub use links::JournalLinks;

@@ -29,6 +29,7 @@ pub returns-clause-again : goal.returns-clause-again
 returns-clause-again g c = record {
   unspent = c.requires.unspent;
   unbegun = c.requires.unbegun;
+  some = c.requires.some;
   asked = c.listen_again-asked.result;
   asks = c.listen_again-asked.ensures.asks;
   cause = c.listen_again-asked.ensures.cause;
