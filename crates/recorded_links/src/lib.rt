@@ -9,6 +9,6 @@ mod recorder;
 mod sends;
 
 pub use call_log::CallLog;
-pub use links::RecordedLinks;
+pub use links::{RecordedLinks, log_listen, log_send, log_turn};
 pub use recorder::TurnRecorder;
 pub use sends::Sends;

@@ -361,7 +361,8 @@ fn count_read(what: What) -> usize
     }
 }
 
-fn log_listen(log: &mut CallLog, address: &Text, answer: ListenAnswer)
+/// Logs an answer to `listen`, but for one of which memory ran out.
+pub fn log_listen(log: &mut CallLog, address: &Text, answer: ListenAnswer)
     ensures { log.new ≡ log.old ++ listen_entries address.now answer }
 {
     if answer != ListenAnswer::Memory {
@@ -370,7 +371,7 @@ fn log_listen(log: &mut CallLog, address: &Text, answer: ListenAnswer)
 }
 
 /// Logs a turn, with the bytes of a read, but for one of which memory ran out.
-fn log_turn(log: &mut CallLog, wants: &Wants, turn: Turn, buf: &[u8])
+pub fn log_turn(log: &mut CallLog, wants: &Wants, turn: Turn, buf: &[u8])
     requires whole { length buf.now ≡ PIECE_LIMIT }
     requires within { IsPieceWithin PIECE_LIMIT turn.what }
     ensures { log.new ≡ log.old ++ next_entries wants.now buf.now turn }
@@ -380,7 +381,8 @@ fn log_turn(log: &mut CallLog, wants: &Wants, turn: Turn, buf: &[u8])
     }
 }
 
-fn log_send(log: &mut CallLog, link: u64, bytes: &[u8], answer: SendAnswer)
+/// Logs a send, but for one of which memory ran out.
+pub fn log_send(log: &mut CallLog, link: u64, bytes: &[u8], answer: SendAnswer)
     ensures { log.new ≡ log.old ++ send_entries link bytes.now answer }
 {
     if answer != SendAnswer::Memory {
