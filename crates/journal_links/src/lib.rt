@@ -2,7 +2,6 @@
 #![tactic(auto)]
 
 mod again;
-mod calls;
 mod law;
 mod links;
 mod make;

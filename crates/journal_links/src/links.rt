@@ -14,11 +14,10 @@ ghost use Rattle.recorded_links.specs.Steps.{OwnStep, own_report, seen};
 ghost use Rattle.replayed_links.specs.Opened.{Passes, closed_after, is_before};
 
 use crate::again::{first_answer, last_secs, next_turn};
-use crate::calls::{log_listen, log_send, log_turn};
 use disk_port::Disk;
 use ev_types::{Blob, Text};
 use ports::{Links, ListenAnswer, PIECE_LIMIT, SendAnswer, Turn, Wants, What};
-use recorded_links::{CallLog, RecordedLinks};
+use recorded_links::{CallLog, RecordedLinks, log_listen, log_send, log_turn};
 use replayed_links::OpenLinks;
 use std::alloc::Global;
 use turn_replay::Replay;
