@@ -1,13 +1,15 @@
 -- What is read of the journal that was loaded.
-use Rattle.std.proofs.Common.{◌≡◌, ℕ, ◌+◌, Bool, subst, List, [], ◌∷◌, ◌++◌, take, length, ap, sym, ◌∙◌, append_assoc, length-append, arith}
+use Rattle.std.proofs.Common.{Err, ◌≡◌, ℕ, ◌+◌, Bool, subst, List, [], ◌∷◌, ◌++◌, take, length, ap, sym, ◌∙◌, append_assoc, length-append, arith}
 use Rattle.std.proofs.lemmas.List.{take-append-le, take_all}
 use Rattle.disk_port.specs.Past.{Past, synced}
 use Rattle.journal_format.specs.declared.finder.Found.{Found}
 use Rattle.journal_format.specs.declared.turn_record.TurnRecord.{TurnRecord}
 use Rattle.journal_links.specs.Resuming.{Resumes}
-use Rattle.turn_journal.specs.Loading.{IsLoaded}
+use Rattle.turn_journal.specs.Loading.{IsLoaded, IsWhyRefused}
 use Rattle.turn_journal.specs.Standing.{Stands}
-use Rattle.turn_replay.specs.Reading.{IsWhole}
+use Rattle.turn_journal.specs.declared.fault.JournalFault.{JournalFault}
+use Rattle.turn_journal.specs.declared.fault.JournalFault.TheVariants.{Refused, DiskFault, Memory}
+use Rattle.turn_replay.specs.Reading.{IsOrMemory, IsWhole}
 
 -- the bytes that were loaded are the journal with its closed gate
 pub loaded_whole : (past : Past) (found : Found) (bytes : List ℕ) (at : IsLoaded past found bytes) → IsWhole at.journal bytes
@@ -34,3 +36,9 @@ resumes past gate gate' has has' bytes config records at gate_is has_is config_i
   config_is = config_is;
   records_are = records_are;
 }
+
+-- what was loaded is read, unless memory runs out
+pub never_refused : {X : Type 0} (wanted : X) (why : JournalFault) (file : List ℕ) → IsOrMemory wanted (Err why) → IsWhyRefused file why
+never_refused wanted (Refused place) file is = absurd is
+never_refused wanted DiskFault file is = absurd is
+never_refused wanted Memory file is = tt

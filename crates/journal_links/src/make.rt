@@ -7,19 +7,20 @@ use ports::Links;
 use recorded_links::{CallLog, RecordedLinks};
 use replayed_links::{OpenLinks, last_opened};
 use std::alloc::Global;
-use turn_journal::{JournalFault, JournalFile};
+use turn_journal::{JournalFault, JournalFile, load_on};
 use turn_replay::{Replay, TurnRecords, read_journal};
 
 impl<'a, L: Links, D: Disk> JournalLinks<'a, L, D> {
-    ghost use Rattle.std.specs.Prelude.{◌≡◌, ◌+◌, ◌<◌, ◌≤◌, [], None, false, true, length, IfOk};
+    ghost use Rattle.std.specs.Prelude.{◌≡◌, ◌+◌, ◌<◌, ◌≤◌, [], None, false, true, length, IfErr, IfOk};
     ghost use Rattle.std.specs.List.{list_all};
     ghost use Rattle.std.specs.Option.{ForSome, option_map};
-    ghost use Rattle.disk_port.specs.Past.{synced};
+    ghost use Rattle.disk_port.specs.Past.{synced, text_of};
     ghost use Rattle.journal_format.specs.Limits.{config_limit, journal_limit, step_limit};
     ghost use Rattle.journal_links.specs.Resuming.{Resumes};
     ghost use Rattle.recorded_links.specs.Numbers.{first_after};
     ghost use Rattle.replayed_links.specs.Opened.{first_free};
     ghost use Rattle.turn_journal.specs.Beginning.{StandsBlank};
+    ghost use Rattle.turn_journal.specs.Loading.{IsWhyRefused};
     ghost use Rattle.turn_replay.specs.Reading.{has_event};
     ghost use Rattle.turn_replay.specs.Replaying.{summaries_next};
 
@@ -153,11 +154,15 @@ impl<'a, L: Links, D: Disk> JournalLinks<'a, L, D> {
         ensures left { IfOk result (λ links.
             links.replay.left.items ≡ summaries_next links.replay.records) }
         ensures opened_links { IfOk result (λ links. links.opened.numbers.keys ≡ []) }
+        // A file that holds no journal is refused at the first place that does not fit.
+        ensures refused { IfErr result (λ fault. ForSome (D.report disk.entry.now).past (λ past.
+            IsWhyRefused (text_of past) fault)) }
     {
-        let (journal, bytes) = match JournalFile::load(alloc, disk) {
+        let (found, bytes) = match load_on(alloc, disk) {
             Ok(loaded) => loaded,
             Err(fault) => return Err(fault),
         };
+        let journal = JournalFile::over(alloc, disk, found.gate, found.has_record);
         let (config, records) = match read_journal(alloc, bytes.as_slice()) {
             Ok(read) => read,
             Err(fault) => return Err(fault),

@@ -1,17 +1,31 @@
 use Rattle.std.proofs.Common.{◌≡◌, List, ℕ, ap, refl, sym, ◌∙◌, subst, rules}
+use Rattle.disk_port.specs.Past.{text_of}
 use Rattle.journal_format.specs.declared.turn_record.TurnRecord.{TurnRecord}
-use Rattle.journal_links.proofs.ResumeLaws.{loaded_whole, resumes}
+use Rattle.journal_links.proofs.ResumeLaws.{loaded_whole, never_refused, resumes}
+use Rattle.turn_journal.proofs.AppendLaws.{ready_within}
 use Rattle.turn_replay.specs.Reading.{IsWhole}
 use Rattle.journal_links.proofs.links.JournalLinks.resume.Goals as goal
 
+pub over-journal-requires : goal.over-journal-requires
+over-journal-requires g c =
+    ready_within (g.D.Disk.report c.load_on.new.disk).past c.in-Ok.loaded.0.gate c.in-Ok.loaded.0.has_record c.in-Ok.ensures.ready
+
+pub returns-in-Err-read_journal-clause-refused : goal.returns-in-Err-read_journal-clause-refused
+returns-in-Err-read_journal-clause-refused g c = λ past is.
+    let at = c.in-Ok.ensures.ok past is in
+    let same : c.as_slice.result.now ≡ c.in-Ok.loaded.1 = search rules in
+    let whole = subst (IsWhole at.journal) (sym same) (loaded_whole past c.in-Ok.loaded.0 c.in-Ok.loaded.1 at) in
+    let wanted : List ℕ × List TurnRecord = (at.journal.config, at.journal.records) in
+    never_refused wanted c.in-Err-read_journal.fault (text_of past) (c.in-Err-read_journal.ensures.read at.journal whole)
+
 pub returns-clause-resumed : goal.returns-clause-resumed
 returns-clause-resumed g c =
-    let gate : c.in_ok-links.links.recorded.recorder.journal.gate ≡ c.in-Ok.loaded.0.gate = rw c.in_ok-links.ensures.journal refl in
-    let has : c.in_ok-links.links.recorded.recorder.journal.has_record ≡ c.in-Ok.loaded.0.has_record = rw c.in_ok-links.ensures.journal refl in
+    let gate : c.in_ok-links.links.recorded.recorder.journal.gate ≡ c.in-Ok.loaded.0.gate = rw c.in_ok-links.ensures.journal c.over-journal.ensures.gate in
+    let has : c.in_ok-links.links.recorded.recorder.journal.has_record ≡ c.in-Ok.loaded.0.has_record = rw c.in_ok-links.ensures.journal c.over-journal.ensures.has_record in
     λ past is.
     let at = c.in-Ok.ensures.ok past is in
     let same : c.as_slice.result.now ≡ c.in-Ok.loaded.1 = search rules in
-    let whole = subst (IsWhole at.journal) (sym same) (loaded_whole past (record { gate = c.in-Ok.loaded.0.gate; has_record = c.in-Ok.loaded.0.has_record }) c.in-Ok.loaded.1 at) in
+    let whole = subst (IsWhole at.journal) (sym same) (loaded_whole past c.in-Ok.loaded.0 c.in-Ok.loaded.1 at) in
     let read = c.in-Ok-read_journal.ensures.read at.journal whole in
     resumes past c.in-Ok.loaded.0.gate c.in_ok-links.links.recorded.recorder.journal.gate c.in-Ok.loaded.0.has_record c.in_ok-links.links.recorded.recorder.journal.has_record c.in-Ok.loaded.1
     c.in_ok-links.links.config c.in_ok-links.links.replay.records at gate has
