@@ -52,8 +52,9 @@ pub record Promises (words : List (List ℕ)) (old new : Reports) (same : Samene
   pub read_fault : status ≡ ReadFault → Rose old.store.faults new.store.faults
   pub sink_fault : status ≡ SinkFault → Rose old.out.faults new.out.faults ⊎ Rose old.err.faults new.err.faults
   pub link_fault : status ≡ LinkFault → Rose old.links.faults new.links.faults
-  -- If it ran a server, that has the lines of its notices, and the notices of each host are its own (`Runs.antt` and
-  -- `Apart.antt` of `hub_run`). The sameness of patterns is for the fact that none was asked for.
+  -- What each command promises by itself. The promise of a server has the lines of its notices, and that the notices of each
+  -- host are its own (`Runs.antt` and `Apart.antt` of `hub_run`). The sameness of patterns says that none was asked for, and
+  -- that of `out` that nothing was written.
   pub feed : OnFeed words (λ config file. Feeds config file old new same.Patterns status)
   pub check : OnCheck words (λ config. Checks config old new same.Patterns status)
   pub replay : OnReplay words (λ config script. Replays config script old new same.Patterns status)
