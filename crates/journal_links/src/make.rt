@@ -7,11 +7,11 @@ use ports::Links;
 use recorded_links::{CallLog, RecordedLinks};
 use replayed_links::{OpenLinks, last_opened};
 use std::alloc::Global;
-use turn_journal::{JournalFault, JournalFile, load_on};
+use turn_journal::{JournalFault, JournalFile, begin_on, load_on};
 use turn_replay::{Replay, TurnRecords, read_journal};
 
 impl<'a, L: Links, D: Disk> JournalLinks<'a, L, D> {
-    ghost use Rattle.std.specs.Prelude.{◌≡◌, ◌+◌, ◌<◌, ◌≤◌, [], None, false, true, length, IfErr, IfOk};
+    ghost use Rattle.std.specs.Prelude.{◌≡◌, ◌+◌, ◌<◌, ◌≤◌, [], None, false, true, length, IfErr, IfOk, OnOk};
     ghost use Rattle.std.specs.List.{list_all};
     ghost use Rattle.std.specs.Option.{ForSome, option_map};
     ghost use Rattle.disk_port.specs.Past.{synced, text_of};
@@ -19,7 +19,7 @@ impl<'a, L: Links, D: Disk> JournalLinks<'a, L, D> {
     ghost use Rattle.journal_links.specs.Resuming.{Resumes};
     ghost use Rattle.recorded_links.specs.Numbers.{first_after};
     ghost use Rattle.replayed_links.specs.Opened.{first_free};
-    ghost use Rattle.turn_journal.specs.Beginning.{StandsBlank};
+    ghost use Rattle.turn_journal.specs.Beginning.{IsFree, IsWhyTaken, StandsBlank};
     ghost use Rattle.turn_journal.specs.Loading.{IsWhyRefused};
     ghost use Rattle.turn_replay.specs.Reading.{has_event};
     ghost use Rattle.turn_replay.specs.Replaying.{summaries_next};
@@ -65,8 +65,8 @@ impl<'a, L: Links, D: Disk> JournalLinks<'a, L, D> {
         })
     }
 
-    /// Begins a journal of this configuration in the disk's file, and records all turns in it. What is known after an
-    /// error [`turn_journal::begin_on`] says.
+    /// Begins a journal of this configuration in the disk's file, and records all turns in it. What is known of the
+    /// disk after an error [`turn_journal::begin_on`] says.
     pub fn record(
         alloc: Global,
         inner: &'a mut L,
@@ -104,19 +104,25 @@ impl<'a, L: Links, D: Disk> JournalLinks<'a, L, D> {
         ensures records { IfOk result (λ links. links.replay.records ≡ []) }
         ensures given { IfOk result (λ links. links.replay.given ≡ 0) }
         ensures opened_links { IfOk result (λ links. links.opened.numbers.keys ≡ []) }
+        // A file that may hold a journal is refused at 0, and no other is.
+        ensures free { OnOk result (ForSome (D.report disk.entry.now).past (λ past.
+            IsFree (text_of past))) }
+        ensures refused { IfErr result (λ fault. ForSome (D.report disk.entry.now).past (λ past.
+            IsWhyTaken (text_of past) fault)) }
     {
         let kept = Blob::from_slice(alloc, config)?;
-        let journal = match JournalFile::begin(alloc, disk, config) {
-            Ok(journal) => journal,
+        let found = match begin_on(alloc, disk, config) {
+            Ok(found) => found,
             Err(fault) => return Err(fault),
         };
+        let journal = JournalFile::over(alloc, disk, found.gate, found.has_record);
         let records = TurnRecords::fresh(alloc);
         let links = JournalLinks::over(alloc, inner, journal, kept, records)?;
         Ok(links)
     }
 
     /// Loads the journal in the disk's file, gives its turns again, and records the turns after them in it. What is
-    /// known after an error [`turn_journal::load_on`] says, and after it out of memory alone is possible.
+    /// known of the disk after an error [`turn_journal::load_on`] says.
     pub fn resume(
         alloc: Global,
         inner: &'a mut L,
