@@ -63,7 +63,7 @@ HandsAgain (listen.Ready secs) answer = (is_ready answer ≡ true) ⊎ (answer �
 HandsAgain listen.Failed answer = answer ≡ listen.Failed
 HandsAgain listen.Memory answer = answer ≡ listen.Memory
 
--- The second that is handed out is that of the first record.
+-- the answer has the second of the first record, which counts as given then
 pub record GivesFirst (was is : Progress) (answer : ListenAnswer) : Type 0 where
   pub gives : (secs : ℕ) (entry : TurnRecord) (later : List TurnRecord) → answer ≡ listen.Ready secs → drop was.given was.records ≡ entry ∷ later → GivesListen entry later secs is.left (drop is.given is.records)
   pub still : is_ready answer ≡ false → is.given ≡ was.given
@@ -85,6 +85,7 @@ pub record ListensAgain (old new : Seen) (was is : Progress) (address : List ℕ
   pub faults : new.faults ≡ old.faults
   pub sends : new.sends ≡ old.sends
 
+-- Refused, or answered again with the journal's first second. With no turn left to give it is a `listen` of links that record.
 pub data ListenOf (old new : Seen) (was is : Progress) (address : List ℕ) (answer : ListenAnswer) : Type 0 where
   listen_unasked : (old.spent ≡ true) ⊎ (0 < was.given) → answer ≡ listen.Memory → Rests old new → Stays was is → ListenOf old new was is address answer
   listen_again : ListensAgain old new was is address answer → ListenOf old new was is address answer
@@ -111,7 +112,8 @@ opens_before first _ = true
 abbrev pub broken_turn : Progress → ℕ → Turn
 broken_turn was link = record { secs = last_secs was.records; what = Broken link }
 
--- A link that the journal opened and nobody closed is given as broken, and is not open from then on.
+-- The first link that the journal opened and nobody closed is not open from then on. It is given as broken, unless the run
+-- ends here.
 pub record Breaks (old new : Seen) (was is : Progress) (turn : Turn) : Type 0 where
   pub link : ℕ
   pub first : slice_get was.opened 0 ≡ Some link

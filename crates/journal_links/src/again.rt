@@ -1,4 +1,4 @@
-//! What the journal's turns that are given again do to the links that they open.
+//! Giving the journal's turns again, with a note of the links that they open.
 
 ghost use Rattle.std.specs.Prelude.{◌≡◌, ◌≤◌, ◌<◌, ◌∷◌, ℕ, List, true, false, length, drop, IfOk, OnErr, OnOk};
 ghost use Rattle.journal_format.specs.declared.turn_record.TurnRecord.{TurnRecord};

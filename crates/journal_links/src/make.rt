@@ -65,8 +65,8 @@ impl<'a, L: Links, D: Disk> JournalLinks<'a, L, D> {
         })
     }
 
-    /// Begins a journal of this configuration in the disk's file, and records all turns in it. What is known of the
-    /// disk after an error [`turn_journal::begin_on`] says.
+    /// Begins a journal of this configuration in the disk's file, and records all turns in it. [`turn_journal::begin_on`]
+    /// says what is known of the disk after an error.
     pub fn record(
         alloc: Global,
         inner: &'a mut L,

@@ -154,7 +154,7 @@ pub record SendStep (old new : Seen) (link : ℕ) (bytes : List ℕ) (answer : S
   pub faults : new.faults ≡ old.faults
   pub spent : old.spent ≡ true → new.spent ≡ true
 
--- memory ran out in a send: no byte was taken, and nothing else was done
+-- memory ran out in a send: no byte was taken, and no call is in the log
 pub record Unsent (old new : Seen) : Type 0 where
   pub calls : AddsCalls old.inner new.inner []
   pub sends : new.sends ≡ old.sends

@@ -20,7 +20,7 @@ abbrev pub HoldsMore : Journal → (List TurnRecord → Type 0) → List ℕ →
 HoldsMore journal P file = (entries : List TurnRecord) × Holds (with_records journal entries) file × P entries
 
 -- A file that held the journal holds it with the first of the turns whenever a crash comes, and with all of them once they
--- were handed out. One more may follow them, whose record was begun last. No part of a record follows.
+-- were handed out. One more may follow them. No part of a record follows.
 pub record CrashesLeaveTurns : Type 0 where
   pub at_any_moment : (journal : Journal) (start now : Past) (calls : List Entry) → ((image : List ℕ) → Leaves start image → Holds journal image) → Recorded journal start calls now
       → LeavesOnly start now (HoldsMore journal (AreFirst (noted calls).records))

@@ -61,7 +61,8 @@ pub record Traces (lent : Lent) (calls : List Entry) (seen : Seen) : Type 0 wher
   pub keeps : Keeps lent calls seen.kept seen.sends seen.spent
   pub passed : Passed seen.first lent.links calls seen.inner
 
--- what a fault of the disk adds to the faults of the links that were lent it: as many as may be
+-- what a fault of the disk adds to the faults of the links that were lent: as many as may be, so that nothing is said of a
+-- failure after it
 abbrev pub disk_faults : Bool → ℕ
 disk_faults true = greatest
 disk_faults false = 0

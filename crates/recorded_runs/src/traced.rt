@@ -13,12 +13,12 @@ use recorded_links::RecordedLinks;
 use std::alloc::Global;
 use std::marker::PhantomData;
 
-/// Links that record, and that never lose what was lent to them: each value of this type has recorded all of its calls
-/// since the loan that `K` names. So a function that knows them as links alone keeps this too.
+/// Links that record, whose type says what became of the links and the disk that were lent to them (`K`). So a caller knows
+/// it of what a generic function gives back, too.
 #[derive(Drop)]
 pub struct TracedLinks<'a, L: Links, D: Disk, K: Loan> {
     pub links: RecordedLinks<'a, L, D>,
-    /// Whether the disk failed.
+    /// Whether a call of the disk has failed since the loan.
     pub disk_failed: bool,
     pub loan: PhantomData<K>,
     pub ghost links_name: { links.inner.ghost_name ≡ K.lent.links_name },
