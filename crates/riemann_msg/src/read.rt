@@ -655,7 +655,6 @@ impl Draft for MsgDraft {
 /// `spent`. Its states are events too, and come before the others. An event without a time gets `now`. `Refused` comes for
 /// the first fault in the order of the fields, and then nothing was read. `Memory`: out of memory.
 #[tactic(auto, unfolding(crate::specs::Fault::first_fault))]
-#[inline(always)]
 pub fn read_msg_into(
     alloc: Global,
     body: &[u8],
