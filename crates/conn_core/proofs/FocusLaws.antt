@@ -6,9 +6,9 @@ use Rattle.std.proofs.lemmas.List.{drop-set-lt, get_or-set_same, map-append, tak
 use Rattle.std.proofs.lemmas.List.{length-map}
 use Rattle.hub_link.specs.hub_meaning.Laws.{AreRising}
 use Rattle.hub_link.specs.hub_meaning.Legal.{AreSettled, IsSettled}
-use Rattle.hub_link.specs.hub_meaning.declared.status.Status.{Status}
-use Rattle.hub_link.specs.hub_meaning.declared.status.Status.TheVariants.{Closed}
-use Rattle.hub_link.specs.hub_meaning.Links.{Link, changed, closed, connected, find_link, is_above, is_connected, is_open_status, is_read_closed_status, want_of, wants_of}
+use Rattle.hub_link.specs.hub_meaning.declared.stage.Stage.{Stage}
+use Rattle.hub_link.specs.hub_meaning.declared.stage.Stage.TheVariants.{Closed}
+use Rattle.hub_link.specs.hub_meaning.Links.{Link, changed, closed, connected, find_link, is_above, is_connected, is_open_stage, is_read_closed_stage, want_of, wants_of}
 use Rattle.hub_link.specs.declared.link.HubLink.{HubLink}
 use Rattle.hub_link.specs.HubLink.{RepresentsLink}
 use Rattle.link_table.specs.Kept.{Kept, IsAt, is_newer, number_at}
@@ -40,8 +40,8 @@ module _ {X : Type 0} where
 
 -- ---- what a connected link is
 
-pub connected_unclosed : (link : Link) → is_connected link ≡ true → link.status ≢ Closed
-connected_unclosed link is same = let none : is_connected link ≡ false = ap (λ (s : Status). is_open_status s || is_read_closed_status s) same in absurd (cc (is, none))
+pub connected_unclosed : (link : Link) → is_connected link ≡ true → link.stage ≢ Closed
+connected_unclosed link is same = let none : is_connected link ≡ false = ap (λ (s : Stage). is_open_stage s || is_read_closed_stage s) same in absurd (cc (is, none))
 
 length_wants : (links : List Link) → length (wants_of links) ≡ length (connected links)
 length_wants links = length-map (connected links) want_of
@@ -129,7 +129,7 @@ module _ (table : Kept HubLink) (number place : ℕ) (links : List Link) (meant 
   focus_change f = ap (changed number f) focus.are ∙ changed_at number f focus.first focus.last meant focus.number_is focus_before focus_after
 
   -- the link is changed, and so is the value beside it
-  pub focus_changed : (f : Link → Link) (value : HubLink) → (f meant).number ≡ meant.number → (f meant).status ≢ Closed → RepresentsLink value (f meant)
+  pub focus_changed : (f : Link → Link) (value : HubLink) → (f meant).number ≡ meant.number → (f meant).stage ≢ Closed → RepresentsLink value (f meant)
       → Focus (record table { values = set table.values place value }) number place (changed number f links) (f meant)
   focus_changed f value same unclosed represents = record {
     first = focus.first;

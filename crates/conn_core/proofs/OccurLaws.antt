@@ -6,9 +6,9 @@ use Rattle.hub_link.specs.event_core.declared.arrivals.Core.{Core}
 use Rattle.hub_link.specs.event_core.Core.{CoreConfig, Represents, config_of}
 use Rattle.framing.specs.Frames.{length_at, partial}
 use Rattle.hub_link.specs.hub_meaning.Legal.{AreSettled, IsLegalFrom, VerdictsIf, VerdictsIn, VerdictsOn}
-use Rattle.hub_link.specs.hub_meaning.declared.status.Status.{Status}
-use Rattle.hub_link.specs.hub_meaning.declared.status.Status.TheVariants.{Open, ReadClosed, Closing, Closed}
-use Rattle.hub_link.specs.hub_meaning.Links.{Link, changed, find_link, is_connected, is_open, is_open_status, is_read_closed_status, with_status}
+use Rattle.hub_link.specs.hub_meaning.declared.stage.Stage.{Stage}
+use Rattle.hub_link.specs.hub_meaning.declared.stage.Stage.TheVariants.{Open, ReadClosed, Closing, Closed}
+use Rattle.hub_link.specs.hub_meaning.Links.{Link, changed, find_link, is_connected, is_open, is_open_stage, is_read_closed_stage, with_stage}
 use Rattle.hub_link.specs.hub_meaning.Replies.{reply_to_oversized}
 use Rattle.hub_link.specs.hub_meaning.Runs.{RunState, Talk, all_answered, answered, cut_off, is_oversized, messages_in, occurred, plain, read_by, read_from, state_from, talk_of, with_links, with_reply, with_talk}
 use Rattle.hub_link.specs.hub_meaning.Verdicts.{Message, PatternsReport, Refusal}
@@ -118,7 +118,7 @@ occurs_changed what piece hub table' patterns reported result run other changes 
 
 -- ---- a piece of no connected link
 
-not_open : (status : Status) → (is_open_status status || is_read_closed_status status) ≡ false → is_open_status status ≡ false
+not_open : (stage : Stage) → (is_open_stage stage || is_read_closed_stage stage) ≡ false → is_open_stage stage ≡ false
 not_open Open is = absurd (cc is)
 not_open ReadClosed is = refl
 not_open Closing is = refl
@@ -151,7 +151,7 @@ occurs_absent number count piece hub patterns reported absent config state at se
     by_found None is unclosed =
         nothing (ap (read_by config piece [] state) is) (subst (VerdictsOn config piece [] state) (sym is) refl)
     by_found (Some link) is unclosed =
-        let closed : is_open link ≡ false = not_open link.status (unclosed link is) in
+        let closed : is_open link ≡ false = not_open link.stage (unclosed link is) in
         nothing (ap (read_by config piece [] state) is
         ∙ ap (λ (t : Bool). cond t (with_talk state (all_answered config state.now (messages_in piece [] link) (talk_of piece state link))) state) closed)
         (subst (VerdictsOn config piece [] state) (sym is) (subst (λ (t : Bool). VerdictsIf t config piece [] state link) (sym closed) refl))
@@ -162,9 +162,9 @@ talk_number : (config : CoreConfig) (now : ℕ) (messages : List Message) (talk 
 talk_number config now [] talk = refl
 talk_number config now (message ∷ messages) talk = talk_number config now messages (answered config now message talk)
 
-talk_status : (config : CoreConfig) (now : ℕ) (messages : List Message) (talk : Talk) → (all_answered config now messages talk).link.status ≡ talk.link.status
-talk_status config now [] talk = refl
-talk_status config now (message ∷ messages) talk = talk_status config now messages (answered config now message talk)
+talk_stage : (config : CoreConfig) (now : ℕ) (messages : List Message) (talk : Talk) → (all_answered config now messages talk).link.stage ≡ talk.link.stage
+talk_stage config now [] talk = refl
+talk_stage config now (message ∷ messages) talk = talk_stage config now messages (answered config now message talk)
 
 choice : (P : Link → Type 0) (t : Bool) (a b : Link) → P a → P b → P (cond t a b)
 choice P true a b first second = first
@@ -172,11 +172,11 @@ choice P false a b first second = second
 
 cut_off_number : (link : Link) → (cut_off link).number ≡ link.number
 cut_off_number link =
-    choice (λ l. l.number ≡ link.number) (is_oversized (partial link.came)) (with_status ReadClosed (with_reply (reply_to_oversized (length_at (partial link.came))) link)) link refl refl
+    choice (λ l. l.number ≡ link.number) (is_oversized (partial link.came)) (with_stage ReadClosed (with_reply (reply_to_oversized (length_at (partial link.came))) link)) link refl refl
 
-cut_off_unclosed : (link : Link) → link.status ≢ Closed → (cut_off link).status ≢ Closed
+cut_off_unclosed : (link : Link) → link.stage ≢ Closed → (cut_off link).stage ≢ Closed
 cut_off_unclosed link unclosed =
-    choice (λ l. l.status ≢ Closed) (is_oversized (partial link.came)) (with_status ReadClosed (with_reply (reply_to_oversized (length_at (partial link.came))) link)) link read_closed_unclosed unclosed
+    choice (λ l. l.stage ≢ Closed) (is_oversized (partial link.came)) (with_stage ReadClosed (with_reply (reply_to_oversized (length_at (partial link.came))) link)) link read_closed_unclosed unclosed
 
 module _ (config : CoreConfig) (piece : List ℕ) (verdicts : List (Option Refusal)) (state : RunState) (meant : Link) where
   all_number : (all_answered config state.now (messages_in piece verdicts meant) (talk_of piece state meant)).link.number ≡ meant.number
@@ -191,14 +191,14 @@ module _ (config : CoreConfig) (piece : List ℕ) (verdicts : List (Option Refus
       by_test true = cut_off_number (all_answered config state.now (messages_in piece verdicts meant) (talk_of piece state meant)).link ∙ all_number
       by_test false = refl
 
-  pub after_unclosed : meant.status ≢ Closed → (talk_after config piece verdicts state meant).link.status ≢ Closed
+  pub after_unclosed : meant.stage ≢ Closed → (talk_after config piece verdicts state meant).link.stage ≢ Closed
   after_unclosed unclosed = by_test (is_open meant)
     where
       by_test : (t : Bool) → (cond t (record (all_answered config state.now (messages_in piece verdicts meant) (talk_of piece state meant)) {
         link = cut_off (all_answered config state.now (messages_in piece verdicts meant) (talk_of piece state meant)).link;
-      }) (record { arrivals = state.arrivals; link = meant })).link.status ≢ Closed
+      }) (record { arrivals = state.arrivals; link = meant })).link.stage ≢ Closed
       by_test true = cut_off_unclosed (all_answered config state.now (messages_in piece verdicts meant) (talk_of piece state meant)).link
-          (subst (λ (s : Status). s ≢ Closed) (sym (talk_status config state.now (messages_in piece verdicts meant) (talk_of piece state meant))) unclosed)
+          (subst (λ (s : Stage). s ≢ Closed) (sym (talk_stage config state.now (messages_in piece verdicts meant) (talk_of piece state meant))) unclosed)
       by_test false = unclosed
 
   -- the state after the piece

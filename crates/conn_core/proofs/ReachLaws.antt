@@ -5,9 +5,9 @@ use Rattle.std.specs.List.{AllByRecursion, remove}
 use Rattle.std.proofs.lemmas.Bool.{and_parts, eqb-true, le-ltb, lt-ltb, ltb-true}
 use Rattle.std.proofs.lemmas.List.Folds.{list_all-append}
 use Rattle.hub_link.specs.hub_meaning.Legal.{AreSettled, IsLegalFrom, IsSettled, IsSettledAs, MayClose}
-use Rattle.hub_link.specs.hub_meaning.declared.status.Status.{Status}
-use Rattle.hub_link.specs.hub_meaning.declared.status.Status.TheVariants.{Open, ReadClosed, Closing, Closed}
-use Rattle.hub_link.specs.hub_meaning.Links.{Link, broken, changed, closed, connected, connected_limit, ended, find_link, has_number, is_above, is_connected, is_open, is_open_status, is_read_closed_status, new_link, opened, sent, unblocked, want_of, wants_of, with_status}
+use Rattle.hub_link.specs.hub_meaning.declared.stage.Stage.{Stage}
+use Rattle.hub_link.specs.hub_meaning.declared.stage.Stage.TheVariants.{Open, ReadClosed, Closing, Closed}
+use Rattle.hub_link.specs.hub_meaning.Links.{Link, broken, changed, closed, connected, connected_limit, ended, find_link, has_number, is_above, is_connected, is_open, is_open_stage, is_read_closed_stage, new_link, opened, sent, unblocked, want_of, wants_of, with_stage}
 use Rattle.hub_link.specs.hub_meaning.Runs.{RunState, Step, plain, state_from, with_links}
 use Rattle.hub_link.proofs.HubMeaningLinkLaws.{rising_changed, rising_opened}
 use Rattle.hub_link.proofs.HubMeaningRunLaws.{legal_append, state_append}
@@ -55,13 +55,13 @@ closing_unclosed same = cc same
 pub read_closed_unclosed : ReadClosed ≢ Closed
 read_closed_unclosed same = cc same
 
-sent_unclosed : (bytes : List ℕ) (answer : SendAnswer) (link : Link) → link.status ≢ Closed → (sent bytes answer link).status ≢ Closed
+sent_unclosed : (bytes : List ℕ) (answer : SendAnswer) (link : Link) → link.stage ≢ Closed → (sent bytes answer link).stage ≢ Closed
 sent_unclosed bytes (Took count) link unclosed = unclosed
 sent_unclosed bytes Later link unclosed = unclosed
 sent_unclosed bytes Failed link unclosed = closing_unclosed
 sent_unclosed bytes SendMemory link unclosed = unclosed
 
-after_unclosed : (run : List Entry) (link : Link) → link.status ≢ Closed → (after_sends run link).status ≢ Closed
+after_unclosed : (run : List Entry) (link : Link) → link.stage ≢ Closed → (after_sends run link).stage ≢ Closed
 after_unclosed [] link unclosed = unclosed
 after_unclosed (Listen address answer ∷ run) link unclosed = after_unclosed run link unclosed
 after_unclosed (Next wants turn piece ∷ run) link unclosed = after_unclosed run link unclosed
@@ -114,7 +114,7 @@ module _ (table table'' : Kept HubLink) (number place : ℕ) (value value' : Hub
 
 -- ---- a link that is closed, or stays
 
-settled_connected : (link : Link) (status : Status) → status ≢ Closed → IsSettledAs link status → (is_open_status status || is_read_closed_status status) ≡ true
+settled_connected : (link : Link) (stage : Stage) → stage ≢ Closed → IsSettledAs link stage → (is_open_stage stage || is_read_closed_stage stage) ≡ true
 settled_connected link Open unclosed settled = refl
 settled_connected link ReadClosed unclosed settled = refl
 settled_connected link Closing unclosed settled = absurd settled
@@ -139,7 +139,7 @@ finishes_kept table table' number place want stays wants values newest config st
     let fresh : record { link = number_at table.wants place; read = want.read; room = want.room } ≡ want_of meant =
     ap (λ (n : ℕ). record { link = n; read = want.read; room = want.room }) (focus.has_number ∙ sym focus.number_is)
     ∙ ap (λ (w : Want). record { link = meant.number; read = w.read; room = w.room }) facts.1 in
-    let kept = focus_kept table number place state.links meant focus table' (settled_connected meant meant.status focus.unclosed is_settled) is_settled
+    let kept = focus_kept table number place state.links meant focus table' (settled_connected meant meant.stage focus.unclosed is_settled) is_settled
     (wants ∙ ap (set table.wants place) fresh) values newest in
     record {
       legal = tt;
@@ -149,20 +149,20 @@ finishes_kept table table' number place want stays wants values newest config st
 -- ---- the link of a number is changed
 
 abbrev pub KeepsStanding : (Link → Link) → Type 0
-KeepsStanding f = (link : Link) → link.status ≢ Closed → (f link).status ≢ Closed
+KeepsStanding f = (link : Link) → link.stage ≢ Closed → (f link).stage ≢ Closed
 
 choice : (P : Link → Type 0) (t : Bool) (a b : Link) → P a → P b → P (cond t a b)
 choice P true a b first second = first
 choice P false a b first second = second
 
 pub ended_unclosed : KeepsStanding ended
-ended_unclosed link unclosed = choice (λ l. l.status ≢ Closed) (is_open link) (with_status ReadClosed link) link read_closed_unclosed unclosed
+ended_unclosed link unclosed = choice (λ l. l.stage ≢ Closed) (is_open link) (with_stage ReadClosed link) link read_closed_unclosed unclosed
 
 pub broken_unclosed : KeepsStanding broken
-broken_unclosed link unclosed = choice (λ l. l.status ≢ Closed) (is_connected link) (with_status Closing link) link closing_unclosed unclosed
+broken_unclosed link unclosed = choice (λ l. l.stage ≢ Closed) (is_connected link) (with_stage Closing link) link closing_unclosed unclosed
 
 pub unblocked_unclosed : KeepsStanding unblocked
-unblocked_unclosed link unclosed = choice (λ l. l.status ≢ Closed) (is_connected link) (record link { blocked = false }) link unclosed unclosed
+unblocked_unclosed link unclosed = choice (λ l. l.stage ≢ Closed) (is_connected link) (record link { blocked = false }) link unclosed unclosed
 
 pub changes_found : (f : Link → Link) (table table'' : Kept HubLink) (number place : ℕ) (value value' : HubLink) (result : Result (Unit {0}) Memory) (run : List Entry)
     → ((link : Link) → (f link).number ≡ link.number) → KeepsStanding f → IsAt number table place → ((other : HubLink) → get_or table.values place other ≡ value) → RepresentsChanged f value value'
@@ -199,17 +199,17 @@ changed_gone number f fixed (link ∷ links) gone =
     at_first true same = same refl
     at_first false same = refl
 
-not_open : (status : Status) → (is_open_status status || is_read_closed_status status) ≡ false → is_open_status status ≡ false
+not_open : (stage : Stage) → (is_open_stage stage || is_read_closed_stage stage) ≡ false → is_open_stage stage ≡ false
 not_open Open is = absurd (cc is)
 not_open ReadClosed is = refl
 not_open Closing is = refl
 not_open Closed is = refl
 
 pub ended_fixed : (link : Link) → is_connected link ≡ false → ended link ≡ link
-ended_fixed link is = ap (λ (t : Bool). cond t (with_status ReadClosed link) link) (not_open link.status is)
+ended_fixed link is = ap (λ (t : Bool). cond t (with_stage ReadClosed link) link) (not_open link.stage is)
 
 pub broken_fixed : (link : Link) → is_connected link ≡ false → broken link ≡ link
-broken_fixed link is = ap (λ (t : Bool). cond t (with_status Closing link) link) is
+broken_fixed link is = ap (λ (t : Bool). cond t (with_stage Closing link) link) is
 
 pub unblocked_fixed : (link : Link) → is_connected link ≡ false → unblocked link ≡ link
 unblocked_fixed link is = ap (λ (t : Bool). cond t (record link { blocked = false }) link) is
@@ -269,8 +269,8 @@ newest_above number other links last same above =
         ap (λ (t : Bool). is_above other links && (t && true)) is ∙ ap (λ (t : Bool). t && true) (above_more number other links above (ltb-true number other is)) ∙ sym is
     by_test false is = ap (λ (t : Bool). is_above other links && (t && true)) is ∙ and_false (is_above other links) ∙ sym is
 
-abbrev link_with : ℕ → Status → Link
-link_with number status = record { number = number; status = status; blocked = false; came = []; replies = []; taken = [] }
+abbrev link_with : ℕ → Stage → Link
+link_with number stage = record { number = number; stage = stage; blocked = false; came = []; replies = []; taken = [] }
 
 new_link_is : (number : ℕ) (links : List Link) (t : Bool) → nat_lt (length (connected links)) connected_limit ≡ t → new_link number links ≡ link_with number (cond t Open Closing)
 new_link_is number links t is = ap (λ (b : Bool). link_with number (cond b Open Closing)) is

@@ -3,7 +3,7 @@ use Rattle.std.specs.Prelude.{◌≡◌, ◌≢◌, ℕ, suc, ◌<◌, List, [],
 use Rattle.hub_link.specs.event_core.Core.{CoreConfig}
 use Rattle.hub_link.specs.hub_meaning.Laws.{AreRising}
 use Rattle.hub_link.specs.hub_meaning.Legal.{AreSettled, IsLegalFrom, IsSettled, MayClose}
-use Rattle.hub_link.specs.hub_meaning.declared.status.Status.TheVariants.{Closed}
+use Rattle.hub_link.specs.hub_meaning.declared.stage.Stage.TheVariants.{Closed}
 use Rattle.hub_link.specs.hub_meaning.Links.{Link, broken, changed, connected, connected_limit, ended, is_above, new_link, opened, unblocked, want_of, wants_of}
 use Rattle.hub_link.specs.hub_meaning.Runs.{RunState, plain, state_from, with_links}
 use Rattle.hub_link.specs.declared.link.HubLink.{HubLink}
@@ -34,7 +34,7 @@ pub record Focus (table : Kept HubLink) (number place : ℕ) (links : List Link)
   pub last : List Link
   pub are : links ≡ first ++ meant ∷ last
   pub number_is : meant.number ≡ number
-  pub unclosed : meant.status ≢ Closed
+  pub unclosed : meant.stage ≢ Closed
   pub rising : AreRising links
   pub free : (other : ℕ) → is_above other links ≡ is_newer other table.newest
   pub within : place < length table.values

@@ -11,9 +11,9 @@ use Rattle.framing.proofs.FrameLaws.{oversized_has_none, partial_append, partial
 use Rattle.list_laws.specs.declared.memory.Memory.{Memory}
 use Rattle.ports.specs.declared.links.Want.{Want}
 use Rattle.msg_replies.specs.hub_meaning.Legal.{ArePossible, AreVerdicts, MayClose, MayCloseAs, VerdictsIf}
-use Rattle.msg_replies.specs.hub_meaning.Links.{Link, broken, connected, connected_limit, ended, is_connected, is_open, is_open_status, is_read_closed_status, new_link, unblocked, unsent, want_of, with_status}
-use Rattle.msg_replies.specs.hub_meaning.declared.status.Status.{Status}
-use Rattle.msg_replies.specs.hub_meaning.declared.status.Status.TheVariants.{Open, ReadClosed, Closing, Closed}
+use Rattle.msg_replies.specs.hub_meaning.Links.{Link, broken, connected, connected_limit, ended, is_connected, is_open, is_open_stage, is_read_closed_stage, new_link, unblocked, unsent, want_of, with_stage}
+use Rattle.msg_replies.specs.hub_meaning.declared.stage.Stage.{Stage}
+use Rattle.msg_replies.specs.hub_meaning.declared.stage.Stage.TheVariants.{Open, ReadClosed, Closing, Closed}
 use Rattle.msg_replies.specs.hub_meaning.Replies.{reply_to_oversized}
 use Rattle.msg_replies.specs.hub_meaning.Runs.{RunState, Talk, all_answered, answered, cut_off, is_oversized, messages_in, new_frames, talk_of, with_reply}
 use Rattle.msg_replies.specs.hub_meaning.Verdicts.{Message, PatternsReport, Refusal, judged}
@@ -40,15 +40,15 @@ talk_at piece core link state meant is = record { arrivals = is.arrivals; left_i
 
 -- the link whose frames were answered
 represents_answered : (piece : List ℕ) (link one : HubLink) (core core' : Core) (old new : Reported) (messages : List Message) (state : RunState) (meant : Link)
-    → IsAt core link state meant → one.number ≡ link.number → one.status ≡ link.status → one.blocked ≡ link.blocked
+    → IsAt core link state meant → one.number ≡ link.number → one.stage ≡ link.stage → one.blocked ≡ link.blocked
     → one.input ≡ partial (meant.came ++ piece)
     → Answered core core' one.unsent old new messages (talk_of piece state meant)
     → RepresentsLink one (all_answered (config_of core) (now_of core) messages (talk_of piece state meant)).link
-represents_answered piece link one core core' old new messages state meant is number status blocked input answers =
+represents_answered piece link one core core' old new messages state meant is number stage blocked input answers =
     let same = answered_link (config_of core) (now_of core) messages (talk_of piece state meant) in
     record {
       number = number ∙ is.represents.number ∙ ap (λ (l : Link). l.number) (sym same);
-      status = status ∙ is.represents.status ∙ ap (λ (l : Link). l.status) (sym same);
+      stage = stage ∙ is.represents.stage ∙ ap (λ (l : Link). l.stage) (sym same);
       blocked = blocked ∙ is.represents.blocked ∙ ap (λ (l : Link). l.blocked) (sym same);
       input = λ _. input ∙ ap (λ (l : Link). partial l.came) (sym same);
       unsent = answers.left_is;
@@ -139,7 +139,7 @@ module _ (piece : List ℕ) (link : HubLink) (core core' : Core) (patterns patte
         let talked : Talk = all_answered config (now_of core) messages (talk_of piece state meant) in
         let answers = frames.answered (talk_of piece state meant) (talk_at piece core link state meant is) in
         let there : RepresentsLink one talked.link =
-        represents_answered piece link one core core' old new messages state meant is number keeps.status keeps.blocked
+        represents_answered piece link one core core' old new messages state meant is number keeps.stage keeps.blocked
         (keeps.input ∙ rest_in link piece meant opened is.represents) answers in
         let still_open : is_open talked.link ≡ true =
         ap (λ (l : Link). is_open l) (answered_link config (now_of core) messages (talk_of piece state meant)) ∙ open_now in
@@ -180,82 +180,82 @@ within_test bytes other = by_case (is_oversized bytes) refl
 
 -- the reply to the length is appended, and no more is read
 pub cuts_off : (link link' : HubLink) (size : ℕ) → IsOversized link.input → size ≡ length_at link.input
-    → link'.number ≡ link.number → link'.status ≡ ReadClosed → link'.blocked ≡ link.blocked → link'.unsent ≡ link.unsent ++ reply_to_oversized size
+    → link'.number ≡ link.number → link'.stage ≡ ReadClosed → link'.blocked ≡ link.blocked → link'.unsent ≡ link.unsent ++ reply_to_oversized size
     → (meant : Link) → is_open meant ≡ true → RepresentsLink link meant → RepresentsLink link' (cut_off meant)
-cuts_off link link' size over size_is number status blocked unsent_is meant opened is =
+cuts_off link link' size over size_is number stage blocked unsent_is meant opened is =
     let held : partial meant.came ≡ link.input = sym (is.input opened) in
     let test : is_oversized (partial meant.came) ≡ true = ap is_oversized held ∙ oversized_test link.input over in
     let size_there : size ≡ length_at (partial meant.came) = size_is ∙ ap length_at (sym held) in
     let reply : List ℕ = reply_to_oversized (length_at (partial meant.came)) in
-    let there : RepresentsLink link' (with_status ReadClosed (with_reply reply meant)) = record {
+    let there : RepresentsLink link' (with_stage ReadClosed (with_reply reply meant)) = record {
       number = number ∙ is.number;
-      status = status;
+      stage = stage;
       blocked = blocked ∙ is.blocked;
       input = λ open_now. absurd (cc open_now);
       unsent = unsent_is ∙ ap (λ (n : ℕ). link.unsent ++ reply_to_oversized n) size_there ∙ ap (λ (bs : List ℕ). bs ++ reply) is.unsent ∙ sym (unsent_with_reply reply meant is.within);
       within = within_with_reply reply meant is.within;
     } in
-    subst (λ (t : Bool). RepresentsLink link' (cond t (with_status ReadClosed (with_reply reply meant)) meant)) (sym test) there
+    subst (λ (t : Bool). RepresentsLink link' (cond t (with_stage ReadClosed (with_reply reply meant)) meant)) (sym test) there
 
 pub cuts_nothing : (link : HubLink) → (IsOversized link.input → ⊥) → (meant : Link) → is_open meant ≡ true → RepresentsLink link meant → RepresentsLink link (cut_off meant)
 cuts_nothing link other meant opened is =
     let held : link.input ≡ partial meant.came = is.input opened in
     let test : is_oversized (partial meant.came) ≡ false = within_test (partial meant.came) (subst (λ (bs : List ℕ). IsOversized bs → ⊥) held other) in
-    subst (λ (t : Bool). RepresentsLink link (cond t (with_status ReadClosed (with_reply (reply_to_oversized (length_at (partial meant.came))) meant)) meant)) (sym test) is
+    subst (λ (t : Bool). RepresentsLink link (cond t (with_stage ReadClosed (with_reply (reply_to_oversized (length_at (partial meant.came))) meant)) meant)) (sym test) is
 
 pub frame_is_within : (bytes : List ℕ) → HasFrame bytes → IsOversized bytes → ⊥
 frame_is_within bytes has over = oversized_has_none bytes over has
 
 -- ---- what changes a link
 
-connected_as : (link : HubLink) (meant : Link) (t : Bool) → (is_open_status link.status || is_read_closed_status link.status) ≡ t → RepresentsLink link meant → is_connected meant ≡ t
-connected_as link meant t is represents = ap (λ (s : Status). is_open_status s || is_read_closed_status s) (sym represents.status) ∙ is
+connected_as : (link : HubLink) (meant : Link) (t : Bool) → (is_open_stage link.stage || is_read_closed_stage link.stage) ≡ t → RepresentsLink link meant → is_connected meant ≡ t
+connected_as link meant t is represents = ap (λ (s : Stage). is_open_stage s || is_read_closed_stage s) (sym represents.stage) ∙ is
 
-open_as : (link : HubLink) (meant : Link) (t : Bool) → is_open_status link.status ≡ t → RepresentsLink link meant → is_open meant ≡ t
-open_as link meant t is represents = ap is_open_status (sym represents.status) ∙ is
+open_as : (link : HubLink) (meant : Link) (t : Bool) → is_open_stage link.stage ≡ t → RepresentsLink link meant → is_open meant ≡ t
+open_as link meant t is represents = ap is_open_stage (sym represents.stage) ∙ is
 
-pub is_shut : (link : HubLink) → is_open_status link.status ≡ false → (meant : Link) → RepresentsLink link meant → is_open meant ≡ false
+pub is_shut : (link : HubLink) → is_open_stage link.stage ≡ false → (meant : Link) → RepresentsLink link meant → is_open meant ≡ false
 is_shut link is meant represents = open_as link meant false is represents
 
-pub is_opened : (link : HubLink) → is_open_status link.status ≡ true → (meant : Link) → RepresentsLink link meant → is_open meant ≡ true
+pub is_opened : (link : HubLink) → is_open_stage link.stage ≡ true → (meant : Link) → RepresentsLink link meant → is_open meant ≡ true
 is_opened link is meant represents = open_as link meant true is represents
 
-pub stays_ended : (link : HubLink) → is_open_status link.status ≡ false → RepresentsChanged ended link link
+pub stays_ended : (link : HubLink) → is_open_stage link.stage ≡ false → RepresentsChanged ended link link
 stays_ended link is meant represents =
-    subst (λ (t : Bool). RepresentsLink link (cond t (with_status ReadClosed meant) meant)) (sym (open_as link meant false is represents)) represents
+    subst (λ (t : Bool). RepresentsLink link (cond t (with_stage ReadClosed meant) meant)) (sym (open_as link meant false is represents)) represents
 
-pub ends : (link link' : HubLink) → is_open_status link.status ≡ true → link'.number ≡ link.number → link'.status ≡ ReadClosed → link'.blocked ≡ link.blocked → link'.unsent ≡ link.unsent → RepresentsChanged ended link link'
-ends link link' is number status blocked unsent_is meant represents =
-    let there : RepresentsLink link' (with_status ReadClosed meant) = record {
+pub ends : (link link' : HubLink) → is_open_stage link.stage ≡ true → link'.number ≡ link.number → link'.stage ≡ ReadClosed → link'.blocked ≡ link.blocked → link'.unsent ≡ link.unsent → RepresentsChanged ended link link'
+ends link link' is number stage blocked unsent_is meant represents =
+    let there : RepresentsLink link' (with_stage ReadClosed meant) = record {
       number = number ∙ represents.number;
-      status = status;
+      stage = stage;
       blocked = blocked ∙ represents.blocked;
       input = λ opened. absurd (cc opened);
       unsent = unsent_is ∙ represents.unsent;
       within = represents.within;
     } in
-    subst (λ (t : Bool). RepresentsLink link' (cond t (with_status ReadClosed meant) meant)) (sym (open_as link meant true is represents)) there
+    subst (λ (t : Bool). RepresentsLink link' (cond t (with_stage ReadClosed meant) meant)) (sym (open_as link meant true is represents)) there
 
-pub stays_broken : (link : HubLink) → (is_open_status link.status || is_read_closed_status link.status) ≡ false → RepresentsChanged broken link link
+pub stays_broken : (link : HubLink) → (is_open_stage link.stage || is_read_closed_stage link.stage) ≡ false → RepresentsChanged broken link link
 stays_broken link is meant represents =
-    subst (λ (t : Bool). RepresentsLink link (cond t (with_status Closing meant) meant)) (sym (connected_as link meant false is represents)) represents
+    subst (λ (t : Bool). RepresentsLink link (cond t (with_stage Closing meant) meant)) (sym (connected_as link meant false is represents)) represents
 
-pub breaks : (link link' : HubLink) → (is_open_status link.status || is_read_closed_status link.status) ≡ true → link'.number ≡ link.number → link'.status ≡ Closing → link'.blocked ≡ link.blocked
+pub breaks : (link link' : HubLink) → (is_open_stage link.stage || is_read_closed_stage link.stage) ≡ true → link'.number ≡ link.number → link'.stage ≡ Closing → link'.blocked ≡ link.blocked
     → link'.unsent ≡ link.unsent → RepresentsChanged broken link link'
-breaks link link' is number status blocked unsent_is meant represents =
-    subst (λ (t : Bool). RepresentsLink link' (cond t (with_status Closing meant) meant)) (sym (connected_as link meant true is represents))
-    (closes link link' number status blocked unsent_is meant represents)
+breaks link link' is number stage blocked unsent_is meant represents =
+    subst (λ (t : Bool). RepresentsLink link' (cond t (with_stage Closing meant) meant)) (sym (connected_as link meant true is represents))
+    (closes link link' number stage blocked unsent_is meant represents)
 
-pub stays_unblocked : (link : HubLink) → (is_open_status link.status || is_read_closed_status link.status) ≡ false → RepresentsChanged unblocked link link
+pub stays_unblocked : (link : HubLink) → (is_open_stage link.stage || is_read_closed_stage link.stage) ≡ false → RepresentsChanged unblocked link link
 stays_unblocked link is meant represents =
     subst (λ (t : Bool). RepresentsLink link (cond t (record meant { blocked = false }) meant)) (sym (connected_as link meant false is represents)) represents
 
-pub unblocks : (link link' : HubLink) → (is_open_status link.status || is_read_closed_status link.status) ≡ true → link'.number ≡ link.number → link'.status ≡ link.status → link'.blocked ≡ false
+pub unblocks : (link link' : HubLink) → (is_open_stage link.stage || is_read_closed_stage link.stage) ≡ true → link'.number ≡ link.number → link'.stage ≡ link.stage → link'.blocked ≡ false
     → link'.input ≡ link.input → link'.unsent ≡ link.unsent → RepresentsChanged unblocked link link'
-unblocks link link' is number status blocked input unsent_is meant represents =
+unblocks link link' is number stage blocked input unsent_is meant represents =
     let there : RepresentsLink link' (record meant { blocked = false }) = record {
       number = number ∙ represents.number;
-      status = status ∙ represents.status;
+      stage = stage ∙ represents.stage;
       blocked = blocked;
       input = λ opened. input ∙ represents.input opened;
       unsent = unsent_is ∙ represents.unsent;
@@ -263,11 +263,11 @@ unblocks link link' is number status blocked input unsent_is meant represents =
     } in
     subst (λ (t : Bool). RepresentsLink link' (cond t (record meant { blocked = false }) meant)) (sym (connected_as link meant true is represents)) there
 
-pub opens : (link : HubLink) (number : ℕ) (has_room : Bool) (links : List Link) → link.number ≡ number → link.status ≡ cond has_room Open Closing → link.blocked ≡ false → link.input ≡ []
+pub opens : (link : HubLink) (number : ℕ) (has_room : Bool) (links : List Link) → link.number ≡ number → link.stage ≡ cond has_room Open Closing → link.blocked ≡ false → link.input ≡ []
     → link.unsent ≡ [] → has_room ≡ nat_lt (length (connected links)) connected_limit → RepresentsLink link (new_link number links)
-opens link number has_room links number_is status blocked bytes unsent_is room = record {
+opens link number has_room links number_is stage blocked bytes unsent_is room = record {
   number = number_is;
-  status = status ∙ ap (λ (t : Bool). cond t Open Closing) room;
+  stage = stage ∙ ap (λ (t : Bool). cond t Open Closing) room;
   blocked = blocked;
   input = λ _. bytes ∙ sym partial_of_nothing;
   unsent = unsent_is;
@@ -276,16 +276,16 @@ opens link number has_room links number_is status blocked bytes unsent_is room =
 
 -- ---- what is wanted of a link, and whether it is to be closed
 
-pub wants_so : (link : HubLink) (meant : Link) (want : Want) → want.link ≡ link.number → want.read ≡ (is_open_status link.status && nat_lt (length link.unsent) BODY_LIMIT)
+pub wants_so : (link : HubLink) (meant : Link) (want : Want) → want.link ≡ link.number → want.read ≡ (is_open_stage link.stage && nat_lt (length link.unsent) BODY_LIMIT)
     → want.room ≡ nat_lt 0 (length link.unsent) → RepresentsLink link meant → want ≡ want_of meant
 wants_so link meant want number read room represents =
     ap (λ (n : ℕ). let w : Want = record { link = n; read = want.read; room = want.room } in w) (number ∙ represents.number)
     ∙ ap (λ (t : Bool). let w : Want = record { link = meant.number; read = t; room = want.room } in w)
-    (read ∙ ap (λ (s : Status). is_open_status s && nat_lt (length link.unsent) BODY_LIMIT) represents.status ∙ ap (λ (bs : List ℕ). is_open meant && nat_lt (length bs) BODY_LIMIT) represents.unsent)
+    (read ∙ ap (λ (s : Stage). is_open_stage s && nat_lt (length link.unsent) BODY_LIMIT) represents.stage ∙ ap (λ (bs : List ℕ). is_open meant && nat_lt (length bs) BODY_LIMIT) represents.unsent)
     ∙ ap (λ (t : Bool). let w : Want = record { link = meant.number; read = is_open meant && nat_lt (length (unsent meant)) BODY_LIMIT; room = t } in w)
     (room ∙ ap (λ (bs : List ℕ). nat_lt 0 (length bs)) represents.unsent)
 
-over_as : (meant : Link) (status : Status) → IsTrue (is_over_as status (length (unsent meant))) ↔ MayCloseAs meant status
+over_as : (meant : Link) (stage : Stage) → IsTrue (is_over_as stage (length (unsent meant))) ↔ MayCloseAs meant stage
 over_as meant Open = (λ is. absurd (cc is), λ may. absurd may)
 over_as meant ReadClosed = (λ is. none_left (unsent meant) is, λ none. ap (λ (bs : List ℕ). length bs == 0) none)
   where
@@ -295,11 +295,11 @@ over_as meant ReadClosed = (λ is. none_left (unsent meant) is, λ none. ap (λ 
 over_as meant Closing = (λ _. tt, λ _. refl)
 over_as meant Closed = (λ is. absurd (cc is), λ may. absurd may)
 
-pub tells_over : (link : HubLink) (meant : Link) (over : Bool) → over ≡ is_over_as link.status (length link.unsent) → RepresentsLink link meant → IsTrue over ↔ MayClose meant
+pub tells_over : (link : HubLink) (meant : Link) (over : Bool) → over ≡ is_over_as link.stage (length link.unsent) → RepresentsLink link meant → IsTrue over ↔ MayClose meant
 tells_over link meant over is represents =
     subst (λ (t : Bool). IsTrue t ↔ MayClose meant)
-    (sym (is ∙ ap (λ (s : Status). is_over_as s (length link.unsent)) represents.status ∙ ap (λ (bs : List ℕ). is_over_as meant.status (length bs)) represents.unsent))
-    (over_as meant meant.status)
+    (sym (is ∙ ap (λ (s : Stage). is_over_as s (length link.unsent)) represents.stage ∙ ap (λ (bs : List ℕ). is_over_as meant.stage (length bs)) represents.unsent))
+    (over_as meant meant.stage)
 
 pub on_ok_three : {T E A B C D : Type 0} (r : Result T E) → (A → B → C → D) → OnOk r A → OnOk r B → OnOk r C → OnOk r D
 on_ok_three (Ok x) f a b c = f a b c

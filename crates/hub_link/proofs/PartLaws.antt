@@ -202,7 +202,7 @@ after_held held head rest piece parts = append_assoc held head rest ∙ ap (λ (
 module _ (head rest piece : List ℕ) (parts : head ++ rest ≡ piece) (link one two : HubLink) where
   pub keeps_then : KeepsRest head link one → KeepsRest rest one two → KeepsRest piece link two
   keeps_then before after = record {
-    status = after.status ∙ before.status;
+    stage = after.stage ∙ before.stage;
     blocked = after.blocked ∙ before.blocked;
     input = after.input ∙ ap (λ (held : List ℕ). partial (held ++ rest)) before.input ∙ sym (partial_append (link.input ++ head) rest)
         ∙ ap partial (after_held link.input head rest piece parts);

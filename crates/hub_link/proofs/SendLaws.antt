@@ -10,9 +10,9 @@ use Rattle.ports.specs.declared.links.SendAnswer.{SendAnswer}
 use Rattle.ports.specs.declared.links.SendAnswer.TheVariants.{Took, Later, Failed, Memory}
 use Rattle.ports.specs.Links.{send_entries, IsWithin}
 use Rattle.msg_replies.specs.hub_meaning.Legal.{IsLegalFrom, IsSettledAs, MayCloseAs, MaySend}
-use Rattle.msg_replies.specs.hub_meaning.Links.{Link, changed, find_link, has_number, is_open_status, is_read_closed_status, sent, unsent, with_status}
-use Rattle.msg_replies.specs.hub_meaning.declared.status.Status.{Status}
-use Rattle.msg_replies.specs.hub_meaning.declared.status.Status.TheVariants.{Open, ReadClosed, Closing, Closed}
+use Rattle.msg_replies.specs.hub_meaning.Links.{Link, changed, find_link, has_number, is_open_stage, is_read_closed_stage, sent, unsent, with_stage}
+use Rattle.msg_replies.specs.hub_meaning.declared.stage.Stage.{Stage}
+use Rattle.msg_replies.specs.hub_meaning.declared.stage.Stage.TheVariants.{Open, ReadClosed, Closing, Closed}
 use Rattle.msg_replies.specs.hub_meaning.Runs.{RunState, Step, plain, state_from, with_links}
 use Rattle.msg_replies.proofs.HubMeaningLinkLaws.{KeepsNumber}
 use Rattle.msg_replies.proofs.HubMeaningRunLaws.{legal_append, state_append}
@@ -139,10 +139,10 @@ sends_then one two three first second number before after = record {
 
 may_send : (link : HubLink) (bytes : List ℕ) (meant : Link) → can_send link ≡ true → bytes ≡ take (length bytes) link.unsent → 0 < length bytes → RepresentsLink link meant → MaySend bytes meant
 may_send link bytes meant can next some is =
-    let outer = and_parts (is_open_status link.status || is_read_closed_status link.status) (not link.blocked && nat_lt 0 (length link.unsent)) can in
+    let outer = and_parts (is_open_stage link.stage || is_read_closed_stage link.stage) (not link.blocked && nat_lt 0 (length link.unsent)) can in
     let inner = and_parts (not link.blocked) (nat_lt 0 (length link.unsent)) outer.1 in
     record {
-      connected = ap (λ (s : Status). is_open_status s || is_read_closed_status s) (sym is.status) ∙ outer.0;
+      connected = ap (λ (s : Stage). is_open_stage s || is_read_closed_stage s) (sym is.stage) ∙ outer.0;
       free = sym is.blocked ∙ not_true link.blocked inner.0;
       some = some;
       next = next ∙ ap (take (length bytes)) is.unsent;
@@ -154,7 +154,7 @@ may_send link bytes meant can next some is =
 
 pub some_left : (link : HubLink) → can_send link ≡ true → 0 < length link.unsent
 some_left link can =
-    let outer = and_parts (is_open_status link.status || is_read_closed_status link.status) (not link.blocked && nat_lt 0 (length link.unsent)) can in
+    let outer = and_parts (is_open_stage link.stage || is_read_closed_stage link.stage) (not link.blocked && nat_lt 0 (length link.unsent)) can in
     ltb-true 0 (length link.unsent) (and_parts (not link.blocked) (nat_lt 0 (length link.unsent)) outer.1).1
 
 -- a send of the first bytes takes what a send of all would take
@@ -193,16 +193,16 @@ sends_answered link link' bytes Memory can next some within follows = sends_noth
 -- ---- what a link notes of an answer
 
 -- the first bytes were taken
-pub notes_took : (link link' : HubLink) (count : ℕ) → count ≤ length link.unsent → link'.number ≡ link.number → link'.status ≡ link.status → link'.blocked ≡ (count == 0) → link'.input ≡ link.input
+pub notes_took : (link link' : HubLink) (count : ℕ) → count ≤ length link.unsent → link'.number ≡ link.number → link'.stage ≡ link.stage → link'.blocked ≡ (count == 0) → link'.input ≡ link.input
     → link'.unsent ≡ drop count link.unsent → (meant : Link) → RepresentsLink link meant → RepresentsLink link' (sent link.unsent (Took count) meant)
-notes_took link link' count within number status blocked input unsent_is meant is =
+notes_took link link' count within number stage blocked input unsent_is meant is =
     let left : length link.unsent ≡ length meant.replies - length meant.taken = ap length is.unsent ∙ length-drop (length meant.taken) meant.replies in
     let all : length (take count link.unsent) ≡ count = length-take-le count link.unsent within in
     let long : length (meant.taken ++ take count link.unsent) ≡ length meant.taken + count = length-append meant.taken (take count link.unsent) ∙ ap (λ (n : ℕ). length meant.taken + n) all in
     let before = is.within in
     record {
       number = number ∙ is.number;
-      status = status ∙ is.status;
+      stage = stage ∙ is.stage;
       blocked = blocked;
       input = λ opened. input ∙ is.input opened;
       unsent = unsent_is ∙ ap (drop count) is.unsent ∙ drop-drop count (length meant.taken) meant.replies ∙ ap (λ (n : ℕ). drop n meant.replies) (sym long);
@@ -210,11 +210,11 @@ notes_took link link' count within number status blocked input unsent_is meant i
     }
 
 -- nothing is taken now
-pub notes_later : (link link' : HubLink) → link'.number ≡ link.number → link'.status ≡ link.status → link'.blocked ≡ true → link'.input ≡ link.input → link'.unsent ≡ link.unsent
+pub notes_later : (link link' : HubLink) → link'.number ≡ link.number → link'.stage ≡ link.stage → link'.blocked ≡ true → link'.input ≡ link.input → link'.unsent ≡ link.unsent
     → (meant : Link) → RepresentsLink link meant → RepresentsLink link' (sent link.unsent Later meant)
-notes_later link link' number status blocked input unsent_is meant is = record {
+notes_later link link' number stage blocked input unsent_is meant is = record {
   number = number ∙ is.number;
-  status = status ∙ is.status;
+  stage = stage ∙ is.stage;
   blocked = blocked;
   input = λ opened. input ∙ is.input opened;
   unsent = unsent_is ∙ is.unsent;
@@ -222,11 +222,11 @@ notes_later link link' number status blocked input unsent_is meant is = record {
 }
 
 -- the link is to be closed
-pub closes : (link link' : HubLink) → link'.number ≡ link.number → link'.status ≡ Closing → link'.blocked ≡ link.blocked → link'.unsent ≡ link.unsent
-    → (meant : Link) → RepresentsLink link meant → RepresentsLink link' (with_status Closing meant)
-closes link link' number status blocked unsent_is meant is = record {
+pub closes : (link link' : HubLink) → link'.number ≡ link.number → link'.stage ≡ Closing → link'.blocked ≡ link.blocked → link'.unsent ≡ link.unsent
+    → (meant : Link) → RepresentsLink link meant → RepresentsLink link' (with_stage Closing meant)
+closes link link' number stage blocked unsent_is meant is = record {
   number = number ∙ is.number;
-  status = status;
+  stage = stage;
   blocked = blocked ∙ is.blocked;
   input = λ opened. absurd (cc opened);
   unsent = unsent_is ∙ is.unsent;
@@ -243,8 +243,8 @@ blocked_where : (blocked : Bool) (count : ℕ) → 0 < count → (not blocked &&
 blocked_where true count some test = refl
 blocked_where false count some test = let is : nat_lt 0 count ≡ true = lt-ltb 0 count some in absurd (cc (is, test))
 
-settled_as : (meant : Link) (status : Status) → ((is_open_status status || is_read_closed_status status) && (not meant.blocked && nat_lt 0 (length (unsent meant)))) ≡ false
-    → (MayCloseAs meant status → ⊥) → IsSettledAs meant status
+settled_as : (meant : Link) (stage : Stage) → ((is_open_stage stage || is_read_closed_stage stage) && (not meant.blocked && nat_lt 0 (length (unsent meant)))) ≡ false
+    → (MayCloseAs meant stage → ⊥) → IsSettledAs meant stage
 settled_as meant Open test stays = λ some. blocked_where meant.blocked (length (unsent meant)) some test
 settled_as meant ReadClosed test stays =
     let some = some_or_none (unsent meant) stays in
@@ -254,24 +254,24 @@ settled_as meant Closed test stays = tt
 
 pub all_sent : (link : HubLink) → can_send link ≡ false → IsSent link
 all_sent link done meant is stays =
-    settled_as meant meant.status
-    (ap (λ (s : Status). (is_open_status s || is_read_closed_status s) && (not meant.blocked && nat_lt 0 (length (unsent meant)))) (sym is.status)
-    ∙ ap (λ (t : Bool). (is_open_status link.status || is_read_closed_status link.status) && (not t && nat_lt 0 (length (unsent meant)))) (sym is.blocked)
-    ∙ ap (λ (bs : List ℕ). (is_open_status link.status || is_read_closed_status link.status) && (not link.blocked && nat_lt 0 (length bs))) (sym is.unsent)
+    settled_as meant meant.stage
+    (ap (λ (s : Stage). (is_open_stage s || is_read_closed_stage s) && (not meant.blocked && nat_lt 0 (length (unsent meant)))) (sym is.stage)
+    ∙ ap (λ (t : Bool). (is_open_stage link.stage || is_read_closed_stage link.stage) && (not t && nat_lt 0 (length (unsent meant)))) (sym is.blocked)
+    ∙ ap (λ (bs : List ℕ). (is_open_stage link.stage || is_read_closed_stage link.stage) && (not link.blocked && nat_lt 0 (length bs))) (sym is.unsent)
     ∙ done) stays
 
 -- ---- the measure of the loop that sends
 
 pub sendable_blocked : (link : HubLink) → link.blocked ≡ true → sendable link ≡ 0
-sendable_blocked link is = ap (λ (t : Bool). cond ((is_open_status link.status || is_read_closed_status link.status) && (not t && nat_lt 0 (length link.unsent))) (length link.unsent) 0) is
-    ∙ none (is_open_status link.status || is_read_closed_status link.status)
+sendable_blocked link is = ap (λ (t : Bool). cond ((is_open_stage link.stage || is_read_closed_stage link.stage) && (not t && nat_lt 0 (length link.unsent))) (length link.unsent) 0) is
+    ∙ none (is_open_stage link.stage || is_read_closed_stage link.stage)
   where
     none : (t : Bool) → cond (t && false) (length link.unsent) 0 ≡ 0
     none true = refl
     none false = refl
 
-pub sendable_closing : (link : HubLink) → link.status ≡ Closing → sendable link ≡ 0
-sendable_closing link is = ap (λ (s : Status). cond ((is_open_status s || is_read_closed_status s) && (not link.blocked && nat_lt 0 (length link.unsent))) (length link.unsent) 0) is
+pub sendable_closing : (link : HubLink) → link.stage ≡ Closing → sendable link ≡ 0
+sendable_closing link is = ap (λ (s : Stage). cond ((is_open_stage s || is_read_closed_stage s) && (not link.blocked && nat_lt 0 (length link.unsent))) (length link.unsent) 0) is
 
 pub sendable_all : (link : HubLink) → can_send link ≡ true → sendable link ≡ length link.unsent
 sendable_all link can = ap (λ (t : Bool). cond t (length link.unsent) 0) can
@@ -304,7 +304,7 @@ less_blocked link link' can blocked =
     let some = some_left link can in
     omega arith
 
-pub less_closing : (link link' : HubLink) → can_send link ≡ true → link'.status ≡ Closing → sendable link' < sendable link
+pub less_closing : (link link' : HubLink) → can_send link ≡ true → link'.stage ≡ Closing → sendable link' < sendable link
 less_closing link link' can closing =
     let none : sendable link' ≡ 0 = sendable_closing link' closing in
     let all = sendable_all link can in

@@ -21,7 +21,7 @@ pub record IsAt (core : Core) (link : HubLink) (state : RunState) (meant : Link)
 
 -- of what was held and the piece what begins no whole frame is held, and else only what is unsent changed
 pub record KeepsRest (piece : List ℕ) (link link' : HubLink) : Type 0 where
-  pub status : link'.status ≡ link.status
+  pub stage : link'.stage ≡ link.stage
   pub blocked : link'.blocked ≡ link.blocked
   pub input : link'.input ≡ partial (link.input ++ piece)
 

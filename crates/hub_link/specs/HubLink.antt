@@ -10,7 +10,7 @@ number_of link = link.number
 -- it is as that link is: of the bytes that came it keeps those of no whole frame, and of the replies those not taken
 pub record RepresentsLink (link : HubLink) (meant : Link) : Type 0 where
   pub number : link.number ≡ meant.number
-  pub status : link.status ≡ meant.status
+  pub stage : link.stage ≡ meant.stage
   pub blocked : link.blocked ≡ meant.blocked
   pub input : is_open meant ≡ true → link.input ≡ partial meant.came
   pub unsent : link.unsent ≡ unsent meant

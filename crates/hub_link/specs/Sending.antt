@@ -4,9 +4,9 @@ use Rattle.msg_replies.specs.event_core.Core.{CoreConfig}
 use Rattle.ports.specs.declared.entry.Entry.{Entry}
 use Rattle.ports.specs.declared.entry.Entry.TheVariants.{Listen, Next, Send, Close}
 use Rattle.msg_replies.specs.hub_meaning.Legal.{IsLegalFrom, IsSettled, MayClose}
-use Rattle.msg_replies.specs.hub_meaning.Links.{Link, changed, find_link, is_open_status, is_read_closed_status, sent}
-use Rattle.msg_replies.specs.hub_meaning.declared.status.Status.{Status}
-use Rattle.msg_replies.specs.hub_meaning.declared.status.Status.TheVariants.{Open, ReadClosed, Closing, Closed}
+use Rattle.msg_replies.specs.hub_meaning.Links.{Link, changed, find_link, is_open_stage, is_read_closed_stage, sent}
+use Rattle.msg_replies.specs.hub_meaning.declared.stage.Stage.{Stage}
+use Rattle.msg_replies.specs.hub_meaning.declared.stage.Stage.TheVariants.{Open, ReadClosed, Closing, Closed}
 use Rattle.msg_replies.specs.hub_meaning.Runs.{RunState, plain, state_from, with_links}
 use Rattle.hub_link.specs.declared.link.HubLink.{HubLink}
 use Rattle.hub_link.specs.HubLink.{RepresentsLink, number_of}
@@ -46,14 +46,14 @@ IsSent link = (meant : Link) → RepresentsLink link meant → (MayClose meant �
 
 -- the link may be sent to, and has bytes to send
 abbrev pub can_send : HubLink → Bool
-can_send link = (is_open_status link.status || is_read_closed_status link.status) && (not link.blocked && nat_lt 0 (length link.unsent))
+can_send link = (is_open_stage link.stage || is_read_closed_stage link.stage) && (not link.blocked && nat_lt 0 (length link.unsent))
 
 -- the bytes that there are to send
 abbrev pub sendable : HubLink → ℕ
 sendable link = if can_send link then length link.unsent else 0
 
--- whether a link of this status is to be closed while `count` bytes are unsent
-abbrev pub is_over_as : Status → ℕ → Bool
+-- whether a link of this stage is to be closed while `count` bytes are unsent
+abbrev pub is_over_as : Stage → ℕ → Bool
 is_over_as Open count = false
 is_over_as ReadClosed count = count == 0
 is_over_as Closing count = true

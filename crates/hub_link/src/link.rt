@@ -1,7 +1,7 @@
 ghost use Rattle.std.specs.Prelude.{◌≡◌, ◌≢◌, ◌↔◌, ◌<◌, ◌||◌, ◌++◌, [], true, length, nat_lt, IsTrue, OnOk, List};
 ghost use Rattle.msg_replies.specs.hub_meaning.Replies.{reply_to_oversized};
 ghost use Rattle.msg_replies.specs.hub_meaning.Legal.{MayClose};
-ghost use Rattle.msg_replies.specs.hub_meaning.Links.{Link, broken, connected, connected_limit, ended, is_open, is_open_status, is_read_closed_status, new_link, sent, unblocked, want_of};
+ghost use Rattle.msg_replies.specs.hub_meaning.Links.{Link, broken, connected, connected_limit, ended, is_open, is_open_stage, is_read_closed_stage, new_link, sent, unblocked, want_of};
 ghost use Rattle.msg_replies.specs.hub_meaning.Runs.{cut_off};
 ghost use Rattle.msg_replies.specs.Arriving.{reported};
 ghost use Rattle.ports.specs.Links.{IsWithin};
@@ -17,7 +17,7 @@ use ev_types::{Memory, Notices};
 use frame_link::{FirstFrame, FrameBuffer, first_frame};
 use framing::BODY_LIMIT;
 use msg_replies::event_core::Core;
-use msg_replies::hub_meaning::Status;
+use msg_replies::hub_meaning::Stage;
 use ports::{Links, SendAnswer, Want};
 use pred_eval::Patterns;
 use riemann_msg::SpentEvents;
@@ -28,7 +28,7 @@ use step_count::{Ledger, Steps};
 #[derive(Drop)]
 pub struct HubLink {
     number: u64,
-    status: Status,
+    stage: Stage,
     blocked: bool,
     input: FrameBuffer,
     unsent: Unsent,
@@ -44,7 +44,7 @@ impl HubLink {
     {
         HubLink {
             number,
-            status: Status::Open,
+            stage: Stage::Open,
             blocked: false,
             input: FrameBuffer::fresh(alloc),
             unsent: Unsent::fresh(alloc),
@@ -185,22 +185,22 @@ impl HubLink {
 
     /// Whether bytes are read of it.
     fn is_open(&self) -> bool
-        ensures { result ≡ is_open_status self.now.status }
+        ensures { result ≡ is_open_stage self.now.stage }
     {
-        match self.status {
-            Status::Open => true,
-            Status::ReadClosed | Status::Closing | Status::Closed => false,
+        match self.stage {
+            Stage::Open => true,
+            Stage::ReadClosed | Stage::Closing | Stage::Closed => false,
         }
     }
 
     /// Whether it is open or read-closed.
     fn is_connected(&self) -> bool
-        ensures { result ≡ (is_open_status self.now.status
-            || is_read_closed_status self.now.status) }
+        ensures { result ≡ (is_open_stage self.now.stage
+            || is_read_closed_stage self.now.stage) }
     {
-        match self.status {
-            Status::Open | Status::ReadClosed => true,
-            Status::Closing | Status::Closed => false,
+        match self.stage {
+            Stage::Open | Stage::ReadClosed => true,
+            Stage::Closing | Stage::Closed => false,
         }
     }
 
@@ -220,7 +220,7 @@ impl HubLink {
     /// Appends the reply to a length over the limit, and reads no more.
     fn refuse_length(&mut self, alloc: Global, length: u32) -> Result<(), Memory>
         ensures number { number_of self.new ≡ number_of self.old }
-        ensures status { OnOk result (self.new.status ≡ Status.ReadClosed) }
+        ensures stage { OnOk result (self.new.stage ≡ Stage.ReadClosed) }
         ensures blocked { OnOk result (self.new.blocked ≡ self.old.blocked) }
         ensures unsent { OnOk result (self.new.unsent
             ≡ self.old.unsent ++ reply_to_oversized length) }
@@ -233,11 +233,11 @@ impl HubLink {
     /// Reads no more. The bytes that came and are not a whole frame yet are dropped.
     fn close_input(&mut self, alloc: Global)
         ensures number { number_of self.new ≡ number_of self.old }
-        ensures status { self.new.status ≡ Status.ReadClosed }
+        ensures stage { self.new.stage ≡ Stage.ReadClosed }
         ensures blocked { self.new.blocked ≡ self.old.blocked }
         ensures unsent { self.new.unsent ≡ self.old.unsent }
     {
-        self.status = Status::ReadClosed;
+        self.stage = Stage::ReadClosed;
         self.input = FrameBuffer::fresh(alloc);
     }
 
@@ -260,7 +260,7 @@ impl HubLink {
         if !self.is_connected() {
             return;
         }
-        self.status = Status::Closing;
+        self.stage = Stage::Closing;
     }
 
     /// The link may be sent to again.
@@ -293,7 +293,7 @@ impl HubLink {
         ensures { (meant : Link) → RepresentsLink self.now meant →
             IsTrue result ↔ MayClose meant }
     {
-        is_over_as(self.status, self.unsent.len())
+        is_over_as(self.stage, self.unsent.len())
     }
 
     /// Sends what is unsent, until all was taken, or the link takes nothing now, or the send failed.
@@ -346,7 +346,7 @@ impl HubLink {
                 return;
             }
             SendAnswer::Failed => {
-                self.status = Status::Closing;
+                self.stage = Stage::Closing;
                 return;
             }
             SendAnswer::Memory => return,
@@ -364,13 +364,13 @@ fn memory_left(answer: SendAnswer) -> Result<(), Memory>
     }
 }
 
-/// Whether a link of this status is to be closed while `unsent` bytes are unsent.
-fn is_over_as(status: Status, unsent: usize) -> bool
-    ensures { result ≡ is_over_as status unsent }
+/// Whether a link of this stage is to be closed while `unsent` bytes are unsent.
+fn is_over_as(stage: Stage, unsent: usize) -> bool
+    ensures { result ≡ is_over_as stage unsent }
 {
-    match status {
-        Status::ReadClosed => unsent == 0,
-        Status::Closing => true,
-        Status::Open | Status::Closed => false,
+    match stage {
+        Stage::ReadClosed => unsent == 0,
+        Stage::Closing => true,
+        Stage::Open | Stage::Closed => false,
     }
 }

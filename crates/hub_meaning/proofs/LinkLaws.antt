@@ -3,7 +3,7 @@ use Rattle.std.proofs.Common.{◌≡◌, ℕ, ◌<◌, Bool, true, false, cond, 
 use Rattle.std.specs.Prelude.{Some, nat_lt}
 use Rattle.std.specs.List.{AllByRecursion, list_all}
 use Rattle.std.proofs.lemmas.Bool.{eqb-true, eq-eqb, ltb-true, and_parts}
-use Rattle.hub_meaning.specs.Links.{Link, ReadClosed, Closing, changed, broken, ended, find_link, has_number, is_above, is_connected, is_open, new_link, opened, unblocked, with_status}
+use Rattle.hub_meaning.specs.Links.{Link, ReadClosed, Closing, changed, broken, ended, find_link, has_number, is_above, is_connected, is_open, new_link, opened, unblocked, with_stage}
 use Rattle.hub_meaning.specs.Laws.{AreAbove, AreRising}
 
 -- ---- what holds of each link
@@ -110,10 +110,10 @@ rising_opened number links rising = if_above (is_above number links) refl
 -- ---- what each change keeps
 
 pub ended_number : (link : Link) → (ended link).number ≡ link.number
-ended_number link = changed_number (is_open link) (with_status ReadClosed) link (λ _. refl)
+ended_number link = changed_number (is_open link) (with_stage ReadClosed) link (λ _. refl)
 
 pub broken_number : (link : Link) → (broken link).number ≡ link.number
-broken_number link = changed_number (is_connected link) (with_status Closing) link (λ _. refl)
+broken_number link = changed_number (is_connected link) (with_stage Closing) link (λ _. refl)
 
 pub unblocked_number : (link : Link) → (unblocked link).number ≡ link.number
 unblocked_number link = changed_number (is_connected link) (λ l. record l { blocked = false }) link (λ _. refl)

@@ -13,7 +13,7 @@ use Rattle.ports.specs.declared.links.Turn.{Turn}
 use Rattle.ports.specs.declared.links.What.{What}
 use Rattle.ports.specs.declared.links.What.TheVariants as what
 use Rattle.hub_meaning.specs.Clock.{next_moment}
-use Rattle.hub_meaning.specs.Links.{Link, ReadClosed, Closing, closed, broken, ended, find_link, is_above, is_connected, is_open, new_link, opened, sent, unblocked, unsent, with_status}
+use Rattle.hub_meaning.specs.Links.{Link, ReadClosed, Closing, closed, broken, ended, find_link, is_above, is_connected, is_open, new_link, opened, sent, unblocked, unsent, with_stage}
 use Rattle.hub_meaning.specs.Replies.{reply_to_oversized}
 use Rattle.hub_meaning.specs.Runs.{RunState, Step, Talk, after_entry, after_step, all_answered, answered, cut_off, first_state, is_oversized, messages_in, occurred, passed, read_by, read_from, state_from, talk_of, turned, with_reply, with_talk}
 use Rattle.ports.specs.Playing.{is_turn_answer}
@@ -38,7 +38,7 @@ prefix_answered config now (message ∷ messages) talk sent =
 
 prefix_cut_off : (link : Link) → SentPrefix link → SentPrefix (cut_off link)
 prefix_cut_off link sent =
-    choice SentPrefix (is_oversized (partial link.came)) (with_status ReadClosed (with_reply (reply_to_oversized (length_at (partial link.came))) link)) link
+    choice SentPrefix (is_oversized (partial link.came)) (with_stage ReadClosed (with_reply (reply_to_oversized (length_at (partial link.came))) link)) link
     (prefix_reply (reply_to_oversized (length_at (partial link.came))) link sent) sent
 
 -- bytes that come next, of which some are taken
@@ -73,7 +73,7 @@ talk_number config now (message ∷ messages) talk = talk_number config now mess
 
 cut_off_number : (link : Link) → (cut_off link).number ≡ link.number
 cut_off_number link =
-    choice (λ l. l.number ≡ link.number) (is_oversized (partial link.came)) (with_status ReadClosed (with_reply (reply_to_oversized (length_at (partial link.came))) link)) link refl refl
+    choice (λ l. l.number ≡ link.number) (is_oversized (partial link.came)) (with_stage ReadClosed (with_reply (reply_to_oversized (length_at (partial link.came))) link)) link refl refl
 
 rising_read : (config : CoreConfig) (piece : List ℕ) (verdicts : List (Option Refusal)) (state : RunState) (link : Link) → AreRising state.links → AreRising (read_from config piece verdicts state link).links
 rising_read config piece verdicts state link rising = if_open (is_open link)
@@ -157,9 +157,9 @@ sent_occurred config (what.Opened number) piece verdicts state all = sent_opened
 sent_occurred config (what.Read number count) piece verdicts state all =
     sent_read_by config piece verdicts state (find_link number state.links) (λ link found. all_found SentPrefix number state.links link found all) all
 sent_occurred config (what.Ended number) piece verdicts state all =
-    all_changed SentPrefix number ended (λ link _ old. choice SentPrefix (is_open link) (with_status ReadClosed link) link old old) state.links all
+    all_changed SentPrefix number ended (λ link _ old. choice SentPrefix (is_open link) (with_stage ReadClosed link) link old old) state.links all
 sent_occurred config (what.Broken number) piece verdicts state all =
-    all_changed SentPrefix number broken (λ link _ old. choice SentPrefix (is_connected link) (with_status Closing link) link old old) state.links all
+    all_changed SentPrefix number broken (λ link _ old. choice SentPrefix (is_connected link) (with_stage Closing link) link old old) state.links all
 sent_occurred config (what.Room number) piece verdicts state all =
     all_changed SentPrefix number unblocked (λ link _ old. choice SentPrefix (is_connected link) (record link { blocked = false }) link old old) state.links all
 sent_occurred config what.Stopped piece verdicts state all = all

@@ -41,7 +41,7 @@ abbrev pub one_link : RunState
 one_link = record {
   now = 0;
   arrivals = [];
-  links = record { number = 0; status = Open; blocked = false; came = []; replies = ok_reply; taken = [] } ∷ [];
+  links = record { number = 0; stage = Open; blocked = false; came = []; replies = ok_reply; taken = [] } ∷ [];
 }
 
 -- the link takes four bytes, then nothing; its peer ends; and once there is room again it takes the rest, and is closed
@@ -57,7 +57,7 @@ LateRoomExample = IsLegalFrom index_only (plain (first_sends ++ last_sends)) one
 
 abbrev pub AllTakenExample : Type 0
 AllTakenExample = (state_from index_only (plain (first_sends ++ last_sends)) one_link).links
-    ≡ record { number = 0; status = Closed; blocked = false; came = []; replies = ok_reply; taken = ok_reply } ∷ []
+    ≡ record { number = 0; stage = Closed; blocked = false; came = []; replies = ok_reply; taken = ok_reply } ∷ []
 
 -- it is not closed while bytes are unsent
 abbrev pub ClosedEarlyExample : Type 0

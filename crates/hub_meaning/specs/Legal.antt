@@ -8,21 +8,21 @@ use Rattle.ports.specs.declared.links.Want.{Want}
 use Rattle.ports.specs.declared.links.What.{What}
 use Rattle.ports.specs.declared.links.What.TheVariants.{Idle, Opened, Read, Ended, Broken, Room, Stopped, Failed, Memory}
 use Rattle.hub_meaning.specs.Clock.{next_moment}
-use Rattle.hub_meaning.specs.Links.{Link, Status, Open, ReadClosed, Closing, Closed, find_link, is_connected, is_open, unsent, wants_of}
+use Rattle.hub_meaning.specs.Links.{Link, Stage, Open, ReadClosed, Closing, Closed, find_link, is_connected, is_open, unsent, wants_of}
 use Rattle.hub_meaning.specs.Runs.{RunState, Step, Talk, after_step, answered, first_state, messages_in, new_frames, passed, talk_of}
 use Rattle.hub_meaning.specs.Verdicts.{IsPossible, Message, Refusal}
 
 -- ---- when a turn may be asked for
 
 -- an open link has nothing unsent or is blocked; a read-closed link still has unsent bytes and is blocked
-abbrev pub IsSettledAs : Link → Status → Type 0
+abbrev pub IsSettledAs : Link → Stage → Type 0
 IsSettledAs link Open = 0 < length (unsent link) → link.blocked ≡ true
 IsSettledAs link ReadClosed = (0 < length (unsent link)) × (link.blocked ≡ true)
 IsSettledAs link Closing = ⊥
 IsSettledAs link Closed = Unit {0}
 
 abbrev pub IsSettled : Link → Type 0
-IsSettled link = IsSettledAs link link.status
+IsSettled link = IsSettledAs link link.stage
 
 abbrev pub AreSettled : List Link → Type 0
 AreSettled [] = Unit {0}
@@ -71,14 +71,14 @@ pub record MaySend (bytes : List ℕ) (link : Link) : Type 0 where
   pub next : bytes ≡ take (length bytes) (unsent link)
 
 -- there is a cause: it does not work, it is one too many, or no more is read of it and all was taken
-abbrev pub MayCloseAs : Link → Status → Type 0
+abbrev pub MayCloseAs : Link → Stage → Type 0
 MayCloseAs link Open = ⊥
 MayCloseAs link ReadClosed = unsent link ≡ []
 MayCloseAs link Closing = Unit {0}
 MayCloseAs link Closed = ⊥
 
 abbrev pub MayClose : Link → Type 0
-MayClose link = MayCloseAs link link.status
+MayClose link = MayCloseAs link link.stage
 
 abbrev pub OnLink : ℕ → List Link → (Link → Type 0) → Type 0
 OnLink number links P = (link : Link) × (find_link number links ≡ Some link) × P link

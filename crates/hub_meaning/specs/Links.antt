@@ -5,12 +5,12 @@ use Rattle.framing.specs.declared.TheConstants.{BODY_LIMIT}
 use Rattle.ports.specs.declared.links.SendAnswer.{SendAnswer}
 use Rattle.ports.specs.declared.links.SendAnswer.TheVariants.{Took, Later, Failed, Memory}
 use Rattle.ports.specs.declared.links.Want.{Want}
-pub use Rattle.hub_meaning.specs.declared.status.Status.{Status}
-pub use Rattle.hub_meaning.specs.declared.status.Status.TheVariants.{Open, ReadClosed, Closing, Closed}
+pub use Rattle.hub_meaning.specs.declared.stage.Stage.{Stage}
+pub use Rattle.hub_meaning.specs.declared.stage.Stage.TheVariants.{Open, ReadClosed, Closing, Closed}
 
 pub record Link : Type 0 where
   pub number : ℕ
-  pub status : Status
+  pub stage : Stage
   -- a send took nothing, and it is not known yet that there is room again
   pub blocked : Bool
   -- the bytes that were read from it
@@ -19,24 +19,24 @@ pub record Link : Type 0 where
   pub replies : List ℕ
   pub taken : List ℕ
 
-abbrev pub is_open_status : Status → Bool
-is_open_status Open = true
-is_open_status ReadClosed = false
-is_open_status Closing = false
-is_open_status Closed = false
+abbrev pub is_open_stage : Stage → Bool
+is_open_stage Open = true
+is_open_stage ReadClosed = false
+is_open_stage Closing = false
+is_open_stage Closed = false
 
-abbrev pub is_read_closed_status : Status → Bool
-is_read_closed_status Open = false
-is_read_closed_status ReadClosed = true
-is_read_closed_status Closing = false
-is_read_closed_status Closed = false
+abbrev pub is_read_closed_stage : Stage → Bool
+is_read_closed_stage Open = false
+is_read_closed_stage ReadClosed = true
+is_read_closed_stage Closing = false
+is_read_closed_stage Closed = false
 
 abbrev pub is_open : Link → Bool
-is_open link = is_open_status link.status
+is_open link = is_open_stage link.stage
 
 -- it is open or read-closed
 abbrev pub is_connected : Link → Bool
-is_connected link = is_open_status link.status || is_read_closed_status link.status
+is_connected link = is_open_stage link.stage || is_read_closed_stage link.stage
 
 -- the reply bytes that were not taken
 abbrev pub unsent : Link → List ℕ
@@ -72,7 +72,7 @@ connected links = filter is_connected links
 abbrev pub new_link : ℕ → List Link → Link
 new_link number links = record {
   number = number;
-  status = if nat_lt (length (connected links)) connected_limit then Open else Closing;
+  stage = if nat_lt (length (connected links)) connected_limit then Open else Closing;
   blocked = false;
   came = [];
   replies = [];
@@ -83,16 +83,16 @@ new_link number links = record {
 abbrev pub opened : ℕ → List Link → List Link
 opened number links = if is_above number links then links ++ new_link number links ∷ [] else links
 
-abbrev pub with_status : Status → Link → Link
-with_status status link = record link { status = status }
+abbrev pub with_stage : Stage → Link → Link
+with_stage stage link = record link { stage = stage }
 
 -- the peer sends no more
 abbrev pub ended : Link → Link
-ended link = if is_open link then with_status ReadClosed link else link
+ended link = if is_open link then with_stage ReadClosed link else link
 
 -- the link does not work any more
 abbrev pub broken : Link → Link
-broken link = if is_connected link then with_status Closing link else link
+broken link = if is_connected link then with_stage Closing link else link
 
 -- it may be sent to again
 abbrev pub unblocked : Link → Link
@@ -102,11 +102,11 @@ unblocked link = if is_connected link then record link { blocked = false } else 
 abbrev pub sent : List ℕ → SendAnswer → Link → Link
 sent bytes (Took count) link = record link { taken = link.taken ++ take count bytes; blocked = count == 0 }
 sent bytes Later link = record link { blocked = true }
-sent bytes Failed link = with_status Closing link
+sent bytes Failed link = with_stage Closing link
 sent bytes Memory link = link
 
 abbrev pub closed : Link → Link
-closed link = with_status Closed link
+closed link = with_stage Closed link
 
 -- ---- what is wanted of links
 

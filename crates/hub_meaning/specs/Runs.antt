@@ -12,7 +12,7 @@ use Rattle.ports.specs.declared.links.What.{What}
 use Rattle.ports.specs.declared.links.What.TheVariants.{Idle, Opened, Read, Ended, Broken, Room, Stopped, Failed, Memory}
 use Rattle.stream_meaning.specs.Arrivals.{Arrival, Elapsed, CoreConfig, state_by, notices_by}
 use Rattle.hub_meaning.specs.Clock.{next_moment}
-use Rattle.hub_meaning.specs.Links.{Link, ReadClosed, changed, closed, broken, ended, find_link, is_open, opened, sent, unblocked, unsent, with_status}
+use Rattle.hub_meaning.specs.Links.{Link, ReadClosed, changed, closed, broken, ended, find_link, is_open, opened, sent, unblocked, unsent, with_stage}
 use Rattle.hub_meaning.specs.Messages.{posts_of}
 use Rattle.hub_meaning.specs.Replies.{reply_to, reply_to_oversized}
 use Rattle.hub_meaning.specs.Verdicts.{Message, Refusal, judged}
@@ -73,7 +73,7 @@ is_oversized bytes = nat_le 4 (length bytes) && nat_lt BODY_LIMIT (length_at byt
 -- after a length over the limit, which is answered too, no more is read
 abbrev pub cut_off : Link → Link
 cut_off link =
-    if is_oversized (partial link.came) then with_status ReadClosed (with_reply (reply_to_oversized (length_at (partial link.came))) link)
+    if is_oversized (partial link.came) then with_stage ReadClosed (with_reply (reply_to_oversized (length_at (partial link.came))) link)
     else link
 
 abbrev pub with_piece : List ℕ → Link → Link

@@ -4,8 +4,8 @@
 
 mod example;
 mod law;
-mod status;
+mod stage;
 
 pub use example::examples_are_computed;
 pub use law::{messages_come_whole, numbers_rise, prefixes_are_sent, steps_come_in_order};
-pub use status::Status;
+pub use stage::Stage;

@@ -9,16 +9,16 @@ use Rattle.ports.specs.declared.links.SendAnswer.TheVariants.{Took}
 use Rattle.ports.specs.declared.links.What.{What}
 use Rattle.ports.specs.declared.links.What.TheVariants as what
 use Rattle.hub_run.specs.hub_meaning.Legal.{IsSettledAs, AreSettled, MayClose, MayCloseAs, MaySend}
-use Rattle.hub_run.specs.hub_meaning.declared.status.Status.{Status}
-use Rattle.hub_run.specs.hub_meaning.declared.status.Status.TheVariants.{Open, ReadClosed, Closing, Closed}
-use Rattle.hub_run.specs.hub_meaning.Links.{Link, changed, closed, ended, find_link, is_above, is_connected, is_open, is_open_status, is_read_closed_status, new_link, opened, sent, unblocked, unsent, with_status}
+use Rattle.hub_run.specs.hub_meaning.declared.stage.Stage.{Stage}
+use Rattle.hub_run.specs.hub_meaning.declared.stage.Stage.TheVariants.{Open, ReadClosed, Closing, Closed}
+use Rattle.hub_run.specs.hub_meaning.Links.{Link, changed, closed, ended, find_link, is_above, is_connected, is_open, is_open_stage, is_read_closed_stage, new_link, opened, sent, unblocked, unsent, with_stage}
 use Rattle.hub_run.specs.hub_meaning.Replies.{reply_to_oversized}
 use Rattle.hub_run.specs.hub_meaning.Runs.{RunState, Talk, all_answered, answered, cut_off, is_oversized, messages_in, occurred, read_by, read_from, talk_of, with_reply, with_talk}
 use Rattle.hub_run.specs.hub_meaning.Verdicts.{Message, Refusal}
 use Rattle.hub_run.proofs.HubMeaningLinkLaws.{all_changed, all_found, all_replaced}
 use Rattle.hub_run.specs.hub_meaning.Laws.{AreRising}
 
-abbrev pub IsWholeAs : List ℕ → Status → Type 0
+abbrev pub IsWholeAs : List ℕ → Stage → Type 0
 IsWholeAs left Open = Unit {0}
 IsWholeAs left ReadClosed = Unit {0}
 IsWholeAs left Closing = ⊥
@@ -27,7 +27,7 @@ IsWholeAs left Closed = left ≡ []
 -- a link that is not blocked, works, and was not closed while bytes were unsent
 pub record IsFree (link : Link) : Type 0 where
   pub free : link.blocked ≡ false
-  pub whole : IsWholeAs (unsent link) link.status
+  pub whole : IsWholeAs (unsent link) link.stage
 
 choice : (t : Bool) (a b : Link) → IsFree a → IsFree b → IsFree (cond t a b)
 choice true a b first second = first
@@ -35,29 +35,29 @@ choice false a b first second = second
 
 -- ---- one link
 
-open_is : (s : Status) → is_open_status s ≡ true → s ≡ Open
+open_is : (s : Stage) → is_open_stage s ≡ true → s ≡ Open
 open_is Open is = refl
 open_is ReadClosed is = absurd (cc is)
 open_is Closing is = absurd (cc is)
 open_is Closed is = absurd (cc is)
 
-open_free : (link : Link) → link.blocked ≡ false → link.status ≡ Open → IsFree link
+open_free : (link : Link) → link.blocked ≡ false → link.stage ≡ Open → IsFree link
 open_free link free is = record { free = free; whole = subst (IsWholeAs (unsent link)) (sym is) tt }
 
-connected_whole : (left : List ℕ) (s : Status) → (is_open_status s || is_read_closed_status s) ≡ true → IsWholeAs left s
+connected_whole : (left : List ℕ) (s : Stage) → (is_open_stage s || is_read_closed_stage s) ≡ true → IsWholeAs left s
 connected_whole left Open is = tt
 connected_whole left ReadClosed is = tt
 connected_whole left Closing is = absurd (cc is)
 connected_whole left Closed is = absurd (cc is)
 
-closed_whole : (link : Link) (s : Status) → IsWholeAs (unsent link) s → MayCloseAs link s → unsent link ≡ []
+closed_whole : (link : Link) (s : Stage) → IsWholeAs (unsent link) s → MayCloseAs link s → unsent link ≡ []
 closed_whole link Open whole may = absurd may
 closed_whole link ReadClosed whole may = may
 closed_whole link Closing whole may = absurd whole
 closed_whole link Closed whole may = whole
 
 free_ended : (link : Link) → IsFree link → IsFree (ended link)
-free_ended link old = choice (is_open link) (with_status ReadClosed link) link (record { free = old.free; whole = tt }) old
+free_ended link old = choice (is_open link) (with_stage ReadClosed link) link (record { free = old.free; whole = tt }) old
 
 free_unblocked : (link : Link) → IsFree link → IsFree (unblocked link)
 free_unblocked link old = choice (is_connected link) (record link { blocked = false }) link (record { free = refl; whole = old.whole }) old
@@ -65,11 +65,11 @@ free_unblocked link old = choice (is_connected link) (record link { blocked = fa
 free_sent : (bytes : List ℕ) (link : Link) → MaySend bytes link → IsFree (sent bytes (Took (length bytes)) link)
 free_sent bytes link may = record {
   free = ne_eqb (length bytes) 0 (λ none. omega (arith, may.some, none));
-  whole = connected_whole (unsent (sent bytes (Took (length bytes)) link)) link.status may.connected;
+  whole = connected_whole (unsent (sent bytes (Took (length bytes)) link)) link.stage may.connected;
 }
 
 free_closed : (link : Link) → MayClose link → IsFree link → IsFree (closed link)
-free_closed link may old = record { free = old.free; whole = closed_whole link link.status old.whole may }
+free_closed link may old = record { free = old.free; whole = closed_whole link link.stage old.whole may }
 
 -- ---- what happens in a turn
 
@@ -95,24 +95,24 @@ free_opened (link ∷ links) all =
     let other : is_above 0 (link ∷ links) ≡ false = and_left (nat_lt link.number 0) (list_all (λ l. nat_lt l.number 0) links) below in
     subst (λ (t : Bool). AreFree (cond t ((link ∷ links) ++ new_link 0 (link ∷ links) ∷ []) (link ∷ links))) (sym other) all
 
-answered_free : (config : CoreConfig) (now : ℕ) (messages : List Message) (talk : Talk) → talk.link.blocked ≡ false → talk.link.status ≡ Open
-    → ((all_answered config now messages talk).link.blocked ≡ false) × ((all_answered config now messages talk).link.status ≡ Open)
+answered_free : (config : CoreConfig) (now : ℕ) (messages : List Message) (talk : Talk) → talk.link.blocked ≡ false → talk.link.stage ≡ Open
+    → ((all_answered config now messages talk).link.blocked ≡ false) × ((all_answered config now messages talk).link.stage ≡ Open)
 answered_free config now [] talk free is = (free, is)
 answered_free config now (message ∷ messages) talk free is = answered_free config now messages (answered config now message talk) free is
 
-cut_free : (link : Link) → link.blocked ≡ false → link.status ≡ Open → IsFree (cut_off link)
+cut_free : (link : Link) → link.blocked ≡ false → link.stage ≡ Open → IsFree (cut_off link)
 cut_free link free is =
-    choice (is_oversized (partial link.came)) (with_status ReadClosed (with_reply (reply_to_oversized (length_at (partial link.came))) link)) link
+    choice (is_oversized (partial link.came)) (with_stage ReadClosed (with_reply (reply_to_oversized (length_at (partial link.came))) link)) link
     (record { free = free; whole = tt }) (open_free link free is)
 
 free_read : (config : CoreConfig) (piece : List ℕ) (verdicts : List (Option Refusal)) (state : RunState) (link : Link) → IsFree link → AreFree state.links
     → AreFree (read_from config piece verdicts state link).links
-free_read config piece verdicts state link one all = by (is_open link) (open_is link.status)
+free_read config piece verdicts state link one all = by (is_open link) (open_is link.stage)
   where
     talk : Talk
     talk = all_answered config state.now (messages_in piece verdicts link) (talk_of piece state link)
 
-    by : (t : Bool) → (t ≡ true → link.status ≡ Open) → AreFree (cond t (with_talk state talk) state).links
+    by : (t : Bool) → (t ≡ true → link.stage ≡ Open) → AreFree (cond t (with_talk state talk) state).links
     by true is =
         let still = answered_free config state.now (messages_in piece verdicts link) (talk_of piece state link) one.free (is refl) in
         all_changed IsFree talk.link.number (λ _. cut_off talk.link) (λ other _ old. cut_free talk.link still.0 still.1) state.links all
@@ -154,7 +154,7 @@ nothing : (bytes : List ℕ) → (0 < length bytes → ⊥) → bytes ≡ []
 nothing [] none = refl
 nothing (byte ∷ bytes) none = absurd (none (omega arith))
 
-settled_as : (link : Link) (s : Status) → link.blocked ≡ false → IsWholeAs (unsent link) s → IsSettledAs link s → unsent link ≡ []
+settled_as : (link : Link) (s : Stage) → link.blocked ≡ false → IsWholeAs (unsent link) s → IsSettledAs link s → unsent link ≡ []
 settled_as link Open free whole settled = nothing (unsent link) (λ some. cc (settled some, free))
 settled_as link ReadClosed free whole settled = absurd (cc (settled.1, free))
 settled_as link Closing free whole settled = absurd settled
@@ -165,4 +165,4 @@ IsAllSent link = unsent link ≡ []
 
 pub settled_sent : (links : List Link) → AreFree links → AreSettled links → AllByRecursion IsAllSent links
 settled_sent [] all settled = tt
-settled_sent (link ∷ links) all settled = (settled_as link link.status all.0.free all.0.whole settled.0, settled_sent links all.1 settled.1)
+settled_sent (link ∷ links) all settled = (settled_as link link.stage all.0.free all.0.whole settled.0, settled_sent links all.1 settled.1)

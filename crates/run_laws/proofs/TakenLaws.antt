@@ -15,8 +15,8 @@ use Rattle.ports.specs.declared.links.What.{What}
 use Rattle.ports.specs.declared.links.What.TheVariants as what
 use Rattle.hub_run.specs.hub_meaning.Clock.{next_moment}
 use Rattle.hub_run.specs.hub_meaning.Legal.{IsLegalFrom, MayCome}
-use Rattle.hub_run.specs.hub_meaning.declared.status.Status.TheVariants.{ReadClosed, Closing}
-use Rattle.hub_run.specs.hub_meaning.Links.{Link, changed, closed, broken, ended, find_link, has_number, is_above, is_connected, is_open, new_link, opened, sent, unblocked, with_status}
+use Rattle.hub_run.specs.hub_meaning.declared.stage.Stage.TheVariants.{ReadClosed, Closing}
+use Rattle.hub_run.specs.hub_meaning.Links.{Link, changed, closed, broken, ended, find_link, has_number, is_above, is_connected, is_open, new_link, opened, sent, unblocked, with_stage}
 use Rattle.hub_run.specs.hub_meaning.Replies.{reply_to_oversized}
 use Rattle.hub_run.specs.hub_meaning.Runs.{RunState, Step, Talk, after_entry, after_step, all_answered, answered, cut_off, entry_of, is_oversized, messages_in, occurred, passed, read_by, read_from, state_from, talk_of, turned, with_reply, with_talk}
 use Rattle.hub_run.specs.hub_meaning.Verdicts.{Message, Refusal}
@@ -112,7 +112,7 @@ answered_number config now [] talk = refl
 answered_number config now (message ∷ messages) talk = answered_number config now messages (answered config now message talk)
 
 abbrev cut : Link → Link
-cut link = with_status ReadClosed (with_reply (reply_to_oversized (length_at (partial link.came))) link)
+cut link = with_stage ReadClosed (with_reply (reply_to_oversized (length_at (partial link.came))) link)
 
 cut_taken : (link : Link) → (cut_off link).taken ≡ link.taken
 cut_taken link = by (is_oversized (partial link.came))
@@ -177,10 +177,10 @@ taken_opened number other links = by (is_above other links)
     by true = taken_last number (new_link other links) refl links
     by false = refl
 
--- a change of a link's status or of what is known of it
-status_taken : (t : Bool) (a b : Link) → a.taken ≡ b.taken → (cond t a b).taken ≡ b.taken
-status_taken true a b same = same
-status_taken false a b same = refl
+-- a change of a link's stage or of what is known of it
+stage_taken : (t : Bool) (a b : Link) → a.taken ≡ b.taken → (cond t a b).taken ≡ b.taken
+stage_taken true a b same = same
+stage_taken false a b same = refl
 
 taken_occurred : (config : CoreConfig) (occurrence : What) (piece : List ℕ) (verdicts : List (Option Refusal)) (state : RunState) (number : ℕ)
     → taken_on number (occurred config occurrence piece verdicts state).links ≡ taken_on number state.links
@@ -188,11 +188,11 @@ taken_occurred config what.Idle piece verdicts state number = refl
 taken_occurred config (what.Opened other) piece verdicts state number = taken_opened number other state.links
 taken_occurred config (what.Read other count) piece verdicts state number = taken_read_by config piece verdicts state number other (find_link other state.links) refl
 taken_occurred config (what.Ended other) piece verdicts state number =
-    taken_same number other ended (λ link _. ended_number link) state.links (λ link _. status_taken (is_open link) (with_status ReadClosed link) link refl)
+    taken_same number other ended (λ link _. ended_number link) state.links (λ link _. stage_taken (is_open link) (with_stage ReadClosed link) link refl)
 taken_occurred config (what.Broken other) piece verdicts state number =
-    taken_same number other broken (λ link _. broken_number link) state.links (λ link _. status_taken (is_connected link) (with_status Closing link) link refl)
+    taken_same number other broken (λ link _. broken_number link) state.links (λ link _. stage_taken (is_connected link) (with_stage Closing link) link refl)
 taken_occurred config (what.Room other) piece verdicts state number =
-    taken_same number other unblocked (λ link _. unblocked_number link) state.links (λ link _. status_taken (is_connected link) (record link { blocked = false }) link refl)
+    taken_same number other unblocked (λ link _. unblocked_number link) state.links (λ link _. stage_taken (is_connected link) (record link { blocked = false }) link refl)
 taken_occurred config what.Stopped piece verdicts state number = refl
 taken_occurred config what.Failed piece verdicts state number = refl
 taken_occurred config what.Memory piece verdicts state number = refl

@@ -1,5 +1,5 @@
 use Rattle.std.proofs.Common.{◌==◌, true, refl}
-use Rattle.msg_replies.specs.hub_meaning.declared.status.Status.TheVariants.{Closing}
+use Rattle.msg_replies.specs.hub_meaning.declared.stage.Stage.TheVariants.{Closing}
 use Rattle.ports.specs.declared.links.SendAnswer.TheVariants.{Took, Later, Failed}
 use Rattle.hub_link.specs.declared.link.HubLink.{HubLink}
 use Rattle.hub_link.proofs.SendLaws.{closes, less_after_took, less_blocked, less_closing, noted_as, notes_later, notes_took}
@@ -30,10 +30,10 @@ returns-in-Later-clause-less c can other =
 
 pub returns-in-Failed-clause-represents : goal.returns-in-Failed-clause-represents
 returns-in-Failed-clause-represents c =
-    let after : HubLink = record c.args.self.now { status = Closing } in
+    let after : HubLink = record c.args.self.now { stage = Closing } in
     noted_as c.args.self.now after c.args.answer Failed c.in-Failed.is (closes c.args.self.now after refl refl refl refl)
 
 pub returns-in-Failed-clause-less : goal.returns-in-Failed-clause-less
 returns-in-Failed-clause-less c can other =
-    let after : HubLink = record c.args.self.now { status = Closing } in
+    let after : HubLink = record c.args.self.now { stage = Closing } in
     less_closing c.args.self.now after can refl

@@ -1,6 +1,6 @@
 /// Where a link is in its life.
 #[derive(Clone, Copy, Debug, PartialEq, Eq)]
-pub enum Status {
+pub enum Stage {
     /// Its bytes are read.
     Open,
     /// No more of its bytes are read. It is closed once nothing is unsent.
