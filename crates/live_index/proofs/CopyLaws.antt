@@ -11,7 +11,7 @@ use Rattle.ev_types.specs.declared.event.Event.{Event}
 use Rattle.key_map.specs.Keys.{IndexKey, Numbers}
 use Rattle.linked_slots.specs.Table.{value_at, IsLive}
 use Rattle.live_index.specs.Index.{events_lent}
-use Rattle.live_index.specs.Store.{key_of, also, events_at, AreLive, IsLinked}
+use Rattle.live_index.specs.Slots.{key_of, also, events_at, AreLive, IsLinked}
 use Rattle.live_index.proofs.RowLaws.{HasKey, all_found}
 
 events-append : (table : List (Option Event)) (ms ns : List ℕ) → events_at table (ms ++ ns) ≡ events_at table ms ++ events_at table ns

@@ -7,7 +7,7 @@ use Rattle.std.proofs.lemmas.Cmp.{eq_by_cmp_equiv}
 use Rattle.ev_types.specs.declared.event.Event.{Event}
 use Rattle.index_log.specs.IndexKey.{text_cmp}
 use Rattle.live_index.specs.Index.{is_at, event_at}
-use Rattle.live_index.specs.Store.{key_of}
+use Rattle.live_index.specs.Slots.{key_of}
 use Rattle.live_index.proofs.LinkLaws.{key_total, same}
 use Rattle.live_index.proofs.RowLaws.{find_key}
 

@@ -21,7 +21,7 @@ use Rattle.key_map.specs.Keys.{IndexKey, Numbers, of_host}
 use Rattle.key_map.proofs.ServiceLaws.{text_total}
 use Rattle.linked_slots.specs.Table.{value_at, IsLive}
 use Rattle.live_index.specs.Index.{is_of_value, of_value}
-use Rattle.live_index.specs.Store.{key_of, also, events_at, events_in, is_of_host, numbers_of_value, AreLive, IsLinked}
+use Rattle.live_index.specs.Slots.{key_of, also, events_at, events_in, is_of_host, numbers_of_value, AreLive, IsLinked}
 use Rattle.live_index.proofs.CopyLaws.{all_live, live_among}
 use Rattle.live_index.proofs.LinkLaws.{equal-is, exact-text}
 use Rattle.live_index.proofs.RowLaws.{HasKey, all_found, length-events, length-values}

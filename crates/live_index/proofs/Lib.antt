@@ -8,7 +8,7 @@ pub mod PairLaws
 pub mod ReapLaws
 pub mod ReplaceLaws
 pub mod RowLaws
-pub mod StoreLaws
+pub mod SlotsLaws
 pub mod StoredLaws
 pub mod TakeLaws
 pub mod TimedLaws

@@ -14,7 +14,7 @@ use Rattle.ev_types.specs.declared.event.Event.{Event}
 use Rattle.index_log.specs.IndexKey.{text_cmp}
 use Rattle.key_map.specs.Keys.{IndexKey, key_cmp}
 use Rattle.key_map.proofs.ServiceLaws.{text_total, present-cmp}
-use Rattle.live_index.specs.Store.{key_of}
+use Rattle.live_index.specs.Slots.{key_of}
 
 -- ---- keys that compare as equal are equal
 

@@ -13,7 +13,7 @@ use Rattle.index_log.proofs.IndexKeys.{index_key_total}
 use Rattle.index_log.proofs.LiveLaws.{live-nil, live-write}
 use Rattle.key_map.specs.Keys.{Numbers}
 use Rattle.linked_slots.specs.Table.{value_at}
-use Rattle.live_index.specs.Store.{also, events_at, events_in, IsLinked}
+use Rattle.live_index.specs.Slots.{also, events_at, events_in, IsLinked}
 
 -- writes of the events, the last one first
 abbrev pub log_of : List Event → IndexLog

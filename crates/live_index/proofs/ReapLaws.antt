@@ -20,7 +20,7 @@ use Rattle.tick_schedule.specs.Queue.{moment_at, due_ids, due_later}
 use Rattle.tick_schedule.proofs.QueueLaws as laws
 use Rattle.tick_schedule.proofs.QueueLaws.{at-eqb, at-same, due-is_by}
 use Rattle.tick_schedule.proofs.ScheduleLaws.{rising_some}
-use Rattle.live_index.specs.Store.{key_of, also, events_in, slot_at, event_of, is_by, is_late_in, is_among, has_number, IsLinked, IsTimed, IsTaking}
+use Rattle.live_index.specs.Slots.{key_of, also, events_in, slot_at, event_of, is_by, is_late_in, is_among, has_number, IsLinked, IsTimed, IsTaking}
 use Rattle.live_index.proofs.LinkLaws.{key_total}
 use Rattle.live_index.proofs.RowLaws.{find_key, keyed, HasKey, all_found, same_events, find-events, events-rise, rising-keyed}
 

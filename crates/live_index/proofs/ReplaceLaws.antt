@@ -12,7 +12,7 @@ use Rattle.index_log.specs.Live.{placed, elsewhere}
 use Rattle.index_log.proofs.IndexKeys.{index_key_total, AreAfter, placed-first}
 use Rattle.index_log.proofs.Rising.{IsRising}
 use Rattle.key_map.specs.Keys.{IndexKey}
-use Rattle.live_index.specs.Store.{key_of}
+use Rattle.live_index.specs.Slots.{key_of}
 use Rattle.live_index.proofs.LinkLaws.{same}
 use Rattle.live_index.proofs.RowLaws.{find_key}
 use Rattle.live_index.proofs.WriteLaws.{put-at}

@@ -11,7 +11,7 @@ use Rattle.ev_types.specs.declared.event.Event.{Event}
 use Rattle.index_log.specs.IndexKey.{index_key_cmp}
 use Rattle.key_map.specs.Keys.{IndexKey, key_cmp, Numbers, number_at, IsRising}
 use Rattle.linked_slots.specs.Table.{value_at}
-use Rattle.live_index.specs.Store.{key_of, also, events_in, slot_at, event_of, IsLinked}
+use Rattle.live_index.specs.Slots.{key_of, also, events_in, slot_at, event_of, IsLinked}
 use Rattle.live_index.proofs.LinkLaws.{key_total, exact-key}
 use Rattle.live_index.proofs.PairLaws.{at_head, still_found, same_pairs}
 

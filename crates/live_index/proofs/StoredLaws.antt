@@ -1,4 +1,4 @@
--- What a change of an event keeps of a store.
+-- What a change of an event keeps of a slots.
 use Rattle.std.proofs.Common.{◌≡◌, ℕ, suc, ◌+◌, ◌-◌, ◌≤◌, ◌^◌, false, List, [], ◌∷◌, length, Option, None, Some, arith, refl, sym, ap, ◌∙◌}
 use Rattle.std.specs.List.Sorted.{IsStrictlySortedBy}
 use Rattle.std.proofs.lemmas.List.{get_or_past}
@@ -8,9 +8,9 @@ use Rattle.key_map.specs.Keys.{IndexKey, Numbers, number_at, IsRising, Sets}
 use Rattle.linked_slots.specs.Table.{value_at, Changes}
 use Rattle.tick_schedule.specs.Queue as queue
 use Rattle.tick_schedule.specs.Queue.{moment_at}
-use Rattle.live_index.specs.Store.{key_of, is_by, is_late_in, IsStored}
+use Rattle.live_index.specs.Slots.{key_of, is_by, is_late_in, IsStored}
 use Rattle.live_index.proofs.CountLaws.{one_less, one_more_key}
-use Rattle.live_index.proofs.StoreLaws.{end-linked, put-linked, replace-linked}
+use Rattle.live_index.proofs.SlotsLaws.{end-linked, put-linked, replace-linked}
 use Rattle.live_index.proofs.TimedLaws.{timed-set}
 
 none-at : (n : ℕ) → value_at {T = Event} [] n ≡ None

@@ -8,7 +8,7 @@ use Rattle.index_log.specs.IndexKey.{index_key_cmp}
 use Rattle.index_log.proofs.Rising.{nothing_rises}
 use Rattle.key_map.specs.Keys.{IndexKey, Numbers, number_at}
 use Rattle.linked_slots.specs.Table.{value_at}
-use Rattle.live_index.specs.Store.{key_of, slot_at, event_of, is_among, has_number, IsLinked, IsTaking, Puts}
+use Rattle.live_index.specs.Slots.{key_of, slot_at, event_of, is_among, has_number, IsLinked, IsTaking, Puts}
 use Rattle.live_index.proofs.LinkLaws.{same, same-is, same-self, one_key}
 use Rattle.live_index.proofs.RowLaws.{find_key}
 

@@ -4,7 +4,7 @@ use Rattle.std.proofs.lemmas.Bool.{eqb-true, eqb-false}
 use Rattle.ev_types.specs.declared.event.Event.{Event}
 use Rattle.linked_slots.specs.Table.{value_at, Changes}
 use Rattle.tick_schedule.specs.Queue.{moment_at, Sets}
-use Rattle.live_index.specs.Store.{is_by, is_late_in, IsTimed}
+use Rattle.live_index.specs.Slots.{is_by, is_late_in, IsTimed}
 
 -- a number has another slot and another moment now
 pub timed-set : (table table' : List (Option Event)) (due due' : List (ℕ × ℕ)) (n : ℕ) (slot : Option Event) (moment : Option ℕ)

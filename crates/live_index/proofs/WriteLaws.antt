@@ -10,7 +10,7 @@ use Rattle.index_log.specs.Live.{IndexLog, Write, is_over, placed, elsewhere, wr
 use Rattle.index_log.proofs.LiveLaws.{live-write}
 use Rattle.index_log.proofs.Rising.{live-rising}
 use Rattle.key_map.specs.Keys.{IndexKey, Numbers}
-use Rattle.live_index.specs.Store.{key_of, events_in, slot_of, IsLinked, Puts}
+use Rattle.live_index.specs.Slots.{key_of, events_in, slot_of, IsLinked, Puts}
 use Rattle.live_index.proofs.LinkLaws.{key_total, same, same-is, same-self}
 use Rattle.live_index.proofs.RowLaws.{find_key, same_events, find-events, events-rise}
 

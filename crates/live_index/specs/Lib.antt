@@ -1,3 +1,3 @@
 pub mod Index
 pub mod Lending
-pub mod Store
+pub mod Slots

@@ -7,7 +7,7 @@ ghost use Rattle.std.specs.Borrow.{sem};
 ghost use Rattle.live_index.specs.Index.{Represents, event_at, events_lent, visited};
 ghost use Rattle.pred_eval.specs.Truth.{holds};
 
-use crate::store::Store;
+use crate::slots::Slots;
 use ev_types::{Event, Events, Memory, Text};
 use pred_eval::Pred;
 use std::alloc::Global;
@@ -19,24 +19,24 @@ use step_count::{Ledger, Steps};
 /// that can answer `Memory` does.
 #[derive(Drop)]
 pub struct LiveIndex {
-    store: Store,
+    slots: Slots,
     poisoned: bool,
 }
 
 impl Model for LiveIndex {
     ghost use Rattle.std.specs.Prelude.{◌≡◌, false};
     ghost use Rattle.live_index.specs.Index.{Index};
-    ghost use Rattle.live_index.specs.Store.{IsStored, events_unless};
+    ghost use Rattle.live_index.specs.Slots.{IsStored, events_unless};
 
     ghost Value = { Index };
 
     ghost view = { λ index. record {
-      events = events_unless index.poisoned index.store.numbers index.store.events.values;
+      events = events_unless index.poisoned index.slots.numbers index.slots.events.values;
       poisoned = index.poisoned;
     } };
 
     ghost invariant = { λ index. index.poisoned ≡ false →
-        IsStored index.store.numbers index.store.events.values index.store.due index.store.count };
+        IsStored index.slots.numbers index.slots.events.values index.slots.due index.slots.count };
 }
 
 impl LiveIndex {
@@ -47,7 +47,7 @@ impl LiveIndex {
         ensures { Represents result [] }
     {
         LiveIndex {
-            store: Store::fresh(alloc),
+            slots: Slots::fresh(alloc),
             poisoned: false,
         }
     }
@@ -66,7 +66,7 @@ impl LiveIndex {
             return Err(Memory);
         }
         self.poisoned = true;
-        self.store.write(alloc, event)?;
+        self.slots.write(alloc, event)?;
         self.poisoned = false;
         Ok(())
     }
@@ -100,7 +100,7 @@ impl LiveIndex {
             return Err(Memory);
         }
         self.poisoned = true;
-        self.store.take_expired(alloc, now, out, steps)?;
+        self.slots.take_expired(alloc, now, out, steps)?;
         self.poisoned = false;
         Ok(())
     }
@@ -131,7 +131,7 @@ impl LiveIndex {
         if self.poisoned {
             return Err(Memory);
         }
-        self.store.copy_matching(alloc, pred, out, steps)?;
+        self.slots.copy_matching(alloc, pred, out, steps)?;
         Ok(())
     }
 
@@ -161,7 +161,7 @@ impl LiveIndex {
         if self.poisoned {
             return Err(Memory);
         }
-        self.store.find(alloc, pred, found, steps)?;
+        self.slots.find(alloc, pred, found, steps)?;
         Ok(())
     }
 
@@ -185,7 +185,7 @@ impl LiveIndex {
         if self.poisoned {
             return None;
         }
-        self.store.get(host, service, steps)
+        self.slots.get(host, service, steps)
     }
 
     /// Whether a change ran out of memory. An index that is not poisoned represents some log.
@@ -201,6 +201,6 @@ impl LiveIndex {
     pub fn len(&self) -> usize
         ensures { result ≡ length self.now.events }
     {
-        if self.poisoned { 0 } else { self.store.len() }
+        if self.poisoned { 0 } else { self.slots.len() }
     }
 }

@@ -5,6 +5,6 @@ mod by_value;
 mod hints;
 mod index;
 mod keyed;
-mod store;
+mod slots;
 
 pub use index::LiveIndex;

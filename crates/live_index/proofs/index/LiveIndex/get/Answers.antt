@@ -1,16 +1,16 @@
 use Rattle.std.proofs.Common.{refl, sym, ap, ◌∙◌}
 use Rattle.std.specs.Prelude.{option_copied}
 use Rattle.live_index.specs.Index.{event_at}
-use Rattle.live_index.specs.Store.{events_in}
+use Rattle.live_index.specs.Slots.{events_in}
 use Rattle.live_index.proofs.FindLaws.{find-at}
 use Rattle.live_index.proofs.RowLaws.{find-events}
-use Rattle.live_index.proofs.StoreLaws.{not_poisoned}
+use Rattle.live_index.proofs.SlotsLaws.{not_poisoned}
 use Rattle.live_index.proofs.index.LiveIndex.get.Goals as goal
 
 pub returns : goal.returns
 returns g c =
-    let numbers = c.self.inside.store.numbers in
-    let table = c.self.inside.store.events.values in
+    let numbers = c.self.inside.slots.numbers in
+    let table = c.self.inside.slots.events.values in
     let host = option_copied c.args.host in
     let service = option_copied c.args.service in (
       (refl, λ _. tt, c.self.view_is),

@@ -1,14 +1,14 @@
 use Rattle.std.proofs.Common.{◌≡◌, false, sym, ap, ◌∙◌}
-use Rattle.live_index.specs.Store.{events_in}
+use Rattle.live_index.specs.Slots.{events_in}
 use Rattle.live_index.proofs.LogLaws.{log_of, log-live, none_over}
 use Rattle.live_index.proofs.RowLaws.{events-rise}
-use Rattle.live_index.proofs.StoreLaws.{not_poisoned}
+use Rattle.live_index.proofs.SlotsLaws.{not_poisoned}
 use Rattle.live_index.proofs.index.LiveIndex.is_poisoned.Goals as goal
 
 pub returns-clause-represents : goal.returns-clause-represents
 returns-clause-represents c = λ sound.
-    let numbers = c.self.inside.store.numbers in
-    let table = c.self.inside.store.events.values in
+    let numbers = c.self.inside.slots.numbers in
+    let table = c.self.inside.slots.events.values in
     let is_sound : c.self.inside.poisoned ≡ false = ap (λ index. index.poisoned) c.self.view_is ∙ sound in
     let linked = (c.self.invariant is_sound).linked in (
       log_of (events_in numbers table),

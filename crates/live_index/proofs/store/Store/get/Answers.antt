@@ -1,8 +1,0 @@
-use Rattle.std.proofs.Common.{sym}
-use Rattle.std.specs.Prelude.{option_copied}
-use Rattle.live_index.proofs.StoreLaws.{live_found}
-use Rattle.live_index.proofs.store.Store.get.Goals as goal
-
-pub read-requires : goal.read-requires
-read-requires g c =
-    live_found c.args.self.now.numbers c.args.self.now.events.values (option_copied c.args.host, option_copied c.args.service) c.in_ok-number.number c.requires.linked (sym c.in_ok-number.ensures.number)

@@ -1,0 +1,534 @@
+ghost use Rattle.std.specs.Prelude.{◌≡◌, ℕ, ◌+◌, ◌-◌, ◌^◌, ◌≤◌, eqb, false, List, [], ◌∷◌, ◌++◌, Option, filter, length, not, option_copied, IfSome, IfOk, IsNone, IsSome, OnErr, OnOk, true, Some, None, if◌then◌else◌};
+ghost use Rattle.std.specs.Map.{values_of};
+ghost use Rattle.list_laws.specs.Prefix.{IsPrefix};
+ghost use Rattle.ev_types.specs.Expiry.{is_expired, is_late, is_over};
+ghost use Rattle.ev_types.specs.declared.event.Event.{Event as StoredEvent};
+ghost use Rattle.key_map.specs.Keys.{number_at, Numbers};
+ghost use Rattle.linked_slots.specs.Table.{value_at};
+ghost use Rattle.tick_schedule.specs.Queue.{due_ids, IsRising, Sets};
+ghost use Rattle.pred_eval.specs.Host.{asked_host, NeedsHost};
+ghost use Rattle.pred_eval.specs.Truth.{holds};
+ghost use Rattle.live_index.specs.Index.{events_lent, visited};
+ghost use Rattle.live_index.specs.Slots.{key_of, events_in, events_at, event_of, slot_of, is_by, AreLive, IsLinked, IsStored, IsTaking, Puts, numbers_of_value};
+
+use crate::hints::{Hints, hash_of};
+use crate::keyed::KeyedEvent;
+use ev_types::{Event, Events, Memory, Text, Value};
+use key_map::KeyMap;
+use linked_slots::StepTable;
+use list_laws::Ids;
+use pred_eval::Pred;
+use std::alloc::Global;
+use std::collections::BTreeSet;
+use std::mem;
+use step_count::{Ledger, NoLedger, Steps};
+use tick_schedule::DueQueue;
+
+// After how many seconds an event without a ttl expires.
+const DEFAULT_TTL: u32 = 60;
+
+// The last moment of the clock. An event that expires later stays until another one takes its place.
+const LAST_MOMENT: i128 = 1 << 40;
+
+/// The events of an index, by host and by service, absent before present.
+#[derive(Drop)]
+pub(crate) struct Slots {
+    // The key of an event has its number. The queue has the moments at which events expire, by number.
+    numbers: KeyMap,
+    events: StepTable<Event>,
+    due: DueQueue,
+    count: usize,
+    // A write looks here for the number of its key first.
+    hints: Hints,
+}
+
+impl Slots {
+    pub(crate) fn fresh(alloc: Global) -> Slots
+        ensures stored { IsStored result.numbers result.events.values result.due result.count }
+        ensures events { events_in result.numbers result.events.values ≡ [] }
+    {
+        Slots {
+            numbers: KeyMap::fresh(alloc),
+            events: StepTable::fresh(alloc),
+            due: DueQueue::fresh(alloc),
+            count: 0,
+            hints: Hints::fresh(alloc),
+        }
+    }
+
+    /// Moves the event into the slots, in place of the one of its host and service. An event whose state is "expired" is
+    /// not moved, and only ends that one.
+    pub(crate) fn write(&mut self, alloc: Global, event: &mut Event) -> Result<(), Memory>
+        requires { IsStored self.old.numbers self.old.events.values self.old.due self.old.count }
+        ensures stored { OnOk result
+            (IsStored self.new.numbers self.new.events.values self.new.due self.new.count) }
+        ensures puts { OnOk result (Puts (key_of event.old) (slot_of event.old)
+            self.old.numbers self.old.events.values self.new.numbers self.new.events.values) }
+    {
+        if event.is_over() {
+            self.end(event.host.as_ref(), event.service.as_ref());
+            return Ok(());
+        }
+        self.enter(alloc, event)?;
+        Ok(())
+    }
+
+    /// Moves the event, which is not over, into the slots, in place of the one of its host and service.
+    fn enter(&mut self, alloc: Global, event: &mut Event) -> Result<(), Memory>
+        requires stored { IsStored self.old.numbers self.old.events.values
+            self.old.due self.old.count }
+        requires current { is_over event.old ≡ false }
+        ensures stored { OnOk result
+            (IsStored self.new.numbers self.new.events.values self.new.due self.new.count) }
+        ensures puts { OnOk result (Puts (key_of event.old) (Some event.old)
+            self.old.numbers self.old.events.values self.new.numbers self.new.events.values) }
+    {
+        let hash = hash_of(event);
+        match self.number_of(hash, event) {
+            Some(number) => {
+                self.hints.note(hash, number);
+                self.replace(alloc, number, event)
+            }
+            None => self.put(alloc, hash, event),
+        }
+    }
+
+    /// The number of the event's host and service, which have this hash.
+    fn number_of(&self, hash: u64, event: &Event) -> Option<usize>
+        requires { IsLinked self.now.numbers self.now.events.values }
+        ensures { result ≡ number_at (key_of event.now) self.now.numbers }
+    {
+        match self.hinted(hash, event) {
+            Some(number) => Some(number),
+            None => self
+                .numbers
+                .get(event.host.as_ref(), event.service.as_ref()),
+        }
+    }
+
+    /// That of the two numbers noted for the hash which is the number of the event's host and service, if one is.
+    fn hinted(&self, hash: u64, event: &Event) -> Option<usize>
+        requires { IsLinked self.now.numbers self.now.events.values }
+        ensures { IfSome result (λ number.
+            number_at (key_of event.now) self.now.numbers ≡ Some number) }
+    {
+        let (last, earlier) = self.hints.pair(hash)?;
+        match self.checked_hint(last, event) {
+            Some(number) => Some(number),
+            None => self.checked_hint(earlier, event),
+        }
+    }
+
+    /// The number, if an event of the same host and service has it.
+    fn checked_hint(&self, number: usize, event: &Event) -> Option<usize>
+        requires { IsLinked self.now.numbers self.now.events.values }
+        ensures { IfSome result (λ number.
+            number_at (key_of event.now) self.now.numbers ≡ Some number) }
+    {
+        if !self.events.contains(number) {
+            return None;
+        }
+        // A write counts no entries.
+        let mut uncounted = Steps::fresh(NoLedger);
+        if has_same_key(self.events.read(number, &mut uncounted), event) {
+            Some(number)
+        } else {
+            None
+        }
+    }
+
+    /// Swaps an event with the one of this number, which is of the same host and service. Where both expire at the same
+    /// moment it takes no memory.
+    fn replace(&mut self, alloc: Global, number: usize, event: &mut Event) -> Result<(), Memory>
+        requires stored { IsStored self.old.numbers self.old.events.values
+            self.old.due self.old.count }
+        requires known { number_at (key_of event.old) self.old.numbers ≡ Some number }
+        requires current { is_over event.old ≡ false }
+        ensures stored { OnOk result
+            (IsStored self.new.numbers self.new.events.values self.new.due self.new.count) }
+        ensures puts { OnOk result (Puts (key_of event.old) (Some event.old)
+            self.old.numbers self.old.events.values self.new.numbers self.new.events.values) }
+    {
+        let due = due_moment(event);
+        self.events.swap(number, event);
+        set_due(alloc, &mut self.due, number, due)?;
+        Ok(())
+    }
+
+    /// Removes the event of this host and this service, if there is one.
+    fn end(&mut self, host: Option<&Text>, service: Option<&Text>)
+        requires { IsStored self.old.numbers self.old.events.values self.old.due self.old.count }
+        ensures stored { IsStored self.new.numbers self.new.events.values
+            self.new.due self.new.count }
+        ensures absent { number_at (option_copied host.entry, option_copied service.entry)
+            self.new.numbers ≡ None }
+        ensures puts { Puts (option_copied host.entry, option_copied service.entry) None
+            self.old.numbers self.old.events.values self.new.numbers self.new.events.values }
+    {
+        let Some(number) = self.numbers.remove(host, service) else {
+            return;
+        };
+        self.events.remove(number);
+        self.due.clear(number);
+        self.count -= 1;
+    }
+
+    /// Adds the event, whose host and service have this hash and no event yet. It is moved out of `event`.
+    fn put(&mut self, alloc: Global, hash: u64, event: &mut Event) -> Result<(), Memory>
+        requires stored { IsStored self.old.numbers self.old.events.values
+            self.old.due self.old.count }
+        requires absent { number_at (key_of event.old) self.old.numbers ≡ None }
+        requires current { is_over event.old ≡ false }
+        ensures stored { OnOk result
+            (IsStored self.new.numbers self.new.events.values self.new.due self.new.count) }
+        ensures puts { OnOk result (Puts (key_of event.old) (Some event.old)
+            self.old.numbers self.old.events.values self.new.numbers self.new.events.values) }
+    {
+        let Some(count) = self.count.checked_add(1) else {
+            return Err(Memory);
+        };
+        let host = copy_text(alloc, event.host.as_ref())?;
+        let service = copy_text(alloc, event.service.as_ref())?;
+        let due = due_moment(event);
+        let event = mem::replace(event, Event::at(alloc, 0));
+        let number = self.events.add(alloc, event)?;
+        self.numbers.insert(alloc, host, service, number)?;
+        self.count = count;
+        self.hints.reserve(alloc, count);
+        self.hints.note(hash, number);
+        set_due(alloc, &mut self.due, number, due)?;
+        Ok(())
+    }
+
+    /// The event of this host and this service. It counts an entry where there is one, and takes no memory.
+    pub(crate) fn get<G: Ledger>(
+        &self,
+        host: Option<&Text>,
+        service: Option<&Text>,
+        steps: &mut Steps<G>,
+    ) -> Option<&Event>
+        requires { IsStored self.now.numbers self.now.events.values self.now.due self.now.count }
+        ensures event { option_copied result ≡ event_of
+            (option_copied host.entry, option_copied service.entry)
+            self.now.numbers self.now.events.values }
+        ensures forks { steps.new.forks ≡ steps.old.forks }
+        ensures found { IsSome result → steps.new.entries ≡ steps.old.entries + 1 }
+        ensures absent { IsNone result → steps.new.entries ≡ steps.old.entries }
+        ensures entries { steps.new.entries ≤ steps.old.entries + 1 }
+        ensures began { steps.new.began ≡ steps.old.began }
+    {
+        let number = self.numbers.get(host, service)?;
+        Some(self.events.read(number, steps))
+    }
+
+    /// How many events there are.
+    pub(crate) fn len(&self) -> usize
+        requires { IsStored self.now.numbers self.now.events.values self.now.due self.now.count }
+        ensures { result ≡ length (events_in self.now.numbers self.now.events.values) }
+    {
+        self.count
+    }
+
+    /// Removes the events that are expired at the moment `now`, at most 2^40, and appends them to `out` in order. It counts
+    /// an entry for each.
+    pub(crate) fn take_expired<G: Ledger>(
+        &mut self,
+        alloc: Global,
+        now: u64,
+        out: &mut Events,
+        steps: &mut Steps<G>,
+    ) -> Result<(), Memory>
+        requires stored { IsStored self.old.numbers self.old.events.values
+            self.old.due self.old.count }
+        requires now { now ≤ 2 ^ 40 }
+        ensures stored { OnOk result
+            (IsStored self.new.numbers self.new.events.values self.new.due self.new.count) }
+        ensures kept { OnOk result (events_in self.new.numbers self.new.events.values
+            ≡ filter (λ event. not (is_expired now event))
+            (events_in self.old.numbers self.old.events.values)) }
+        ensures gone { OnOk result (out.new ≡ out.old
+            ++ filter (is_expired now) (events_in self.old.numbers self.old.events.values)) }
+        ensures prefix { OnErr result (IsPrefix out.old out.new) }
+        ensures forks { steps.new.forks ≡ steps.old.forks }
+        ensures entries { steps.new.entries ≤ steps.old.entries
+            + length (filter (is_expired now) (events_in self.old.numbers self.old.events.values)) }
+        ensures at_least { steps.old.entries ≤ steps.new.entries }
+        ensures began { steps.new.began ≡ steps.old.began }
+    {
+        let mut numbers = Ids::fresh(alloc);
+        self.due.take_due(alloc, now, &mut numbers, steps)?;
+        let expired = self.take_all(alloc, numbers.as_slice())?;
+        push_all(alloc, expired, out)?;
+        Ok(())
+    }
+
+    /// Appends copies of the events that meet the predicate, in order. It counts what [`Slots::find`] counts.
+    pub(crate) fn copy_matching<G: Ledger>(
+        &self,
+        alloc: Global,
+        pred: &mut Pred,
+        out: &mut Events,
+        steps: &mut Steps<G>,
+    ) -> Result<(), Memory>
+        requires { IsStored self.now.numbers self.now.events.values self.now.due self.now.count }
+        ensures same { pred.new ≡ pred.old }
+        ensures ok { OnOk result (out.new ≡ out.old
+            ++ filter (holds pred.old) (events_in self.now.numbers self.now.events.values)) }
+        ensures prefix { OnErr result (IsPrefix out.old out.new) }
+        ensures forks { steps.new.forks ≡ steps.old.forks }
+        ensures counted { OnOk result (steps.new.entries ≡ steps.old.entries
+            + length (visited pred.old (events_in self.now.numbers self.now.events.values))) }
+        ensures entries { steps.new.entries ≤ steps.old.entries
+            + length (visited pred.old (events_in self.now.numbers self.now.events.values)) }
+        ensures at_least { steps.old.entries ≤ steps.new.entries }
+        ensures began { steps.new.began ≡ steps.old.began }
+    {
+        let mut found = Vec::new(alloc);
+        self.find(alloc, pred, &mut found, steps)?;
+        copy_all(alloc, found.as_slice(), out)
+    }
+
+    /// Appends the events that meet the predicate, where they lie, in order. It counts an entry for each event of the host
+    /// that the predicate asks for, or for each event where it asks for none.
+    pub(crate) fn find<'a, G: Ledger>(
+        &'a self,
+        alloc: Global,
+        pred: &mut Pred,
+        found: &mut Vec<&'a Event>,
+        steps: &mut Steps<G>,
+    ) -> Result<(), Memory>
+        requires { IsStored self.now.numbers self.now.events.values self.now.due self.now.count }
+        ensures same { pred.new ≡ pred.old }
+        ensures ok { OnOk result (events_lent found.new.items ≡ events_lent found.old.items
+            ++ filter (holds pred.old) (events_in self.now.numbers self.now.events.values)) }
+        ensures prefix { OnErr result (IsPrefix (events_lent found.old.items)
+            (events_lent found.new.items)) }
+        ensures forks { steps.new.forks ≡ steps.old.forks }
+        ensures counted { OnOk result (steps.new.entries ≡ steps.old.entries
+            + length (visited pred.old (events_in self.now.numbers self.now.events.values))) }
+        ensures entries { steps.new.entries ≤ steps.old.entries
+            + length (visited pred.old (events_in self.now.numbers self.now.events.values)) }
+        ensures at_least { steps.old.entries ≤ steps.new.entries }
+        ensures began { steps.new.began ≡ steps.old.began }
+    {
+        let numbers = self.numbers_for(alloc, pred)?;
+        find_at(alloc, &self.events, numbers.as_slice(), pred, found, steps)?;
+        Ok(())
+    }
+
+    /// The numbers of the events that may meet the predicate, in order.
+    fn numbers_for(&self, alloc: Global, pred: &Pred) -> Result<Ids, Memory>
+        ensures numbers { IfOk result (λ numbers. numbers
+            ≡ values_of (numbers_of_value (asked_host pred.now) self.now.numbers)) }
+        ensures needs { IfSome (asked_host pred.now) (NeedsHost pred.now) }
+    {
+        match pred.asked_host() {
+            Some(host) => self.numbers_of(alloc, host),
+            None => self.numbers.numbers(alloc),
+        }
+    }
+
+    /// The numbers of the events whose host is the value, in order. No host is a number.
+    fn numbers_of(&self, alloc: Global, host: &Value) -> Result<Ids, Memory>
+        ensures { IfOk result (λ numbers. numbers
+            ≡ values_of (numbers_of_value (Some host.now) self.now.numbers)) }
+    {
+        match host {
+            Value::Text(host) => self.numbers.host_numbers(alloc, Some(host)),
+            Value::Nil => self.numbers.host_numbers(alloc, None),
+            Value::Number(_) => Ok(Ids::fresh(alloc)),
+        }
+    }
+
+    /// Takes the events with these numbers out, in the order of the index.
+    fn take_all(&mut self, alloc: Global, numbers: &[usize]) -> Result<BTreeSet<KeyedEvent>, Memory>
+        requires linked { IsLinked self.old.numbers self.old.events.values }
+        requires counted { self.old.count ≡ length self.old.numbers }
+        ensures linked { OnOk result (IsLinked self.new.numbers self.new.events.values) }
+        ensures counted { OnOk result (self.new.count ≡ length self.new.numbers) }
+        ensures due { self.new.due ≡ self.old.due }
+        ensures taken { IfOk result (λ events. IsTaking numbers.now
+            self.old.numbers self.old.events.values self.new.numbers self.new.events.values events.keys) }
+    {
+        let mut events = BTreeSet::new(alloc);
+        for number in numbers {
+            self.take_into(*number, &mut events)?;
+        }
+        Ok(events)
+    }
+
+    /// Takes the event with this number out, and puts it among the events.
+    fn take_into(&mut self, number: usize, events: &mut BTreeSet<KeyedEvent>) -> Result<(), Memory>
+        requires linked { IsLinked self.old.numbers self.old.events.values }
+        requires counted { self.old.count ≡ length self.old.numbers }
+        ensures linked { OnOk result (IsLinked self.new.numbers self.new.events.values) }
+        ensures counted { OnOk result (self.new.count ≡ length self.new.numbers) }
+        ensures due { self.new.due ≡ self.old.due }
+        ensures step { OnOk result ((gone : List ℕ) (numbers : Numbers)
+            (table : List (Option StoredEvent)) →
+            IsTaking gone numbers table self.old.numbers self.old.events.values events.old.keys →
+            IsTaking (gone ++ number ∷ []) numbers table self.new.numbers self.new.events.values
+            events.new.keys) }
+    {
+        let Some(event) = self.take(number) else {
+            return Ok(());
+        };
+        events.replace(KeyedEvent { event })?;
+        Ok(())
+    }
+
+    /// Takes the event with this number out.
+    fn take(&mut self, number: usize) -> Option<Event>
+        requires linked { IsLinked self.old.numbers self.old.events.values }
+        requires counted { self.old.count ≡ length self.old.numbers }
+        ensures linked { IsLinked self.new.numbers self.new.events.values }
+        ensures counted { self.new.count ≡ length self.new.numbers }
+        ensures due { self.new.due ≡ self.old.due }
+        ensures taken { result ≡ value_at self.old.events.values number }
+        ensures slots { (other : ℕ) → value_at self.new.events.values other
+            ≡ (if eqb other number then None else value_at self.old.events.values other) }
+        ensures puts { IfSome result (λ event. Puts (key_of event) None
+            self.old.numbers self.old.events.values self.new.numbers self.new.events.values) }
+        ensures same { result ≡ None → (self.new.numbers ≡ self.old.numbers)
+            × (self.new.events.values ≡ self.old.events.values) }
+    {
+        if !self.events.contains(number) {
+            return None;
+        }
+        let event = self.events.remove(number);
+        self.numbers
+            .remove(event.host.as_ref(), event.service.as_ref());
+        self.count -= 1;
+        Some(event)
+    }
+}
+
+/// Appends the events with these numbers that meet the predicate, where they lie. It counts an entry for each number.
+fn find_at<'a, G: Ledger>(
+    alloc: Global,
+    events: &'a StepTable<Event>,
+    numbers: &[usize],
+    pred: &mut Pred,
+    found: &mut Vec<&'a Event>,
+    steps: &mut Steps<G>,
+) -> Result<(), Memory>
+    requires { AreLive events.now.values numbers.now }
+    ensures same { pred.new ≡ pred.old }
+    ensures ok { OnOk result (events_lent found.new.items ≡ events_lent found.old.items
+        ++ filter (holds pred.old) (events_at events.now.values numbers.now)) }
+    ensures prefix { OnErr result (IsPrefix (events_lent found.old.items)
+        (events_lent found.new.items)) }
+    ensures forks { steps.new.forks ≡ steps.old.forks }
+    ensures counted { OnOk result (steps.new.entries ≡ steps.old.entries + length numbers.now) }
+    ensures entries { steps.new.entries ≤ steps.old.entries + length numbers.now }
+    ensures at_least { steps.old.entries ≤ steps.new.entries }
+    ensures began { steps.new.began ≡ steps.old.began }
+{
+    for number in numbers {
+        let event = events.read(*number, steps);
+        find_one(alloc, event, pred, found)?;
+    }
+    Ok(())
+}
+
+/// Appends the event, where it meets the predicate.
+fn find_one<'a>(
+    alloc: Global,
+    event: &'a Event,
+    pred: &mut Pred,
+    found: &mut Vec<&'a Event>,
+) -> Result<(), Memory>
+    ensures same { pred.new ≡ pred.old }
+    ensures ok { OnOk result (events_lent found.new.items ≡ events_lent found.old.items
+        ++ filter (holds pred.old) (event.now ∷ [])) }
+    ensures err { OnErr result (events_lent found.new.items ≡ events_lent found.old.items) }
+{
+    if pred.holds(alloc, event)? {
+        found.push(event)?;
+    }
+    Ok(())
+}
+
+/// Appends copies of the events, in order.
+fn copy_all(alloc: Global, events: &[&Event], out: &mut Events) -> Result<(), Memory>
+    ensures ok { OnOk result (out.new ≡ out.old ++ events_lent events.now) }
+    ensures prefix { OnErr result (IsPrefix out.old out.new) }
+{
+    for event in events {
+        out.push(alloc, event.copy(alloc)?)?;
+    }
+    Ok(())
+}
+
+/// Appends the events, in order.
+fn push_all(alloc: Global, events: BTreeSet<KeyedEvent>, out: &mut Events) -> Result<(), Memory>
+    ensures ok { OnOk result (out.new ≡ out.old ++ events.keys) }
+    ensures prefix { OnErr result (IsPrefix out.old out.new) }
+{
+    for keyed in events {
+        out.push(alloc, keyed.event)?;
+    }
+    Ok(())
+}
+
+/// Sets the moment of the number, or clears it where there is none.
+fn set_due(
+    alloc: Global,
+    queue: &mut DueQueue,
+    number: usize,
+    due: Option<u64>,
+) -> Result<(), Memory>
+    ensures ok { OnOk result (Sets queue.old queue.new number due) }
+    ensures rising { IsRising queue.new }
+{
+    match due {
+        Some(due) => queue.set(alloc, number, due),
+        None => {
+            queue.clear(number);
+            Ok(())
+        }
+    }
+}
+
+/// The moment from which on the event is late. One after the greatest moment is left out, and one before 1970 is 0.
+fn due_moment(event: &Event) -> Option<u64>
+    ensures { (now : ℕ) → now ≤ 2 ^ 40 → is_by now result ≡ is_late now event.now }
+{
+    let ttl = event.ttl.unwrap_or(DEFAULT_TTL);
+    let due = i128::from(event.time) + i128::from(ttl) + 1;
+    if due > LAST_MOMENT {
+        return None;
+    }
+    if due < 0 {
+        return Some(0);
+    }
+    Some(due as u64)
+}
+
+/// Whether the events are of one host and service.
+fn has_same_key(a: &Event, b: &Event) -> bool
+    ensures { result ≡ true → key_of a.now ≡ key_of b.now }
+{
+    is_same_text(a.host.as_ref(), b.host.as_ref())
+        && is_same_text(a.service.as_ref(), b.service.as_ref())
+}
+
+/// Whether both texts are absent, or both are present with the same bytes.
+fn is_same_text(a: Option<&Text>, b: Option<&Text>) -> bool
+    ensures { result ≡ true → option_copied a.entry ≡ option_copied b.entry }
+{
+    match (a, b) {
+        (None, None) => true,
+        (Some(a), Some(b)) => a.is(b.as_bytes()),
+        _ => false,
+    }
+}
+
+fn copy_text(alloc: Global, text: Option<&Text>) -> Result<Option<Text>, Memory>
+    ensures { IfOk result (λ copied. copied ≡ option_copied text.entry) }
+{
+    match text {
+        Some(text) => Ok(Some(text.copy(alloc)?)),
+        None => Ok(None),
+    }
+}
