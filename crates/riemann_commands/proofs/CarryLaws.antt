@@ -1,21 +1,21 @@
 -- The command that is carried out is the one of the arguments.
 use Rattle.std.proofs.Common.{◌≡◌, ℕ, ◌+◌, ◌*◌, List, [], ◌∷◌, Option, Some, ap, refl, sym, ◌∙◌, subst, arith, inl, inr}
 use Rattle.std.specs.Prelude.{codes}
-use Rattle.check_command.specs.Checks.{Checks}
-use Rattle.client_command.specs.Asks.{Asks}
-use Rattle.client_command.specs.Sends.{Sends}
+use Rattle.command_check.specs.Checks.{Checks}
+use Rattle.command_client.specs.Asks.{Asks}
+use Rattle.command_client.specs.Sends.{Sends}
 use Rattle.command_io.specs.Endings.{GotLineOf}
 use Rattle.command_io.specs.Lines.{usage_line}
 use Rattle.command_io.specs.Reports.{Reports}
 use Rattle.command_io.specs.declared.status.Status.{Status}
 use Rattle.command_io.specs.declared.status.Status.TheVariants.{Usage}
-use Rattle.feed_command.specs.Feeds.{Feeds}
-use Rattle.graphite_command.specs.Converts.{Converts}
-use Rattle.load_command.specs.Loads.{Loads}
-use Rattle.replay_command.specs.Replays.{Replays}
+use Rattle.command_feed.specs.Feeds.{Feeds}
+use Rattle.command_graphite.specs.Converts.{Converts}
+use Rattle.command_load.specs.Loads.{Loads}
+use Rattle.command_replay.specs.Replays.{Replays}
 use Rattle.script_text.specs.Words.{number_of}
-use Rattle.serve_command.specs.Serves.{Serves}
-use Rattle.test_command.specs.RunsTests.{RunsTests}
+use Rattle.command_serve.specs.Serves.{Serves}
+use Rattle.command_test.specs.RunsTests.{RunsTests}
 use Rattle.riemann_commands.specs.declared.command.Command.{Command}
 use Rattle.riemann_commands.specs.declared.command.Command.TheVariants.{Feed, Check, Replay, Serve, Load, Graphite, Test, Send, Query}
 use Rattle.riemann_commands.specs.Carrying.{CarriesOut, IsWithinLimits, PromiseOf, UnlessFeed, UnlessLines, UnlessRunning, UnlessTest}

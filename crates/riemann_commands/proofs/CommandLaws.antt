@@ -6,9 +6,9 @@ use Rattle.command_io.specs.declared.ending.Ending.TheVariants.{Finished, Config
 use Rattle.command_io.specs.declared.status.Status.{Status}
 use Rattle.command_io.specs.declared.status.Status.TheVariants.{Done, Usage, Config, ReadFault, SinkFault, LinkFault, Memory, Script, Truncated, TooLong, Lines, Tests, Verdict, Unanswered, BadReply}
 use Rattle.command_io.specs.Reports.{Reports}
-use Rattle.client_command.specs.Asks.{Asks}
-use Rattle.client_command.specs.Sends.{Sends}
-use Rattle.graphite_command.specs.Converts.{ConvertEnds, Converts}
+use Rattle.command_client.specs.Asks.{Asks}
+use Rattle.command_client.specs.Sends.{Sends}
+use Rattle.command_graphite.specs.Converts.{ConvertEnds, Converts}
 use Rattle.command_io.specs.Endings.{HasNoLine, IsRefusal, IsRefusalOrMemory, status_of}
 use Rattle.riemann_commands.specs.declared.command.Command.{Command}
 use Rattle.riemann_commands.specs.declared.command.Command.TheVariants.{Feed, Check, Replay, Serve, Load, Graphite, Test, Send, Query}

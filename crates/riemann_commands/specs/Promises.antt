@@ -1,21 +1,21 @@
 -- What the call of a command promises, as one fact of the words and of all that it was handed.
 use Rattle.std.specs.Prelude.{◌≡◌, ◌≢◌, ◌↔◌, ◌⊎◌, ℕ, List, [], ◌∷◌, codes}
-use Rattle.check_command.specs.Checks.{Checks}
-use Rattle.client_command.specs.Asks.{Asks}
-use Rattle.client_command.specs.Sends.{Sends}
+use Rattle.command_check.specs.Checks.{Checks}
+use Rattle.command_client.specs.Asks.{Asks}
+use Rattle.command_client.specs.Sends.{Sends}
 use Rattle.command_io.specs.Endings.{GotLineOf, HasNoLine, IsRefusal}
 use Rattle.command_io.specs.Lines.{usage_line}
 use Rattle.command_io.specs.Reports.{Reports}
 use Rattle.command_io.specs.declared.status.Status.{Status}
 use Rattle.command_io.specs.declared.status.Status.TheVariants.{Done, Usage, ReadFault, SinkFault, LinkFault, Memory}
-use Rattle.feed_command.specs.Feeds.{Feeds}
-use Rattle.graphite_command.specs.Converts.{Converts}
-use Rattle.load_command.specs.Loads.{Loads}
+use Rattle.command_feed.specs.Feeds.{Feeds}
+use Rattle.command_graphite.specs.Converts.{Converts}
+use Rattle.command_load.specs.Loads.{Loads}
 use Rattle.ports.specs.Counts.{Rose}
 use Rattle.ports.specs.Writing.{Got, SinkReport}
-use Rattle.replay_command.specs.Replays.{Replays}
-use Rattle.serve_command.specs.Serves.{Serves}
-use Rattle.test_command.specs.RunsTests.{RunsTests}
+use Rattle.command_replay.specs.Replays.{Replays}
+use Rattle.command_serve.specs.Serves.{Serves}
+use Rattle.command_test.specs.RunsTests.{RunsTests}
 use Rattle.riemann_commands.specs.Commands.{IsCommand}
 use Rattle.riemann_commands.specs.Words.{IsUsage, OnCheck, OnFeed, OnGraphite, OnLoad, OnQuery, OnReplay, OnSend, OnServe, OnTest}
 

@@ -3,9 +3,9 @@ ghost use Rattle.query_lang.specs.declared.read.TheConstants.{MAX_BYTES};
 ghost use Rattle.riemann_commands.specs.Commands.{IsCommandOf};
 ghost use Rattle.riemann_commands.specs.Words.{IsUsage, load_words};
 
-use client_command::MAX_BYTES;
+use command_client::MAX_BYTES;
 use ev_types::Text;
-use load_command::EVENT_LIMIT;
+use command_load::EVENT_LIMIT;
 use script_text::read_number;
 
 /// A command, with the names of its files.

@@ -4,20 +4,20 @@ ghost use Rattle.riemann_commands.specs.Carrying.{CarriesOut, IsWithinLimits};
 ghost use Rattle.riemann_commands.specs.Promises.{Promises, sameness};
 
 use crate::command::{Command, command_of};
-use check_command::check;
-use client_command::{query, send};
+use command_check::check;
+use command_client::{query, send};
 use command_io::{Status, USAGE, put_line};
 use ev_types::Text;
-use feed_command::feed;
-use graphite_command::graphite;
-use load_command::load;
+use command_feed::feed;
+use command_graphite::graphite;
+use command_load::load;
 use ports::{Links, Sink, Store};
 use pred_eval::Patterns;
-use replay_command::replay;
-use serve_command::serve;
+use command_replay::replay;
+use command_serve::serve;
 use std::alloc::Global;
 use step_count::{Ledger, Steps};
-use test_command::run_tests;
+use command_test::run_tests;
 
 /// Carries out the command that matches the arguments, and gives how it ended.
 ///

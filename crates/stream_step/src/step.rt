@@ -263,7 +263,7 @@ fn pass_fold(alloc: Global, fold: Fold, events: &Events) -> Result<Passed, Memor
         ≡ fold_of fold (In (Many events.now))) }
 {
     match apply_fold(alloc, fold, events)? {
-        Some(event) => send(alloc, event),
+        Some(event) => pass_made(alloc, event),
         None => Ok(Passed::Nothing),
     }
 }
@@ -288,16 +288,16 @@ fn pass_event(
             let branch = branch_of_rule(alloc, rule, state, event, patterns)?;
             Ok(Passed::Same(branch))
         }
-        Kind::With(sets) => send(alloc, apply_sets(alloc, sets, event.copy(alloc)?)?),
-        Kind::Default(sets) => send(alloc, apply_defaults(alloc, sets, event.copy(alloc)?)?),
-        Kind::Tag(tags) => send(alloc, apply_tags(alloc, tags, event.copy(alloc)?)?),
+        Kind::With(sets) => pass_made(alloc, apply_sets(alloc, sets, event.copy(alloc)?)?),
+        Kind::Default(sets) => pass_made(alloc, apply_defaults(alloc, sets, event.copy(alloc)?)?),
+        Kind::Tag(tags) => pass_made(alloc, apply_tags(alloc, tags, event.copy(alloc)?)?),
         Kind::By(fields) => Ok(Passed::Keyed(key_of(alloc, event, fields)?)),
         _ => Ok(Passed::Nothing),
     }
 }
 
-/// The event for the children.
-fn send(alloc: Global, event: Event) -> Result<Passed, Memory>
+/// One event for the children.
+fn pass_made(alloc: Global, event: Event) -> Result<Passed, Memory>
     ensures { IfOk result (λ passed. (x : CameEntry) →
         emissions_meant passed x ≡ to children (One event)) }
 {

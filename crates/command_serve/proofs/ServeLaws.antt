@@ -1,0 +1,141 @@
+-- What `serve` promises, from what its parts say.
+use Rattle.std.proofs.Common.{◌≡◌, ◌≢◌, ℕ, ◌≤◌, List, [], ◌∷◌, length, refl, inl, inr, arith}
+use Rattle.std.specs.Prelude.{Option, Result, Ok, Err}
+use Rattle.command_setup.specs.conn_core.declared.hub.Hub.{Hub}
+use Rattle.command_setup.specs.hub_run.declared.fault.RunFault.{RunFault}
+use Rattle.command_setup.specs.hub_run.declared.fault.RunFault.TheVariants.{Links, Sink, Memory}
+use Rattle.command_setup.specs.hub_run.declared.setup.Setup.{Setup}
+use Rattle.ports.specs.Counts.{IsStill, Rose}
+use Rattle.ports.specs.Reading.{IsHeld}
+use Rattle.ports.specs.declared.store.StoreRead.{StoreRead}
+use Rattle.command_setup.specs.sexp_config.declared.config.Config.{Config}
+use Rattle.command_setup.specs.sexp_config.Config.{IsConfigOf}
+use Rattle.command_setup.specs.command_io.declared.ending.Ending.{Ending}
+use Rattle.command_setup.specs.command_io.declared.ending.Ending.TheVariants.{Finished, ConfigRefused, Unread, OverLimit, BytesLeft, WriteFailed, LinksFailed, ScriptRefused, OutOfMemory}
+use Rattle.command_setup.specs.command_io.declared.limits.TheConstants.{CONFIG_LIMIT}
+use Rattle.command_setup.specs.command_io.declared.status.Status.TheVariants.{ReadFault, SinkFault, LinkFault}
+use Rattle.command_setup.specs.command_io.Endings.{HasNoConfig, IsComplete, IsDoneOrMemory, IsReadOnce, IsRefusal, ReadsFiles, status_of}
+use Rattle.command_setup.specs.command_io.Files.{ReadMore, good_read}
+use Rattle.command_setup.specs.command_io.Reports.{IsIdle, Reports as Reporting}
+use Rattle.command_setup.proofs.CommandIoReadLaws.{read_alone}
+use Rattle.command_setup.specs.command_io.Accepting.{RefusesSetup}
+use Rattle.command_setup.specs.Setups.{SetsUp}
+use Rattle.command_setup.proofs.FaultLaws.{cut_has_config, cut_not_complete, cut_refuses_nothing}
+use Rattle.command_setup.proofs.SetupLaws.{refused_for_memory, refused_rose}
+use Rattle.command_serve.specs.Serves.{RanOn, ServeEnds, ending_of_run}
+
+-- ---- after a run
+
+pub served : (config : List ℕ) (turns : ℕ) (setup : Setup) (old new : Reporting) (ran : Result Hub RunFault) → SetsUp (old.store.held config) setup → RanOn setup turns old new ran
+    → (ran ≡ Err Links → Rose old.links.faults new.links.faults) → (ran ≡ Err Sink → Rose old.out.faults new.out.faults)
+    → (ran ≢ Err Links → new.links.faults ≡ old.links.faults) → (ran ≢ Err Sink → new.out.faults ≡ old.out.faults)
+    → ServeEnds config turns old new (ending_of_run ran)
+served config turns setup old new (Ok hub) sets ran links_rose sink_rose links_quiet sink_quiet = (setup, sets, (hub, ran))
+served config turns setup old new (Err Links) sets ran links_rose sink_rose links_quiet sink_quiet = (setup, sets, ran, links_rose refl)
+served config turns setup old new (Err Sink) sets ran links_rose sink_rose links_quiet sink_quiet = (setup, sets, ran, sink_rose refl)
+served config turns setup old new (Err Memory) sets ran links_rose sink_rose links_quiet sink_quiet =
+    inr (setup, sets, ran, links_quiet (λ e. cc), sink_quiet (λ e. cc))
+
+pub run_has_config : (ran : Result Hub RunFault) → HasNoConfig (ending_of_run ran) → ⊥
+run_has_config (Ok hub) refused = refused
+run_has_config (Err fault) refused = cut_has_config fault refused
+
+pub served_reads : (old new : Option (List StoreRead)) (name : List ℕ) (ran : Result Hub RunFault) → ReadMore (good_read name ∷ []) old new
+    → ReadsFiles (name ∷ []) (IsReadOnce (ending_of_run ran)) old new (ending_of_run ran)
+served_reads old new name (Ok hub) grew = read_alone _ old new name _ grew refl (refl, tt)
+served_reads old new name (Err Links) grew = read_alone _ old new name _ grew refl (refl, tt)
+served_reads old new name (Err Sink) grew = read_alone _ old new name _ grew refl (refl, tt)
+served_reads old new name (Err Memory) grew = read_alone _ old new name _ grew tt (refl, tt)
+
+-- a run that went to its last turn met no fault
+pub no_links_fault : (ran : Result Hub RunFault) → IsComplete (ending_of_run ran) → ran ≡ Err Links → ⊥
+no_links_fault (Ok hub) complete e = cc
+no_links_fault (Err fault) complete e = cut_not_complete fault complete
+
+pub no_sink_fault : (ran : Result Hub RunFault) → IsComplete (ending_of_run ran) → ran ≡ Err Sink → ⊥
+no_sink_fault (Ok hub) complete e = cc
+no_sink_fault (Err fault) complete e = cut_not_complete fault complete
+
+pub run_refuses_nothing : (ran : Result Hub RunFault) → IsRefusal (status_of (ending_of_run ran)) → ⊥
+run_refuses_nothing (Ok hub) refused = refused
+run_refuses_nothing (Err fault) refused = cut_refuses_nothing fault refused
+
+-- ---- where there is no configuration
+
+pub not_served : (config : List ℕ) (turns : ℕ) (old new : Reporting) (ending : Ending) → RefusesSetup config old.store new.store old.patterns new.patterns ending
+    → IsIdle old new → ServeEnds config turns old new ending
+not_served config turns old new Finished refuses idle = absurd refuses
+not_served config turns old new (ConfigRefused refusal) refuses idle = (refuses, idle)
+not_served config turns old new (Unread unread) refuses idle = (refuses, idle)
+not_served config turns old new (OverLimit over limit) refuses idle = (refuses, idle)
+not_served config turns old new (BytesLeft count) refuses idle = (refuses, idle)
+not_served config turns old new WriteFailed refuses idle = absurd refuses
+not_served config turns old new LinksFailed refuses idle = absurd refuses
+not_served config turns old new (ScriptRefused line) refuses idle = (refuses, idle)
+not_served config turns old new OutOfMemory refuses idle = inl (refuses, idle)
+
+-- ---- the causes of faults
+
+pub serve_read_rose : (config : List ℕ) (turns : ℕ) (old new : Reporting) (ending : Ending) → ServeEnds config turns old new ending
+    → status_of ending ≡ ReadFault → Rose old.store.faults new.store.faults
+serve_read_rose config turns old new Finished ends e = cc
+serve_read_rose config turns old new (ConfigRefused refusal) ends e = cc
+serve_read_rose config turns old new (Unread unread) ends e = refused_rose config old.store new.store old.patterns new.patterns (Unread unread) ends.0 e
+serve_read_rose config turns old new (OverLimit over limit) ends e = cc
+serve_read_rose config turns old new (BytesLeft count) ends e = cc
+serve_read_rose config turns old new WriteFailed ends e = cc
+serve_read_rose config turns old new LinksFailed ends e = cc
+serve_read_rose config turns old new (ScriptRefused line) ends e = cc
+serve_read_rose config turns old new OutOfMemory ends e = cc
+
+pub serve_sink_rose : (config : List ℕ) (turns : ℕ) (old new : Reporting) (ending : Ending) → ServeEnds config turns old new ending
+    → status_of ending ≡ SinkFault → Rose old.out.faults new.out.faults
+serve_sink_rose config turns old new Finished ends e = cc
+serve_sink_rose config turns old new (ConfigRefused refusal) ends e = cc
+serve_sink_rose config turns old new (Unread unread) ends e = cc
+serve_sink_rose config turns old new (OverLimit over limit) ends e = cc
+serve_sink_rose config turns old new (BytesLeft count) ends e = cc
+serve_sink_rose config turns old new WriteFailed ends e = ends.3
+serve_sink_rose config turns old new LinksFailed ends e = cc
+serve_sink_rose config turns old new (ScriptRefused line) ends e = cc
+serve_sink_rose config turns old new OutOfMemory ends e = cc
+
+pub serve_links_rose : (config : List ℕ) (turns : ℕ) (old new : Reporting) (ending : Ending) → ServeEnds config turns old new ending
+    → status_of ending ≡ LinkFault → Rose old.links.faults new.links.faults
+serve_links_rose config turns old new Finished ends e = cc
+serve_links_rose config turns old new (ConfigRefused refusal) ends e = cc
+serve_links_rose config turns old new (Unread unread) ends e = cc
+serve_links_rose config turns old new (OverLimit over limit) ends e = cc
+serve_links_rose config turns old new (BytesLeft count) ends e = cc
+serve_links_rose config turns old new WriteFailed ends e = cc
+serve_links_rose config turns old new LinksFailed ends e = ends.3
+serve_links_rose config turns old new (ScriptRefused line) ends e = cc
+serve_links_rose config turns old new OutOfMemory ends e = cc
+
+-- ---- completeness
+
+-- it can't have been refused
+not_refused : (config text : List ℕ) (read : Config) (old new : Reporting) (ending : Ending) → IsHeld (old.store.held config) text → IsConfigOf text read
+    → length text ≤ CONFIG_LIMIT → IsStill old.store.faults new.store.faults → IsStill old.patterns.refusals new.patterns.refusals
+    → RefusesSetup config old.store new.store old.patterns new.patterns ending → ending ≡ OutOfMemory
+not_refused config text read old new ending holds is fits reads_still still refuses =
+    refused_for_memory config text read old.store new.store old.patterns new.patterns ending holds is fits reads_still still refuses
+
+pub serve_complete : (config : List ℕ) (turns : ℕ) (text : List ℕ) (read : Config) (old new : Reporting) (ending : Ending) → IsHeld (old.store.held config) text
+    → IsConfigOf text read → length text ≤ CONFIG_LIMIT → IsStill old.store.faults new.store.faults → IsStill old.links.faults new.links.faults
+    → IsStill old.out.faults new.out.faults → IsStill old.patterns.refusals new.patterns.refusals → ServeEnds config turns old new ending
+    → IsDoneOrMemory (status_of ending)
+serve_complete config turns text read old new Finished holds is fits reads_still links_still out_still still ends = tt
+serve_complete config turns text read old new (ConfigRefused refusal) holds is fits reads_still links_still out_still still ends =
+    let e = not_refused config text read old new (ConfigRefused refusal) holds is fits reads_still still ends.0 in absurd cc
+serve_complete config turns text read old new (Unread unread) holds is fits reads_still links_still out_still still ends =
+    let e = not_refused config text read old new (Unread unread) holds is fits reads_still still ends.0 in absurd cc
+serve_complete config turns text read old new (OverLimit over limit) holds is fits reads_still links_still out_still still ends =
+    let e = not_refused config text read old new (OverLimit over limit) holds is fits reads_still still ends.0 in absurd cc
+serve_complete config turns text read old new (BytesLeft count) holds is fits reads_still links_still out_still still ends =
+    let e = not_refused config text read old new (BytesLeft count) holds is fits reads_still still ends.0 in absurd cc
+serve_complete config turns text read old new WriteFailed holds is fits reads_still links_still out_still still ends = omega (arith, ends.3, out_still.0, out_still.1)
+serve_complete config turns text read old new LinksFailed holds is fits reads_still links_still out_still still ends = omega (arith, ends.3, links_still.0, links_still.1)
+serve_complete config turns text read old new (ScriptRefused line) holds is fits reads_still links_still out_still still ends =
+    let e = not_refused config text read old new (ScriptRefused line) holds is fits reads_still still ends.0 in absurd cc
+serve_complete config turns text read old new OutOfMemory holds is fits reads_still links_still out_still still ends = tt

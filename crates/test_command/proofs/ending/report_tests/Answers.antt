@@ -1,4 +1,0 @@
-use Rattle.test_command.proofs.ending.report_tests.Goals as goal
-
-pub returns : goal.returns
-returns g c = rw (c.format-place.ensures.text, c.name.ensures) at c.put_line.ensures
