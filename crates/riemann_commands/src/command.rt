@@ -4,8 +4,8 @@ ghost use Rattle.riemann_commands.specs.Commands.{IsCommandOf};
 ghost use Rattle.riemann_commands.specs.Words.{IsUsage, load_words};
 
 use command_client::MAX_BYTES;
-use ev_types::Text;
 use command_load::EVENT_LIMIT;
+use ev_types::Text;
 use script_text::read_number;
 
 /// A command, with the names of its files.

@@ -6,18 +6,18 @@ ghost use Rattle.riemann_commands.specs.Promises.{Promises, sameness};
 use crate::command::{Command, command_of};
 use command_check::check;
 use command_client::{query, send};
-use command_io::{Status, USAGE, put_line};
-use ev_types::Text;
 use command_feed::feed;
 use command_graphite::graphite;
+use command_io::{Status, USAGE, put_line};
 use command_load::load;
-use ports::{Links, Sink, Store};
-use pred_eval::Patterns;
 use command_replay::replay;
 use command_serve::serve;
+use command_test::run_tests;
+use ev_types::Text;
+use ports::{Links, Sink, Store};
+use pred_eval::Patterns;
 use std::alloc::Global;
 use step_count::{Ledger, Steps};
-use command_test::run_tests;
 
 /// Carries out the command that matches the arguments, and gives how it ended.
 ///
