@@ -3,7 +3,7 @@ use Rattle.std.proofs.Common.{◌≡◌, ℕ, inl, inr, Bool, true, false, List,
 use Rattle.ports.specs.declared.entry.Entry.{Entry}
 use Rattle.framing.specs.Frames.{has_frame}
 use Rattle.riemann_client.specs.Client.{IsUnclosed, Represents, replies_of, stream_of, wants_in}
-use Rattle.riemann_client.specs.Clock.{first_moment}
+use Rattle.ev_types.specs.Clock.{first_moment}
 use Rattle.riemann_client.specs.Exchange.{begun}
 use Rattle.riemann_client.specs.declared.client.Client.{Client}
 use Rattle.riemann_msg.specs.declared.msg.Msg.{Msg}

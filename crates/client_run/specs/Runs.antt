@@ -9,7 +9,7 @@ use Rattle.ports.specs.declared.entry.Entry.TheVariants.{Listen, Next}
 use Rattle.ports.specs.declared.links.ListenAnswer.TheVariants as listen
 use Rattle.ports.specs.declared.links.Turn.{Turn}
 use Rattle.ports.specs.declared.links.What.TheVariants.{Failed}
-use Rattle.riemann_client.specs.Clock.{first_moment}
+use Rattle.ev_types.specs.Clock.{first_moment}
 use Rattle.riemann_client.specs.Exchange.{Exchange, begun, heard, message_in, progress_of, wants_of}
 use Rattle.riemann_client.specs.Run.{AreGoing, ClientTurn, IsSound, after_last, entries_of, exchange_after}
 use Rattle.riemann_client.specs.Sending.{AreSends, after_sends}

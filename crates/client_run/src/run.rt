@@ -6,13 +6,10 @@ ghost use Rattle.riemann_client.specs.Client.{IsUnclosed, is_ended, link_of, str
 
 use crate::outcome::{Exchanged, Outcome, RunFault};
 use crate::turn::take_turn;
-use ev_types::{Blob, Memory, Text};
+use ev_types::{Blob, LATEST_MOMENT, Memory, Text};
 use ports::{Links, ListenAnswer, PIECE_LIMIT};
 use riemann_client::{Client, Msgs, has_request};
 use std::alloc::Global;
-
-/// The last moment of the clock, in seconds since 1970.
-const LATEST_MOMENT: u64 = 1 << 40;
 
 /// Has the exchange of a client with the server at `address`, a text `HOST:PORT`: the requests are `frames`, one after
 /// another. It takes turns until the exchange is over, or until it took `turns` of them, which loses it. Without a request

@@ -9,7 +9,7 @@ use Rattle.query_lang.specs.declared.read.TheConstants.{MAX_BYTES}
 use Rattle.riemann_msg.specs.Spelling.{optional, query_content, query_values, spelled, spelling}
 use Rattle.riemann_msg.specs.declared.msg.QueryPart.{QueryPart}
 use Rattle.riemann_msg.proofs.Lengths.{message_length, query_length, text_length}
-use Rattle.command_client.specs.Queries.{ClocksAreOne, QueriesAreRequests, asked_part, asking, query_frame}
+use Rattle.command_client.specs.Queries.{QueriesAreRequests, asked_part, asking, query_frame}
 
 few : (value : ℕ) → value < 2 ^ 64 → length (varint value) ≤ 10
 few value small = (varint_is value small).few
@@ -32,6 +32,3 @@ pub queries_lem : QueriesAreRequests
 queries_lem text short =
     ap frames_of (sym (append-nil (query_frame text))) ∙ frames_of_frame (spelling (asking text)) [] (query_within text short)
     ∙ ap (λ (bodies : List (List ℕ)). spelling (asking text) ∷ bodies) frames_of_nothing
-
-pub clocks_lem : ClocksAreOne
-clocks_lem now secs = (refl, refl)

@@ -1,9 +1,7 @@
 -- The request of a query.
 use Rattle.std.specs.Prelude.{◌≡◌, ℕ, ◌≤◌, List, [], ◌∷◌, length, Some, None}
-use Rattle.command_io.specs.hub_meaning.Clock as server
 use Rattle.framing.specs.Frames.{frame, frames_of}
 use Rattle.query_lang.specs.declared.read.TheConstants.{MAX_BYTES}
-use Rattle.riemann_client.specs.Clock as client
 use Rattle.riemann_msg.specs.Spelling.{spelling}
 use Rattle.riemann_msg.specs.declared.msg.Msg.{Msg}
 use Rattle.riemann_msg.specs.declared.msg.QueryPart.{QueryPart}
@@ -20,7 +18,3 @@ query_frame text = frame (spelling (asking text))
 
 abbrev pub QueriesAreRequests : Type 0
 QueriesAreRequests = (text : List ℕ) → length text ≤ MAX_BYTES → frames_of (query_frame text) ≡ spelling (asking text) ∷ []
-
--- the clock of a client begins and goes as that of a server
-abbrev pub ClocksAreOne : Type 0
-ClocksAreOne = (now secs : ℕ) → (client.first_moment secs ≡ server.first_moment secs) × (client.next_moment now secs ≡ server.next_moment now secs)

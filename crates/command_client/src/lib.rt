@@ -9,7 +9,7 @@ mod reply;
 mod request;
 mod send_command;
 
-pub use law::{clocks_are_one, queries_are_requests};
+pub use law::queries_are_requests;
 pub use query_command::query;
 pub use query_lang::MAX_BYTES;
 pub use send_command::send;

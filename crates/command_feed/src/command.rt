@@ -1,9 +1,9 @@
-ghost use Rattle.std.specs.Prelude.{◌≡◌, ◌≢◌, ◌≤◌, ◌⊎◌};
-ghost use Rattle.std.specs.Option.{ForSome};
+ghost use Rattle.std.specs.Prelude.{◌≡◌, ◌≢◌, ◌⊎◌};
 ghost use Rattle.file_run.specs.command_io.Endings.{IsComplete, IsRefusalOrMemory, status_of};
 ghost use Rattle.ports.specs.Calls.{LinksReport};
 ghost use Rattle.file_run.specs.command_io.Reports.{reports};
 ghost use Rattle.command_feed.specs.Feeds.{FeedEnds, Feeds, FileEnds};
+ghost use Rattle.ev_types.specs.Interval.{IsInterval};
 ghost use Rattle.file_run.specs.Files.{OtherReads};
 ghost use Rattle.ports.specs.Counts.{Rose};
 
@@ -99,8 +99,7 @@ fn feed_file<'a, S: Store, O: Sink, E: Sink, P: Patterns, G: Ledger>(
     patterns: &mut P,
     steps: &mut Steps<G>,
 ) -> Ending<'a>
-    requires interval { ForSome setup.expiry (λ set. (1 ≤ set.interval) ×
-        (set.interval ≤ 604800)) }
+    requires interval { IsInterval setup.expiry }
     ensures ends { (links : LinksReport) → FileEnds setup file.now
         (reports (S.report store.old) links (O.report out.old) (E.report err.old)
         (P.report patterns.old) steps.old.forks)

@@ -1,11 +1,11 @@
-ghost use Rattle.std.specs.Prelude.{◌≡◌, ℕ, ◌≤◌, List, [], length};
-ghost use Rattle.std.specs.Option.{ForSome};
+ghost use Rattle.std.specs.Prelude.{◌≡◌, ℕ, List, [], length};
 ghost use Rattle.file_run.specs.command_io.Endings.{IsComplete, IsRefusalOrMemory, status_of};
 ghost use Rattle.ports.specs.Calls.{LinksReport};
 ghost use Rattle.ports.specs.Reading.{StoreReport};
 ghost use Rattle.file_run.specs.command_io.Reports.{reports};
 ghost use Rattle.command_feed.specs.Feeding.{WritesReplies};
 ghost use Rattle.command_feed.specs.Feeds.{BytesEnd};
+ghost use Rattle.ev_types.specs.Interval.{IsInterval};
 ghost use Rattle.file_run.specs.Files.{IsAfterRun};
 ghost use Rattle.framing.specs.Frames.{partial};
 ghost use Rattle.ports.specs.Pieces.{feed_script};
@@ -33,8 +33,7 @@ pub(crate) fn serve_bytes<'a, O: Sink, E: Sink, P: Patterns, G: Ledger>(
     patterns: &mut P,
     steps: &mut Steps<G>,
 ) -> Ending<'a>
-    requires interval { ForSome setup.expiry (λ set. (1 ≤ set.interval) ×
-        (set.interval ≤ 604800)) }
+    requires interval { IsInterval setup.expiry }
     ensures ends { (store store' : StoreReport) (links : LinksReport) →
         BytesEnd setup bytes (reports store links (O.report out.old) (E.report err.old)
         (P.report patterns.old) steps.old.forks)
@@ -63,8 +62,7 @@ fn serve_links<'a, O: Sink, E: Sink, P: Patterns, G: Ledger>(
     patterns: &mut P,
     steps: &mut Steps<G>,
 ) -> Ending<'a>
-    requires interval { ForSome setup.expiry (λ set. (1 ≤ set.interval) ×
-        (set.interval ≤ 604800)) }
+    requires interval { IsInterval setup.expiry }
     requires begins { links.log ≡ [] }
     ensures ends { (bytes : List ℕ) (store store' : StoreReport) (given : LinksReport) →
         links.script ≡ feed_script PIECE_LIMIT bytes → left ≡ length (partial bytes) →

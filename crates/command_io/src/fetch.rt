@@ -1,5 +1,5 @@
 ghost use Rattle.std.specs.Prelude.{◌≡◌, ◌≤◌, IfErr, IfOk, OnOk, length};
-ghost use Rattle.sexp_config.specs.Expiry.{IsInterval};
+ghost use Rattle.ev_types.specs.Interval.{IsInterval};
 ghost use Rattle.stream_plan.specs.Ready.{plan_patterns};
 ghost use Rattle.command_io.specs.Configs.{ReadsAs};
 ghost use Rattle.command_io.specs.Fetches.{IsFetchFault, IsTextFault, ending_of_config, ending_of_fetch, fetch_reads};

@@ -1,11 +1,11 @@
 ghost use Rattle.std.specs.Prelude.{◌≡◌, ◌≢◌, ◌≤◌, [], ◌∷◌};
-ghost use Rattle.std.specs.Option.{ForSome};
 ghost use Rattle.ports.specs.Counts.{Rose};
 ghost use Rattle.command_setup.specs.command_io.Endings.{HasNoConfig, HasNoLine, IsComplete, IsReadOnce, IsRefusalOrMemory, ReadsFiles, status_of};
 ghost use Rattle.ports.specs.Calls.{LinksReport};
 ghost use Rattle.ports.specs.Writing.{SinkReport};
 ghost use Rattle.command_setup.specs.command_io.Reports.{reports};
 ghost use Rattle.command_load.specs.Loads.{LoadEnds, Loads, RunEnds, WritesSummary};
+ghost use Rattle.ev_types.specs.Interval.{IsInterval};
 
 use crate::play::{EVENT_LIMIT, play};
 use crate::summary::Summary;
@@ -101,8 +101,7 @@ fn run_load<'a, O: Sink, P: Patterns, G: Ledger>(
     steps: &mut Steps<G>,
 ) -> Ending<'a>
     requires few { count ≤ EVENT_LIMIT }
-    requires interval { ForSome setup.expiry (λ set. (1 ≤ set.interval) ×
-        (set.interval ≤ 604800)) }
+    requires interval { IsInterval setup.expiry }
     ensures ends { RunEnds setup count start (P.report patterns.old) (P.report patterns.new)
         steps.old.forks steps.new.forks (O.report out.old) (O.report out.new) result }
     ensures untouched { IsRefusalOrMemory (status_of result) → out.new ≡ out.old }

@@ -1,7 +1,7 @@
 ghost use Rattle.std.specs.Prelude.{◌≡◌, ◌≤◌, IfErr, IfOk, OnErr};
-ghost use Rattle.std.specs.Option.{ForSome};
 ghost use Rattle.command_setup.specs.hub_run.declared.fault.RunFault.TheVariants.{Memory as out_of_memory};
 ghost use Rattle.command_load.specs.Summaries.{IsCutOff, IsPlayed};
+ghost use Rattle.ev_types.specs.Interval.{IsInterval};
 
 use crate::summary::Summary;
 use command_setup::hub_run::{RunFault, Setup, run};
@@ -25,8 +25,7 @@ pub(crate) fn play<P: Patterns, G: Ledger>(
     steps: &mut Steps<G>,
 ) -> Result<Summary, RunFault>
     requires few { count ≤ EVENT_LIMIT }
-    requires interval { ForSome setup.expiry (λ set. (1 ≤ set.interval) ×
-        (set.interval ≤ 604800)) }
+    requires interval { IsInterval setup.expiry }
     ensures played { IfOk result
         (IsPlayed setup count start (P.report patterns.old) (P.report patterns.new) steps.old.forks
         steps.new.forks) }

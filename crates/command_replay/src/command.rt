@@ -1,5 +1,4 @@
-ghost use Rattle.std.specs.Prelude.{◌≡◌, ◌≢◌, ◌≤◌};
-ghost use Rattle.std.specs.Option.{ForSome};
+ghost use Rattle.std.specs.Prelude.{◌≡◌, ◌≢◌};
 ghost use Rattle.file_run.specs.command_io.Endings.{HasNoLine, IsComplete, IsRefusal, status_of};
 ghost use Rattle.ports.specs.Calls.{LinksReport};
 ghost use Rattle.ports.specs.Writing.{SinkReport};
@@ -7,6 +6,7 @@ ghost use Rattle.file_run.specs.command_io.Reports.{reports};
 ghost use Rattle.file_run.specs.Files.{OtherReads};
 ghost use Rattle.ports.specs.Counts.{Rose};
 ghost use Rattle.command_replay.specs.Replays.{ReplayEnds, Replays, ScriptEnds};
+ghost use Rattle.ev_types.specs.Interval.{IsInterval};
 
 use crate::play::{fetch_script, play};
 use command_setup::fetch_setup;
@@ -98,8 +98,7 @@ fn replay_script<'a, S: Store, O: Sink, P: Patterns, G: Ledger>(
     patterns: &mut P,
     steps: &mut Steps<G>,
 ) -> Ending<'a>
-    requires interval { ForSome setup.expiry (λ set. (1 ≤ set.interval) ×
-        (set.interval ≤ 604800)) }
+    requires interval { IsInterval setup.expiry }
     ensures ends { (links : LinksReport) (err err' : SinkReport) →
         ScriptEnds setup script.now
         (reports (S.report store.old) links (O.report out.old) err (P.report patterns.old)

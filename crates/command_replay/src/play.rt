@@ -1,5 +1,4 @@
-ghost use Rattle.std.specs.Prelude.{◌≡◌, ◌≤◌, [], Ok, IfErr, IfOk, OnOk};
-ghost use Rattle.std.specs.Option.{ForSome};
+ghost use Rattle.std.specs.Prelude.{◌≡◌, [], Ok, IfErr, IfOk, OnOk};
 ghost use Rattle.file_run.specs.command_io.Endings.{IsComplete};
 ghost use Rattle.ports.specs.Calls.{LinksReport};
 ghost use Rattle.ports.specs.Writing.{SinkReport};
@@ -10,6 +9,7 @@ ghost use Rattle.link_lines.specs.LinkLines.{link_lines};
 ghost use Rattle.command_replay.specs.Playing.{WritesLines};
 ghost use Rattle.command_replay.specs.Replays.{PlayEnds};
 ghost use Rattle.command_replay.specs.Scripts.{IsScript, RefusesScript, RefusesText};
+ghost use Rattle.ev_types.specs.Interval.{IsInterval};
 ghost use Rattle.script_text.specs.Scripts.{script_of};
 
 use command_setup::ending_of_fault;
@@ -67,8 +67,7 @@ pub(crate) fn play<'a, O: Sink, P: Patterns, G: Ledger>(
     patterns: &mut P,
     steps: &mut Steps<G>,
 ) -> Ending<'a>
-    requires interval { ForSome setup.expiry (λ set. (1 ≤ set.interval) ×
-        (set.interval ≤ 604800)) }
+    requires interval { IsInterval setup.expiry }
     requires begins { links.log ≡ [] }
     ensures ends { (store store' : StoreReport) (given : LinksReport) (err err' : SinkReport) →
         PlayEnds setup links.script

@@ -3,7 +3,7 @@
 ghost use Rattle.std.specs.Prelude.{◌≡◌, ◌≤◌, IfErr, IfOk, OnOk, length};
 ghost use Rattle.config_tests.specs.Events.{IsShort};
 ghost use Rattle.sexp_config.specs.Config.{IsConfigOf};
-ghost use Rattle.sexp_config.specs.Expiry.{IsInterval};
+ghost use Rattle.ev_types.specs.Interval.{IsInterval};
 ghost use Rattle.sexp_config.specs.declared.config.Config.{Config as Configuration};
 ghost use Rattle.stream_plan.specs.Ready.{plan_patterns};
 ghost use Rattle.stream_tests.specs.Running.{core_of};

@@ -8,7 +8,7 @@ use Rattle.ev_types.specs.declared.settings.Expiry.{Expiry}
 use Rattle.hub_link.specs.event_core.Core.{CoreConfig, notices_by}
 use Rattle.hub_link.specs.event_core.Counts.{notices_in}
 use Rattle.hub_link.proofs.EventCoreMoves.{notices-append}
-use Rattle.hub_link.specs.hub_meaning.Clock.{next_moment}
+use Rattle.ev_types.specs.Clock.{next_moment}
 use Rattle.hub_link.specs.hub_meaning.Links.{Link, find_link, is_open}
 use Rattle.hub_link.specs.hub_meaning.Messages.{posts_of}
 use Rattle.hub_link.specs.hub_meaning.Runs.{RunState, Step, Talk, after_entry, after_step, all_answered, answered, first_state, messages_in, notices_after, occurred, passed, read_by, state_after, state_from, talk_of, turned, with_talk}

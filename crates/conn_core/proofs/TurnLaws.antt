@@ -4,7 +4,7 @@ use Rattle.std.specs.Prelude.{IsErr, Option, Some, None, OnErr, OnOk}
 use Rattle.ev_types.specs.declared.item.Notice.{Notice}
 use Rattle.hub_link.specs.event_core.declared.arrivals.Core.{Core}
 use Rattle.hub_link.specs.event_core.Core.{CoreConfig, Heard, Represents, forks_by, notices_by, now_of}
-use Rattle.hub_link.specs.hub_meaning.Clock.{next_moment}
+use Rattle.ev_types.specs.Clock.{next_moment}
 use Rattle.hub_link.specs.hub_meaning.Legal.{AreSettled, IsLegal, IsLegalFrom, VerdictsIf, VerdictsIn, VerdictsOn}
 use Rattle.hub_link.specs.hub_meaning.Links.{Link, find_link, is_open}
 use Rattle.hub_link.specs.hub_meaning.Runs.{RunState, Step, after_step, first_state, new_frames, notices_after, occurred, passed, plain, state_after, state_from, talk_of}

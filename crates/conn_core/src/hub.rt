@@ -3,9 +3,9 @@ ghost use Rattle.conn_core.specs.Hub.{core_of, wants_in, Follows};
 ghost use Rattle.conn_core.specs.Known.{Answered, AreUnclosed, IsOpenedBy};
 ghost use Rattle.conn_core.specs.Occurring.{OccursFrom};
 ghost use Rattle.conn_core.specs.Turning.{TurnsFrom};
+ghost use Rattle.ev_types.specs.Clock.{next_moment, seconds_per_turn_limit};
 ghost use Rattle.hub_link.specs.event_core.Core.{Represents, config_of, now_of};
 ghost use Rattle.hub_link.specs.Added.{Added};
-ghost use Rattle.hub_link.specs.hub_meaning.Clock.{next_moment};
 ghost use Rattle.hub_link.specs.msg_replies.Arriving.{Arrives, reported};
 ghost use Rattle.ports.specs.Counts.{Rose};
 ghost use Rattle.stream_meaning.specs.Arrivals.{Arrival, Elapsed};
@@ -13,7 +13,7 @@ ghost use Rattle.stream_meaning.specs.Arrivals.{Arrival, Elapsed};
 use crate::lines::write_lines;
 use crate::links::{change, settle};
 use crate::stop::Stop;
-use ev_types::{Memory, Notices};
+use ev_types::{LATEST_MOMENT, Memory, Notices, SECONDS_PER_TURN};
 use hub_link::HubLink;
 use hub_link::event_core::Core;
 use link_table::LinkTable;
@@ -22,12 +22,6 @@ use pred_eval::Patterns;
 use riemann_msg::SpentEvents;
 use std::alloc::Global;
 use step_count::{Ledger, Steps};
-
-/// The last moment of the clock, in seconds since 1970.
-const LATEST_MOMENT: u64 = 1 << 40;
-
-/// How many seconds pass in one turn at most.
-const SECONDS_PER_TURN: u64 = 3600;
 
 /// A server's core, and its links. After a [`Stop`] nothing is known of a hub.
 #[derive(Drop)]
@@ -196,7 +190,7 @@ fn next_moment(now: u64, secs: u64) -> u64
     requires { now ≤ 2 ^ 40 }
     ensures moment { result ≡ next_moment now secs }
     ensures from { now ≤ result }
-    ensures hour { result ≤ now + 3600 }
+    ensures hour { result ≤ now + seconds_per_turn_limit }
     ensures bound { result ≤ 2 ^ 40 }
 {
     now.max(secs.min((now + SECONDS_PER_TURN).min(LATEST_MOMENT)))

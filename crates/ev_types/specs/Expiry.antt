@@ -1,15 +1,16 @@
 -- When an event has expired.
 use Rattle.std.specs.Prelude.{ℕ, Bool, ◌||◌, unwrap_or, codes, pos, ◌-ℤ◌, int_lt}
 use Rattle.ev_types.specs.declared.event.Event.{Event}
+use Rattle.ev_types.specs.Limits.{default_ttl}
 use Rattle.ev_types.specs.Text.{is_text}
 
 -- the event says of itself that it is over
 abbrev pub is_over : Event → Bool
 is_over event = is_text (codes "expired") event.state
 
--- at the moment t more seconds have passed since the event's time than its ttl, or 60 where it has none
+-- at the moment t more seconds have passed since the event's time than its ttl, or the default one if it has none
 abbrev pub is_late : ℕ → Event → Bool
-is_late t event = int_lt (pos (unwrap_or event.ttl 60)) (pos t -ℤ event.time)
+is_late t event = int_lt (pos (unwrap_or event.ttl default_ttl)) (pos t -ℤ event.time)
 
 -- the event is over or late
 abbrev pub is_expired : ℕ → Event → Bool

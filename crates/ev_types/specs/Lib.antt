@@ -5,6 +5,8 @@ pub mod Field
 pub mod Names
 pub mod Key
 pub mod Expiry
+pub mod Clock
+pub mod Interval
 pub mod Set
 pub mod Rebirth
 pub mod Limits

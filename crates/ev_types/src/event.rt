@@ -5,8 +5,8 @@ ghost use Rattle.ev_types.specs.Set.{event_at, has_text};
 use crate::{Items, Memory, Text};
 use std::alloc::Global;
 
-// After how many seconds an event without a ttl expires.
-const DEFAULT_TTL: u32 = 60;
+/// After how many seconds an event without a ttl expires.
+pub const DEFAULT_TTL: u32 = 60;
 
 /// One observation of a host's service, as Riemann's protocol has it. Each field but the time may be absent.
 #[derive(Drop)]

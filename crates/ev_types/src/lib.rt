@@ -4,6 +4,7 @@
 
 mod blob;
 mod change;
+mod clock;
 mod event;
 mod field;
 mod item;
@@ -17,7 +18,8 @@ mod value;
 
 pub use blob::Blob;
 pub use change::{MAX_TTL, all_fit, fits};
-pub use event::{Attr, Attrs, Event, Events, Tags};
+pub use clock::{LATEST_MOMENT, SECONDS_PER_TURN};
+pub use event::{Attr, Attrs, DEFAULT_TTL, Event, Events, Tags};
 pub use field::{Field, Fields, field_is, field_number, field_text, same_field};
 pub use item::{Emission, Emissions, Item, Notice, Notices, Output, Outputs};
 pub use key::{Key, key_of, same_keys_are_equal};

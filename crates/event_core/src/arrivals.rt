@@ -1,6 +1,7 @@
 ghost use Rattle.std.specs.Prelude.{◌≡◌, ◌+◌, ◌-◌, ◌^◌, ◌≤◌, false, List, [], ◌∷◌, ◌++◌, length, replicate, IfOk, IsErr, IsTrue, OnErr, OnOk};
+ghost use Rattle.ev_types.specs.Clock.{seconds_per_turn_limit};
+ghost use Rattle.ev_types.specs.Interval.{IsInterval};
 ghost use Rattle.list_laws.specs.Prefix.{IsPrefix};
-ghost use Rattle.std.specs.Option.{ForSome};
 ghost use Rattle.ev_types.specs.declared.event.Event.{Event as StoredEvent};
 ghost use Rattle.ev_types.specs.declared.item.Notice.{Notice as StoredNotice};
 ghost use Rattle.index_log.specs.Live.{live_events};
@@ -36,8 +37,7 @@ impl Core {
         start: u64,
     ) -> Result<Core, Memory>
         requires moment { start ≤ 2 ^ 40 }
-        requires interval { ForSome expiry (λ set. (1 ≤ set.interval) ×
-            (set.interval ≤ 604800)) }
+        requires interval { IsInterval expiry }
         ensures config { IfOk result (λ core.
             config_of core ≡ record { plan = plan; expiry = expiry; start = start }) }
         ensures represents { IfOk result (λ core. Represents core []) }
@@ -82,7 +82,7 @@ impl Core {
         steps: &mut Steps<G>,
     ) -> Result<(), Memory>
         requires from { now_of self.old ≤ to }
-        requires hour { to ≤ now_of self.old + 3600 }
+        requires hour { to ≤ now_of self.old + seconds_per_turn_limit }
         requires bound { to ≤ 2 ^ 40 }
         ensures now { OnOk result (now_of self.new ≡ to) }
         ensures receives { Receives (replicate (to - now_of self.old) Elapsed) self.old self.new

@@ -1,5 +1,5 @@
-ghost use Rattle.std.specs.Prelude.{◌≡◌, ◌≢◌, ◌≤◌, [], Err, IfErr, OnOk};
-ghost use Rattle.std.specs.Option.{ForSome};
+ghost use Rattle.std.specs.Prelude.{◌≡◌, ◌≢◌, [], Err, IfErr, OnOk};
+ghost use Rattle.ev_types.specs.Interval.{IsInterval};
 ghost use Rattle.hub_run.specs.Runs.{run_report};
 ghost use Rattle.ports.specs.Counts.{Rose};
 ghost use Rattle.file_run.specs.Runs.{RunsScript, RunsWhole};
@@ -21,8 +21,7 @@ pub fn run_script<O: Sink, P: Patterns, G: Ledger>(
     patterns: &mut P,
     steps: &mut Steps<G>,
 ) -> Result<(), RunFault>
-    requires interval { ForSome setup.expiry (λ set. (1 ≤ set.interval) ×
-        (set.interval ≤ 604800)) }
+    requires interval { IsInterval setup.expiry }
     requires begins { links.old.log ≡ [] }
     ensures whole { OnOk result (RunsWhole setup links.old.script
         (run_report (P.report patterns.old) steps.old.forks (O.report sink.old))

@@ -12,7 +12,7 @@ use Rattle.ports.specs.declared.links.SendAnswer.TheVariants.{Took, Later, Faile
 use Rattle.ports.specs.declared.links.Turn.{Turn}
 use Rattle.ports.specs.declared.links.What.{What}
 use Rattle.ports.specs.declared.links.What.TheVariants as what
-use Rattle.hub_meaning.specs.Clock.{next_moment}
+use Rattle.ev_types.specs.Clock.{next_moment}
 use Rattle.hub_meaning.specs.Links.{Link, ReadClosed, Closing, closed, broken, ended, find_link, is_above, is_connected, is_open, new_link, opened, sent, unblocked, unsent, with_stage}
 use Rattle.hub_meaning.specs.Replies.{reply_to_oversized}
 use Rattle.hub_meaning.specs.Runs.{RunState, Step, Talk, after_entry, after_step, all_answered, answered, cut_off, first_state, is_oversized, messages_in, occurred, passed, read_by, read_from, state_from, talk_of, turned, with_reply, with_talk}

@@ -9,7 +9,7 @@ use Rattle.ports.specs.declared.links.What.{What}
 use Rattle.ports.specs.declared.links.What.TheVariants.{Ended, Room}
 use Rattle.stream_plan.specs.Tree.{Index, none}
 use Rattle.stream_meaning.specs.Small.{above, alone}
-use Rattle.hub_meaning.specs.Clock.{next_moment}
+use Rattle.ev_types.specs.Clock.{next_moment}
 use Rattle.hub_meaning.specs.Legal.{IsLegalFrom}
 use Rattle.hub_meaning.specs.Links.{Link, Open, Closed, connected, opened}
 use Rattle.hub_meaning.specs.Runs.{RunState, plain, state_from}

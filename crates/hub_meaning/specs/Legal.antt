@@ -7,7 +7,7 @@ use Rattle.ports.specs.declared.links.Turn.{Turn}
 use Rattle.ports.specs.declared.links.Want.{Want}
 use Rattle.ports.specs.declared.links.What.{What}
 use Rattle.ports.specs.declared.links.What.TheVariants.{Idle, Opened, Read, Ended, Broken, Room, Stopped, Failed, Memory}
-use Rattle.hub_meaning.specs.Clock.{next_moment}
+use Rattle.ev_types.specs.Clock.{next_moment}
 use Rattle.hub_meaning.specs.Links.{Link, Stage, Open, ReadClosed, Closing, Closed, find_link, is_connected, is_open, unsent, wants_of}
 use Rattle.hub_meaning.specs.Runs.{RunState, Step, Talk, after_step, answered, first_state, messages_in, new_frames, passed, talk_of}
 use Rattle.hub_meaning.specs.Verdicts.{IsPossible, Message, Refusal}

@@ -1,4 +1,3 @@
-pub mod Clock
 pub mod Messages
 pub mod Verdicts
 pub mod Replies

@@ -11,7 +11,7 @@ use Rattle.ports.specs.Playing.{is_turn_answer}
 use Rattle.ports.specs.declared.links.What.{What}
 use Rattle.ports.specs.declared.links.What.TheVariants.{Idle, Opened, Read, Ended, Broken, Room, Stopped, Failed, Memory}
 use Rattle.stream_meaning.specs.Arrivals.{Arrival, Elapsed, CoreConfig, state_by, notices_by}
-use Rattle.hub_meaning.specs.Clock.{next_moment}
+use Rattle.ev_types.specs.Clock.{next_moment}
 use Rattle.hub_meaning.specs.Links.{Link, ReadClosed, changed, closed, broken, ended, find_link, is_open, opened, sent, unblocked, unsent, with_stage}
 use Rattle.hub_meaning.specs.Messages.{posts_of}
 use Rattle.hub_meaning.specs.Replies.{reply_to, reply_to_oversized}

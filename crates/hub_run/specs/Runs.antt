@@ -6,7 +6,7 @@ use Rattle.conn_core.specs.Turning.{GotLines}
 use Rattle.conn_core.specs.declared.hub.Hub.{Hub}
 use Rattle.ev_types.specs.declared.item.Notice.{Notice}
 use Rattle.conn_core.specs.event_core.Core.{CoreConfig, forks_by}
-use Rattle.conn_core.specs.hub_meaning.Clock.{first_moment}
+use Rattle.ev_types.specs.Clock.{first_moment}
 use Rattle.conn_core.specs.hub_meaning.Legal.{AreSettled, IsLegal}
 use Rattle.conn_core.specs.hub_meaning.Links.{wants_of}
 use Rattle.conn_core.specs.hub_meaning.Runs.{notices_after, state_after}

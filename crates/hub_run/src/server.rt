@@ -1,7 +1,7 @@
-ghost use Rattle.std.specs.Prelude.{◌≡◌, ◌≢◌, ◌≤◌, length, Err};
-ghost use Rattle.std.specs.Option.{ForSome};
+ghost use Rattle.std.specs.Prelude.{◌≡◌, ◌≢◌, length, Err};
 ghost use Rattle.conn_core.specs.Hub.{wants_in};
 ghost use Rattle.conn_core.specs.Known.{AreUnclosed};
+ghost use Rattle.ev_types.specs.Interval.{IsInterval};
 ghost use Rattle.hub_run.specs.Runs.{AddsRun, RunsTo, run_report};
 ghost use Rattle.hub_run.specs.Taking.{TakesAll};
 ghost use Rattle.ports.specs.Counts.{Rose};
@@ -27,8 +27,7 @@ pub fn run<L: Links, O: Sink, P: Patterns, G: Ledger>(
     patterns: &mut P,
     steps: &mut Steps<G>,
 ) -> Result<Hub, RunFault>
-    requires interval { ForSome setup.expiry (λ set. (1 ≤ set.interval) ×
-        (set.interval ≤ 604800)) }
+    requires interval { IsInterval setup.expiry }
     ensures runs { AddsRun (L.report links.old) (L.report links.new)
         (RunsTo setup turns (run_report (P.report patterns.old) steps.old.forks (O.report sink.old))
         (run_report (P.report patterns.new) steps.new.forks (O.report sink.new)) result) }

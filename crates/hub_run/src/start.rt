@@ -1,6 +1,6 @@
-ghost use Rattle.std.specs.Prelude.{◌≡◌, ◌≢◌, ◌≤◌, [], vec_len, Err, IfOk};
-ghost use Rattle.std.specs.Option.{ForSome};
+ghost use Rattle.std.specs.Prelude.{◌≡◌, ◌≢◌, [], vec_len, Err, IfOk};
 ghost use Rattle.conn_core.specs.Hub.{Follows, wants_in};
+ghost use Rattle.ev_types.specs.Interval.{IsInterval};
 ghost use Rattle.hub_run.specs.Runs.{AddsRun, config_at};
 ghost use Rattle.hub_run.specs.Taking.{ListensOn};
 ghost use Rattle.ports.specs.Counts.{Rose};
@@ -8,12 +8,9 @@ ghost use Rattle.ports.specs.Counts.{Rose};
 use crate::{RunFault, Setup};
 use conn_core::Hub;
 use conn_core::event_core::Core;
-use ev_types::{Memory, Text};
+use ev_types::{LATEST_MOMENT, Memory, Text};
 use ports::{Links, ListenAnswer, PIECE_LIMIT};
 use std::alloc::Global;
-
-/// The last moment of the clock, in seconds since 1970.
-const LATEST_MOMENT: u64 = 1 << 40;
 
 /// A buffer for the bytes that a turn reads.
 pub(crate) fn buffer(alloc: Global) -> Result<Vec<u8>, Memory>
@@ -45,8 +42,7 @@ pub(crate) fn listen<L: Links>(
 
 /// A hub over a new core, whose clock is first read as `secs`.
 pub(crate) fn open_hub(alloc: Global, setup: Setup, secs: u64) -> Result<Hub, Memory>
-    requires interval { ForSome setup.expiry (λ set. (1 ≤ set.interval) ×
-        (set.interval ≤ 604800)) }
+    requires interval { IsInterval setup.expiry }
     ensures follows { IfOk result (λ hub. Follows hub (config_at setup secs) []) }
     ensures wants { IfOk result (λ hub. wants_in hub ≡ []) }
 {

@@ -13,7 +13,7 @@ ghost use Rattle.live_index.specs.Slots.{key_of, events_in, events_at, event_of,
 
 use crate::hints::{Hints, hash_of};
 use crate::keyed::KeyedEvent;
-use ev_types::{Event, Events, Memory, Text, Value};
+use ev_types::{DEFAULT_TTL, Event, Events, LATEST_MOMENT, Memory, Text, Value};
 use key_map::KeyMap;
 use linked_slots::StepTable;
 use list_laws::Ids;
@@ -23,12 +23,6 @@ use std::collections::BTreeSet;
 use std::mem;
 use step_count::{Ledger, NoLedger, Steps};
 use tick_schedule::DueQueue;
-
-// After how many seconds an event without a ttl expires.
-const DEFAULT_TTL: u32 = 60;
-
-// The last moment of the clock. An event that expires later stays until another one takes its place.
-const LAST_MOMENT: i128 = 1 << 40;
 
 /// The events of an index, by host and by service, absent before present.
 #[derive(Drop)]
@@ -490,13 +484,14 @@ fn set_due(
     }
 }
 
-/// The moment from which on the event is late. One after the greatest moment is left out, and one before 1970 is 0.
+/// The moment from which on the event is late. One after the last moment of the clock is left out, so that the event stays
+/// until another one takes its place, and one before 1970 is 0.
 fn due_moment(event: &Event) -> Option<u64>
     ensures { (now : ℕ) → now ≤ 2 ^ 40 → is_by now result ≡ is_late now event.now }
 {
     let ttl = event.ttl.unwrap_or(DEFAULT_TTL);
     let due = i128::from(event.time) + i128::from(ttl) + 1;
-    if due > LAST_MOMENT {
+    if due > i128::from(LATEST_MOMENT) {
         return None;
     }
     if due < 0 {

@@ -1,4 +1,5 @@
 ghost use Rattle.std.specs.Prelude.{◌≡◌, ◌≢◌, ◌+◌, ◌<◌, ◌≤◌, [], ◌∷◌, length, nat_lt, if◌then◌else◌, IfOk, OnErr};
+ghost use Rattle.ev_types.specs.Clock.{seconds_per_turn_limit};
 ghost use Rattle.ports.specs.Calls.{AddsCalls};
 ghost use Rattle.ports.specs.Links.{HasListenCause, HasNextCause, IsPieceWithin, IsWithin, listen_entries, next_entries, send_entries};
 ghost use Rattle.ports.specs.declared.entry.Entry.TheVariants.{Close};
@@ -194,7 +195,7 @@ fn opened_after(opened: u64, next: u64, what: What) -> u64
 /// How many milliseconds the next turn waits for something to happen, at most. A server that is far from the clock is not
 /// kept waiting.
 fn longest_wait(readings: &Readings) -> u64
-    ensures { result ≡ (if nat_lt (readings.now.reached + 3600) readings.now.last then 0 else 100) }
+    ensures { result ≡ (if nat_lt (readings.now.reached + seconds_per_turn_limit) readings.now.last then 0 else 100) }
 {
     if readings.are_ahead() {
         0

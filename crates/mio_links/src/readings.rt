@@ -1,8 +1,8 @@
 ghost use Rattle.std.specs.Prelude.{◌≡◌, ◌+◌, ◌<◌, ◌↔◌, IsTrue};
+ghost use Rattle.ev_types.specs.Clock.{seconds_per_turn_limit};
 ghost use Rattle.mio_links.specs.Readings.{reached_after};
 
-// How many seconds a server lets pass in one turn, at most.
-const SECONDS_PER_TURN: u64 = 3_600;
+use ev_types::SECONDS_PER_TURN;
 
 /// The readings of the clock that turns had, in seconds since 1970, as far as they decide whether a turn may wait.
 #[derive(Clone, Copy, Debug, PartialEq, Eq)]
@@ -38,7 +38,7 @@ impl Readings {
 
     /// Whether the clock is more than an hour ahead of the moment that was reached, so that the next turn is not to wait.
     pub fn are_ahead(&self) -> bool
-        ensures { IsTrue result ↔ (self.now.reached + 3600 < self.now.last) }
+        ensures { IsTrue result ↔ (self.now.reached + seconds_per_turn_limit < self.now.last) }
     {
         self.last.saturating_sub(self.reached) > SECONDS_PER_TURN
     }

@@ -12,7 +12,7 @@ use Rattle.riemann_msg.specs.Value.{message_of}
 use Rattle.riemann_msg.specs.declared.msg.Msg.{Msg}
 use Rattle.riemann_client.specs.Accepting.{AcceptsAll, EndsAs, HasNoneLeft}
 use Rattle.riemann_client.specs.Client.{Represents, stream_of}
-use Rattle.riemann_client.specs.Clock.{next_moment}
+use Rattle.ev_types.specs.Clock.{next_moment}
 use Rattle.riemann_client.specs.Exchange.{Exchange, accepted_from, begun, fault_between, first_reply_fault, heard, heard_piece, is_link, is_on, is_over, is_oversized, lost, message_in, new_replies, passed, read_from, replies_come, reply_at, requests_sent, standing, unblocked}
 use Rattle.riemann_client.specs.Requests.{HasAnswered, IsAsSent, Requested, sent_count, taken_of}
 use Rattle.riemann_client.specs.Turning.{Hears, Occurs}

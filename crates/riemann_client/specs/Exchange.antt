@@ -12,7 +12,7 @@ use Rattle.ports.specs.declared.links.What.TheVariants as what
 use Rattle.riemann_msg.specs.Fault.{Fault, first_fault}
 use Rattle.riemann_msg.specs.Value.{message_of}
 use Rattle.riemann_msg.specs.declared.msg.Msg.{Msg}
-use Rattle.riemann_client.specs.Clock.{next_moment}
+use Rattle.ev_types.specs.Clock.{next_moment}
 use Rattle.riemann_client.specs.declared.progress.Progress.{Progress}
 use Rattle.riemann_client.specs.declared.progress.Progress.TheVariants.{More, Whole, Unasked, Refused, Lost}
 

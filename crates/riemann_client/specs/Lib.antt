@@ -1,4 +1,3 @@
-pub mod Clock
 pub mod Exchange
 pub mod Requests
 pub mod Accepting

@@ -1,13 +1,8 @@
 ghost use Rattle.std.specs.Prelude.{◌≡◌, ◌^◌, ◌≤◌};
-ghost use Rattle.riemann_client.specs.Clock.{next_moment};
+ghost use Rattle.ev_types.specs.Clock.{next_moment};
 
+use ev_types::{LATEST_MOMENT, SECONDS_PER_TURN};
 use std::marker::Model;
-
-/// The last moment of the clock, in seconds since 1970.
-const LATEST_MOMENT: u64 = 1 << 40;
-
-/// How many seconds pass in one turn at most.
-const SECONDS_PER_TURN: u64 = 3600;
 
 /// The clock of a client, which contracts see as its moment, in seconds since 1970.
 #[derive(Drop)]

@@ -17,7 +17,7 @@ use Rattle.ports.specs.declared.rules.SendRule.{SendRule}
 use Rattle.ports.specs.declared.script.LinkEvent.TheVariants as event
 use Rattle.ports.specs.declared.script.Step as script_step
 use Rattle.ports.specs.declared.script.Step.TheVariants.{Turn as turn_step, Take, Fail}
-use Rattle.hub_run.specs.hub_meaning.Clock.{next_moment}
+use Rattle.ev_types.specs.Clock.{next_moment}
 use Rattle.hub_run.specs.hub_meaning.Laws.{AreRising, SentPrefix}
 use Rattle.hub_run.specs.hub_meaning.Legal.{AreSettled, IsLegal, IsLegalFrom, MayCome}
 use Rattle.hub_run.specs.hub_meaning.Links.{Link, changed, find_link, sent, unsent}

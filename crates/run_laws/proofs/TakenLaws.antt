@@ -13,7 +13,7 @@ use Rattle.ports.specs.declared.links.SendAnswer.TheVariants.{Took, Later, Faile
 use Rattle.ports.specs.declared.links.Turn.{Turn}
 use Rattle.ports.specs.declared.links.What.{What}
 use Rattle.ports.specs.declared.links.What.TheVariants as what
-use Rattle.hub_run.specs.hub_meaning.Clock.{next_moment}
+use Rattle.ev_types.specs.Clock.{next_moment}
 use Rattle.hub_run.specs.hub_meaning.Legal.{IsLegalFrom, MayCome}
 use Rattle.hub_run.specs.hub_meaning.declared.stage.Stage.TheVariants.{ReadClosed, Closing}
 use Rattle.hub_run.specs.hub_meaning.Links.{Link, changed, closed, broken, ended, find_link, has_number, is_above, is_connected, is_open, new_link, opened, sent, unblocked, with_stage}

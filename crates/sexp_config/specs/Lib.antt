@@ -6,5 +6,4 @@ pub mod ReadBack
 pub mod Drafts
 pub mod WellBuilt
 pub mod Answer
-pub mod Expiry
 pub mod Limits

@@ -1,4 +1,4 @@
-ghost use Rattle.sexp_config.specs.Expiry.{IsInterval};
+ghost use Rattle.ev_types.specs.Interval.{IsInterval};
 
 use crate::server::Server;
 use config_streams::Below;

@@ -11,7 +11,7 @@ ghost use Rattle.sexp_config.specs.Tops.{default_server as default_server_of, or
 ghost use Rattle.sexp_config.specs.WellBuilt.{IsWellBuilt, IsLeft};
 ghost use Rattle.config_streams.specs.Made.{located_in, source_list, source_tree};
 ghost use Rattle.sexp_config.specs.Drafts.{draft_in, server_made};
-ghost use Rattle.sexp_config.specs.Expiry.{IsInterval};
+ghost use Rattle.ev_types.specs.Interval.{IsInterval};
 
 use crate::Config;
 use crate::draft::Draft;

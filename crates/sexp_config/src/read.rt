@@ -3,7 +3,7 @@
 ghost use Rattle.std.specs.Prelude.{◌≡◌, ◌≤◌, ℕ, length, IfOk, IfErr};
 ghost use Rattle.sexp_read.specs.Grammar.{longest};
 ghost use Rattle.stream_plan.specs.Ready.{plan_patterns};
-ghost use Rattle.sexp_config.specs.Expiry.{IsInterval};
+ghost use Rattle.ev_types.specs.Interval.{IsInterval};
 ghost use Rattle.sexp_config.specs.Config.{IsConfigOf, IsConfigFault, IsRefusedFor, IsReadAs, IsRefusedAs, fault_in, why_of as why_of_forms};
 
 use crate::Config;

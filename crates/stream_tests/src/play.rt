@@ -1,7 +1,7 @@
 //! The entries of a test as they come to streams.
 
 ghost use Rattle.std.specs.Prelude.{◌≡◌, ◌+◌, ◌++◌, ◌≤◌, List, [], replicate, IfOk, OnOk};
-ghost use Rattle.sexp_config.specs.Expiry.{IsInterval};
+ghost use Rattle.ev_types.specs.Interval.{IsInterval};
 ghost use Rattle.stream_meaning.specs.Arrivals.{Arrival, Elapsed};
 ghost use Rattle.event_core.specs.Core.{config_of, now_of, notices_by};
 ghost use Rattle.config_tests.specs.Events.{seconds_in, seconds_of};
@@ -9,14 +9,11 @@ ghost use Rattle.stream_tests.specs.Playing.{Played};
 ghost use Rattle.stream_tests.specs.Verdicts.{arrivals_by, arrivals_in};
 
 use config_tests::{Entry, MAX_SECONDS};
-use ev_types::{Expiry, Memory, Notices};
+use ev_types::{Expiry, Memory, Notices, SECONDS_PER_TURN};
 use event_core::Core;
 use std::alloc::Global;
 use step_count::{Ledger, Steps};
 use stream_plan::ReadyPlan;
-
-// How many seconds pass at once, at most.
-const HOUR: u64 = 3600;
 
 /// The notices that streams give over the entries, from the moment 0 on.
 pub(crate) fn play<G: Ledger>(
@@ -77,7 +74,7 @@ fn pass<G: Ledger>(
 {
     let mut left = u64::from(count);
     'seconds: while left > 0 {
-        let part = left.min(HOUR);
+        let part = left.min(SECONDS_PER_TURN);
         pass_part(alloc, part, core, notices, steps)?;
         left -= part;
     }
@@ -93,7 +90,7 @@ fn pass_part<G: Ledger>(
     steps: &mut Steps<G>,
 ) -> Result<(), Memory>
     requires short { now_of core.old + count ≤ MAX_SECONDS }
-    requires hour { count ≤ HOUR }
+    requires hour { count ≤ SECONDS_PER_TURN }
     ensures config { config_of core.new ≡ config_of core.old }
     ensures now { OnOk result (now_of core.new ≡ now_of core.old + count) }
     ensures played { OnOk result ((arrivals : List Arrival) →

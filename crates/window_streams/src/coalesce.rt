@@ -2,11 +2,8 @@ ghost use Rattle.std.specs.Prelude.{◌≡◌, ◌+◌, ◌-◌, ◌*◌, ◌/�
 
 use crate::last_events::LastEvents;
 use crate::send::send;
-use ev_types::{Emissions, Event, Memory};
+use ev_types::{Emissions, Event, LATEST_MOMENT, Memory};
 use std::alloc::Global;
-
-// The greatest moment at which a second ends: 2^40 seconds after 1970.
-const LAST_MOMENT: u64 = 1 << 40;
 
 /// The numbers of a stream that passes on the last event of each host and service.
 #[derive(Clone, Copy, Debug, PartialEq, Eq)]
@@ -112,7 +109,7 @@ impl CoalesceState {
             return Ok(());
         }
         self.poisoned = true;
-        let events = self.last.pass(alloc, now.min(LAST_MOMENT))?;
+        let events = self.last.pass(alloc, now.min(LATEST_MOMENT))?;
         self.boundary = now.saturating_add(u64::from(self.secs));
         send(alloc, events, out)?;
         self.poisoned = false;

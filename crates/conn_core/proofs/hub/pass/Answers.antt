@@ -1,6 +1,6 @@
 use Rattle.std.proofs.Common.{◌-◌, ℕ, replicate, ap, subst, ◌∙◌}
 use Rattle.hub_link.specs.event_core.Core.{now_of}
-use Rattle.hub_link.specs.hub_meaning.Clock.{next_moment}
+use Rattle.ev_types.specs.Clock.{next_moment}
 use Rattle.hub_link.specs.msg_replies.Arriving.{Arrives, reported}
 use Rattle.hub_link.proofs.MsgRepliesAnswerLaws.{arrives_received}
 use Rattle.stream_meaning.specs.Arrivals.{Elapsed}

@@ -3,7 +3,7 @@ use Rattle.std.proofs.lemmas.Result.{err_from_is_err_and}
 use Rattle.ev_types.specs.declared.item.Notice.{Notice}
 use Rattle.hub_link.specs.event_core.Core.{Represents, now_of}
 use Rattle.hub_link.proofs.AddedLaws.{added_nothing, added_weaken}
-use Rattle.hub_link.specs.hub_meaning.Clock.{next_moment}
+use Rattle.ev_types.specs.Clock.{next_moment}
 use Rattle.hub_link.specs.msg_replies.Arriving.{Arrives, reported}
 use Rattle.notice_sink.specs.Lines.{lines_of}
 use Rattle.ports.specs.Writing.{GotPrefix}

@@ -1,4 +1,4 @@
--- The clock of a client, which is that of a server: whole seconds, which never go back, are never after 2^40, and go on by
+-- The clock of a server, and of a client: whole seconds since 1970, which never go back, are never after 2^40, and go on by
 -- at most an hour a turn.
 use Rattle.std.specs.Prelude.{ℕ, ◌+◌, ◌^◌, min, max}
 
@@ -8,7 +8,7 @@ latest_moment = 2 ^ 40
 abbrev pub seconds_per_turn_limit : ℕ
 seconds_per_turn_limit = 3600
 
--- the moment at which a client begins that reads this clock
+-- the moment at which a run begins that reads this clock
 abbrev pub first_moment : ℕ → ℕ
 first_moment secs = min secs latest_moment
 
