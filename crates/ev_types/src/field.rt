@@ -1,4 +1,4 @@
-ghost use Rattle.std.specs.Prelude.{◌≡◌, ◌↔◌, IfOk, IsTrue, option_copied, reverse};
+ghost use Rattle.std.specs.Prelude.{◌≡◌, ◌↔◌, IfOk, IsTrue, option_copied};
 ghost use Rattle.ev_types.specs.Value.{number_of, text_of, same_value, referred};
 ghost use Rattle.ev_types.specs.Field.{field_value, text_value, number_value, attribute_text};
 

@@ -5,7 +5,7 @@ ghost use Rattle.ev_types.specs.Expiry.{is_expired, is_late, is_over};
 ghost use Rattle.ev_types.specs.declared.event.Event.{Event as StoredEvent};
 ghost use Rattle.key_map.specs.Keys.{number_at, Numbers};
 ghost use Rattle.linked_slots.specs.Table.{value_at};
-ghost use Rattle.tick_schedule.specs.Queue.{due_ids, IsRising, Sets};
+ghost use Rattle.tick_schedule.specs.Queue.{IsRising, Sets};
 ghost use Rattle.pred_eval.specs.Host.{asked_host, NeedsHost};
 ghost use Rattle.pred_eval.specs.Truth.{holds};
 ghost use Rattle.live_index.specs.Index.{events_lent, visited};
