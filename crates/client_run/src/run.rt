@@ -1,8 +1,8 @@
-ghost use Rattle.std.specs.Prelude.{◌≡◌, ◌≢◌, ◌≤◌, ◌^◌, length, vec_len, false, Err, IfOk};
+ghost use Rattle.std.specs.Prelude.{◌≡◌, ◌≢◌, length, vec_len, false, Err, IfOk};
 ghost use Rattle.client_run.specs.Runs.{AddsRun, RunsTo};
 ghost use Rattle.client_run.specs.Taking.{ListensOn, TakesAll};
 ghost use Rattle.ports.specs.Counts.{Rose};
-ghost use Rattle.riemann_client.specs.Client.{IsUnclosed, is_ended, link_of, stream_of};
+ghost use Rattle.riemann_client.specs.Client.{IsUnclosed, is_ended, link_of};
 
 use crate::outcome::{Exchanged, Outcome, RunFault};
 use crate::turn::take_turn;

@@ -1,4 +1,4 @@
-ghost use Rattle.std.specs.Prelude.{◌≡◌, ◌≢◌, ◌≤◌, length, List, take, ℕ, false, None, Err, IfOk, OnOk};
+ghost use Rattle.std.specs.Prelude.{◌≡◌, ◌≢◌, ◌≤◌, length, List, take, ℕ, false, None, Err, IfOk};
 ghost use Rattle.client_run.specs.Runs.{AddsRun};
 ghost use Rattle.client_run.specs.Taking.{AsksFor, TakesTurn};
 ghost use Rattle.ports.specs.Counts.{Rose};

@@ -1,4 +1,4 @@
-ghost use Rattle.std.specs.Prelude.{◌≡◌, ◌≤◌, length};
+ghost use Rattle.std.specs.Prelude.{◌≤◌, length};
 ghost use Rattle.stream_plan.specs.Ready.{plan_patterns};
 ghost use Rattle.command_io.specs.Building.{BuildsPlan};
 

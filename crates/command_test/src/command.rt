@@ -5,7 +5,7 @@ ghost use Rattle.ports.specs.Calls.{LinksReport};
 ghost use Rattle.ports.specs.Counts.{Rose};
 ghost use Rattle.sexp_config.specs.Config.{IsConfigOf};
 ghost use Rattle.sexp_config.specs.declared.config.Config.{Config as Configuration};
-ghost use Rattle.command_test.specs.Endings.{HasNoTests, IsComplete, status_of};
+ghost use Rattle.command_test.specs.Endings.{HasNoTests, IsComplete};
 ghost use Rattle.command_test.specs.Given.{IsConfig};
 ghost use Rattle.command_test.specs.Reading.{ReadsOnce};
 ghost use Rattle.command_test.specs.Running.{run_report};

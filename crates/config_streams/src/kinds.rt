@@ -1,6 +1,6 @@
 //! The kinds of streams, by their words and arguments.
 
-ghost use Rattle.std.specs.Prelude.{◌≡◌, [], ◌∷◌, Ok};
+ghost use Rattle.std.specs.Prelude.{◌≡◌, [], Ok};
 ghost use Rattle.pred_eval.specs.Tree.{tree_of, trees_in};
 ghost use Rattle.stream_plan.specs.Tree.{kind_tree};
 ghost use Rattle.sexp_read.specs.Tree.{form_tree, form_trees};
@@ -8,7 +8,6 @@ ghost use Rattle.config_terms.specs.Steps.{Gives, GivesAs, nth as nth_of};
 ghost use Rattle.std.specs.Option.{option_map};
 ghost use Rattle.config_terms.specs.Code.{argument_in, map_in};
 ghost use Rattle.config_terms.specs.Arguments.{some_of};
-ghost use Rattle.config_terms.specs.Words.{fold_word as fold_word_of};
 ghost use Rattle.config_streams.specs.Kinds.{count_of as count_from, secs_of as secs_from, field_of as field_from, sets_of as sets_in, one_set as one_set_of, is_map, is_map_in, init_of as init_in, some_init as some_init_of, fold_named as fold_named_by, fold_at as fold_from, has_secs as secs_stand, is_number as is_number_of, coalesce_secs as coalesce_secs_of, expired_rule as expired_tree, all_tagged as all_tagged_by, tag_rules as tag_trees, tagged_kind as tagged_kind_of, order_kind as order_kind_of, notice_kind as notice_kind_of, where_kind as where_kind_of, tag_kind as tag_kind_of, by_kind as by_kind_of, smap_kind as smap_kind_of, count_and_secs as both_of, changed_kind as changed_kind_of, runs_kind as runs_kind_of, stable_kind as stable_kind_of, window_kind as window_kind_of, counting_kind as counting_kind_of, kind_of as kind_from, leads as leads_of};
 
 use config_terms::{

@@ -1,9 +1,5 @@
 //! The places of the forms of streams.
 
-ghost use Rattle.std.specs.Prelude.{◌≡◌, ◌+◌};
-ghost use Rattle.config_streams.specs.Sources.{place_along};
-ghost use Rattle.config_streams.specs.Made.{source_list};
-
 /// The place of the form of a stream, and those of the streams that follow it.
 #[derive(Drop)]
 pub struct Source {

@@ -4,10 +4,9 @@ ghost use Rattle.std.specs.Prelude.{◌≡◌, false, OnOk, IfErr, Ok};
 ghost use Rattle.stream_plan.specs.Tree.{kind_tree, stream_tree};
 ghost use Rattle.stream_plan.specs.Kinds.{may_have_children as may_have_children_of};
 ghost use Rattle.sexp_read.specs.Tree.{form_tree, form_trees};
-ghost use Rattle.config_terms.specs.Steps.{GivesAs, Fails};
+ghost use Rattle.config_terms.specs.Steps.{GivesAs};
 ghost use Rattle.config_terms.specs.Words.{stream_word as stream_word_of};
 ghost use Rattle.config_terms.specs.Arguments.{bound_value};
-ghost use Rattle.config_streams.specs.Kinds.{kind_of as kind_from};
 ghost use Rattle.config_streams.specs.Streams.{nothing, nowhere, stream_of as stream_made, with_part, all_read, is_where as is_where_of, is_where_in, with_one, is_else as is_else_of, symbol_by, followed as followed_by, worded, else_part as else_part_of, part_at as part_from, parts_in as readings_of};
 ghost use Rattle.config_streams.specs.Made.{located_in, below_in, part_in, source_tree};
 

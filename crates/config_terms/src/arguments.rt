@@ -4,7 +4,7 @@ ghost use Rattle.std.specs.Prelude.{◌≡◌, ◌≤◌, option_copied, IfOk};
 ghost use Rattle.std.specs.Option.{option_map};
 ghost use Rattle.sexp_read.specs.Tree.{form_tree, form_trees};
 ghost use Rattle.config_terms.specs.Steps.{Gives, GivesAs, start_of};
-ghost use Rattle.config_terms.specs.Arguments.{bound_value, argument_of as argument_from, bound_argument as bound_from, misfit as misfit_of, fitting, text_in, keyword_in, number_in, vector_in, map_in, field_in, value_in, text_at as text_from, keyword_at as keyword_from, number_at as number_from, ranged_at as ranged_from, field_at as field_from, value_at as value_from, vector_at as vector_from, map_at as map_from};
+ghost use Rattle.config_terms.specs.Arguments.{bound_value, argument_of as argument_from, bound_argument as bound_from, misfit as misfit_of, text_in, keyword_in, number_in, vector_in, map_in, field_in, value_in, text_at as text_from, keyword_at as keyword_from, number_at as number_from, ranged_at as ranged_from, field_at as field_from, value_at as value_from, vector_at as vector_from, map_at as map_from};
 ghost use Rattle.config_terms.specs.Code.{argument_in};
 
 use crate::forms::refused;

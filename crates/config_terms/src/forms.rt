@@ -3,7 +3,7 @@
 ghost use Rattle.std.specs.Prelude.{◌≡◌, ◌+◌, ◌≤◌, length, MatchOption, option_map, option_copied};
 ghost use Rattle.sexp_read.specs.declared.piece.Bracket.TheVariants.{Round};
 ghost use Rattle.sexp_read.specs.Tree.{form_tree, form_trees, none, also, Group};
-ghost use Rattle.config_terms.specs.Steps.{nth, argument as argument_at, absent, at_most, start_of, GivesAs, name_in};
+ghost use Rattle.config_terms.specs.Steps.{nth, argument as argument_at, at_most, GivesAs, name_in};
 ghost use Rattle.config_terms.specs.Code.{later as later_of, next_of, look_of, look_in, IsWithin, weight, form_weight};
 
 use crate::{ConfigFault, ConfigWhy};

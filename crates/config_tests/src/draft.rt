@@ -2,8 +2,7 @@
 
 ghost use Rattle.std.specs.Prelude.{◌≡◌, ◌+◌, ◌≤◌, [], IfOk, OnOk, Ok};
 ghost use Rattle.sexp_read.specs.Tree.{form_tree, form_trees};
-ghost use Rattle.config_terms.specs.Code.{look_of};
-ghost use Rattle.config_terms.specs.Steps.{Gives, GivesAs, each, start_of};
+ghost use Rattle.config_terms.specs.Steps.{Gives, GivesAs, each};
 ghost use Rattle.config_tests.specs.Words.{entry_word as entry_word_of};
 ghost use Rattle.config_tests.specs.Grammar.{has_expect};
 ghost use Rattle.config_tests.specs.Entries.{no_entries, passed, posted, expected, count_at as count_from, timed, timed_at as timed_from, with_timed, some_timed, item_at as item_from, with_item, with_tick, with_event, with_expect, entry_by, with_entry};

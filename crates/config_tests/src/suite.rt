@@ -1,9 +1,8 @@
 //! Whole tests.
 
-ghost use Rattle.std.specs.Prelude.{◌≡◌, [], Ok};
+ghost use Rattle.std.specs.Prelude.{[], Ok};
 ghost use Rattle.sexp_read.specs.Tree.{form_tree, form_trees};
-ghost use Rattle.config_terms.specs.Code.{look_of};
-ghost use Rattle.config_terms.specs.Steps.{Gives, GivesAs, each, start_of};
+ghost use Rattle.config_terms.specs.Steps.{Gives, each};
 ghost use Rattle.config_tests.specs.Tests.{test_in as test_of_forms, test_by, test_at as test_from, with_test};
 
 use crate::draft::entries_in;

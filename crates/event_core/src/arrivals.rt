@@ -2,8 +2,6 @@ ghost use Rattle.std.specs.Prelude.{◌≡◌, ◌+◌, ◌-◌, ◌^◌, ◌≤
 ghost use Rattle.ev_types.specs.Clock.{seconds_per_turn_limit};
 ghost use Rattle.ev_types.specs.Interval.{IsInterval};
 ghost use Rattle.list_laws.specs.Prefix.{IsPrefix};
-ghost use Rattle.ev_types.specs.declared.event.Event.{Event as StoredEvent};
-ghost use Rattle.ev_types.specs.declared.item.Notice.{Notice as StoredNotice};
 ghost use Rattle.index_log.specs.Live.{live_events};
 ghost use Rattle.stream_meaning.specs.Arrivals.{Arrival, Elapsed, Post, matching_events};
 ghost use Rattle.live_index.specs.Index.{events_lent, visited};

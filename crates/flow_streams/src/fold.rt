@@ -1,4 +1,4 @@
-ghost use Rattle.std.specs.Prelude.{◌≡◌, ◌≤◌, ◌<◌, ◌^◌, ℤ, pos, None, IfOk, IsOk, length, option_copied, option_map};
+ghost use Rattle.std.specs.Prelude.{◌≡◌, ◌<◌, None, IfOk, IsOk, option_copied};
 ghost use Rattle.std.specs.Int.{w64, saturate_signed};
 ghost use Rattle.stream_meaning.specs.Images.{folded, measured, metric_of, sum_of_metrics, sum_event, count_event, least_event, greatest_event, with_metric};
 ghost use Rattle.flow_streams.specs.Fold.{first_of, lesser_of, greater_of};

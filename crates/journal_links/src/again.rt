@@ -1,6 +1,6 @@
 //! Giving the journal's turns again, with a note of the links that they open.
 
-ghost use Rattle.std.specs.Prelude.{◌≡◌, ◌≤◌, ◌<◌, ◌∷◌, ℕ, List, true, false, length, drop, IfOk, OnErr, OnOk};
+ghost use Rattle.std.specs.Prelude.{◌≡◌, ◌<◌, ◌∷◌, ℕ, List, true, false, length, drop, IfOk, OnErr, OnOk};
 ghost use Rattle.journal_format.specs.declared.turn_record.TurnRecord.{TurnRecord};
 ghost use Rattle.journal_links.specs.Steps.{HandsAgain, last_secs};
 ghost use Rattle.ports.specs.Links.{IsPieceWithin, is_failed_turn, is_memory_turn};

@@ -11,7 +11,7 @@ use turn_journal::{JournalFault, JournalFile, begin_on, load_on};
 use turn_replay::{Replay, TurnRecords, read_journal};
 
 impl<'a, L: Links, D: Disk> JournalLinks<'a, L, D> {
-    ghost use Rattle.std.specs.Prelude.{◌≡◌, ◌+◌, ◌<◌, ◌≤◌, [], None, false, true, length, IfErr, IfOk, OnOk};
+    ghost use Rattle.std.specs.Prelude.{◌≡◌, ◌+◌, ◌<◌, ◌≤◌, [], false, true, length, IfErr, IfOk, OnOk};
     ghost use Rattle.std.specs.List.{list_all};
     ghost use Rattle.std.specs.Option.{ForSome, option_map};
     ghost use Rattle.disk_port.specs.Past.{synced, text_of};

@@ -1,4 +1,4 @@
-ghost use Rattle.std.specs.Prelude.{◌≡◌, ◌<◌, ◌≤◌, Bool, length, take, filter, count_by, slice_get};
+ghost use Rattle.std.specs.Prelude.{◌≡◌, ◌<◌, Bool, length, take, filter, count_by, slice_get};
 ghost use Rattle.list_laws.specs.Asking.{IsAskable, AnswersBy, KeepsMoreThan};
 
 /// How many of the items the test is true of.

@@ -1,6 +1,5 @@
-ghost use Rattle.std.specs.Prelude.{◌≡◌, ◌+◌, ◌-◌, ◌*◌, ◌^◌, ◌≤◌, false, [], ◌∷◌, ◌++◌, filter, length, option_copied, List, IsErr, IsNone, IsSome, IsTrue, OnErr, OnOk};
+ghost use Rattle.std.specs.Prelude.{◌≡◌, ◌+◌, ◌-◌, ◌*◌, ◌^◌, ◌≤◌, false, [], ◌∷◌, ◌++◌, filter, length, option_copied, IsErr, IsNone, IsSome, IsTrue, OnErr, OnOk};
 ghost use Rattle.list_laws.specs.Prefix.{IsPrefix};
-ghost use Rattle.ev_types.specs.declared.event.Event.{Event as StoredEvent};
 ghost use Rattle.ev_types.specs.Expiry.{is_expired};
 ghost use Rattle.index_log.specs.Live.{IndexLog, Reap, Write};
 ghost use Rattle.std.specs.Borrow.{sem};

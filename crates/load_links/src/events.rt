@@ -1,7 +1,7 @@
-ghost use Rattle.std.specs.Prelude.{◌≡◌, ℕ, ◌+◌, ◌^◌, ◌<◌, ◌≤◌, ◌∷◌, ◌++◌, [], length, codes, string_bytes, IfOk, OnOk};
+ghost use Rattle.std.specs.Prelude.{◌≡◌, ℕ, ◌+◌, ◌^◌, ◌<◌, ◌≤◌, ◌∷◌, ◌++◌, [], length, IfOk, OnOk};
 ghost use Rattle.std.specs.Fmt.{decimal};
 ghost use Rattle.framing.specs.Frames.{frame};
-ghost use Rattle.load_links.specs.Load.{event_msg, event_step, load_event, number_after, number_at, query_msg, read_step, state_of};
+ghost use Rattle.load_links.specs.Load.{event_step, load_event, number_after, number_at, query_msg, read_step, state_of};
 ghost use Rattle.riemann_msg.specs.Spelling.{spelling};
 
 use ev_types::{Attrs, Blob, Event, Events, Memory, Tags, Text};

@@ -1,9 +1,8 @@
-ghost use Rattle.std.specs.Prelude.{◌≡◌, ◌≢◌, ◌^◌, ◌<◌, ◌≤◌, ◌++◌, ◌∷◌, [], false, filter, length, OnOk, IfOk, codes, Some, None, option_and_then, List};
+ghost use Rattle.std.specs.Prelude.{◌≡◌, ◌≢◌, ◌^◌, ◌<◌, ◌++◌, [], length, OnOk, IfOk, Some, None, List};
 ghost use Rattle.std.specs.String.{string_bytes};
 ghost use Rattle.event_core.specs.Core.{Represents, config_of, state_by};
-ghost use Rattle.hub_meaning.specs.Messages.{query_text, rule_of_query, rule_read};
+ghost use Rattle.hub_meaning.specs.Messages.{query_text, rule_read};
 ghost use Rattle.hub_meaning.specs.Replies.{answer_to_query, answer_to_rule, answer_to_text, busy, found, framed, limited, over_limit, pattern_refusal, query_refusal, refused};
-ghost use Rattle.hub_meaning.specs.Verdicts.{is_busy};
 ghost use Rattle.pred_eval.specs.Tree.{tree_of};
 ghost use Rattle.pred_eval.specs.Truth.{searches};
 ghost use Rattle.query_lang.specs.Answer.{query_of};

@@ -1,6 +1,6 @@
-ghost use Rattle.std.specs.Prelude.{◌≡◌, ℕ, ◌^◌, ◌<◌, ◌++◌, ◌∷◌, [], length, map, OnOk, IfOk, codes, List, Some, None};
+ghost use Rattle.std.specs.Prelude.{◌≡◌, ◌^◌, ◌<◌, ◌++◌, [], length, map, OnOk, IfOk, List, Some, None};
 ghost use Rattle.std.specs.String.{string_bytes};
-ghost use Rattle.event_core.specs.Core.{Represents, now_of, config_of};
+ghost use Rattle.event_core.specs.Core.{Represents, now_of};
 ghost use Rattle.hub_meaning.specs.Replies.{accepted, framed, message_refusal, refused, reply_to_oversized, oversized};
 ghost use Rattle.riemann_msg.specs.Cleared.{AreCleared};
 ghost use Rattle.riemann_msg.specs.Spelling.{spelling};

@@ -1,8 +1,8 @@
 ghost use Rattle.std.specs.Prelude.{◌≡◌, ◌++◌, ◌∷◌, [], map, codes, decimal, OnOk, OnErr};
 ghost use Rattle.std.specs.Fmt.{signed_decimal};
-ghost use Rattle.std.specs.List.{flat_map, join_with_byte};
+ghost use Rattle.std.specs.List.{join_with_byte};
 ghost use Rattle.notice_sink.specs.Joining.{ended, led};
-ghost use Rattle.notice_sink.specs.Lines.{attribute_text, event_text, first_parts, item_text, last_parts, metric_part, tags_part, text_part, time_text, ttl_part, value_text};
+ghost use Rattle.notice_sink.specs.Lines.{attribute_text, event_text, first_parts, item_text, last_parts, metric_part, tags_part, text_part, ttl_part, value_text};
 ghost use Rattle.list_laws.specs.Prefix.{IsPrefix};
 ghost use Rattle.notice_sink.specs.Quoting.{quoted};
 

@@ -34,7 +34,7 @@ impl Model for CallLog {
 
     ghost Value = { List Entry };
 
-    ghost use Rattle.ports.specs.Marks.{Decoded, decoded, IsBetween};
+    ghost use Rattle.ports.specs.Marks.{decoded, IsBetween};
 
     ghost view = { λ log. (decoded log.marks.items).entries };
 

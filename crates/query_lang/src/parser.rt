@@ -1,11 +1,10 @@
 //! The parser, which takes the tokens of a query one after the other. It keeps the groups that are open in a list, so
 //! that a query of any depth is read without recursion.
 
-ghost use Rattle.std.specs.Prelude.{◌≡◌, ◌≤◌, ◌++◌, ◌∷◌, [], map, Option, Some, None, ◌+◌, ◌<◌, IfOk, IfErr, OnOk};
-ghost use Rattle.std.specs.Option.{option_map};
+ghost use Rattle.std.specs.Prelude.{◌≡◌, ◌≤◌, ◌++◌, ◌∷◌, [], Some, ◌+◌, ◌<◌, IfOk, IfErr, OnOk};
 ghost use Rattle.pred_eval.specs.Tree.{tree_of, Always, Never, Tagged};
 ghost use Rattle.query_lang.specs.Grammar.{all_of};
-ghost use Rattle.query_lang.specs.Parsing.{start, empty_group, group_of, state_of, negated, with_part, tree_of_group, wanting, joined, opened, denied, next_alternative, closed, operand_step, tag_step, operator_step, literal_step, joint_step, step, finish, within_limit, Leaves, Ends};
+ghost use Rattle.query_lang.specs.Parsing.{start, empty_group, group_of, state_of, negated, with_part, tree_of_group, joined, opened, denied, closed, operand_step, tag_step, operator_step, literal_step, joint_step, step, finish, within_limit, Leaves, Ends};
 
 use crate::fault::QueryFault;
 use crate::grammar::{all_of, any_of, negated, test_of};

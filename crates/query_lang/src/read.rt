@@ -1,6 +1,6 @@
 //! Reading a text as a query.
 
-ghost use Rattle.std.specs.Prelude.{◌≡◌, ◌≢◌, ◌≤◌, length, Result, Ok, Err, IfOk, IfErr};
+ghost use Rattle.std.specs.Prelude.{◌≢◌, ◌≤◌, length, Result, Ok, Err, IfOk, IfErr};
 ghost use Rattle.pred_eval.specs.Tree.{Tree, tree_of};
 ghost use Rattle.query_lang.specs.Parsing.{state_of};
 ghost use Rattle.query_lang.specs.Queries.{IsAnswer, Agrees};

@@ -1,13 +1,13 @@
 //! Writing rules as queries.
 
-ghost use Rattle.std.specs.Prelude.{◌≡◌, ◌++◌, ◌∷◌, [], map, OnOk, OnErr, codes, if◌then◌else◌};
+ghost use Rattle.std.specs.Prelude.{◌≡◌, ◌++◌, [], map, OnOk, OnErr, codes, if◌then◌else◌};
 ghost use Rattle.std.specs.Fmt.{signed_decimal};
 ghost use Rattle.list_laws.specs.Prefix.{IsPrefix};
 ghost use Rattle.ev_types.specs.Names.{field_name};
 ghost use Rattle.string_literals.specs.Literals.{string_literal};
 ghost use Rattle.pred_eval.specs.Tree.{tree_of};
 ghost use Rattle.query_lang.specs.Grammar.{listed};
-ghost use Rattle.query_lang.specs.Spelling.{spelling, spelling_under, joined_spelling, more_spelling, grouped, groups_any, groups_all, value_spelling, order_symbol};
+ghost use Rattle.query_lang.specs.Spelling.{spelling, spelling_under, joined_spelling, grouped, groups_any, groups_all, value_spelling, order_symbol};
 
 use ev_types::{Blob, Field, Memory, Text, Value};
 use itoa::Buffer;

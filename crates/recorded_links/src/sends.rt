@@ -4,7 +4,7 @@ ghost use Rattle.std.specs.Prelude.{◌≡◌, ◌≤◌, ◌<◌, [], true, len
 ghost use Rattle.std.specs.List.{list_all};
 ghost use Rattle.journal_format.specs.Limits.{summary_limit};
 ghost use Rattle.journal_format.specs.Spelling.{are_distinct};
-ghost use Rattle.recorded_links.specs.Sending.{Fits, after_send, end_of, has_words, may_note, noted, place_of, summary_of, taken_by};
+ghost use Rattle.recorded_links.specs.Sending.{Fits, after_send, end_of, has_words, may_note, noted, place_of, taken_by};
 
 use ev_types::Memory;
 use journal_format::{SUMMARY_LIMIT, SendEnd, Summary};

@@ -3,7 +3,7 @@
 ghost use Rattle.std.specs.Prelude.{◌≡◌, ◌++◌, ◌∷◌, [], map as each_of, pos, codes, IfOk, OnOk};
 ghost use Rattle.pred_eval.specs.Tree.{tree_of, trees_in, Search as search_tree};
 ghost use Rattle.stream_plan.specs.Tree.{kind_tree, stream_tree as plain_stream, list_trees};
-ghost use Rattle.sexp_config.specs.Canonical.{bare_form, bare_forms, symbol_form, text_form, number_form, list_form, vector_form, map_form, worded_form, field_form, rule_field_form, rule_form as rule_form_of, rule_forms, set_forms, init_forms, kind_forms as forms_of_kind, else_forms, stream_form as stream_form_of, stream_forms, keep_form, server_form as server_form_of, expiry_form as expiry_form_of, expiry_forms, streams_form as streams_form_of, config_forms as forms_of_config};
+ghost use Rattle.sexp_config.specs.Canonical.{bare_form, bare_forms, symbol_form, text_form, number_form, vector_form, map_form, worded_form, field_form, rule_field_form, rule_form as rule_form_of, rule_forms, set_forms, init_forms, kind_forms as forms_of_kind, else_forms, stream_form as stream_form_of, stream_forms, keep_form, server_form as server_form_of, expiry_form as expiry_form_of, expiry_forms, streams_form as streams_form_of, config_forms as forms_of_config};
 ghost use Rattle.config_terms.specs.Words.{rule_text, fold_text};
 ghost use Rattle.config_terms.specs.declared.word.RuleWord.TheVariants.{Order as order_word};
 

@@ -3,7 +3,7 @@
 ghost use Rattle.std.specs.Prelude.{◌≡◌, ◌≤◌, [], IfOk, None, Ok};
 ghost use Rattle.sexp_read.specs.Tree.{form_tree, form_trees};
 ghost use Rattle.config_terms.specs.Words.{keep_text};
-ghost use Rattle.config_terms.specs.Steps.{Gives, GivesAs, each, nth as nth_of};
+ghost use Rattle.config_terms.specs.Steps.{Gives, each, nth as nth_of};
 ghost use Rattle.config_terms.specs.Arguments.{one_entry};
 ghost use Rattle.sexp_config.specs.Tops.{keep_in as keep_of, keep_field, keep_at as keep_from, with_keep, keys_at as keys_read, default_keys as default_keys_of, interval_by as interval_of, keys_of_map as keys_of_map_at, keys_by as keys_by_form, expiry_in as expiry_of};
 ghost use Rattle.ev_types.specs.Names.{named_field};

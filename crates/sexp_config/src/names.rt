@@ -1,10 +1,9 @@
 //! Names that a `let` binds.
 
-ghost use Rattle.std.specs.Prelude.{◌≡◌, [], ◌∷◌, ◌++◌, length, take, OnOk, IfErr, Ok};
+ghost use Rattle.std.specs.Prelude.{◌≡◌, [], length, take, OnOk, IfErr, Ok};
 ghost use Rattle.std.specs.Option.{option_map};
 ghost use Rattle.sexp_read.specs.Tree.{form_tree, form_trees};
 ghost use Rattle.config_terms.specs.Steps.{Gives, GivesAs, Fails};
-ghost use Rattle.config_terms.specs.Arguments.{argument_of as argument_from};
 ghost use Rattle.sexp_config.specs.Tops.{name_at as name_from, bound_by as bound_by_argument, index_by as index_read, bound_at as bound_from, names_from as names_of, names_at as names_read};
 ghost use Rattle.config_terms.specs.Code.{argument_in, vector_in_form};
 

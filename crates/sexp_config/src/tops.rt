@@ -2,7 +2,7 @@
 
 ghost use Rattle.std.specs.Prelude.{◌≡◌, [], OnOk, Ok, false};
 ghost use Rattle.sexp_read.specs.Tree.{form_tree, form_trees};
-ghost use Rattle.config_terms.specs.Steps.{Gives, GivesAs};
+ghost use Rattle.config_terms.specs.Steps.{GivesAs};
 ghost use Rattle.config_terms.specs.Words.{top_word as top_word_of};
 ghost use Rattle.sexp_config.specs.Tops.{fresh_draft, with_server, with_expiry, with_streams, top_by, let_by, top_at as top_from, tops_in as steps_of, run as run_of};
 ghost use Rattle.sexp_config.specs.Drafts.{draft_in};

@@ -1,10 +1,10 @@
 //! Writing forms.
 
-ghost use Rattle.std.specs.Prelude.{◌≡◌, ◌++◌, ◌∷◌, [], OnOk, OnErr, if◌then◌else◌};
+ghost use Rattle.std.specs.Prelude.{◌≡◌, ◌++◌, ◌∷◌, [], OnOk, OnErr};
 ghost use Rattle.std.specs.Fmt.{signed_decimal};
 ghost use Rattle.list_laws.specs.Prefix.{IsPrefix};
 ghost use Rattle.sexp_read.specs.Tree.{form_tree, form_trees};
-ghost use Rattle.sexp_read.specs.Written.{bare_tree, bare_trees, Branch, atom_text, tree_text, between_text, later_text, lines_text, opening as opening_byte, closing as closing_byte};
+ghost use Rattle.sexp_read.specs.Written.{bare_tree, bare_trees, Branch, tree_text, between_text, lines_text, opening as opening_byte, closing as closing_byte};
 
 use crate::form::{Form, Shape};
 use crate::piece::Bracket;

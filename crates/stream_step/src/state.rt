@@ -2,9 +2,7 @@ ghost use Rattle.std.specs.Prelude.{◌≡◌, ℕ, true, false, ◌≤◌, ◌+
 ghost use Rattle.ev_types.specs.declared.field.Field.{Field};
 ghost use Rattle.list_laws.specs.Counts.{greatest};
 ghost use Rattle.stream_meaning.specs.Deadlines.{next_deadline};
-ghost use Rattle.stream_meaning.specs.Emission.{emissions};
-ghost use Rattle.stream_meaning.specs.declared.entry.Entry.TheVariants.{Tick};
-ghost use Rattle.stream_meaning.specs.History.{History, ◌▸◌, begun, moment_of, TicksAlone};
+ghost use Rattle.stream_meaning.specs.History.{History, begun, moment_of, TicksAlone};
 ghost use Rattle.stream_plan.specs.Kinds.{is_in_range};
 ghost use Rattle.stream_plan.specs.Ready.{kind_patterns};
 ghost use Rattle.pred_eval.specs.Tree.{tree_of};

@@ -1,6 +1,5 @@
-ghost use Rattle.std.specs.Prelude.{◌≡◌, ℕ, ◌+◌, ◌≤◌, ◌^◌, true, false, List, [], ◌++◌, length, take, drop, if◌then◌else◌, IfOk, IsOk, OnErr, OnOk};
+ghost use Rattle.std.specs.Prelude.{◌≡◌, ℕ, ◌+◌, ◌≤◌, ◌^◌, false, List, [], ◌++◌, length, take, drop, if◌then◌else◌, IfOk, IsOk, OnErr, OnOk};
 ghost use Rattle.ev_types.specs.declared.item.Item.TheVariants.{One, Many};
-ghost use Rattle.ev_types.specs.declared.event.Event.{Event as CameEvent};
 ghost use Rattle.list_laws.specs.Prefix.{IsPrefix};
 ghost use Rattle.pred_eval.specs.Search.{AreReadFrom};
 ghost use Rattle.pred_eval.specs.Tree.{Tree as RuleTree, tree_of};
@@ -9,11 +8,10 @@ ghost use Rattle.stream_meaning.specs.declared.entry.Entry.{Entry as CameEntry};
 ghost use Rattle.stream_meaning.specs.declared.entry.Entry.TheVariants.{Tick, Item as In};
 ghost use Rattle.stream_meaning.specs.Emission.{to, emissions, fold_of, Children as children, Otherwise as otherwise};
 ghost use Rattle.stream_meaning.specs.History.{History, ◌▸◌, moment_of};
-ghost use Rattle.stream_meaning.specs.Images.{with_sets, with_defaults};
 ghost use Rattle.stream_meaning.specs.Laws.{own_outputs};
 ghost use Rattle.stream_plan.specs.Tree.{KindTree, kind_tree, Where};
 ghost use Rattle.stream_states.specs.Kept.{KeptRepresents};
-ghost use Rattle.stream_step.specs.Step.{branch_meant, emissions_meant, AreAt, HasNumbers, is_kept, StateRepresents, Acts};
+ghost use Rattle.stream_step.specs.Step.{branch_meant, emissions_meant, HasNumbers, is_kept, StateRepresents, Acts};
 
 use crate::{Branch, Passed, State};
 use ev_types::{

@@ -1,6 +1,6 @@
 ghost use Rattle.std.specs.Prelude.{◌≡◌, ◌+◌, ◌≤◌, [], length, is_some, IfOk};
 ghost use Rattle.list_laws.specs.Counts.{greatest};
-ghost use Rattle.fork_by.specs.Table.{fork_keys, fork_dues, IsTable};
+ghost use Rattle.fork_by.specs.Table.{fork_keys, IsTable};
 ghost use Rattle.stream_plan.specs.declared.plan.Stream.{out-Stream};
 ghost use Rattle.stream_plan.specs.Ready.{plan_patterns};
 ghost use Rattle.stream_plan.specs.Search.{opened};

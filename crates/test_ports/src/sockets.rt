@@ -1,7 +1,7 @@
 use ev_types::{Memory, Text};
 use mio_links::MioLinks;
 use ports::{Links, ListenAnswer, PIECE_LIMIT, SendAnswer, Want, Wants, What};
-use std::alloc::{AllocError, Global};
+use std::alloc::Global;
 use std::io;
 use std::io::{Read, Write};
 use std::net::{Net, Shutdown, TcpStream};

@@ -5,7 +5,7 @@ use sexp_config::read_config;
 use std::alloc::Global;
 use std::test::Fail;
 use step_count::{NoLedger, Steps};
-use stream_tests::{RunFault, Verdict, read_tests, run_test};
+use stream_tests::{Verdict, read_tests, run_test};
 
 /// A configuration, a test, and the verdict: `pass`, or the name and the number of the first item that differs.
 const ROWS: [(&str, &str, &str, u64); 12] = [

@@ -5,7 +5,7 @@ ghost use Rattle.std.specs.List.Sorted.{IsStrictlySortedBy};
 ghost use Rattle.std.specs.Map.{keys_of};
 ghost use Rattle.std.specs.Ordering.{nat_cmp};
 ghost use Rattle.slab.specs.Slab.{HasRoomFor};
-ghost use Rattle.tick_schedule.specs.Lists.{AddsAt, AreListedBy, HaveIds, IsFirst, ListChange, Removes, RemovesAt, id_at, ids_of, list_at};
+ghost use Rattle.tick_schedule.specs.Lists.{AddsAt, AreListedBy, IsFirst, ListChange, Removes, RemovesAt, id_at, ids_of};
 ghost use Rattle.tick_schedule.specs.Numbers.{AreNumbered, IsFirstNumber, IsListOf, Relists, list_under, list_with, lists_of, number_at};
 
 use crate::id_list::IdList;

@@ -23,7 +23,7 @@ pub struct FixedEventState {
 }
 
 impl FixedEventState {
-    ghost use Rattle.std.specs.Prelude.{◌≡◌, false, ◌∷◌, ◌++◌, ◌+◌, [], IfOk, IsErr, IsOk, IsTrue, OnErr, OnOk};
+    ghost use Rattle.std.specs.Prelude.{◌≡◌, false, ◌++◌, ◌+◌, [], IfOk, IsErr, IsOk, IsTrue, OnErr, OnOk};
     ghost use Rattle.ev_types.specs.declared.item.Item.TheVariants.{One};
     ghost use Rattle.list_laws.specs.Prefix.{IsPrefix};
     ghost use Rattle.stream_meaning.specs.Deadlines.{next_deadline};

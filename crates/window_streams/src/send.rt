@@ -1,4 +1,4 @@
-ghost use Rattle.std.specs.Prelude.{◌≡◌, [], ◌∷◌, ◌++◌, IsOk, IfOk, OnErr, OnOk};
+ghost use Rattle.std.specs.Prelude.{◌≡◌, [], ◌++◌, IsOk, IfOk, OnErr, OnOk};
 ghost use Rattle.stream_meaning.specs.Came.{vector};
 ghost use Rattle.stream_meaning.specs.Emitted.{emitted};
 
