@@ -1,20 +1,15 @@
--- Whether a command has a configuration that a server can be run with.
+-- Why a command has no configuration that a server can be run with.
 use Rattle.std.specs.Prelude.{◌≡◌, ℕ, ◌+◌, List}
 use Rattle.hub_meaning.specs.Verdicts.{PatternsReport}
 use Rattle.ports.specs.Counts.{Rose, RoseBy}
-use Rattle.ports.specs.Reading.{Content, IsOverLimit, StoreReport}
-use Rattle.command_io.specs.Building.{AreBuilt}
-use Rattle.command_io.specs.Configs.{ForConfig, RefusesConfig}
+use Rattle.ports.specs.Reading.{IsOverLimit, StoreReport}
+use Rattle.command_io.specs.Configs.{RefusesConfig}
 use Rattle.command_io.specs.declared.ending.Ending.{Ending}
 use Rattle.command_io.specs.declared.ending.Ending.TheVariants.{ConfigRefused, Unread, OverLimit, OutOfMemory}
 use Rattle.command_io.specs.declared.limits.TheConstants.{CONFIG_LIMIT}
 
--- the file is a configuration whose patterns were built
-abbrev pub IsAccepted : Content → Type 0
-IsAccepted content = ForConfig content (λ config. AreBuilt config.plan)
-
--- Why a command has no such configuration in the file of the name, from what the store and the builder of patterns report
--- before and after. The ending has this name and its limit.
+-- Why the file of the name gave no configuration whose patterns were built, from what the store and the builder of
+-- patterns report before and after. The ending has this name and its limit.
 abbrev pub RefusesSetup : List ℕ → StoreReport → StoreReport → PatternsReport → PatternsReport → Ending → Type 0
 RefusesSetup name store store' patterns patterns' (ConfigRefused refusal) = RefusesConfig (store.held name) patterns patterns' refusal
 RefusesSetup name store store' patterns patterns' (Unread unread) =

@@ -3,7 +3,7 @@ use Rattle.std.proofs.Common.{◌≡◌, ℕ, ◌≤◌, List, length, refl, ari
 use Rattle.std.specs.Borrow.{Bor}
 use Rattle.hub_run.specs.hub_meaning.Verdicts.{PatternsReport}
 use Rattle.ports.specs.Counts.{IsStill, Rose}
-use Rattle.ports.specs.Reading.{Content, IsHeld, StoreReport}
+use Rattle.ports.specs.Reading.{IsHeld, StoreReport}
 use Rattle.command_io.specs.sexp_config.declared.config.Config.{Config}
 use Rattle.command_io.specs.sexp_config.Config.{IsConfigOf}
 use Rattle.command_io.specs.declared.ending.Ending.{Ending}
@@ -18,15 +18,7 @@ use Rattle.command_io.specs.Endings.{IsComplete, status_of}
 use Rattle.command_io.specs.Fetches.{IsFetchFault, ending_of_fetch}
 use Rattle.command_io.proofs.ConfigLaws.{config_not_refused}
 use Rattle.command_io.proofs.EndingLaws.{not_over}
-use Rattle.command_io.specs.Accepting.{IsAccepted, RefusesSetup}
-use Rattle.command_setup.specs.Setups.{SetsUp}
-use Rattle.hub_run.specs.declared.setup.Setup.{Setup}
-
--- what is set up was accepted
-pub accepted : (content : Content) (setup : Setup) → SetsUp content setup → IsAccepted content
-accepted content setup sets bytes reported =
-    let held = sets bytes reported in
-    (held.0, held.1, (held.2.0, (held.2.1.0, held.2.1.1, held.2.1.2.0)))
+use Rattle.command_io.specs.Accepting.{RefusesSetup}
 
 pub refuses_fetch : (name : List ℕ) (shown : Bor (List ℕ)) (store store' : StoreReport) (patterns : PatternsReport) (fault : FetchFault) → shown.now ≡ name
     → IsFetchFault (store.held name) store.faults store'.faults store.taken store'.taken fault
