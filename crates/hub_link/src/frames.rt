@@ -63,7 +63,7 @@ fn answer_first<P: Patterns, G: Ledger>(
     }
 }
 
-/// How many bytes the first frame lacks, or its length, if that is not whole. None, if the frame is whole.
+/// How many bytes the first frame lacks, or its length, if that is not whole; 0 if the frame is whole.
 #[tactic(auto, unfolding(framing::specs::Frames::length_at))]
 pub(crate) fn missing_bytes(bytes: &[u8]) -> usize
     ensures { result ≡ missing_bytes bytes.now }

@@ -131,7 +131,8 @@ impl HubLink {
     }
 
     /// The same where there are bytes before it: what completes their frame is put after them, and the frames of the rest
-    /// are answered where they lie. Where too few bytes are kept to know a frame's length, the rest is put after them too.
+    /// are answered where they lie. If fewer than the four bytes of a length were held, the whole piece is put after them,
+    /// unless the length that it completes is 0.
     fn read_after<P: Patterns, G: Ledger>(
         &mut self,
         alloc: Global,
