@@ -1,15 +1,12 @@
 -- How the frames of a piece are answered in two parts.
-use Rattle.std.proofs.Common.{◌≡◌, ℕ, ◌≤◌, ◌||◌, Bool, true, false, List, [], ◌∷◌, ◌++◌, length, map, take, drop, refl, ap, sym, ◌∙◌, subst, arith, append_assoc, length-append}
-use Rattle.std.specs.Prelude.{IsTrue, Option, None, Result, Ok, Err, option_map, option_to_list}
+use Rattle.std.proofs.Common.{◌≡◌, ℕ, ◌≤◌, ◌||◌, Bool, List, [], ◌∷◌, ◌++◌, length, map, take, drop, refl, ap, sym, ◌∙◌, subst, arith, append_assoc, length-append}
+use Rattle.std.specs.Prelude.{Option, None, Result, Ok, Err, option_map, option_to_list}
 use Rattle.std.specs.List.{list_any}
-use Rattle.std.proofs.lemmas.Grind.{flat_map-append}
 use Rattle.std.proofs.lemmas.List.{take-append-drop}
-use Rattle.std.proofs.lemmas.List.Folds.{list_any-append}
 use Rattle.msg_replies.specs.event_core.declared.arrivals.Core.{Core}
 use Rattle.msg_replies.specs.event_core.Core.{CoreConfig, Represents, config_of, now_of}
 use Rattle.framing.specs.Frames.{frames_of, partial}
 use Rattle.framing.proofs.FrameLaws.{frames_append, partial_append}
-use Rattle.list_laws.specs.Counts.{Rose}
 use Rattle.list_laws.specs.declared.memory.Memory.{Memory}
 use Rattle.stream_meaning.specs.Arrivals.{Arrival}
 use Rattle.msg_replies.specs.hub_meaning.Legal.{ArePossible}
@@ -18,35 +15,11 @@ use Rattle.msg_replies.specs.hub_meaning.Runs.{Talk, all_answered}
 use Rattle.msg_replies.specs.hub_meaning.Verdicts.{AfterVerdicts, Message, PatternsReport, Refusal, is_refused, judged, refused_text, texts_refused}
 use Rattle.msg_replies.specs.Arriving.{Arrives, Reported}
 use Rattle.msg_replies.proofs.AnswerLaws.{arrives_then, on_ok}
-use Rattle.msg_replies.proofs.VerdictLaws.{appended_twice}
+use Rattle.msg_replies.proofs.VerdictLaws.{verdicts_then}
 use Rattle.hub_link.specs.declared.link.HubLink.{HubLink}
 use Rattle.hub_link.specs.Answering.{Answered, AnswersFrames, IsTalk}
 use Rattle.hub_link.specs.Hearing.{KeepsRest}
 use Rattle.hub_link.proofs.HearLaws.{all_answered_append, message_with, none_refused, possible_append, verdict_of}
-
--- ---- verdicts, and then more
-
-rose_either : (t u : Bool) (a b c : ℕ) → (IsTrue t → Rose a b) → (IsTrue u → Rose b c) → a ≤ b → b ≤ c → IsTrue (t || u) → Rose a c
-rose_either true u a b c first last below above either = λ small. omega (arith, first refl (omega arith))
-rose_either false u a b c first last below above either = λ small. omega (arith, last either small)
-
-still_both : (t u : Bool) (a b c : ℕ) → (t ≡ false → b ≡ a) → (u ≡ false → c ≡ b) → t || u ≡ false → c ≡ a
-still_both true u a b c first last neither = absurd (cc neither)
-still_both false u a b c first last neither = last neither ∙ first refl
-
-verdicts_then : (a b c : PatternsReport) (first second : List (Option Refusal)) → AfterVerdicts a b first → AfterVerdicts b c second → AfterVerdicts a c (first ++ second)
-verdicts_then a b c first second one two = record {
-  reported = two.reported
-      ∙ ap (option_map (λ (texts : List (List ℕ)). texts ++ texts_refused second)) one.reported
-      ∙ appended_twice a.refused (texts_refused first) (texts_refused second)
-      ∙ ap (λ (more : List (List ℕ)). option_map (λ (texts : List (List ℕ)). texts ++ more) a.refused)
-      (sym (flat_map-append (λ (verdict : Option Refusal). option_to_list (option_map refused_text verdict)) first second));
-  never_falls = omega (arith, one.never_falls, two.never_falls);
-  rose = λ refused. rose_either (list_any is_refused first) (list_any is_refused second) a.refusals b.refusals c.refusals one.rose two.rose one.never_falls two.never_falls
-      (sym (list_any-append is_refused first second) ∙ refused);
-  still = λ none. still_both (list_any is_refused first) (list_any is_refused second) a.refusals b.refusals c.refusals one.still two.still
-      (sym (list_any-append is_refused first second) ∙ none);
-}
 
 -- ---- a verdict for each body, none refused where there was no verdict
 

@@ -1,18 +1,16 @@
 -- What one more turn adds to those that were taken.
-use Rattle.std.proofs.Common.{◌≡◌, ℕ, zero, suc, ◌+◌, ◌≤◌, ◌||◌, Bool, true, false, List, [], ◌∷◌, ◌++◌, length, take, Ok, Err, refl, ap, sym, ◌∙◌, subst, arith, append-nil, length-append}
-use Rattle.std.specs.Prelude.{IsTrue, Option, Some, None, option_map, option_to_list}
-use Rattle.std.specs.List.{AllByRecursion, list_any}
+use Rattle.std.proofs.Common.{◌≡◌, ℕ, zero, suc, ◌+◌, true, List, [], ◌∷◌, ◌++◌, length, take, Ok, Err, refl, ap, sym, ◌∙◌, subst, arith, append-nil, length-append}
+use Rattle.std.specs.Prelude.{Option, Some, None, option_map}
+use Rattle.std.specs.List.{AllByRecursion}
 use Rattle.std.proofs.lemmas.Grind.{flat_map-append}
-use Rattle.std.proofs.lemmas.List.Folds.{list_any-append}
 use Rattle.ev_types.specs.declared.item.Notice.{Notice}
 use Rattle.conn_core.specs.event_core.Core.{CoreConfig, forks_by, notices_by}
 use Rattle.conn_core.specs.hub_link.Added.{IsSendOrClose}
 use Rattle.conn_core.specs.hub_meaning.Legal.{IsLegal}
 use Rattle.ports.specs.Playing.{is_turn_answer}
 use Rattle.conn_core.specs.hub_meaning.Runs.{Step, notices_after, state_after}
-use Rattle.conn_core.specs.hub_meaning.Verdicts.{AfterVerdicts, PatternsReport, Refusal, is_refused, refused_text, texts_refused}
-use Rattle.list_laws.specs.Counts.{Rose}
-use Rattle.conn_core.proofs.MsgRepliesVerdictLaws.{appended_twice, no_verdicts}
+use Rattle.conn_core.specs.hub_meaning.Verdicts.{AfterVerdicts, Refusal}
+use Rattle.conn_core.proofs.MsgRepliesVerdictLaws.{no_verdicts, verdicts_then}
 use Rattle.notice_sink.specs.Lines.{lines_of, notice_line}
 use Rattle.ports.specs.declared.entry.Entry.{Entry}
 use Rattle.ports.specs.declared.links.Turn.{Turn}
@@ -49,30 +47,6 @@ entries_more turns last = flat_map-append entries_of_turn turns (last ∷ []) �
 verdicts_more : (turns : List TakenTurn) (last : TakenTurn) → verdicts_of (turns ++ last ∷ []) ≡ verdicts_of turns ++ last.verdicts
 verdicts_more turns last =
     flat_map-append verdicts_of_turn turns (last ∷ []) ∙ ap (λ (verdicts : List (Option Refusal)). verdicts_of turns ++ verdicts) (append-nil last.verdicts)
-
--- ---- verdicts
-
-rose_either : (t u : Bool) (a b c : ℕ) → (IsTrue t → Rose a b) → (IsTrue u → Rose b c) → a ≤ b → b ≤ c → IsTrue (t || u) → Rose a c
-rose_either true u a b c first last below above either = λ small. omega (arith, first refl (omega arith))
-rose_either false u a b c first last below above either = λ small. omega (arith, last either small)
-
-still_both : (t u : Bool) (a b c : ℕ) → (t ≡ false → b ≡ a) → (u ≡ false → c ≡ b) → t || u ≡ false → c ≡ a
-still_both true u a b c first last neither = absurd (cc neither)
-still_both false u a b c first last neither = last neither ∙ first refl
-
-pub verdicts_then : (a b c : PatternsReport) (first second : List (Option Refusal)) → AfterVerdicts a b first → AfterVerdicts b c second → AfterVerdicts a c (first ++ second)
-verdicts_then a b c first second one two = record {
-  reported = two.reported
-      ∙ ap (option_map (λ (texts : List (List ℕ)). texts ++ texts_refused second)) one.reported
-      ∙ appended_twice a.refused (texts_refused first) (texts_refused second)
-      ∙ ap (λ (more : List (List ℕ)). option_map (λ (texts : List (List ℕ)). texts ++ more) a.refused)
-      (sym (flat_map-append (λ (verdict : Option Refusal). option_to_list (option_map refused_text verdict)) first second));
-  never_falls = omega (arith, one.never_falls, two.never_falls);
-  rose = λ refused. rose_either (list_any is_refused first) (list_any is_refused second) a.refusals b.refusals c.refusals one.rose two.rose one.never_falls two.never_falls
-      (sym (list_any-append is_refused first second) ∙ refused);
-  still = λ none. still_both (list_any is_refused first) (list_any is_refused second) a.refusals b.refusals c.refusals one.still two.still
-      (sym (list_any-append is_refused first second) ∙ none);
-}
 
 -- ---- lines
 

@@ -1,7 +1,9 @@
--- What one verdict adds to what is reported of patterns.
+-- What verdicts add to what is reported of patterns.
 use Rattle.std.proofs.Common.{◌≡◌, ℕ, ◌≤◌, ◌<◌, ◌||◌, Bool, true, false, List, [], ◌∷◌, ◌++◌, length, refl, ap, sym, ◌∙◌, arith, append-nil, append_assoc}
 use Rattle.std.specs.Prelude.{IsTrue, Option, Some, None, option_map, option_to_list, slice_index_or}
 use Rattle.std.specs.List.{list_any}
+use Rattle.std.proofs.lemmas.Grind.{flat_map-append}
+use Rattle.std.proofs.lemmas.List.Folds.{list_any-append}
 use Rattle.std.proofs.lemmas.Option.{slice_get-get_or}
 use Rattle.list_laws.specs.Counts.{Rose}
 use Rattle.pred_eval.specs.Tree.{Tree}
@@ -79,4 +81,18 @@ more_verdicts asked start mid new verdicts refusal before last = record {
       (sym (any_more verdicts refusal) ∙ refused);
   still = λ none. still_both (list_any is_refused verdicts) (is_refused refusal) start.refusals mid.refusals new.refusals before.still last.still
       (sym (any_more verdicts refusal) ∙ none);
+}
+
+pub verdicts_then : (a b c : PatternsReport) (first second : List (Option Refusal)) → AfterVerdicts a b first → AfterVerdicts b c second → AfterVerdicts a c (first ++ second)
+verdicts_then a b c first second one two = record {
+  reported = two.reported
+      ∙ ap (option_map (λ (texts : List (List ℕ)). texts ++ texts_refused second)) one.reported
+      ∙ appended_twice a.refused (texts_refused first) (texts_refused second)
+      ∙ ap (λ (more : List (List ℕ)). option_map (λ (texts : List (List ℕ)). texts ++ more) a.refused)
+      (sym (flat_map-append (λ (verdict : Option Refusal). option_to_list (option_map refused_text verdict)) first second));
+  never_falls = omega (arith, one.never_falls, two.never_falls);
+  rose = λ refused. rose_either (list_any is_refused first) (list_any is_refused second) a.refusals b.refusals c.refusals one.rose two.rose one.never_falls two.never_falls
+      (sym (list_any-append is_refused first second) ∙ refused);
+  still = λ none. still_both (list_any is_refused first) (list_any is_refused second) a.refusals b.refusals c.refusals one.still two.still
+      (sym (list_any-append is_refused first second) ∙ none);
 }
