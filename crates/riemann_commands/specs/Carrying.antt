@@ -47,51 +47,26 @@ PromiseOf (Query address text turns) old new same status = Asks address.now text
 
 -- a fact that need not hold of the tests of a configuration, which may have written lines before a pattern was refused
 abbrev pub UnlessTest : Command → Type 0 → Type 0
-UnlessTest (Feed config file) P = P
-UnlessTest (Check config) P = P
-UnlessTest (Replay config script) P = P
-UnlessTest (Serve config turns) P = P
-UnlessTest (Load config count start) P = P
-UnlessTest (Graphite file host_part) P = P
 UnlessTest (Test config tests) P = Unit {0}
-UnlessTest (Send address file turns) P = P
-UnlessTest (Query address text turns) P = P
+UnlessTest _ P = P
 
 -- nor of other commands that write to the output while they run
 abbrev pub UnlessRunning : Command → Type 0 → Type 0
-UnlessRunning (Feed config file) P = P
-UnlessRunning (Check config) P = P
 UnlessRunning (Replay config script) P = Unit {0}
 UnlessRunning (Serve config turns) P = Unit {0}
-UnlessRunning (Load config count start) P = P
-UnlessRunning (Graphite file host_part) P = P
 UnlessRunning (Test config tests) P = Unit {0}
-UnlessRunning (Send address file turns) P = P
-UnlessRunning (Query address text turns) P = P
+UnlessRunning _ P = P
 
 -- a fact that need not hold of the command whose notices go to the error stream
 abbrev pub UnlessFeed : Command → Type 0 → Type 0
 UnlessFeed (Feed config file) P = Unit {0}
-UnlessFeed (Check config) P = P
-UnlessFeed (Replay config script) P = P
-UnlessFeed (Serve config turns) P = P
-UnlessFeed (Load config count start) P = P
-UnlessFeed (Graphite file host_part) P = P
-UnlessFeed (Test config tests) P = P
-UnlessFeed (Send address file turns) P = P
-UnlessFeed (Query address text turns) P = P
+UnlessFeed _ P = P
 
 -- nor of the one that writes a line there for each line that it refuses
 abbrev pub UnlessLines : Command → Type 0 → Type 0
 UnlessLines (Feed config file) P = Unit {0}
-UnlessLines (Check config) P = P
-UnlessLines (Replay config script) P = P
-UnlessLines (Serve config turns) P = P
-UnlessLines (Load config count start) P = P
 UnlessLines (Graphite file host_part) P = Unit {0}
-UnlessLines (Test config tests) P = P
-UnlessLines (Send address file turns) P = P
-UnlessLines (Query address text turns) P = P
+UnlessLines _ P = P
 
 -- The command kept its promise, and those that all commands give (`Promises`).
 pub record CarriesOut (command : Command) (old new : Reports) (same : Sameness) (status : Status) : Type 0 where
