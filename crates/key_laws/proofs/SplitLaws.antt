@@ -21,8 +21,8 @@ use Rattle.stream_meaning.specs.Keys.{output_has, plan_keeps}
 use Rattle.stream_meaning.specs.KeyLaws.{outputs_for, HasOneKey}
 use Rattle.stream_meaning.specs.Laws.{below, of_key}
 use Rattle.stream_meaning.proofs.ForkLaws.{fork_events}
-use Rattle.stream_meaning.proofs.KeptEvents.{all-append, HistoryAll, OutputAll, outputs_kept}
-use Rattle.stream_meaning.proofs.KeyLaws.{all-weaker, plan_leaves, output_one, outputs_all, outputs_none}
+use Rattle.stream_meaning.proofs.KeptEvents.{all-append, all-weaker, HistoryAll, OutputAll, outputs_kept}
+use Rattle.stream_meaning.proofs.KeyLaws.{plan_leaves, output_one, outputs_all, outputs_none}
 use Rattle.stream_meaning.proofs.OutputLaws.{outputs_said}
 use Rattle.key_laws.specs.Apart.{has_all}
 use Rattle.key_laws.proofs.KeyValues.{IsOf, key_is, key_same, of_is_kept, part_of, part_is}

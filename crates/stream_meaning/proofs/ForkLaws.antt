@@ -39,7 +39,7 @@ without_step true key new keys e f = (f, differs (same_key new key) refl)
 pub not_among-before : (key new : List Value) (keys : List (List Value)) → is_among key (with_key new keys) ≡ false → (is_among key keys ≡ false) × (same_key new key ≡ false)
 not_among-before key new keys f = without_step (is_among new keys) key new keys refl f
 
-event_step : (t : Bool) (event : Event) (h : History) → t ≡ false → TicksAlone h → TicksAlone (cond t (h ▸ In (One event)) h)
+pub event_step : (t : Bool) (event : Event) (h : History) → t ≡ false → TicksAlone h → TicksAlone (cond t (h ▸ In (One event)) h)
 event_step true event h e alone = absurd (true≢false e)
 event_step false event h e alone = alone
 
@@ -65,7 +65,7 @@ distinct-append (first ∷ keys) key apart e =
     all-append [] key first all e = (e, tt)
     all-append (next ∷ keys) key first all e = (all.0, all-append keys key first all.1 e)
 
-distinct_step : (t : Bool) (keys : List (List Value)) (key : List Value) → is_among key keys ≡ t → IsDistinct same_key keys → IsDistinct same_key (cond t keys (keys ++ key ∷ []))
+pub distinct_step : (t : Bool) (keys : List (List Value)) (key : List Value) → is_among key keys ≡ t → IsDistinct same_key keys → IsDistinct same_key (cond t keys (keys ++ key ∷ []))
 distinct_step true keys key e apart = apart
 distinct_step false keys key e apart = distinct-append keys key apart e
 

@@ -30,11 +30,15 @@ pub all-append : {A : Type 0} (P : A → Type 0) (xs ys : List A) → AllByRecur
 all-append P [] ys h k = k
 all-append P (x ∷ xs) ys h k = (h.0, all-append P xs ys h.1 k)
 
+pub all-weaker : {A : Type 0} (P Q : A → Type 0) → ((x : A) → P x → Q x) → (xs : List A) → AllByRecursion P xs → AllByRecursion Q xs
+all-weaker P Q f [] k = tt
+all-weaker P Q f (x ∷ xs) k = (f x k.0, all-weaker P Q f xs k.1)
+
 all-cond : {A : Type 0} (P : A → Type 0) (t : Bool) (xs ys : List A) → AllByRecursion P xs → AllByRecursion P ys → AllByRecursion P (cond t xs ys)
 all-cond P true xs ys h k = h
 all-cond P false xs ys h k = k
 
-all-filter : {A : Type 0} (P : A → Type 0) (p : A → Bool) (xs : List A) → AllByRecursion P xs → AllByRecursion P (filter p xs)
+pub all-filter : {A : Type 0} (P : A → Type 0) (p : A → Bool) (xs : List A) → AllByRecursion P xs → AllByRecursion P (filter p xs)
 all-filter P p [] h = tt
 all-filter P p (x ∷ xs) h = let rest = all-filter P p xs h.1 in all-cond P (p x) (x ∷ filter p xs) (filter p xs) (h.0, rest) rest
 

@@ -31,7 +31,7 @@ use Rattle.stream_meaning.specs.Keys.{item_has, output_has, same_index_field, se
 use Rattle.stream_meaning.specs.KeyLaws.{one_by, keeps_keys, outputs_for, ActsByForks, KeysActByForks, KeysHaveTheirOutputs, HasOneKey, OutputsHaveOneKey}
 use Rattle.stream_meaning.specs.Laws.{below, of_key, is_among}
 use Rattle.stream_meaning.proofs.ForkLaws.{keys_apart, fork_events, unseen_fork}
-use Rattle.stream_meaning.proofs.KeptEvents.{all-append, ItemAll, HistoryAll, OutputAll, Leaves, StreamLeaves, PlanLeaves, IsKept, outputs_kept}
+use Rattle.stream_meaning.proofs.KeptEvents.{all-append, all-weaker, ItemAll, HistoryAll, OutputAll, Leaves, StreamLeaves, PlanLeaves, IsKept, outputs_kept}
 use Rattle.stream_meaning.proofs.OutputLaws.{outputs_said}
 use Rattle.stream_meaning.proofs.TickLaws.{plan_quiet}
 
@@ -66,10 +66,6 @@ filter_all p (o ∷ os) k = filter_one p true o os os k.0 (filter_all p os k.1)
 filter_none : (p : Output → Bool) (os : List Output) → AllByRecursion (λ o. p o ≡ false) os → filter p os ≡ []
 filter_none p [] k = refl
 filter_none p (o ∷ os) k = filter_one p false o os [] k.0 (filter_none p os k.1)
-
-pub all-weaker : {A : Type 0} (P Q : A → Type 0) → ((x : A) → P x → Q x) → (xs : List A) → AllByRecursion P xs → AllByRecursion Q xs
-all-weaker P Q f [] k = tt
-all-weaker P Q f (x ∷ xs) k = (f x k.0, all-weaker P Q f xs k.1)
 
 -- ---- what a set changes
 

@@ -16,7 +16,7 @@ use Rattle.stream_meaning.specs.Branches.{fork_keys}
 use Rattle.stream_meaning.specs.Laws.{is_among}
 use Rattle.stream_meaning.specs.KeyOrderLaws.{keys_that_came, KeysAreThoseThatCame, lengthened, AddsKeys, KeysStayInOrder}
 
-among_is : (key : List Value) (keys : List (List Value)) → is_among key keys ≡ true → Contains keys key
+pub among_is : (key : List Value) (keys : List (List Value)) → is_among key keys ≡ true → Contains keys key
 among_is key keys e = Contains-from_any {eq = λ a b. same_key b a} (λ a b same. sym ((same_key_decides b a).0 same)) key keys e
 
 pushed : (keys : List (List Value)) (new key : List Value) → Contains keys key ⊎ (new ≡ key) → Contains (keys ++ new ∷ []) key

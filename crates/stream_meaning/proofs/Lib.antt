@@ -17,3 +17,6 @@ pub mod PlanFirstLaws
 pub mod FoldLaws
 pub mod KeptEvents
 pub mod KeyLaws
+pub mod EndLaws
+pub mod LiveLaws
+pub mod StepLaws

@@ -7,14 +7,14 @@ use Rattle.std.proofs.lemmas.Bool.{eqb-true}
 use Rattle.ev_types.specs.declared.event.Event.{Event}
 use Rattle.ev_types.specs.declared.item.Item.{Item}
 use Rattle.stream_plan.specs.Tree.{KindTree, Rollup, Batch, Stable, Coalesce}
-use Rattle.stream_meaning.specs.History.{History, ◌▸◌, Tick, begun, moment_of, window_of}
+use Rattle.stream_meaning.specs.History.{History, ◌▸◌, Tick, begun, moment_of, window_of, is_at}
 use Rattle.stream_meaning.specs.Came.{Timed, events_in, timed_events, each, vector, last_of}
 use Rattle.stream_meaning.specs.Runs.{run, run_began}
 use Rattle.stream_meaning.specs.Rates.{events_now, rolls_into, allowed, one_if}
 use Rattle.stream_meaning.specs.Coalesce.{coalesced}
 use Rattle.stream_meaning.specs.Emission.{to_children}
 use Rattle.stream_meaning.specs.Deadlines.{some_if, is_there, next_window, next_deadline}
-use Rattle.stream_meaning.specs.DeadlineLaws.{HasRange, is_any, emits, is_at}
+use Rattle.stream_meaning.specs.DeadlineLaws.{HasRange, is_any, emits}
 use Rattle.stream_meaning.proofs.MomentLaws.{ne-zero}
 use Rattle.stream_meaning.proofs.WindowLaws.{turns_at, stays_at}
 

@@ -5,12 +5,12 @@ use Rattle.std.specs.Prelude.{IfSome}
 use Rattle.std.specs.List.{list_any}
 use Rattle.std.proofs.lemmas.Bool.Decides.{nat_tests}
 use Rattle.stream_plan.specs.Tree.{KindTree, Index, StreamTree, StreamTrees, stream, none, also}
-use Rattle.stream_meaning.specs.History.{History, ◌▸◌, Tick, moment_of}
+use Rattle.stream_meaning.specs.History.{History, ◌▸◌, Tick, moment_of, is_at}
 use Rattle.stream_meaning.specs.Emission.{Branch, Children, Otherwise, Fork, Emission, emissions}
 use Rattle.stream_meaning.specs.Branches.{after_emissions, child_history, branches}
 use Rattle.stream_meaning.specs.Outputs.{Effect, emits_if_any, marked, BranchEffects, at_tick, at_emissions, branch_effects, stream_effects, plan_effects}
 use Rattle.stream_meaning.specs.Deadlines.{next_deadline, earlier, earliest, deadline_of, stream_deadline, plan_deadline}
-use Rattle.stream_meaning.specs.DeadlineLaws.{is_any, emits, is_at}
+use Rattle.stream_meaning.specs.DeadlineLaws.{is_any, emits}
 use Rattle.stream_meaning.specs.DueLaws.{has_effects, HasStreamRanges, HasRanges, PlanDeadlinesAreMet, PlanDeadlinesStay}
 use Rattle.stream_meaning.proofs.MomentLaws.{branch_moments}
 use Rattle.stream_meaning.proofs.MetLaws.{deadlines_met}

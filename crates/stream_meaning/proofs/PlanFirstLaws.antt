@@ -10,11 +10,11 @@ use Rattle.stream_plan.specs.Kinds.{passes_on, is_in_range, is_count, is_secs}
 use Rattle.stream_plan.specs.Sound.{IsInRange}
 use Rattle.stream_plan.specs.Tree.{KindTree, Rollup, Batch, Coalesce, StreamTree, StreamTrees, stream, none, also}
 use Rattle.stream_plan.proofs.SoundLaws.{faultless_is_sound}
-use Rattle.stream_meaning.specs.History.{History, moment_of}
+use Rattle.stream_meaning.specs.History.{History, moment_of, is_at}
 use Rattle.stream_meaning.specs.Emission.{Branch, Children, Otherwise, Fork}
 use Rattle.stream_meaning.specs.Branches.{child_history, branches}
 use Rattle.stream_meaning.specs.Deadlines.{next_deadline, earlier, earliest, deadline_of, stream_deadline, plan_deadline}
-use Rattle.stream_meaning.specs.DeadlineLaws.{HasRange, is_at, waited}
+use Rattle.stream_meaning.specs.DeadlineLaws.{HasRange, waited}
 use Rattle.stream_meaning.specs.DueLaws.{HasStreamRanges, HasRanges, IsPlanStill, PlanDeadlinesAreFirst, deadlines_of, stream_deadlines, plan_deadlines, IsEarliest, PlanDeadlinesAreEarliest, FaultlessPlansHaveRanges, FaultlessPlansMeetDeadlines}
 use Rattle.stream_meaning.proofs.StayLaws.{moment-waited}
 use Rattle.stream_meaning.proofs.PlanDueLaws.{plan_ahead, plan_met, plan_stays}

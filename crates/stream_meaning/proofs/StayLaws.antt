@@ -13,13 +13,13 @@ use Rattle.ev_types.specs.declared.item.Item.TheVariants.{One, Many}
 use Rattle.ev_types.specs.Expiry.{is_over, is_late, is_expired}
 use Rattle.index_log.specs.Live.{placed, placed_onto}
 use Rattle.stream_plan.specs.Tree.{KindTree, Rollup, Batch, Stable, Coalesce}
-use Rattle.stream_meaning.specs.History.{History, since, ◌▸◌, Tick, In, begun, moment_of, window_of}
+use Rattle.stream_meaning.specs.History.{History, since, ◌▸◌, Tick, In, begun, moment_of, window_of, is_at}
 use Rattle.stream_meaning.specs.Came.{Timed, events_in, timed_events}
 use Rattle.stream_meaning.specs.Runs.{run, run_began}
 use Rattle.stream_meaning.specs.Rates.{events_now, rolls_into, one_if}
 use Rattle.stream_meaning.specs.Coalesce.{coalesced, newest, replaces, still_passes, event_of}
 use Rattle.stream_meaning.specs.Deadlines.{some_if, is_there, next_window, next_deadline}
-use Rattle.stream_meaning.specs.DeadlineLaws.{HasRange, emits, is_at, waited, IsStill, DeadlinesAreFirst}
+use Rattle.stream_meaning.specs.DeadlineLaws.{HasRange, emits, waited, IsStill, DeadlinesAreFirst}
 use Rattle.stream_meaning.proofs.MomentLaws.{begun-≤}
 use Rattle.stream_meaning.proofs.WindowLaws.{next_at, no_later_events, rolls_into-tick}
 use Rattle.stream_meaning.proofs.MetLaws.{is_at-some_if, and_true, deadlines_met}

@@ -1,7 +1,7 @@
 -- What a deadline says: when a stream passes something on if only ticks follow.
-use Rattle.std.specs.Prelude.{◌≡◌, ℕ, zero, suc, ◌+◌, ◌<◌, ◌==◌, Bool, true, false, List, [], ◌∷◌, Option, Some, None, IfSome}
+use Rattle.std.specs.Prelude.{◌≡◌, ℕ, zero, suc, ◌+◌, ◌<◌, Bool, true, false, List, [], ◌∷◌, IfSome}
 use Rattle.stream_plan.specs.Tree.{KindTree, Rollup, Batch, Coalesce}
-use Rattle.stream_meaning.specs.History.{History, ◌▸◌, Tick, moment_of}
+use Rattle.stream_meaning.specs.History.{History, ◌▸◌, Tick, moment_of, is_at}
 use Rattle.stream_meaning.specs.Emission.{Emission, emissions}
 use Rattle.stream_meaning.specs.Deadlines.{next_deadline}
 
@@ -24,10 +24,6 @@ is_any (emission ∷ more) = true
 -- something is passed on at the last entry
 abbrev pub emits : KindTree → History → Bool
 emits kind h = is_any (emissions kind h)
-
-abbrev pub is_at : ℕ → Option ℕ → Bool
-is_at moment None = false
-is_at moment (Some deadline) = moment == deadline
 
 abbrev pub DeadlinesLieAhead : Type 0
 DeadlinesLieAhead = (kind : KindTree) (h : History) → HasRange kind → IfSome (next_deadline kind h) (λ deadline. moment_of h < deadline)

@@ -3,12 +3,12 @@ use Rattle.std.specs.Prelude.{◌≡◌, ℕ, ◌+◌, ◌<◌, ◌≤◌, Bool,
 use Rattle.std.specs.List.{list_any, flat_map}
 use Rattle.stream_plan.specs.Faults.{first_fault}
 use Rattle.stream_plan.specs.Tree.{StreamTree, StreamTrees, stream, none, also}
-use Rattle.stream_meaning.specs.History.{History, ◌▸◌, Tick, moment_of}
+use Rattle.stream_meaning.specs.History.{History, ◌▸◌, Tick, moment_of, is_at}
 use Rattle.stream_meaning.specs.Emission.{Branch, Children, Otherwise, Fork}
 use Rattle.stream_meaning.specs.Branches.{child_history, branches}
 use Rattle.stream_meaning.specs.Outputs.{Effect, Emits, Due, Given, Put, plan_effects}
 use Rattle.stream_meaning.specs.Deadlines.{next_deadline, plan_deadline}
-use Rattle.stream_meaning.specs.DeadlineLaws.{HasRange, is_at, waited}
+use Rattle.stream_meaning.specs.DeadlineLaws.{HasRange, waited}
 
 abbrev pub is_emission : Effect → Bool
 is_emission Emits = true

@@ -1,5 +1,5 @@
 -- A history: all that has come to a stream since a first moment, in order.
-use Rattle.std.specs.Prelude.{ℕ, ◌+◌}
+use Rattle.std.specs.Prelude.{ℕ, ◌+◌, ◌==◌, Bool, false, Option, Some, None}
 use Rattle.list_laws.specs.Window.{window_number}
 pub use Rattle.stream_meaning.specs.declared.entry.Entry.{Entry}
 pub use Rattle.stream_meaning.specs.declared.entry.Entry.TheVariants.{Tick, Item as In}
@@ -23,6 +23,11 @@ moment_of (h ▸ In item) = moment_of h
 -- the number of the window of this many seconds in which its last entry lies; windows are counted from its begin
 abbrev pub window_of : ℕ → History → ℕ
 window_of secs h = window_number (moment_of h) (begun h) secs
+
+-- the moment is this one, where there is one
+abbrev pub is_at : ℕ → Option ℕ → Bool
+is_at moment None = false
+is_at moment (Some other) = moment == other
 
 -- nothing has come but ticks
 abbrev pub TicksAlone : History → Type 0

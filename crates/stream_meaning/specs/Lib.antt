@@ -1,6 +1,7 @@
 pub mod History
 pub mod Came
 pub mod Images
+pub mod Ends
 pub mod Runs
 pub mod Rates
 pub mod Windows
@@ -16,6 +17,7 @@ pub mod Examples
 pub mod IndexExamples
 pub mod WindowExamples
 pub mod ForkExamples
+pub mod EndExamples
 pub mod Keys
 pub mod Laws
 pub mod KeyLaws
@@ -27,3 +29,5 @@ pub mod CoalesceLaws
 pub mod GreatestLaws
 pub mod KeyOrderLaws
 pub mod FoldLaws
+pub mod EndLaws
+pub mod EndSteps

@@ -2,10 +2,15 @@
 //! index, all of a whole history of seconds and items. Nothing here runs; contracts above cite it.
 #![tactic(auto)]
 
+mod ends;
 mod entry;
 mod example;
 mod law;
 
+pub use ends::{
+    end_examples_are_computed, forks_end_with_their_keys, keys_end_after_silence,
+    live_forks_are_recent, live_forks_follow_entries, nothing_ends_without_idle,
+};
 pub use entry::Entry;
 pub use example::{
     examples_are_computed, fork_examples_are_computed, index_examples_are_computed,

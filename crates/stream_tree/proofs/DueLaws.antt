@@ -20,10 +20,10 @@ use Rattle.fork_by.specs.Table.{fork_keys as table_keys, fork_list, fork_dues, f
 use Rattle.step_count.specs.Count.{StepCount}
 use Rattle.stream_plan.specs.Tree.{StreamTrees}
 use Rattle.stream_meaning.specs.Deadlines.{plan_deadline}
-use Rattle.stream_meaning.specs.DeadlineLaws.{is_at as falls_at, waited}
+use Rattle.stream_meaning.specs.DeadlineLaws.{waited}
 use Rattle.stream_meaning.specs.DueLaws.{has_effects}
 use Rattle.stream_meaning.specs.declared.entry.Entry.TheVariants.{Tick}
-use Rattle.stream_meaning.specs.History.{History, ◌▸◌, moment_of, TicksAlone}
+use Rattle.stream_meaning.specs.History.{History, ◌▸◌, moment_of, is_at as falls_at, TicksAlone}
 use Rattle.stream_meaning.specs.Outputs.{Effect, Emits, Due, Given, Put, due_if_any, outputs_among, due_among, given_among, plan_effects}
 use Rattle.stream_meaning.proofs.PlanDueLaws.{plan_ahead, plan_met}
 use Rattle.stream_meaning.proofs.RootLaws.{plan_tick_rooted}

@@ -9,11 +9,10 @@ use Rattle.fork_by.specs.Table.{fork_list, fork_due}
 use Rattle.stream_plan.specs.Tree.{KindTree, Index, By, StreamTree, StreamTrees, stream, none, also}
 use Rattle.stream_meaning.specs.Branches.{after_emissions, child_history, branches, fork_keys}
 use Rattle.stream_meaning.specs.Deadlines.{plan_deadline}
-use Rattle.stream_meaning.specs.DeadlineLaws.{is_at}
 use Rattle.stream_meaning.specs.DueLaws.{has_effects, some_emits}
 use Rattle.stream_meaning.specs.Emission.{Branch, Children, Otherwise, Fork, Emission, emissions}
 use Rattle.stream_meaning.specs.declared.entry.Entry.TheVariants.{Tick}
-use Rattle.stream_meaning.specs.History.{History, ◌▸◌}
+use Rattle.stream_meaning.specs.History.{History, ◌▸◌, is_at}
 use Rattle.stream_meaning.specs.Outputs.{Effect, due_if_any, marked, branch_effects, own_effects, at_tick, at_emissions, stream_effects, plan_effects}
 use Rattle.stream_meaning.proofs.PlanDueLaws.{plan_ahead, plan_met, plan_stays}
 use Rattle.stream_meaning.proofs.RootLaws.{plan_tick_rooted}

@@ -1,0 +1,57 @@
+-- Small histories, and the forks of hosts in them that end after five seconds without an event.
+use Rattle.std.specs.Prelude.{◌≡◌, ℕ, Bool, true, false, codes, List, [], ◌∷◌, Option, Some, None}
+use Prim.Native.String.{String}
+use Rattle.ev_types.specs.declared.field.Field.TheVariants.{Host}
+use Rattle.ev_types.specs.declared.value.Value.TheVariants.{Text}
+use Rattle.stream_meaning.specs.History.{since}
+use Rattle.stream_meaning.specs.Ends.{KeyFork, end_of, ends_next, times_ended, live_forks}
+use Rattle.stream_meaning.specs.Small.{Step, Wait, Comes, followed, a, b}
+
+-- the fork of a host that had ended this often
+abbrev pub fork : String → ℕ → KeyFork
+fork host number = record { key = Text (codes host) ∷ []; number = number }
+
+-- what comes from second 100 on leaves these forks
+abbrev pub Leaves : Option ℕ → List Step → List KeyFork → Type 0
+Leaves idle steps forks = live_forks idle (Host ∷ []) (followed (since 100) steps) ≡ forks
+
+-- host "a" ends at the tick after all this
+abbrev pub EndsNext : List Step → Bool → Type 0
+EndsNext steps ends = ends_next (Some 5) (Host ∷ []) (Text (codes "a") ∷ []) (followed (since 100) steps) ≡ ends
+
+-- the next tick is the one of second 104, then that of 105, and then that of 106
+pub record EndOfKeyExample : Type 0 where
+  pub moment : end_of (Some 5) (Host ∷ []) (Text (codes "a") ∷ []) (followed (since 100) (Comes (a 100) ∷ Wait 2 ∷ [])) ≡ Some 105
+  pub before : EndsNext (Comes (a 100) ∷ Wait 3 ∷ []) false
+  pub at : EndsNext (Comes (a 100) ∷ Wait 4 ∷ []) true
+  pub after : EndsNext (Comes (a 100) ∷ Wait 5 ∷ []) false
+  pub other : EndsNext (Comes (b 100) ∷ Wait 4 ∷ []) false
+  pub unseen : EndsNext (Wait 4 ∷ []) false
+
+-- a fork is live one second before its end, and no more at it
+pub record EndOfForkExample : Type 0 where
+  pub before : Leaves (Some 5) (Comes (a 100) ∷ Wait 4 ∷ []) (fork "a" 0 ∷ [])
+  pub at : Leaves (Some 5) (Comes (a 100) ∷ Wait 5 ∷ []) []
+  pub without : Leaves None (Comes (a 100) ∷ Wait 5 ∷ []) (fork "a" 0 ∷ [])
+
+-- an event one second before the end puts it off
+pub record PutOffExample : Type 0 where
+  pub before : Leaves (Some 5) (Comes (a 100) ∷ Wait 4 ∷ Comes (a 104) ∷ Wait 4 ∷ []) (fork "a" 0 ∷ [])
+  pub at : Leaves (Some 5) (Comes (a 100) ∷ Wait 4 ∷ Comes (a 104) ∷ Wait 5 ∷ []) []
+
+-- an event at the second of the end comes after the tick, so it begins a new fork, which ends in its turn
+pub record SecondEndExample : Type 0 where
+  pub again : Leaves (Some 5) (Comes (a 100) ∷ Wait 5 ∷ Comes (a 105) ∷ Wait 4 ∷ []) (fork "a" 1 ∷ [])
+  pub ended : Leaves (Some 5) (Comes (a 100) ∷ Wait 5 ∷ Comes (a 105) ∷ Wait 5 ∷ []) []
+  pub count : times_ended (Some 5) (Host ∷ []) (Text (codes "a") ∷ []) (followed (since 100) (Comes (a 100) ∷ Wait 5 ∷ Comes (a 105) ∷ Wait 9 ∷ [])) ≡ 2
+
+-- each key ends by itself; two that came at one second end at one
+pub record TwoKeysExample : Type 0 where
+  pub apart : Leaves (Some 5) (Comes (a 100) ∷ Wait 1 ∷ Comes (b 101) ∷ Wait 4 ∷ []) (fork "b" 0 ∷ [])
+  pub tie : Leaves (Some 5) (Comes (a 100) ∷ Comes (b 100) ∷ Wait 4 ∷ []) (fork "a" 0 ∷ fork "b" 0 ∷ [])
+  pub both : Leaves (Some 5) (Comes (a 100) ∷ Comes (b 100) ∷ Wait 5 ∷ []) []
+
+-- the order is that of the first events of forks: a later event leaves it, and a new fork of a key comes last
+pub record LiveOrderExample : Type 0 where
+  pub kept : Leaves (Some 5) (Comes (a 100) ∷ Comes (b 100) ∷ Wait 1 ∷ Comes (a 101) ∷ []) (fork "a" 0 ∷ fork "b" 0 ∷ [])
+  pub last : Leaves (Some 5) (Comes (a 100) ∷ Wait 1 ∷ Comes (b 101) ∷ Wait 4 ∷ Comes (a 105) ∷ []) (fork "b" 0 ∷ fork "a" 1 ∷ [])

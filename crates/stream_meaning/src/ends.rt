@@ -1,0 +1,74 @@
+ghost use Rattle.stream_meaning.specs.EndExamples.{
+  EndOfKeyExample,
+  EndOfForkExample,
+  PutOffExample,
+  SecondEndExample,
+  TwoKeysExample,
+  LiveOrderExample,
+};
+ghost use Rattle.stream_meaning.specs.EndLaws.{
+  LastMomentsAreLast,
+  EndsFollowSilence,
+  EndsAreApart,
+  NewForksHaveTicks,
+  ForksComeByNumber,
+  EndedForksReceiveTicks,
+  NothingEndsWithoutIdle,
+  LiveKeysAreApart,
+  LiveForksAreTheLatest,
+  LiveKeysAreRecent,
+};
+ghost use Rattle.stream_meaning.specs.EndSteps.{
+  LiveForksFollowEntries,
+  LiveKeysFollowEntries,
+  TimedKeysFollowEntries,
+  FreshKeysGoByMoments,
+};
+
+/// Which forks end, and when, in small histories, as the definitions compute it.
+pub fn end_examples_are_computed()
+    ensures end_of_key { EndOfKeyExample }
+    ensures end_of_fork { EndOfForkExample }
+    ensures put_off { PutOffExample }
+    ensures second_end { SecondEndExample }
+    ensures two_keys { TwoKeysExample }
+    ensures live_order { LiveOrderExample }
+{}
+
+/// A key ends at a tick exactly if its last event came `idle` seconds before, so an event of it comes between two of its
+/// ends.
+pub fn keys_end_after_silence()
+    ensures last { LastMomentsAreLast }
+    ensures ends { EndsFollowSilence }
+    ensures apart { EndsAreApart }
+{}
+
+/// A fork has ticks alone before its first event and after its key has ended. The forks of a key come by their numbers.
+pub fn forks_end_with_their_keys()
+    ensures new { NewForksHaveTicks }
+    ensures numbers { ForksComeByNumber }
+    ensures ended { EndedForksReceiveTicks }
+{}
+
+/// Without `idle` no key ends: each key that came has one fork, with all its events, and all forks are live.
+pub fn nothing_ends_without_idle()
+    ensures { NothingEndsWithoutIdle }
+{}
+
+/// No key has two live forks. Exactly the keys have one whose last event came less than `idle` seconds ago, and its
+/// number is how often the key ended.
+pub fn live_forks_are_recent()
+    ensures apart { LiveKeysAreApart }
+    ensures latest { LiveForksAreTheLatest }
+    ensures recent { LiveKeysAreRecent }
+{}
+
+/// What each entry does to the live forks: a tick removes those whose key ends at it, and an event adds the fork of its
+/// key if that is not there. So with their keys, and with the moments at which the last events of these came. A key ends
+/// by a moment if its last event came `idle` seconds before it or earlier.
+pub fn live_forks_follow_entries()
+    ensures forks { LiveForksFollowEntries }
+    ensures keys { LiveKeysFollowEntries }
+    ensures timed { TimedKeysFollowEntries }
+    ensures moments { FreshKeysGoByMoments }
+{}
