@@ -1,16 +1,34 @@
--- What a built regular expression finds, and parts of a list of them.
-use Rattle.std.proofs.Common.{◌≡◌, ℕ, suc, ◌<◌, ◌≤◌, true, List, [], ◌∷◌, ◌++◌, take, drop, length, get_or, Option, Some, None, IsSomeAnd, is_some, refl, ap, arith, chars, length-append}
-use Rattle.regex_syntax.specs.Grammar.{read}
+-- What a built regular expression and its states find, and parts of a list of them.
+use Rattle.std.proofs.Common.{◌≡◌, ℕ, suc, ◌<◌, ◌≤◌, true, cond, List, [], ◌∷◌, ◌++◌, take, drop, length, get_or, Option, Some, None, IsSomeAnd, is_some, option_map, inl, inr, refl, sym, ap, ◌∙◌, arith, chars, length-append}
+use Rattle.std.proofs.lemmas.Bool.{cond-true, cond-false, cases_Bool}
+use Rattle.std.proofs.lemmas.Option.{none-some, same_Some}
+use Rattle.regex_hir.specs.Re.{Re, Trace, Rest, attempt, accept}
+use Rattle.regex_hir.specs.Find.{Match, find, first_between}
+use Rattle.regex_hir.specs.Text.{is_boundary}
+use Rattle.regex_hir.specs.Meaning.{meaning}
+use Rattle.regex_hir.specs.declared.hir.Hir.{Hir}
+use Rattle.regex_hir.proofs.FindLemmas.{IsFirst, IsFirst-of_first_between, first_between_of_IsFirst, first_between_none, first_between_cong, none_of_first_between}
+use Rattle.regex_nfa.specs.declared.nfa.Nfa.{Nfa}
+use Rattle.regex_syntax.specs.Grammar.{Names, read}
+use Rattle.regex_vm.specs.Found.{first_match, span}
 use Rattle.regex.specs.Names.{names_of}
 use Rattle.regex.specs.Patterns.{find_str, default_config, Reads}
 use Rattle.regex.specs.Strings.{regex_pattern}
 use Rattle.regex.specs.declared.string.regex.Regex.{Regex}
 use Rattle.regex.proofs.ForCallers.{is_match_alike}
-use Rattle.pred_eval.specs.Search.{is_found, finds, IsReadFrom, AreReadFrom}
+use Rattle.pred_eval.specs.Search.{is_found, finds, IsReadFrom, AreReadFrom, HasMatchesOf}
 
 of_some : {A : Type 0} (o : Option A) (P : A → Type 0) (Q : Option A → Type 0) → ((x : A) → P x → Q (Some x)) → IsSomeAnd o P → Q o
 of_some None P Q f h = absurd h
 of_some (Some x) P Q f h = f x h
+
+-- a tree finds what the text that is read as it says
+finds_by_tree : (pattern : List ℕ) (tree : Hir) (names : Names) → Reads default_config pattern tree names → (text : List ℕ) → ((k : ℕ) → get_or text k 0 < 256) →
+    is_some (find_str (meaning tree) text 0) ≡ finds pattern text
+unfolding Reads
+finds_by_tree pattern tree names reads text bytes =
+    of_some (read default_config (chars pattern)) _ (λ o. is_some (find_str (meaning tree) text 0) ≡ is_found o text)
+    (λ x h. is_match_alike h.1 text bytes true 0) reads
 
 module _ (pattern : List ℕ) (regex : Regex) (from : IsReadFrom pattern regex) where
   reads : Reads default_config pattern regex.pattern.program.hir (names_of regex.pattern.names.items)
@@ -18,10 +36,55 @@ module _ (pattern : List ℕ) (regex : Regex) (from : IsReadFrom pattern regex) 
 
   -- the regular expression finds what its text says
   pub finds_what_is_read : (text : List ℕ) → ((k : ℕ) → get_or text k 0 < 256) → is_some (find_str (regex_pattern regex) text 0) ≡ finds pattern text
-  unfolding Reads
-  finds_what_is_read text bytes =
-      of_some (read default_config (chars pattern)) _ (λ o. is_some (find_str (regex_pattern regex) text 0) ≡ is_found o text)
-      (λ x h. is_match_alike h.1 text bytes true 0) reads
+  finds_what_is_read text bytes = finds_by_tree pattern regex.pattern.program.hir _ reads text bytes
+
+module _ (re : Re) (text : List ℕ) where
+  within_text : Rest
+  within_text i = cond (is_boundary text i) (attempt text re accept i) None
+
+  none_within : (i : ℕ) → attempt text re accept i ≡ None → within_text i ≡ None
+  unfolding within_text
+  none_within i none = elim (cases_Bool (is_boundary text i)) [
+    | inl begins ↦ cond-true _ _ None begins ∙ none
+    | inr within ↦ cond-false _ _ None within
+  ]
+
+  -- what is found in the bytes is found between characters, if it begins there
+  found_between : (o : Option Match) → find re text 0 ≡ o → ((m : Match) → o ≡ Some m → is_boundary text m.start ≡ true) → find_str re text 0 ≡ o
+  unfolding find find_str within_text
+  found_between None e begins = first_between_none within_text 0 (length text) (λ i low high. none_within i (none_of_first_between _ 0 (length text) e i low high))
+  found_between (Some m) e begins =
+      let first = IsFirst-of_first_between _ 0 (length text) m e in
+      first_between_of_IsFirst within_text 0 (length text) m (record {
+        from = first.from;
+        to = first.to;
+        here = cond-true _ _ None (begins m refl) ∙ first.here;
+        before = λ i low high. none_within i (first.before i low high);
+      })
+
+module _ (pattern : List ℕ) (states : Nfa) (of : HasMatchesOf pattern states) (text : List ℕ) (bytes : (k : ℕ) → get_or text k 0 < 256) where
+  found_in_bytes : first_match states text (length text) 0 (length text) ≡ find (meaning of.tree) text 0
+  unfolding find
+  found_in_bytes = first_between_cong _ _ 0 (length text) (λ i _ _. of.same text i)
+
+  found_alike : (o : Option Match) → first_match states text (length text) 0 (length text) ≡ o → ((m : Match) → o ≡ Some m → is_boundary text m.start ≡ true) →
+      is_some o ≡ finds pattern text
+  found_alike o e begins =
+      ap is_some (sym (found_between (meaning of.tree) text o (sym found_in_bytes ∙ e) begins)) ∙ finds_by_tree pattern of.tree of.names of.read text bytes
+
+  spans_alike : (o : Option Match) → first_match states text (length text) 0 (length text) ≡ o → (spanned : Option (ℕ × ℕ)) → spanned ≡ option_map span o →
+      ((s : ℕ × ℕ) → spanned ≡ Some s → is_boundary text s.0 ≡ true) → is_some spanned ≡ finds pattern text
+  spans_alike None e spanned same begins = ap is_some same ∙ found_alike None e (λ m some. absurd (none-some m some))
+  spans_alike (Some m) e spanned same begins =
+      ap is_some same ∙ found_alike (Some m) e (λ n some. ap (λ (n : Match). is_boundary text n.start) (sym (same_Some _ _ some)) ∙ begins (span m) same)
+
+  -- the states have a match exactly where the regular expression is found, if theirs begins between characters
+  pub states_find : (hay : List ℕ) (end : ℕ) → text ≡ hay → length text ≡ end → (spanned : Option (ℕ × ℕ)) → spanned ≡ option_map span (first_match states hay end 0 end) →
+      ((s : ℕ × ℕ) → spanned ≡ Some s → is_boundary text s.0 ≡ true) → is_some spanned ≡ finds pattern text
+  states_find hay end is long spanned same begins =
+      spans_alike _ refl spanned
+      (same ∙ ap (λ hay. option_map span (first_match states hay end 0 end)) (sym is) ∙ ap (λ end. option_map span (first_match states text end 0 end)) (sym long))
+      begins
 
 pub read_length : (patterns : List (List ℕ)) (regexes : List Regex) → AreReadFrom patterns regexes → length patterns ≡ length regexes
 read_length [] [] h = refl

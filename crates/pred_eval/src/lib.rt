@@ -1,6 +1,7 @@
 //! Rules about events, and whether an event meets one.
 #![tactic(auto)]
 
+mod finder;
 mod host;
 mod patterns;
 mod pred;
@@ -8,6 +9,7 @@ mod rule;
 mod truth;
 mod wild;
 
+pub use finder::Finder;
 pub use patterns::{BuildFault, ListPatterns, PatternAnswer, Patterns, RegexPatterns, build_all};
 pub use pred::{Pred, append_texts};
 pub use rule::{Ordering, Rule, Rules};

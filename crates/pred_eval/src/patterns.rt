@@ -4,6 +4,7 @@ ghost use Rattle.pred_eval.specs.Building.{IsAnswerTo, IsCounted, refused_by, te
 ghost use Rattle.pred_eval.specs.Search.{AreReadFrom};
 ghost use Rattle.pred_eval.specs.declared.patterns.BuildFault.TheVariants.{Memory as out_of_memory};
 
+use crate::Finder;
 use ev_types::{Memory, Text, Texts};
 use regex::{Error, Regex};
 use std::alloc::{AllocFailed, Global};
@@ -135,7 +136,7 @@ pub fn build_all<P: Patterns>(
     alloc: Global,
     texts: &[&Text],
     patterns: &mut P,
-) -> Result<Vec<Regex>, BuildFault>
+) -> Result<Vec<Finder>, BuildFault>
     requires { length texts.now < 2 ^ 32 }
     ensures built { IfOk result (λ regexes. AreReadFrom (texts_of texts.now) regexes.items) }
     ensures cause { HasCause (texts_of texts.now) (P.report patterns.old).refusals
@@ -149,7 +150,7 @@ pub fn build_all<P: Patterns>(
     let mut number: u32 = 0;
     for text in texts {
         match patterns.build(alloc, text) {
-            PatternAnswer::Built(regex) => built.push(regex)?,
+            PatternAnswer::Built(regex) => built.push(Finder::new(alloc, regex)?)?,
             PatternAnswer::Refused => return Err(BuildFault::Pattern { number }),
             PatternAnswer::Memory => return Err(BuildFault::Memory),
         }

@@ -10,9 +10,8 @@ ghost use Rattle.pred_eval.specs.Building.{texts_of, HasCause, refused_of};
 use crate::host::asked_host;
 use crate::patterns::build_all;
 use crate::truth::rule_holds;
-use crate::{BuildFault, Patterns, Rule, Rules};
+use crate::{BuildFault, Finder, Patterns, Rule, Rules};
 use ev_types::{Event, Memory, Text, Value};
-use regex::Regex;
 use std::alloc::Global;
 use std::marker::Model;
 
@@ -20,7 +19,7 @@ use std::marker::Model;
 #[derive(Drop)]
 pub struct Pred {
     rule: Rule,
-    patterns: Vec<Regex>,
+    patterns: Vec<Finder>,
 }
 
 impl Model for Pred {
@@ -125,7 +124,7 @@ fn build_patterns<P: Patterns>(
     alloc: Global,
     rule: &Rule,
     patterns: &mut P,
-) -> Result<Vec<Regex>, BuildFault>
+) -> Result<Vec<Finder>, BuildFault>
     requires { length (searches (tree_of rule.now)) < 2 ^ 32 }
     ensures built { IfOk result (λ regexes. AreReadFrom
         (searches (tree_of rule.now)) regexes.items) }

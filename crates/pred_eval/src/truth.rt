@@ -2,13 +2,12 @@ ghost use Rattle.std.specs.Prelude.{◌≡◌, ℕ, min, List, [], ◌∷◌, le
 ghost use Rattle.list_laws.specs.Counts.{greatest};
 ghost use Rattle.pred_eval.specs.Tree.{tree_of, trees_in};
 ghost use Rattle.pred_eval.specs.Truth.{holds, all_hold, any_holds, is_text_with, searches, searches_of};
-ghost use Rattle.pred_eval.specs.Search.{finds, IsReadFrom, AreReadFrom};
+ghost use Rattle.pred_eval.specs.Search.{finds, AreReadFrom};
 ghost use Rattle.pred_eval.specs.Wild.{is_wild};
 
 use crate::wild::is_wild;
-use crate::{Rule, Rules};
+use crate::{Finder, Rule, Rules};
 use ev_types::{Event, Memory, Text, field_is, field_number, field_text};
-use regex::Regex;
 use std::alloc::Global;
 
 /// Whether the event meets the rule, where these are its regular expressions, in the order in which they are written;
@@ -16,7 +15,7 @@ use std::alloc::Global;
 pub fn rule_holds(
     alloc: Global,
     rule: &Rule,
-    patterns: &[Regex],
+    patterns: &[Finder],
     event: &Event,
 ) -> Result<bool, Memory>
     ensures truth { AreReadFrom (searches (tree_of rule.now)) patterns.now →
@@ -27,7 +26,7 @@ pub fn rule_holds(
 }
 
 #[cycle(meets)]
-fn meets(alloc: Global, rule: &Rule, patterns: &[Regex], event: &Event) -> Result<bool, Memory>
+fn meets(alloc: Global, rule: &Rule, patterns: &[Finder], event: &Event) -> Result<bool, Memory>
     ensures truth { AreReadFrom (searches (tree_of rule.now)) patterns.now →
         IfOk result (λ met. met ≡ holds (tree_of rule.now) event.now) }
     ensures memory { searches (tree_of rule.now) ≡ [] → IsOk result }
@@ -60,7 +59,7 @@ fn meets(alloc: Global, rule: &Rule, patterns: &[Regex], event: &Event) -> Resul
 fn meets_all(
     alloc: Global,
     rules: &Rules,
-    patterns: &[Regex],
+    patterns: &[Finder],
     event: &Event,
 ) -> Result<bool, Memory>
     ensures truth { AreReadFrom (searches_of (trees_in rules.now.items)) patterns.now →
@@ -83,7 +82,7 @@ fn meets_all(
 fn meets_any(
     alloc: Global,
     rules: &Rules,
-    patterns: &[Regex],
+    patterns: &[Finder],
     event: &Event,
 ) -> Result<bool, Memory>
     ensures truth { AreReadFrom (searches_of (trees_in rules.now.items)) patterns.now →
@@ -103,7 +102,7 @@ fn meets_any(
 }
 
 // The patterns of the rule, and those of the rules after it.
-fn split_patterns<'a>(rule: &Rule, patterns: &'a [Regex]) -> (&'a [Regex], &'a [Regex])
+fn split_patterns<'a>(rule: &Rule, patterns: &'a [Finder]) -> (&'a [Finder], &'a [Finder])
     ensures own { length (searches (tree_of rule.now)) ≤ length patterns.now →
         result.0.now ≡ take (length (searches (tree_of rule.now))) patterns.now }
     ensures later { length (searches (tree_of rule.now)) ≤ length patterns.now →
@@ -146,21 +145,13 @@ fn count_patterns(rules: &Rules) -> usize
 }
 
 // Whether the first of the patterns is found in the text, where there is one.
-fn search(alloc: Global, patterns: &[Regex], text: Option<&Text>) -> Result<bool, Memory>
+fn search(alloc: Global, patterns: &[Finder], text: Option<&Text>) -> Result<bool, Memory>
     ensures { IfOk result (λ found. (pattern : List ℕ) →
         AreReadFrom (pattern ∷ []) patterns.now →
         found ≡ is_text_with (finds pattern) (option_copied text.entry)) }
 {
     match (patterns.first(), text) {
-        (Some(regex), Some(text)) => is_found(alloc, regex, text.as_str()),
+        (Some(finder), Some(text)) => finder.is_found(alloc, text.as_str()),
         _ => Ok(false),
     }
-}
-
-fn is_found(alloc: Global, regex: &Regex, text: &str) -> Result<bool, Memory>
-    ensures { IfOk result (λ found. (pattern : List ℕ) → IsReadFrom pattern regex.now →
-        found ≡ finds pattern text.now) }
-{
-    let mut matcher = regex.matcher(alloc)?;
-    Ok(matcher.is_match(text))
 }

@@ -14,8 +14,7 @@ ghost use Rattle.stream_plan.specs.Sound.{IsSound};
 
 use crate::{CheckedPlan, Kind, Plan, Stream};
 use ev_types::{Memory, Text};
-use pred_eval::{BuildFault, Patterns, append_texts, build_all};
-use regex::Regex;
+use pred_eval::{BuildFault, Finder, Patterns, append_texts, build_all};
 use std::alloc::Global;
 use std::marker::Model;
 
@@ -24,7 +23,7 @@ use std::marker::Model;
 #[derive(Drop)]
 pub struct ReadyPlan {
     plan: Plan,
-    patterns: Vec<Regex>,
+    patterns: Vec<Finder>,
 }
 
 impl Model for ReadyPlan {
@@ -56,7 +55,7 @@ impl ReadyPlan {
     }
 
     /// Its regular expressions.
-    pub fn patterns(&self) -> &[Regex]
+    pub fn patterns(&self) -> &[Finder]
         ensures { AreReadFrom (plan_patterns self.now) result.now }
     {
         self.patterns.as_slice()
@@ -88,7 +87,7 @@ fn build_patterns<P: Patterns>(
     alloc: Global,
     plan: &Plan,
     patterns: &mut P,
-) -> Result<Vec<Regex>, BuildFault>
+) -> Result<Vec<Finder>, BuildFault>
     requires { length (plan_patterns (plan_tree plan.now)) < 2 ^ 32 }
     ensures built { IfOk result
         (λ regexes. AreReadFrom (plan_patterns (plan_tree plan.now)) regexes.items) }

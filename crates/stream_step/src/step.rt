@@ -17,8 +17,7 @@ use crate::{Branch, Passed, State};
 use ev_types::{
     Emission, Emissions, Event, Events, Fold, Item, Memory, Notice, Output, Outputs, key_of,
 };
-use pred_eval::{Rule, rule_holds};
-use regex::Regex;
+use pred_eval::{Finder, Rule, rule_holds};
 use std::alloc::Global;
 use stream_meaning::Entry;
 use stream_plan::Kind;
@@ -29,7 +28,7 @@ use stream_states::flow_streams::{apply_defaults, apply_fold, apply_sets, apply_
 #[derive(Drop)]
 pub struct Context<'a> {
     /// The regular expressions of the plan.
-    pub patterns: &'a [Regex],
+    pub patterns: &'a [Finder],
     /// The moment of the entry, in seconds since 1970.
     pub moment: u64,
     /// The moment at which the whole tree began. A fork that is made now begins with it, since a fork has received all
@@ -227,7 +226,7 @@ fn pass_on(
     kind: &Kind,
     state: &State,
     entry: &Entry,
-    patterns: &[Regex],
+    patterns: &[Finder],
 ) -> Result<Passed, Memory>
     ensures passes { IfOk result (λ passed. (texts : List (List ℕ)) (h : History) →
         AreReadFrom texts patterns.now →
@@ -272,7 +271,7 @@ fn pass_event(
     kind: &Kind,
     state: &State,
     event: &Event,
-    patterns: &[Regex],
+    patterns: &[Finder],
 ) -> Result<Passed, Memory>
     ensures { IfOk result (λ passed. (texts : List (List ℕ)) (h : History) →
         AreReadFrom texts patterns.now →
@@ -314,7 +313,7 @@ fn branch_of_rule(
     rule: &Rule,
     state: &State,
     event: &Event,
-    patterns: &[Regex],
+    patterns: &[Finder],
 ) -> Result<Branch, Memory>
     ensures { IfOk result (λ branch. (texts : List (List ℕ)) →
         AreReadFrom texts patterns.now →
@@ -331,7 +330,7 @@ fn branch_of_rule(
 }
 
 /// The regular expressions of the stream.
-fn own_patterns<'a>(state: &State, patterns: &'a [Regex]) -> &'a [Regex]
+fn own_patterns<'a>(state: &State, patterns: &'a [Finder]) -> &'a [Finder]
     ensures { (texts : List (List ℕ)) (rule : RuleTree) → AreReadFrom texts patterns.now →
         HasNumbers texts (Where rule) state.now → AreReadFrom (searches rule) result.now }
 {
@@ -342,7 +341,7 @@ fn own_patterns<'a>(state: &State, patterns: &'a [Regex]) -> &'a [Regex]
 }
 
 /// `count` of the regular expressions from number `first` on, as far as there are some.
-fn part<'a>(patterns: &'a [Regex], first: usize, count: usize) -> &'a [Regex]
+fn part<'a>(patterns: &'a [Finder], first: usize, count: usize) -> &'a [Finder]
     ensures { first + count ≤ length patterns.now →
         result.now ≡ take count (drop first patterns.now) }
 {

@@ -1,7 +1,7 @@
 use Rattle.std.proofs.Common.{ap, is_some, ◌∙◌}
 use Rattle.regex.specs.Patterns.{find_str}
 use Rattle.pred_eval.proofs.SearchLaws.{finds_what_is_read}
-use Rattle.pred_eval.proofs.truth.is_found.Goals as goal
+use Rattle.pred_eval.proofs.finder.found_by_matcher.Goals as goal
 
 pub returns : goal.returns
 returns c pattern from =
