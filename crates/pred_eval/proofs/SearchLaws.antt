@@ -1,5 +1,6 @@
 -- What a built regular expression and its states find, and parts of a list of them.
 use Rattle.std.proofs.Common.{◌≡◌, ℕ, suc, ◌<◌, ◌≤◌, true, cond, List, [], ◌∷◌, ◌++◌, take, drop, length, get_or, Option, Some, None, IsSomeAnd, is_some, option_map, inl, inr, refl, sym, ap, ◌∙◌, arith, chars, length-append}
+use Rattle.std.specs.Option.{option_or}
 use Rattle.std.proofs.lemmas.Bool.{cond-true, cond-false, cases_Bool}
 use Rattle.std.proofs.lemmas.Option.{none-some, same_Some}
 use Rattle.regex_hir.specs.Re.{Re, Trace, Rest, attempt, accept}
@@ -7,8 +8,9 @@ use Rattle.regex_hir.specs.Find.{Match, find, first_between}
 use Rattle.regex_hir.specs.Text.{is_boundary}
 use Rattle.regex_hir.specs.Meaning.{meaning}
 use Rattle.regex_hir.specs.declared.hir.Hir.{Hir}
-use Rattle.regex_hir.proofs.FindLemmas.{IsFirst, IsFirst-of_first_between, first_between_of_IsFirst, first_between_none, first_between_cong, none_of_first_between}
-use Rattle.regex_nfa.specs.declared.nfa.Nfa.{Nfa}
+use Rattle.regex_hir.proofs.FindLemmas.{match_at, IsFirst, IsFirst-of_first_between, first_between_of_IsFirst, first_between_none, first_between_past, first_between_unfold, first_between_cong, none_of_first_between}
+use Rattle.regex_hir.proofs.AttemptLemmas.{attempt_none}
+use Rattle.regex_extract.specs.Bounds.{IsAnchored}
 use Rattle.regex_syntax.specs.Grammar.{Names, read}
 use Rattle.regex_vm.specs.Found.{first_match, span}
 use Rattle.regex.specs.Names.{names_of}
@@ -16,6 +18,7 @@ use Rattle.regex.specs.Patterns.{find_str, default_config, Reads}
 use Rattle.regex.specs.Strings.{regex_pattern}
 use Rattle.regex.specs.declared.string.regex.Regex.{Regex}
 use Rattle.regex.proofs.ForCallers.{is_match_alike}
+use Rattle.pred_eval.specs.declared.finder.States.{States}
 use Rattle.pred_eval.specs.Search.{is_found, finds, IsReadFrom, AreReadFrom, HasMatchesOf}
 
 of_some : {A : Type 0} (o : Option A) (P : A → Type 0) (Q : Option A → Type 0) → ((x : A) → P x → Q (Some x)) → IsSomeAnd o P → Q o
@@ -62,28 +65,55 @@ module _ (re : Re) (text : List ℕ) where
         before = λ i low high. none_within i (first.before i low high);
       })
 
-module _ (pattern : List ℕ) (states : Nfa) (of : HasMatchesOf pattern states) (text : List ℕ) (bytes : (k : ℕ) → get_or text k 0 < 256) where
-  found_in_bytes : first_match states text (length text) 0 (length text) ≡ find (meaning of.tree) text 0
-  unfolding find
-  found_in_bytes = first_between_cong _ _ 0 (length text) (λ i _ _. of.same text i)
+module _ (pattern : List ℕ) (states : States) (of : HasMatchesOf pattern states) (text : List ℕ) (bytes : (k : ℕ) → get_or text k 0 < 256) where
+  re : Re
+  re = meaning of.tree
 
-  found_alike : (o : Option Match) → first_match states text (length text) 0 (length text) ≡ o → ((m : Match) → o ≡ Some m → is_boundary text m.start ≡ true) →
+  at : Rest
+  at = attempt text re accept
+
+  -- where the search may stop looking for a beginning
+  abbrev pub last_start : ℕ
+  last_start = cond states.at_start 0 (length text)
+
+  none_later : states.at_start ≡ true → (i : ℕ) → 1 ≤ i → i ≤ length text → at i ≡ None
+  unfolding at re
+  none_later only i later within =
+      attempt_none text re accept i (λ j m. absurd (omega (arith, later, (of.anchored only).at text i j within m)))
+
+  up_to_last : first_between at 0 last_start ≡ first_between at 0 (length text)
+  up_to_last = elim (cases_Bool states.at_start) [
+    | inl only ↦
+        let rest : first_between at 1 (length text) ≡ None = first_between_none at 1 (length text) (none_later only) in
+        ap (first_between at 0) (cond-true _ 0 (length text) only)
+        ∙ first_between_unfold at 0 0 (omega arith)
+        ∙ ap (option_or (match_at at 0)) (first_between_past at 1 0 (omega arith) ∙ sym rest)
+        ∙ sym (first_between_unfold at 0 (length text) (omega arith))
+    | inr any ↦ ap (first_between at 0) (cond-false _ 0 (length text) any)
+  ]
+
+  found_in_bytes : first_match states.nfa text (length text) 0 last_start ≡ find re text 0
+  unfolding find re at
+  found_in_bytes = first_between_cong _ _ 0 last_start (λ i _ _. of.same text i) ∙ up_to_last
+
+  found_alike : (o : Option Match) → first_match states.nfa text (length text) 0 last_start ≡ o → ((m : Match) → o ≡ Some m → is_boundary text m.start ≡ true) →
       is_some o ≡ finds pattern text
+  unfolding re
   found_alike o e begins =
-      ap is_some (sym (found_between (meaning of.tree) text o (sym found_in_bytes ∙ e) begins)) ∙ finds_by_tree pattern of.tree of.names of.read text bytes
+      ap is_some (sym (found_between re text o (sym found_in_bytes ∙ e) begins)) ∙ finds_by_tree pattern of.tree of.names of.read text bytes
 
-  spans_alike : (o : Option Match) → first_match states text (length text) 0 (length text) ≡ o → (spanned : Option (ℕ × ℕ)) → spanned ≡ option_map span o →
+  spans_alike : (o : Option Match) → first_match states.nfa text (length text) 0 last_start ≡ o → (spanned : Option (ℕ × ℕ)) → spanned ≡ option_map span o →
       ((s : ℕ × ℕ) → spanned ≡ Some s → is_boundary text s.0 ≡ true) → is_some spanned ≡ finds pattern text
   spans_alike None e spanned same begins = ap is_some same ∙ found_alike None e (λ m some. absurd (none-some m some))
   spans_alike (Some m) e spanned same begins =
       ap is_some same ∙ found_alike (Some m) e (λ n some. ap (λ (n : Match). is_boundary text n.start) (sym (same_Some _ _ some)) ∙ begins (span m) same)
 
   -- the states have a match exactly where the regular expression is found, if theirs begins between characters
-  pub states_find : (hay : List ℕ) (end : ℕ) → text ≡ hay → length text ≡ end → (spanned : Option (ℕ × ℕ)) → spanned ≡ option_map span (first_match states hay end 0 end) →
+  pub states_find : (hay : List ℕ) (last : ℕ) → text ≡ hay → last_start ≡ last → (spanned : Option (ℕ × ℕ)) → spanned ≡ option_map span (first_match states.nfa hay (length text) 0 last) →
       ((s : ℕ × ℕ) → spanned ≡ Some s → is_boundary text s.0 ≡ true) → is_some spanned ≡ finds pattern text
-  states_find hay end is long spanned same begins =
+  states_find hay last is until spanned same begins =
       spans_alike _ refl spanned
-      (same ∙ ap (λ hay. option_map span (first_match states hay end 0 end)) (sym is) ∙ ap (λ end. option_map span (first_match states text end 0 end)) (sym long))
+      (same ∙ ap (λ hay. option_map span (first_match states.nfa hay (length text) 0 last)) (sym is) ∙ ap (λ last. option_map span (first_match states.nfa text (length text) 0 last)) (sym until))
       begins
 
 pub read_length : (patterns : List (List ℕ)) (regexes : List Regex) → AreReadFrom patterns regexes → length patterns ≡ length regexes

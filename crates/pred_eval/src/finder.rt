@@ -1,9 +1,10 @@
-ghost use Rattle.std.specs.Prelude.{◌≡◌, ℕ, List, IfOk, IfSome};
+ghost use Rattle.std.specs.Prelude.{◌≡◌, ℕ, List, if◌then◌else◌, IfOk, IfSome};
 ghost use Rattle.pred_eval.specs.Search.{finds, IsReadFrom, HasMatchesOf};
 
 use ev_types::Memory;
 use regex::Regex;
 use regex_compile::{Error, compile};
+use regex_extract::is_anchored_start;
 use regex_nfa::Nfa;
 use regex_syntax::{Config, ErrorKind, parse};
 use regex_vm::Backtracker;
@@ -16,12 +17,19 @@ const MOST_BYTES: usize = 65_536;
 // The product of the states and of the bytes of a text that is searched by them is at most this.
 const MOST_PAIRS: usize = 16_384;
 
-/// A built regular expression, as which contracts see it, with its states. What the crate `regex` searches with is made
-/// for each search, and has 22 KB that are cleared first. So a short text is searched by the states.
+/// What finds a regular expression, as which contracts see it. The crate `regex` searches with a matcher, which is made for
+/// each search and has 22 KB that are cleared first. So a short text is searched by the states of the expression.
 #[derive(Drop)]
 pub struct Finder {
     regex: Regex,
-    states: Option<Nfa>,
+    states: Option<States>,
+}
+
+// The states of a regular expression. If `at_start` is set, each match begins where the text does.
+#[derive(Drop)]
+struct States {
+    nfa: Nfa,
+    at_start: bool,
 }
 
 impl Model for Finder {
@@ -64,7 +72,7 @@ impl Finder {
 }
 
 // The states of the regular expression with this text. There are none where they take too much room.
-fn states_of(alloc: Global, pattern: &str) -> Result<Option<Nfa>, Memory>
+fn states_of(alloc: Global, pattern: &str) -> Result<Option<States>, Memory>
     ensures { IfOk result (λ states. IfSome states (HasMatchesOf pattern.now)) }
 {
     let parsed = match parse(alloc, pattern, &Config::default()) {
@@ -76,7 +84,10 @@ fn states_of(alloc: Global, pattern: &str) -> Result<Option<Nfa>, Memory>
         return Ok(None);
     };
     match compile(alloc, &parsed.hir, groups, MOST_BYTES) {
-        Ok(states) => Ok(Some(states)),
+        Ok(nfa) => {
+            let at_start = is_anchored_start(&parsed.hir);
+            Ok(Some(States { nfa, at_start }))
+        }
         Err(Error::OutOfMemory) => Err(Memory),
         Err(Error::TooBig | Error::Malformed) => Ok(None),
     }
@@ -84,19 +95,27 @@ fn states_of(alloc: Global, pattern: &str) -> Result<Option<Nfa>, Memory>
 
 // Whether the states have a match in the text. There is no answer where the text is too long for them, or memory runs
 // out, or the match that is found begins inside a character.
-fn found_by_states(alloc: Global, states: &Nfa, text: &str) -> Option<bool>
+fn found_by_states(alloc: Global, states: &States, text: &str) -> Option<bool>
     ensures { IfSome result (λ found. (pattern : List ℕ) → HasMatchesOf pattern states.now →
         found ≡ finds pattern text.now) }
 {
     let end = text.len();
-    if end.saturating_mul(states.states.len()) > MOST_PAIRS {
+    if end.saturating_mul(states.nfa.states.len()) > MOST_PAIRS {
         return None;
     }
-    match Backtracker::new(alloc).find(states, text.as_bytes(), 0, end, end, &mut []) {
+    let last = last_start(states, end);
+    match Backtracker::new(alloc).find(&states.nfa, text.as_bytes(), 0, last, end, &mut []) {
         Ok(None) => Some(false),
         Ok(Some((start, _))) if text.is_char_boundary(start) => Some(true),
         _ => None,
     }
+}
+
+// The last place in a text with this end at which a match may begin.
+fn last_start(states: &States, end: usize) -> usize
+    ensures { result ≡ (if states.now.at_start then 0 else end) }
+{
+    if states.at_start { 0 } else { end }
 }
 
 fn found_by_matcher(alloc: Global, regex: &Regex, text: &str) -> Result<bool, Memory>
