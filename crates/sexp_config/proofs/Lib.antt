@@ -1,16 +1,10 @@
 pub mod CanonicalLaws
-pub mod RulesRead
-pub mod KindsRead
-pub mod StreamsRead
-pub mod TopsRead
-pub mod ReadGood
-pub mod KindsGood
-pub mod TopsGood
-pub mod KindsBuilt
+pub mod CanonicalTerms
+pub mod CanonicalStreams
+pub mod CanonicalTops
+pub mod CanonicalRead
 pub mod StreamsBuilt
 pub mod PlansBuilt
-pub mod CanonicalRead
-pub mod CanonicalWritable
 pub mod TopLaws
 pub mod ReadLaws
 pub mod PlanPasses
@@ -21,5 +15,4 @@ pub mod GrammarLaws
 pub mod SourceLaws
 pub mod PlanLaws
 pub mod AnswerLaws
-pub mod RulesFew
 pub mod PatternsFew
