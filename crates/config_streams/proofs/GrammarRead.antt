@@ -20,7 +20,7 @@ use Rattle.config_terms.specs.Rules.{rule_at}
 use Rattle.config_terms.specs.Grammar.{symbol, worded, list}
 use Rattle.config_terms.proofs.BareForms.{single_of, group_of, also_of, none_of, call_of}
 use Rattle.config_terms.proofs.GrammarRead.{one_of}
-use Rattle.config_streams.specs.Kinds.{is_map, is_map_in, is_number, is_number_in, notice_kind, where_kind, kind_of, leads}
+use Rattle.config_streams.specs.Kinds.{is_map, is_map_in, is_number, is_number_in, kind_of, leads}
 use Rattle.config_streams.specs.Sources.{SourceTree, SourceTrees, source}
 use Rattle.config_streams.specs.Sources as sources
 use Rattle.config_streams.specs.Streams as read
@@ -123,7 +123,7 @@ index_only may_else env start readings = refl
 
 notice_only : (may_else : Bool) (env : Env) (start : ℕ) (a : FormTree) (name : List ℕ) (readings : Readings) → text_at env a ≡ Ok name
     → read.worded may_else env (Some word.Notice) start (also a none) readings ≡ Ok (One (stream (plan.Notice name) plan.none plan.none) (no_sources start))
-unfolding read.worded kind_of notice_kind leads argument at_most
+unfolding read.worded kind_of leads argument at_most
 notice_only may_else env start a name readings is = rw is refl
 
 abbrev made : KindTree → ℕ → Below → Result Part Fault
@@ -139,7 +139,7 @@ unfolding leads parts_in part_at
 where_leads env a rest = refl
 
 where_kind_is : (env : Env) (start : ℕ) (a : FormTree) (rest : FormTrees) (rule : Tree) → rule_at env a ≡ Ok rule → kind_of env word.Where start (also a rest) ≡ Ok (plan.Where rule)
-unfolding kind_of where_kind argument
+unfolding kind_of argument
 where_kind_is env start a rest rule is = rw is refl
 
 -- ---- the streams of `else`

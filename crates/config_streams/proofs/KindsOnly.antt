@@ -1,13 +1,15 @@
 -- The arguments of which a kind of stream is read are those of the grammar.
-use Rattle.std.proofs.Common.{◌≡◌, ℕ, ℤ, Bool, true, false, not, codes, List, [], ◌∷◌, if◌then◌else◌, Option, Some, None, Result, Ok, Err, refl, ap, sym, subst}
+use Rattle.std.proofs.Common.{◌≡◌, ℕ, ℤ, Bool, true, false, not, codes, List, [], ◌∷◌, if◌then◌else◌, Option, Some, None, Result, Ok, Err, refl, ap, sym, ◌∙◌, subst}
 use Rattle.std.proofs.lemmas.Slice.Eq.{bytes_eq-Decides}
 use Rattle.std.specs.Str.{bytes_eq}
 use Rattle.ev_types.specs.declared.field.Field.{Field}
+use Rattle.ev_types.specs.declared.field.Field.TheVariants as field
 use Rattle.ev_types.specs.declared.settings.Fold.{Fold}
 use Rattle.ev_types.specs.declared.settings.Fold.TheVariants as fold
 use Rattle.ev_types.specs.declared.settings.Set.{Set}
 use Rattle.ev_types.specs.declared.value.Value.{Value}
-use Rattle.pred_eval.specs.Tree.{Tree}
+use Rattle.pred_eval.specs.declared.rule.Ordering.TheVariants.{Less, Greater}
+use Rattle.pred_eval.specs.Tree.{Tree, Order}
 use Rattle.sexp_read.specs.declared.piece.Atom.TheVariants as atom
 use Rattle.sexp_read.specs.declared.piece.Bracket.TheVariants.{Round, Square, Curly}
 use Rattle.sexp_read.specs.Tree.{FormTree, FormTrees, Single, Group, none, also}
@@ -30,7 +32,7 @@ use Rattle.config_terms.proofs.TermLaws.{texts_are_read, numbers_are_read, field
 use Rattle.config_terms.proofs.VectorLaws.{ranges_are_read, text_vectors_are_read, field_vectors_are_read}
 use Rattle.config_terms.proofs.SetLaws.{sets_are_read, set_maps_are_read, inits_are_read}
 use Rattle.stream_plan.specs.declared.kinds.TheConstants.{MAX_COUNT, MAX_SECS}
-use Rattle.config_streams.specs.Kinds.{count_at, secs_at, secs_of, count_and_secs, is_map, is_map_in, one_set, sets_of, some_init, init_of, fold_by, fold_named, fold_at, has_secs, coalesce_secs, all_tagged, tagged_kind, order_kind, where_kind, notice_kind, tag_kind, by_kind, smap_kind, changed_kind, runs_kind, stable_kind, window_kind, counting_kind, kind_of, leads, two_if, one_if}
+use Rattle.config_streams.specs.Kinds.{count_at, secs_at, is_map, is_map_in, one_set, sets_of, some_init, init_of, fold_by, fold_named, fold_at, has_secs, coalesce_secs, all_tagged, tagged_kind, one_argument, two_arguments, order_kind, changed_kind, window_kind, counting_kind, kind_of, leads, two_if, one_if}
 use Rattle.config_streams.specs.Streams.{is_where}
 use Rattle.config_streams.specs.Grammar.{IsCount, AreSecs, IsFold, sum, minimum, maximum, counted, and_then, IsKind, sdo, where_, with_one, with_all, default_one, default_all, tagging, by, changed, changed_from, runs, throttle, rollup, batch, stable, fixed_event, moving_event, fixed_time, moving_time, coalesce, coalesce_every, smap, expired, tagged, over, under}
 use Rattle.config_streams.proofs.KindsRead.{all_tags_are}
@@ -41,20 +43,20 @@ good_of : {A : Type 0} (P : A → Type 0) (read : Result A Fault) → ((a : A) �
 good_of P (Ok a) h = h a refl
 good_of P (Err fault) h = tt
 
-abbrev TextIs : Env → FormTree → List ℕ → Type 0
-TextIs env f text = IsLiteral env (bare_tree f) (bound.Text text)
+abbrev TextIs : Env → BareTree → List ℕ → Type 0
+TextIs env form text = IsLiteral env form (bound.Text text)
 
-abbrev NumberIs : Env → FormTree → ℤ → Type 0
-NumberIs env f number = IsLiteral env (bare_tree f) (bound.Number number)
+abbrev NumberIs : Env → BareTree → ℤ → Type 0
+NumberIs env form number = IsLiteral env form (bound.Number number)
 
 rule_means : (env : Env) (f : FormTree) → OkGood (IsPredicate env (bare_tree f)) (rule_at env f)
 rule_means env f = good_of (IsPredicate env (bare_tree f)) (rule_at env f) (λ rule is. (predicates_are_those env f rule).1 is)
 
-text_means : (env : Env) (f : FormTree) → OkGood (TextIs env f) (text_at env f)
-text_means env f = good_of (TextIs env f) (text_at env f) (λ text is. (texts_are_read env f text).1 is)
+text_means : (env : Env) (f : FormTree) → OkGood (TextIs env (bare_tree f)) (text_at env f)
+text_means env f = good_of (TextIs env (bare_tree f)) (text_at env f) (λ text is. (texts_are_read env f text).1 is)
 
-number_means : (env : Env) (f : FormTree) → OkGood (NumberIs env f) (number_at env f)
-number_means env f = good_of (NumberIs env f) (number_at env f) (λ number is. (numbers_are_read env f number).1 is)
+number_means : (env : Env) (f : FormTree) → OkGood (NumberIs env (bare_tree f)) (number_at env f)
+number_means env f = good_of (NumberIs env (bare_tree f)) (number_at env f) (λ number is. (numbers_are_read env f number).1 is)
 
 field_means : (env : Env) (f : FormTree) → OkGood (IsField env (bare_tree f)) (field_at env f)
 field_means env f = good_of (IsField env (bare_tree f)) (field_at env f) (λ one is. (fields_are_read env f one).1 is)
@@ -136,88 +138,43 @@ pub record Known (env : Env) (from : StreamWord) (forms : FormTrees) (one : Kind
 never : {A : Type 0} → false ≡ true → A
 never e = cc
 
--- ---- kinds of no arguments
+-- ---- kinds of one argument and of two
 
-index_means : (env : Env) (start : ℕ) (forms : FormTrees) → OkGood (Known env word.Index forms) (kind_of env word.Index start forms)
-unfolding kind_of leads
-index_means env start forms = record { own = no_trees; is = start_index; are = refl; divides = never }
+one_means : {A : Type 0} (env : Env) (from : StreamWord) (read : Env → FormTree → Result A Fault) (make : A → KindTree) (Is : BareTree → A → Type 0) → ((f : FormTree) → OkGood (Is (bare_tree f)) (read env f))
+    → ((x : BareTree) (a : A) → Is x a → Starts env (stream_text from) (listed (x ∷ [])) (make a)) → ((forms : FormTrees) → leads env from forms ≡ 1) → is_where from ≡ false
+    → (start : ℕ) (forms : FormTrees) → OkGood (Known env from forms) (one_argument read make env start forms)
+unfolding argument
+one_means env from read make Is means starts own no_else start none = tt
+one_means env from read make Is means starts own no_else start (also f rest) =
+    bind_good (Is (bare_tree f)) (Known env from (also f rest)) (read env f) (λ a. Ok (make a)) (means f)
+    (λ a is. record {
+      own = listed (bare_tree f ∷ []);
+      is = starts (bare_tree f) a is;
+      are = ap (λ (n : ℕ). and_then (listed (bare_tree f ∷ [])) (bare_trees (later n (also f rest)))) (sym (own (also f rest)));
+      divides = λ at. never (sym no_else ∙ at);
+    })
 
-sdo_means : (env : Env) (start : ℕ) (forms : FormTrees) → OkGood (Known env word.Sdo forms) (kind_of env word.Sdo start forms)
-unfolding kind_of leads
-sdo_means env start forms = record { own = no_trees; is = start_kind sdo; are = refl; divides = never }
+two_mean : {A B : Type 0} (env : Env) (from : StreamWord) (read : Env → FormTree → Result A Fault) (read_next : Env → FormTree → Result B Fault) (make : A → B → KindTree) (Is : BareTree → A → Type 0) (Is_next : BareTree → B → Type 0)
+    → ((f : FormTree) → OkGood (Is (bare_tree f)) (read env f)) → ((f : FormTree) → OkGood (Is_next (bare_tree f)) (read_next env f))
+    → ((x y : BareTree) (a : A) (b : B) → Is x a → Is_next y b → Starts env (stream_text from) (listed (x ∷ y ∷ [])) (make a b)) → ((forms : FormTrees) → leads env from forms ≡ 2) → is_where from ≡ false
+    → (start : ℕ) (forms : FormTrees) → OkGood (Known env from forms) (two_arguments read read_next make env start forms)
+unfolding argument
+two_mean env from read read_next make Is Is_next means next_means starts own no_else start none = tt
+two_mean env from read read_next make Is Is_next means next_means starts own no_else start (also f none) = bind_good Any_ (Known env from (also f none)) (read env f) _ (any_good (read env f)) (λ a _. tt)
+two_mean env from read read_next make Is Is_next means next_means starts own no_else start (also f (also g rest)) =
+    bind_good (Is (bare_tree f)) (Known env from (also f (also g rest))) (read env f) _ (means f) (λ a is.
+    bind_good (Is_next (bare_tree g)) (Known env from (also f (also g rest))) (read_next env g) (λ b. Ok (make a b)) (next_means g) (λ b next_is.
+    record {
+      own = listed (bare_tree f ∷ bare_tree g ∷ []);
+      is = starts (bare_tree f) (bare_tree g) a b is next_is;
+      are = ap (λ (n : ℕ). and_then (listed (bare_tree f ∷ bare_tree g ∷ [])) (bare_trees (later n (also f (also g rest))))) (sym (own (also f (also g rest))));
+      divides = λ at. never (sym no_else ∙ at);
+    }))
 
-expired_means : (env : Env) (start : ℕ) (forms : FormTrees) → OkGood (Known env word.Expired forms) (kind_of env word.Expired start forms)
-unfolding kind_of counting_kind window_kind leads
-expired_means env start forms = record { own = no_trees; is = start_kind expired; are = refl; divides = never }
-
-else_means : (env : Env) (start : ℕ) (forms : FormTrees) → OkGood (Known env word.Else forms) (kind_of env word.Else start forms)
-unfolding kind_of counting_kind window_kind
-else_means env start forms = tt
-
--- ---- kinds of one argument
-
-notice_means : (env : Env) (start : ℕ) (forms : FormTrees) → OkGood (Known env word.Notice forms) (kind_of env word.Notice start forms)
-unfolding kind_of notice_kind leads argument
-notice_means env start none = tt
-notice_means env start (also a rest) =
-    bind_good (TextIs env a) (Known env word.Notice (also a rest)) (text_at env a) _ (text_means env a) (λ one is. record { own = listed (bare_tree a ∷ []); is = start_notice is; are = refl; divides = never })
-
-tag_means : (env : Env) (start : ℕ) (forms : FormTrees) → OkGood (Known env word.Tag forms) (kind_of env word.Tag start forms)
-unfolding kind_of tag_kind leads argument
-tag_means env start none = tt
-tag_means env start (also a rest) =
-    bind_good (IsTexts env (bare_tree a)) (Known env word.Tag (also a rest)) (texts_at env a) _ (texts_mean env a) (λ one is. record { own = listed (bare_tree a ∷ []); is = start_kind (tagging is); are = refl; divides = never })
-
-by_means : (env : Env) (start : ℕ) (forms : FormTrees) → OkGood (Known env word.By forms) (kind_of env word.By start forms)
-unfolding kind_of by_kind leads argument
-by_means env start none = tt
-by_means env start (also a rest) =
-    bind_good (IsFields env (bare_tree a)) (Known env word.By (also a rest)) (fields_at env a) _ (fields_mean env a) (λ one is. record { own = listed (bare_tree a ∷ []); is = start_kind (by is); are = refl; divides = never })
-
-smap_means : (env : Env) (start : ℕ) (forms : FormTrees) → OkGood (Known env word.Smap forms) (kind_of env word.Smap start forms)
-unfolding kind_of counting_kind smap_kind leads argument
-smap_means env start none = tt
-smap_means env start (also a rest) =
-    bind_good (IsFold (bare_tree a)) (Known env word.Smap (also a rest)) (fold_at env a) _ (fold_means env a) (λ one is. record { own = listed (bare_tree a ∷ []); is = start_kind (smap is); are = refl; divides = never })
-
-fixed_event_means : (env : Env) (start : ℕ) (forms : FormTrees) → OkGood (Known env word.FixedEvent forms) (kind_of env word.FixedEvent start forms)
-unfolding kind_of counting_kind window_kind leads argument
-fixed_event_means env start none = tt
-fixed_event_means env start (also a rest) =
-    bind_good (IsCount env (bare_tree a)) (Known env word.FixedEvent (also a rest)) (count_at env a) _ (count_means env a) (λ one is. record { own = listed (bare_tree a ∷ []); is = start_kind (fixed_event is); are = refl; divides = never })
-
-moving_event_means : (env : Env) (start : ℕ) (forms : FormTrees) → OkGood (Known env word.MovingEvent forms) (kind_of env word.MovingEvent start forms)
-unfolding kind_of counting_kind window_kind leads argument
-moving_event_means env start none = tt
-moving_event_means env start (also a rest) =
-    bind_good (IsCount env (bare_tree a)) (Known env word.MovingEvent (also a rest)) (count_at env a) _ (count_means env a) (λ one is. record { own = listed (bare_tree a ∷ []); is = start_kind (moving_event is); are = refl; divides = never })
-
-fixed_time_means : (env : Env) (start : ℕ) (forms : FormTrees) → OkGood (Known env word.FixedTime forms) (kind_of env word.FixedTime start forms)
-unfolding kind_of counting_kind window_kind leads argument
-fixed_time_means env start none = tt
-fixed_time_means env start (also a rest) =
-    bind_good (AreSecs env (bare_tree a)) (Known env word.FixedTime (also a rest)) (secs_at env a) _ (secs_mean env a) (λ one is. record { own = listed (bare_tree a ∷ []); is = start_kind (fixed_time is); are = refl; divides = never })
-
-moving_time_means : (env : Env) (start : ℕ) (forms : FormTrees) → OkGood (Known env word.MovingTime forms) (kind_of env word.MovingTime start forms)
-unfolding kind_of counting_kind window_kind leads argument
-moving_time_means env start none = tt
-moving_time_means env start (also a rest) =
-    bind_good (AreSecs env (bare_tree a)) (Known env word.MovingTime (also a rest)) (secs_at env a) _ (secs_mean env a) (λ one is. record { own = listed (bare_tree a ∷ []); is = start_kind (moving_time is); are = refl; divides = never })
-
-over_means : (env : Env) (start : ℕ) (forms : FormTrees) → OkGood (Known env word.Over forms) (kind_of env word.Over start forms)
-unfolding kind_of counting_kind window_kind order_kind leads argument
-over_means env start none = tt
-over_means env start (also a rest) =
-    bind_good (NumberIs env a) (Known env word.Over (also a rest)) (number_at env a) _ (number_means env a) (λ one is. record { own = listed (bare_tree a ∷ []); is = start_kind (over is); are = refl; divides = never })
-
-under_means : (env : Env) (start : ℕ) (forms : FormTrees) → OkGood (Known env word.Under forms) (kind_of env word.Under start forms)
-unfolding kind_of counting_kind window_kind order_kind leads argument
-under_means env start none = tt
-under_means env start (also a rest) =
-    bind_good (NumberIs env a) (Known env word.Under (also a rest)) (number_at env a) _ (number_means env a) (λ one is. record { own = listed (bare_tree a ∷ []); is = start_kind (under is); are = refl; divides = never })
+-- ---- where, and tags
 
 where_means : (env : Env) (start : ℕ) (forms : FormTrees) → OkGood (Known env word.Where forms) (kind_of env word.Where start forms)
-unfolding kind_of where_kind leads argument
+unfolding kind_of leads argument
 where_means env start none = tt
 where_means env start (also a rest) =
     bind_good (IsPredicate env (bare_tree a)) (Known env word.Where (also a rest)) (rule_at env a) _ (rule_means env a)
@@ -252,7 +209,7 @@ record Coalesced (env : Env) (forms : FormTrees) (has : Bool) (secs : ℕ) : Typ
   is : IsKind env (codes "coalesce") own (plan.Coalesce secs)
   are : bare_trees forms ≡ and_then own (bare_trees (later (one_if has) forms))
 
-coalesced : (env : Env) (start : ℕ) (forms : FormTrees) (has : Bool) → OkGood (Coalesced env forms has) (if has then secs_of env 0 start forms else Ok 1)
+coalesced : (env : Env) (start : ℕ) (forms : FormTrees) (has : Bool) → OkGood (Coalesced env forms has) (if has then (argument start 0 forms >>= secs_at env) else Ok 1)
 unfolding argument
 coalesced env start none true = tt
 coalesced env start (also a rest) true =
@@ -266,59 +223,7 @@ coalesce_means env start forms =
     bind_good (Coalesced env forms (has_secs env forms)) (Known env word.Coalesce forms) _ _ (coalesced env start forms (has_secs env forms))
     (λ secs known. record { own = known.own; is = start_kind known.is; are = known.are; divides = never })
 
--- ---- kinds of two arguments
-
-record Pair (env : Env) (forms : FormTrees) (both : ℕ × ℕ) : Type 0 where
-  n : BareTree
-  dt : BareTree
-  count : IsCount env n both.0
-  secs : AreSecs env dt both.1
-  are : bare_trees forms ≡ and_trees n (and_trees dt (bare_trees (later 2 forms)))
-
-pair_means : (env : Env) (start : ℕ) (forms : FormTrees) → OkGood (Pair env forms) (count_and_secs env start forms)
-unfolding count_and_secs argument
-pair_means env start none = tt
-pair_means env start (also a none) = bind_good Any_ (Pair env (also a none)) (count_at env a) _ (any_good (count_at env a)) (λ count _. tt)
-pair_means env start (also a (also b rest)) =
-    bind_good (IsCount env (bare_tree a)) (Pair env (also a (also b rest))) (count_at env a) _ (count_means env a) (λ count is.
-    bind_good (AreSecs env (bare_tree b)) (Pair env (also a (also b rest))) (secs_at env b) _ (secs_mean env b) (λ secs are.
-    record { n = bare_tree a; dt = bare_tree b; count = is; secs = are; are = refl }))
-
-throttle_means : (env : Env) (start : ℕ) (forms : FormTrees) → OkGood (Known env word.Throttle forms) (kind_of env word.Throttle start forms)
-unfolding kind_of counting_kind leads
-throttle_means env start forms =
-    bind_good (Pair env forms) (Known env word.Throttle forms) (count_and_secs env start forms) _ (pair_means env start forms)
-    (λ both known. record { own = listed (known.n ∷ known.dt ∷ []); is = start_kind (throttle known.count known.secs); are = known.are; divides = never })
-
-rollup_means : (env : Env) (start : ℕ) (forms : FormTrees) → OkGood (Known env word.Rollup forms) (kind_of env word.Rollup start forms)
-unfolding kind_of counting_kind leads
-rollup_means env start forms =
-    bind_good (Pair env forms) (Known env word.Rollup forms) (count_and_secs env start forms) _ (pair_means env start forms)
-    (λ both known. record { own = listed (known.n ∷ known.dt ∷ []); is = start_kind (rollup known.count known.secs); are = known.are; divides = never })
-
-batch_means : (env : Env) (start : ℕ) (forms : FormTrees) → OkGood (Known env word.Batch forms) (kind_of env word.Batch start forms)
-unfolding kind_of counting_kind leads
-batch_means env start forms =
-    bind_good (Pair env forms) (Known env word.Batch forms) (count_and_secs env start forms) _ (pair_means env start forms)
-    (λ both known. record { own = listed (known.n ∷ known.dt ∷ []); is = start_kind (batch known.count known.secs); are = known.are; divides = never })
-
-runs_means : (env : Env) (start : ℕ) (forms : FormTrees) → OkGood (Known env word.Runs forms) (kind_of env word.Runs start forms)
-unfolding kind_of counting_kind runs_kind leads argument
-runs_means env start none = tt
-runs_means env start (also a none) = bind_good Any_ (Known env word.Runs (also a none)) (count_at env a) _ (any_good (count_at env a)) (λ number _. tt)
-runs_means env start (also a (also b rest)) =
-    bind_good (IsCount env (bare_tree a)) (Known env word.Runs (also a (also b rest))) (count_at env a) _ (count_means env a) (λ number is.
-    bind_good (IsField env (bare_tree b)) (Known env word.Runs (also a (also b rest))) (field_at env b) _ (field_means env b) (λ one means.
-    record { own = listed (bare_tree a ∷ bare_tree b ∷ []); is = start_kind (runs is means); are = refl; divides = never }))
-
-stable_means : (env : Env) (start : ℕ) (forms : FormTrees) → OkGood (Known env word.Stable forms) (kind_of env word.Stable start forms)
-unfolding kind_of counting_kind stable_kind leads argument
-stable_means env start none = tt
-stable_means env start (also a none) = bind_good Any_ (Known env word.Stable (also a none)) (secs_at env a) _ (any_good (secs_at env a)) (λ number _. tt)
-stable_means env start (also a (also b rest)) =
-    bind_good (AreSecs env (bare_tree a)) (Known env word.Stable (also a (also b rest))) (secs_at env a) _ (secs_mean env a) (λ number is.
-    bind_good (IsField env (bare_tree b)) (Known env word.Stable (also a (also b rest))) (field_at env b) _ (field_means env b) (λ one means.
-    record { own = listed (bare_tree a ∷ bare_tree b ∷ []); is = start_kind (stable is means); are = refl; divides = never }))
+-- ---- sets
 
 -- a map, or a field and its value
 
@@ -410,31 +315,42 @@ changed_means env start (also a (also (Group Curly entries begin last) rest)) =
 -- ---- all kinds
 
 pub kind_means : (env : Env) (from : StreamWord) (start : ℕ) (forms : FormTrees) → OkGood (Known env from forms) (kind_of env from start forms)
-kind_means env word.Index start forms = index_means env start forms
-kind_means env word.Notice start forms = notice_means env start forms
-kind_means env word.Sdo start forms = sdo_means env start forms
+unfolding kind_of counting_kind window_kind order_kind leads
+kind_means env word.Index start forms = record { own = no_trees; is = start_index; are = refl; divides = never }
+kind_means env word.Notice start forms = one_means env word.Notice text_at plan.Notice (TextIs env) (text_means env) (λ x name is. start_notice is) (λ fs. refl) refl start forms
+kind_means env word.Sdo start forms = record { own = no_trees; is = start_kind sdo; are = refl; divides = never }
 kind_means env word.Where start forms = where_means env start forms
-kind_means env word.Else start forms = else_means env start forms
+kind_means env word.Else start forms = tt
 kind_means env word.With start forms = with_means env start forms
 kind_means env word.Default start forms = default_means env start forms
-kind_means env word.Tag start forms = tag_means env start forms
-kind_means env word.By start forms = by_means env start forms
+kind_means env word.Tag start forms = one_means env word.Tag texts_at plan.Tag (IsTexts env) (texts_mean env) (λ x tags are. start_kind (tagging are)) (λ fs. refl) refl start forms
+kind_means env word.By start forms = one_means env word.By fields_at plan.By (IsFields env) (fields_mean env) (λ f fields are. start_kind (by are)) (λ fs. refl) refl start forms
 kind_means env word.Changed start forms = changed_means env start forms
-kind_means env word.Runs start forms = runs_means env start forms
-kind_means env word.Throttle start forms = throttle_means env start forms
-kind_means env word.Rollup start forms = rollup_means env start forms
-kind_means env word.Batch start forms = batch_means env start forms
-kind_means env word.Stable start forms = stable_means env start forms
-kind_means env word.FixedEvent start forms = fixed_event_means env start forms
-kind_means env word.MovingEvent start forms = moving_event_means env start forms
-kind_means env word.FixedTime start forms = fixed_time_means env start forms
-kind_means env word.MovingTime start forms = moving_time_means env start forms
+kind_means env word.Runs start forms =
+    two_mean env word.Runs count_at field_at plan.Runs (IsCount env) (IsField env) (count_means env) (field_means env) (λ n f count one is means. start_kind (runs is means)) (λ fs. refl) refl start forms
+kind_means env word.Throttle start forms =
+    two_mean env word.Throttle count_at secs_at plan.Throttle (IsCount env) (AreSecs env) (count_means env) (secs_mean env) (λ n dt count secs is are. start_kind (throttle is are)) (λ fs. refl) refl start forms
+kind_means env word.Rollup start forms =
+    two_mean env word.Rollup count_at secs_at plan.Rollup (IsCount env) (AreSecs env) (count_means env) (secs_mean env) (λ n dt count secs is are. start_kind (rollup is are)) (λ fs. refl) refl start forms
+kind_means env word.Batch start forms =
+    two_mean env word.Batch count_at secs_at plan.Batch (IsCount env) (AreSecs env) (count_means env) (secs_mean env) (λ n dt count secs is are. start_kind (batch is are)) (λ fs. refl) refl start forms
+kind_means env word.Stable start forms =
+    two_mean env word.Stable secs_at field_at plan.Stable (AreSecs env) (IsField env) (secs_mean env) (field_means env) (λ dt f secs one are means. start_kind (stable are means)) (λ fs. refl) refl start forms
+kind_means env word.FixedEvent start forms =
+    one_means env word.FixedEvent count_at plan.FixedEvent (IsCount env) (count_means env) (λ n count is. start_kind (fixed_event is)) (λ fs. refl) refl start forms
+kind_means env word.MovingEvent start forms =
+    one_means env word.MovingEvent count_at plan.MovingEvent (IsCount env) (count_means env) (λ n count is. start_kind (moving_event is)) (λ fs. refl) refl start forms
+kind_means env word.FixedTime start forms = one_means env word.FixedTime secs_at plan.FixedTime (AreSecs env) (secs_mean env) (λ dt secs are. start_kind (fixed_time are)) (λ fs. refl) refl start forms
+kind_means env word.MovingTime start forms =
+    one_means env word.MovingTime secs_at plan.MovingTime (AreSecs env) (secs_mean env) (λ dt secs are. start_kind (moving_time are)) (λ fs. refl) refl start forms
 kind_means env word.Coalesce start forms = coalesce_means env start forms
-kind_means env word.Smap start forms = smap_means env start forms
-kind_means env word.Expired start forms = expired_means env start forms
+kind_means env word.Smap start forms = one_means env word.Smap fold_at plan.Smap IsFold (fold_means env) (λ f fold is. start_kind (smap is)) (λ fs. refl) refl start forms
+kind_means env word.Expired start forms = record { own = no_trees; is = start_kind expired; are = refl; divides = never }
 kind_means env word.Tagged start forms = tagged_means env start forms
-kind_means env word.Over start forms = over_means env start forms
-kind_means env word.Under start forms = under_means env start forms
+kind_means env word.Over start forms =
+    one_means env word.Over number_at (λ number. plan.Where (Order field.Metric Greater number)) (NumberIs env) (number_means env) (λ k number is. start_kind (over is)) (λ fs. refl) refl start forms
+kind_means env word.Under start forms =
+    one_means env word.Under number_at (λ number. plan.Where (Order field.Metric Less number)) (NumberIs env) (number_means env) (λ k number is. start_kind (under is)) (λ fs. refl) refl start forms
 
 -- ---- words
 

@@ -36,7 +36,7 @@ use Rattle.config_terms.proofs.GrammarRead.{literal_read}
 use Rattle.config_terms.proofs.TermLaws.{texts_are_read, numbers_are_read, fields_are_read}
 use Rattle.config_terms.proofs.VectorLaws.{ranges_are_read, text_vectors_are_read, field_vectors_are_read}
 use Rattle.config_terms.proofs.SetLaws.{sets_are_read, set_maps_are_read, inits_are_read}
-use Rattle.config_streams.specs.Kinds.{count_at, secs_at, count_and_secs, is_map, is_map_in, is_number_in, one_set, sets_of, some_init, init_by, init_of, fold_by, fold_named, fold_at, has_secs, coalesce_secs, tag_rules, all_tagged, tagged_kind, order_kind, where_kind, tag_kind, by_kind, smap_kind, changed_kind, runs_kind, stable_kind, window_kind, counting_kind, kind_of, leads}
+use Rattle.config_streams.specs.Kinds.{count_at, secs_at, is_map, is_map_in, is_number_in, one_set, sets_of, some_init, init_by, init_of, fold_by, fold_named, fold_at, has_secs, coalesce_secs, tag_rules, all_tagged, tagged_kind, one_argument, two_arguments, order_kind, changed_kind, window_kind, counting_kind, kind_of, leads}
 use Rattle.config_streams.specs.Streams.{part_at, parts_in, is_else}
 use Rattle.config_streams.specs.Grammar.{IsCount, AreSecs, IsFold, sum, minimum, maximum, counted, each_tag, and_then, IsKind, sdo, where_, with_one, with_all, default_one, default_all, tagging, by, changed, changed_from, runs, throttle, rollup, batch, stable, fixed_event, moving_event, fixed_time, moving_time, coalesce, coalesce_every, smap, expired, tagged, over, under}
 use Rattle.config_streams.proofs.KindLaws.{no_map_of_sets}
@@ -122,30 +122,7 @@ is_no_map (Group Curly forms start last) h = cc
 pub word_read : (one : StreamWord) → stream_word (stream_text one) ≡ Some one
 unfolding stream_word passing_word counting_word window_word
 word_read word.Index = refl
-word_read word.Notice = refl
-word_read word.Sdo = refl
-word_read word.Where = refl
-word_read word.Else = refl
-word_read word.With = refl
-word_read word.Default = refl
-word_read word.Tag = refl
-word_read word.By = refl
-word_read word.Changed = refl
-word_read word.Runs = refl
-word_read word.Throttle = refl
-word_read word.Rollup = refl
-word_read word.Batch = refl
-word_read word.Stable = refl
-word_read word.FixedEvent = refl
-word_read word.MovingEvent = refl
-word_read word.FixedTime = refl
-word_read word.MovingTime = refl
-word_read word.Coalesce = refl
-word_read word.Smap = refl
-word_read word.Expired = refl
-word_read word.Tagged = refl
-word_read word.Over = refl
-word_read word.Under = refl
+word_read w = refl
 
 -- ---- what comes before the streams
 
@@ -229,14 +206,6 @@ two_led env from one forms a b more not_else reads h =
 
 -- ---- kinds of no arguments
 
-sdo_none : (env : Env) (forms : FormTrees) → ReadsKind env word.Sdo plan.Sdo forms 0
-unfolding kind_of leads
-sdo_none env forms = ((λ start. refl), refl)
-
-expired_none : (env : Env) (forms : FormTrees) → ReadsKind env word.Expired (plan.Where (pred.Equal field.State (value.Text (codes "expired")))) forms 0
-unfolding kind_of counting_kind window_kind leads
-expired_none env forms = ((λ start. refl), refl)
-
 coalesce_none : (env : Env) (forms : FormTrees) → has_secs env forms ≡ false → ReadsKind env word.Coalesce (plan.Coalesce 1) forms 0
 unfolding kind_of counting_kind coalesce_secs leads
 coalesce_none env forms is = ((λ start. rw is refl), rw is refl)
@@ -245,47 +214,32 @@ no_secs : (env : Env) (forms : FormTrees) → is_number_in env (nth 0 forms) ≡
 unfolding has_secs
 no_secs env forms is = is
 
--- ---- kinds of one argument
+-- ---- kinds of one argument and of two
 
-where_one : (env : Env) (f : FormTree) (rest : FormTrees) (rule : Tree) → rule_at env f ≡ Ok rule → ReadsKind env word.Where (plan.Where rule) (also f rest) 1
-unfolding kind_of where_kind leads argument
-where_one env f rest rule is = ((λ start. rw is refl), refl)
+-- a form that is this apart from its places is read as this
+abbrev IsRead : {A : Type 0} → Env → (Env → FormTree → Result A Fault) → BareTree → A → Type 0
+IsRead env read x a = (f : FormTree) → bare_tree f ≡ x → read env f ≡ Ok a
 
-tag_one : (env : Env) (f : FormTree) (rest : FormTrees) (tags : List (List ℕ)) → texts_at env f ≡ Ok tags → ReadsKind env word.Tag (plan.Tag tags) (also f rest) 1
-unfolding kind_of tag_kind leads argument
-tag_one env f rest tags is = ((λ start. rw is refl), refl)
+first_read : {A : Type 0} (env : Env) (read : Env → FormTree → Result A Fault) (make : A → KindTree) (a : A) (start : ℕ) (f : FormTree) (rest : FormTrees) → read env f ≡ Ok a → one_argument read make env start (also f rest) ≡ Ok (make a)
+unfolding argument
+first_read env read make a start f rest is = rw is refl
 
-by_one : (env : Env) (f : FormTree) (rest : FormTrees) (fields : List Field) → fields_at env f ≡ Ok fields → ReadsKind env word.By (plan.By fields) (also f rest) 1
-unfolding kind_of by_kind leads argument
-by_one env f rest fields is = ((λ start. rw is refl), refl)
+both_read : {A B : Type 0} (env : Env) (read : Env → FormTree → Result A Fault) (read_next : Env → FormTree → Result B Fault) (make : A → B → KindTree) (a : A) (b : B) (start : ℕ) (f g : FormTree) (rest : FormTrees)
+    → read env f ≡ Ok a → read_next env g ≡ Ok b → two_arguments read read_next make env start (also f (also g rest)) ≡ Ok (make a b)
+unfolding argument
+both_read env read read_next make a b start f g rest is next_is = rw (is, next_is) refl
 
-smap_one : (env : Env) (f : FormTree) (rest : FormTrees) (one : Fold) → fold_at env f ≡ Ok one → ReadsKind env word.Smap (plan.Smap one) (also f rest) 1
-unfolding kind_of counting_kind smap_kind leads argument
-smap_one env f rest one is = ((λ start. rw is refl), refl)
+one_read : {A : Type 0} (env : Env) (from : StreamWord) (read : Env → FormTree → Result A Fault) (make : A → KindTree) (a : A) (x : BareTree) → ((start : ℕ) (fs : FormTrees) → kind_of env from start fs ≡ one_argument read make env start fs)
+    → ((fs : FormTrees) → leads env from fs ≡ 1) → is_else from ≡ false → IsRead env read x a → (forms : FormTrees) (more : BareTrees) → bare_trees forms ≡ and_trees x more → Led env (stream_text from) (make a) forms more
+one_read env from read make a x kind_is own not_else is forms more h =
+    one_led env from (make a) forms x more not_else (λ f rest at _. ((λ start. kind_is start (also f rest) ∙ first_read env read make a start f rest (is f at)), own (also f rest))) h
 
-fixed_event_one : (env : Env) (f : FormTree) (rest : FormTrees) (count : ℕ) → count_at env f ≡ Ok count → ReadsKind env word.FixedEvent (plan.FixedEvent count) (also f rest) 1
-unfolding kind_of counting_kind window_kind leads argument
-fixed_event_one env f rest count is = ((λ start. rw is refl), refl)
-
-moving_event_one : (env : Env) (f : FormTree) (rest : FormTrees) (count : ℕ) → count_at env f ≡ Ok count → ReadsKind env word.MovingEvent (plan.MovingEvent count) (also f rest) 1
-unfolding kind_of counting_kind window_kind leads argument
-moving_event_one env f rest count is = ((λ start. rw is refl), refl)
-
-fixed_time_one : (env : Env) (f : FormTree) (rest : FormTrees) (secs : ℕ) → secs_at env f ≡ Ok secs → ReadsKind env word.FixedTime (plan.FixedTime secs) (also f rest) 1
-unfolding kind_of counting_kind window_kind leads argument
-fixed_time_one env f rest secs is = ((λ start. rw is refl), refl)
-
-moving_time_one : (env : Env) (f : FormTree) (rest : FormTrees) (secs : ℕ) → secs_at env f ≡ Ok secs → ReadsKind env word.MovingTime (plan.MovingTime secs) (also f rest) 1
-unfolding kind_of counting_kind window_kind leads argument
-moving_time_one env f rest secs is = ((λ start. rw is refl), refl)
-
-over_one : (env : Env) (f : FormTree) (rest : FormTrees) (number : ℤ) → number_at env f ≡ Ok number → ReadsKind env word.Over (plan.Where (Order field.Metric Greater number)) (also f rest) 1
-unfolding kind_of counting_kind window_kind order_kind leads argument
-over_one env f rest number is = ((λ start. rw is refl), refl)
-
-under_one : (env : Env) (f : FormTree) (rest : FormTrees) (number : ℤ) → number_at env f ≡ Ok number → ReadsKind env word.Under (plan.Where (Order field.Metric Less number)) (also f rest) 1
-unfolding kind_of counting_kind window_kind order_kind leads argument
-under_one env f rest number is = ((λ start. rw is refl), refl)
+two_read : {A B : Type 0} (env : Env) (from : StreamWord) (read : Env → FormTree → Result A Fault) (read_next : Env → FormTree → Result B Fault) (make : A → B → KindTree) (a : A) (b : B) (x y : BareTree)
+    → ((start : ℕ) (fs : FormTrees) → kind_of env from start fs ≡ two_arguments read read_next make env start fs) → ((fs : FormTrees) → leads env from fs ≡ 2) → is_else from ≡ false → IsRead env read x a → IsRead env read_next y b
+    → (forms : FormTrees) (more : BareTrees) → bare_trees forms ≡ and_trees x (and_trees y more) → Led env (stream_text from) (make a b) forms more
+two_read env from read read_next make a b x y kind_is own not_else is next_is forms more h =
+    two_led env from (make a b) forms x y more not_else
+    (λ f g rest at to. ((λ start. kind_is start (also f (also g rest)) ∙ both_read env read read_next make a b start f g rest (is f at) (next_is g to)), own (also f (also g rest)))) h
 
 pub each_tag_is : (tags : List (List ℕ)) → tag_rules tags ≡ each_tag tags
 each_tag_is [] = refl
@@ -361,34 +315,7 @@ one_of_sets : (env : Env) (x v : BareTree) (one : Field) (set : Set) → IsField
 one_of_sets env x v one set means is start f g rest at to =
     two_sets env start f g rest (set ∷ []) (field_no_map env x one means f at) (one_set_is env start f g rest one set (field_is env x one means f at) (set_is env one v set is g to))
 
--- ---- kinds of two arguments
-
-both_are : (env : Env) (start : ℕ) (f g : FormTree) (rest : FormTrees) (count secs : ℕ) → count_at env f ≡ Ok count → secs_at env g ≡ Ok secs → count_and_secs env start (also f (also g rest)) ≡ Ok (count, secs)
-unfolding count_and_secs argument
-both_are env start f g rest count secs first second = rw (first, second) refl
-
-throttle_two : (env : Env) (f g : FormTree) (rest : FormTrees) (count secs : ℕ) → ((start : ℕ) → count_and_secs env start (also f (also g rest)) ≡ Ok (count, secs))
-    → ReadsKind env word.Throttle (plan.Throttle count secs) (also f (also g rest)) 2
-unfolding kind_of counting_kind leads
-throttle_two env f g rest count secs is = ((λ start. rw (is start) refl), refl)
-
-rollup_two : (env : Env) (f g : FormTree) (rest : FormTrees) (count secs : ℕ) → ((start : ℕ) → count_and_secs env start (also f (also g rest)) ≡ Ok (count, secs))
-    → ReadsKind env word.Rollup (plan.Rollup count secs) (also f (also g rest)) 2
-unfolding kind_of counting_kind leads
-rollup_two env f g rest count secs is = ((λ start. rw (is start) refl), refl)
-
-batch_two : (env : Env) (f g : FormTree) (rest : FormTrees) (count secs : ℕ) → ((start : ℕ) → count_and_secs env start (also f (also g rest)) ≡ Ok (count, secs))
-    → ReadsKind env word.Batch (plan.Batch count secs) (also f (also g rest)) 2
-unfolding kind_of counting_kind leads
-batch_two env f g rest count secs is = ((λ start. rw (is start) refl), refl)
-
-runs_two : (env : Env) (f g : FormTree) (rest : FormTrees) (count : ℕ) (one : Field) → count_at env f ≡ Ok count → field_at env g ≡ Ok one → ReadsKind env word.Runs (plan.Runs count one) (also f (also g rest)) 2
-unfolding kind_of counting_kind runs_kind leads argument
-runs_two env f g rest count one first second = ((λ start. rw (first, second) refl), refl)
-
-stable_two : (env : Env) (f g : FormTree) (rest : FormTrees) (secs : ℕ) (one : Field) → secs_at env f ≡ Ok secs → field_at env g ≡ Ok one → ReadsKind env word.Stable (plan.Stable secs one) (also f (also g rest)) 2
-unfolding kind_of counting_kind stable_kind leads argument
-stable_two env f g rest secs one first second = ((λ start. rw (first, second) refl), refl)
+-- ---- a field, and what it was
 
 map_init : (env : Env) (row : BareTrees) (held : Value) → IsInit env row held → (f : FormTree) → bare_tree f ≡ map_of row → (init_by env (Some f) ≡ Ok (Some held)) × (is_map f ≡ true)
 map_init env row held is f h =
@@ -405,9 +332,9 @@ changed_two env f g rest one held first second map = ((λ start. rw (first, seco
 -- ---- all kinds
 
 pub kind_read : (env : Env) (name : List ℕ) (own : BareTrees) (one : KindTree) → IsKind env name own one → (forms : FormTrees) (more : BareTrees) → bare_trees forms ≡ and_then own more → IsPlainRow env more → Led env name one forms more
-kind_read env _ _ _ sdo forms more h plain = none_led env word.Sdo plan.Sdo forms more refl (sdo_none env forms) h
-kind_read env _ _ _ (where_ {p = p} {rule = rule} is) forms more h plain =
-    one_led env word.Where (plan.Where rule) forms p more refl (λ f rest at _. where_one env f rest rule (rule_is env p rule is f at)) h
+unfolding kind_of counting_kind window_kind order_kind leads
+kind_read env _ _ _ sdo forms more h plain = none_led env word.Sdo plan.Sdo forms more refl ((λ start. refl), refl) h
+kind_read env _ _ _ (where_ {p = p} {rule = rule} is) forms more h plain = one_read env word.Where rule_at plan.Where rule p (λ start fs. refl) (λ fs. refl) refl (rule_is env p rule is) forms more h
 kind_read env _ _ _ (with_one {f = x} {v = v} {one = one} {set = set} means is) forms more h plain =
     two_led env word.With (plan.With (set ∷ [])) forms x v more refl
     (λ f g rest at to. with_reads_two env f g rest (set ∷ []) (is_no_map f (field_no_map env x one means f at)) (λ start. one_of_sets env x v one set means is start f g rest at to)) h
@@ -420,70 +347,39 @@ kind_read env _ _ _ (default_one {f = x} {v = v} {one = one} {set = set} means i
 kind_read env _ _ _ (default_all {entries = entries} {sets = sets} are) forms more h plain =
     one_led env word.Default (plan.Default sets) forms (map_of entries) more refl
     (λ f rest at _. default_reads_one env f rest sets (map_sets_are env entries sets are 0 f rest at).1 (λ start. (map_sets_are env entries sets are start f rest at).0)) h
-kind_read env _ _ _ (tagging {x = x} {tags = tags} are) forms more h plain = one_led env word.Tag (plan.Tag tags) forms x more refl (λ f rest at _. tag_one env f rest tags (texts_are env x tags are f at)) h
-kind_read env _ _ _ (by {f = x} {fields = fields} are) forms more h plain = one_led env word.By (plan.By fields) forms x more refl (λ f rest at _. by_one env f rest fields (fields_are env x fields are f at)) h
+kind_read env _ _ _ (tagging {x = x} {tags = tags} are) forms more h plain = one_read env word.Tag texts_at plan.Tag tags x (λ start fs. refl) (λ fs. refl) refl (texts_are env x tags are) forms more h
+kind_read env _ _ _ (by {f = x} {fields = fields} are) forms more h plain = one_read env word.By fields_at plan.By fields x (λ start fs. refl) (λ fs. refl) refl (fields_are env x fields are) forms more h
 kind_read env _ _ _ (changed {f = x} {one = one} means) forms more h plain =
     one_led env word.Changed (plan.Changed one None) forms x more refl (λ f rest at are. changed_one env f rest one (plain rest are).1 (field_is env x one means f at)) h
 kind_read env _ _ _ (changed_from {f = x} {entries = entries} {one = one} {held = held} means is) forms more h plain =
     two_led env word.Changed (plan.Changed one (Some held)) forms x (map_of entries) more refl
     (λ f g rest at to. let init = map_init env entries held is g to in changed_two env f g rest one held (field_is env x one means f at) init.0 init.1) h
 kind_read env _ _ _ (runs {n = n} {f = x} {count = count} {one = one} is means) forms more h plain =
-    two_led env word.Runs (plan.Runs count one) forms n x more refl (λ f g rest at to. runs_two env f g rest count one (count_is env n count is f at) (field_is env x one means g to)) h
+    two_read env word.Runs count_at field_at plan.Runs count one n x (λ start fs. refl) (λ fs. refl) refl (count_is env n count is) (field_is env x one means) forms more h
 kind_read env _ _ _ (throttle {n = n} {dt = dt} {count = count} {secs = secs} is are) forms more h plain =
-    two_led env word.Throttle (plan.Throttle count secs) forms n dt more refl
-    (λ f g rest at to. throttle_two env f g rest count secs (λ start. both_are env start f g rest count secs (count_is env n count is f at) (secs_are env dt secs are g to))) h
+    two_read env word.Throttle count_at secs_at plan.Throttle count secs n dt (λ start fs. refl) (λ fs. refl) refl (count_is env n count is) (secs_are env dt secs are) forms more h
 kind_read env _ _ _ (rollup {n = n} {dt = dt} {count = count} {secs = secs} is are) forms more h plain =
-    two_led env word.Rollup (plan.Rollup count secs) forms n dt more refl
-    (λ f g rest at to. rollup_two env f g rest count secs (λ start. both_are env start f g rest count secs (count_is env n count is f at) (secs_are env dt secs are g to))) h
+    two_read env word.Rollup count_at secs_at plan.Rollup count secs n dt (λ start fs. refl) (λ fs. refl) refl (count_is env n count is) (secs_are env dt secs are) forms more h
 kind_read env _ _ _ (batch {n = n} {dt = dt} {count = count} {secs = secs} is are) forms more h plain =
-    two_led env word.Batch (plan.Batch count secs) forms n dt more refl
-    (λ f g rest at to. batch_two env f g rest count secs (λ start. both_are env start f g rest count secs (count_is env n count is f at) (secs_are env dt secs are g to))) h
+    two_read env word.Batch count_at secs_at plan.Batch count secs n dt (λ start fs. refl) (λ fs. refl) refl (count_is env n count is) (secs_are env dt secs are) forms more h
 kind_read env _ _ _ (stable {dt = dt} {f = x} {secs = secs} {one = one} are means) forms more h plain =
-    two_led env word.Stable (plan.Stable secs one) forms dt x more refl (λ f g rest at to. stable_two env f g rest secs one (secs_are env dt secs are f at) (field_is env x one means g to)) h
-kind_read env _ _ _ (fixed_event {n = n} {count = count} is) forms more h plain =
-    one_led env word.FixedEvent (plan.FixedEvent count) forms n more refl (λ f rest at _. fixed_event_one env f rest count (count_is env n count is f at)) h
-kind_read env _ _ _ (moving_event {n = n} {count = count} is) forms more h plain =
-    one_led env word.MovingEvent (plan.MovingEvent count) forms n more refl (λ f rest at _. moving_event_one env f rest count (count_is env n count is f at)) h
-kind_read env _ _ _ (fixed_time {dt = dt} {secs = secs} are) forms more h plain =
-    one_led env word.FixedTime (plan.FixedTime secs) forms dt more refl (λ f rest at _. fixed_time_one env f rest secs (secs_are env dt secs are f at)) h
-kind_read env _ _ _ (moving_time {dt = dt} {secs = secs} are) forms more h plain =
-    one_led env word.MovingTime (plan.MovingTime secs) forms dt more refl (λ f rest at _. moving_time_one env f rest secs (secs_are env dt secs are f at)) h
+    two_read env word.Stable secs_at field_at plan.Stable secs one dt x (λ start fs. refl) (λ fs. refl) refl (secs_are env dt secs are) (field_is env x one means) forms more h
+kind_read env _ _ _ (fixed_event {n = n} {count = count} is) forms more h plain = one_read env word.FixedEvent count_at plan.FixedEvent count n (λ start fs. refl) (λ fs. refl) refl (count_is env n count is) forms more h
+kind_read env _ _ _ (moving_event {n = n} {count = count} is) forms more h plain = one_read env word.MovingEvent count_at plan.MovingEvent count n (λ start fs. refl) (λ fs. refl) refl (count_is env n count is) forms more h
+kind_read env _ _ _ (fixed_time {dt = dt} {secs = secs} are) forms more h plain = one_read env word.FixedTime secs_at plan.FixedTime secs dt (λ start fs. refl) (λ fs. refl) refl (secs_are env dt secs are) forms more h
+kind_read env _ _ _ (moving_time {dt = dt} {secs = secs} are) forms more h plain = one_read env word.MovingTime secs_at plan.MovingTime secs dt (λ start fs. refl) (λ fs. refl) refl (secs_are env dt secs are) forms more h
 kind_read env _ _ _ coalesce forms more h plain = none_led env word.Coalesce (plan.Coalesce 1) forms more refl (coalesce_none env forms (no_secs env forms (plain forms h).0)) h
 kind_read env _ _ _ (coalesce_every {dt = dt} {secs = secs} are) forms more h plain =
     one_led env word.Coalesce (plan.Coalesce secs) forms dt more refl (λ f rest at _. coalesce_one env f rest secs (has_number env dt secs are f rest at) (secs_are env dt secs are f at)) h
-kind_read env _ _ _ (smap {f = x} {fold = one} is) forms more h plain = one_led env word.Smap (plan.Smap one) forms x more refl (λ f rest at _. smap_one env f rest one (fold_is env x one is f at)) h
-kind_read env _ _ _ expired forms more h plain = none_led env word.Expired (plan.Where (pred.Equal field.State (value.Text (codes "expired")))) forms more refl (expired_none env forms) h
+kind_read env _ _ _ (smap {f = x} {fold = one} is) forms more h plain = one_read env word.Smap fold_at plan.Smap one x (λ start fs. refl) (λ fs. refl) refl (fold_is env x one is) forms more h
+kind_read env _ _ _ expired forms more h plain = none_led env word.Expired (plan.Where (pred.Equal field.State (value.Text (codes "expired")))) forms more refl ((λ start. refl), refl) h
 kind_read env _ _ _ (tagged {x = x} {tag = one} {tags = tags} are) forms more h plain =
     one_led env word.Tagged (plan.Where (all_of (Tagged one) (each_tag tags))) forms x more refl (λ f rest at _. tagged_one env f rest one tags (texts_are env x (one ∷ tags) are f at)) h
 kind_read env _ _ _ (over {k = k} {number = number} is) forms more h plain =
-    one_led env word.Over (plan.Where (Order field.Metric Greater number)) forms k more refl (λ f rest at _. over_one env f rest number (number_is env k number is f at)) h
+    one_read env word.Over number_at (λ number. plan.Where (Order field.Metric Greater number)) number k (λ start fs. refl) (λ fs. refl) refl (number_is env k number is) forms more h
 kind_read env _ _ _ (under {k = k} {number = number} is) forms more h plain =
-    one_led env word.Under (plan.Where (Order field.Metric Less number)) forms k more refl (λ f rest at _. under_one env f rest number (number_is env k number is f at)) h
+    one_read env word.Under number_at (λ number. plan.Where (Order field.Metric Less number)) number k (λ start fs. refl) (λ fs. refl) refl (number_is env k number is) forms more h
 
 pub kind_passes : (env : Env) (name : List ℕ) (own : BareTrees) (one : KindTree) → IsKind env name own one → may_have_children one ≡ true
 kind_passes env _ _ _ sdo = refl
-kind_passes env _ _ _ (where_ a) = refl
-kind_passes env _ _ _ (with_one a b) = refl
-kind_passes env _ _ _ (with_all a) = refl
-kind_passes env _ _ _ (default_one a b) = refl
-kind_passes env _ _ _ (default_all a) = refl
-kind_passes env _ _ _ (tagging a) = refl
-kind_passes env _ _ _ (by a) = refl
-kind_passes env _ _ _ (changed a) = refl
-kind_passes env _ _ _ (changed_from a b) = refl
-kind_passes env _ _ _ (runs a b) = refl
-kind_passes env _ _ _ (throttle a b) = refl
-kind_passes env _ _ _ (rollup a b) = refl
-kind_passes env _ _ _ (batch a b) = refl
-kind_passes env _ _ _ (stable a b) = refl
-kind_passes env _ _ _ (fixed_event a) = refl
-kind_passes env _ _ _ (moving_event a) = refl
-kind_passes env _ _ _ (fixed_time a) = refl
-kind_passes env _ _ _ (moving_time a) = refl
-kind_passes env _ _ _ coalesce = refl
-kind_passes env _ _ _ (coalesce_every a) = refl
-kind_passes env _ _ _ (smap a) = refl
-kind_passes env _ _ _ expired = refl
-kind_passes env _ _ _ (tagged a) = refl
-kind_passes env _ _ _ (over a) = refl
-kind_passes env _ _ _ (under a) = refl
+kind_passes env _ _ _ is = refl

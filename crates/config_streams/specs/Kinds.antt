@@ -24,22 +24,13 @@ use Rattle.config_terms.specs.Words.{fold_word, init_text}
 use Rattle.config_terms.specs.Arguments.{Env, Argument, Number, argument_of, misfit, field_at, number_at, value_at, text_at, texts_at, fields_at, some_of, set_at, sets_from, ranged_at, one_entry}
 use Rattle.config_terms.specs.Rules.{rule_at}
 
--- ---- arguments by their numbers
+-- ---- counts and seconds
 
 abbrev pub count_at : Env → FormTree → Result ℕ Fault
 count_at = ranged_at 1 MAX_COUNT
 
 abbrev pub secs_at : Env → FormTree → Result ℕ Fault
 secs_at = ranged_at 1 MAX_SECS
-
-abbrev pub count_of : Env → ℕ → ℕ → FormTrees → Result ℕ Fault
-count_of env n start forms = argument start n forms >>= count_at env
-
-abbrev pub secs_of : Env → ℕ → ℕ → FormTrees → Result ℕ Fault
-secs_of env n start forms = argument start n forms >>= secs_at env
-
-abbrev pub field_of : Env → ℕ → ℕ → FormTrees → Result Field Fault
-field_of env n start forms = argument start n forms >>= field_at env
 
 -- ---- sets: a map of them, or one without brackets
 
@@ -102,7 +93,7 @@ unfoldable pub has_secs : Env → FormTrees → Bool
 has_secs env forms = is_number_in env (nth 0 forms)
 
 unfoldable pub coalesce_secs : Env → ℕ → FormTrees → Result ℕ Fault
-coalesce_secs env start forms = if has_secs env forms then secs_of env 0 start forms else Ok 1
+coalesce_secs env start forms = if has_secs env forms then (argument start 0 forms >>= secs_at env) else Ok 1
 
 -- ---- rules
 
@@ -126,78 +117,43 @@ tagged_kind env start forms =
     some_of (start_of first) texts >>= λ tags.
     Ok (kind.Where (all_tagged tags))
 
+-- ---- the arguments of a kind
+
+-- one, that is read so
+abbrev pub one_argument : {A : Type 0} → (Env → FormTree → Result A Fault) → (A → KindTree) → Env → ℕ → FormTrees → Result KindTree Fault
+one_argument read make env start forms =
+    argument start 0 forms >>= λ first.
+    read env first >>= λ a.
+    Ok (make a)
+
+-- two, each read so
+abbrev pub two_arguments : {A B : Type 0} → (Env → FormTree → Result A Fault) → (Env → FormTree → Result B Fault) → (A → B → KindTree) → Env → ℕ → FormTrees → Result KindTree Fault
+two_arguments read read_next make env start forms =
+    argument start 0 forms >>= λ first.
+    read env first >>= λ a.
+    argument start 1 forms >>= λ second.
+    read_next env second >>= λ b.
+    Ok (make a b)
+
 unfoldable pub order_kind : Ordering → Env → ℕ → FormTrees → Result KindTree Fault
-order_kind order env start forms =
-    argument start 0 forms >>= λ first.
-    number_at env first >>= λ number.
-    Ok (kind.Where (Order Metric order number))
+order_kind order env start forms = one_argument number_at (λ number. kind.Where (Order Metric order number)) env start forms
 
--- ---- kinds with one argument
-
-unfoldable pub notice_kind : Env → ℕ → FormTrees → Result KindTree Fault
-notice_kind env start forms =
-    argument start 0 forms >>= λ first.
-    text_at env first >>= λ name.
-    Ok (kind.Notice name)
-
-unfoldable pub where_kind : Env → ℕ → FormTrees → Result KindTree Fault
-where_kind env start forms =
-    argument start 0 forms >>= λ first.
-    rule_at env first >>= λ rule.
-    Ok (kind.Where rule)
-
-unfoldable pub tag_kind : Env → ℕ → FormTrees → Result KindTree Fault
-tag_kind env start forms =
-    argument start 0 forms >>= λ first.
-    texts_at env first >>= λ tags.
-    Ok (kind.Tag tags)
-
-unfoldable pub by_kind : Env → ℕ → FormTrees → Result KindTree Fault
-by_kind env start forms =
-    argument start 0 forms >>= λ first.
-    fields_at env first >>= λ fields.
-    Ok (kind.By fields)
-
-unfoldable pub smap_kind : Env → ℕ → FormTrees → Result KindTree Fault
-smap_kind env start forms =
-    argument start 0 forms >>= λ first.
-    fold_at env first >>= λ fold.
-    Ok (kind.Smap fold)
-
--- ---- kinds with two arguments
-
-unfoldable pub count_and_secs : Env → ℕ → FormTrees → Result (ℕ × ℕ) Fault
-count_and_secs env start forms =
-    count_of env 0 start forms >>= λ count.
-    secs_of env 1 start forms >>= λ secs.
-    Ok (count, secs)
-
+-- a field, and what it was before the first event
 unfoldable pub changed_kind : Env → ℕ → FormTrees → Result KindTree Fault
 changed_kind env start forms =
-    field_of env 0 start forms >>= λ one.
+    argument start 0 forms >>= λ first.
+    field_at env first >>= λ one.
     init_of env forms >>= λ init.
     Ok (kind.Changed one init)
-
-unfoldable pub runs_kind : Env → ℕ → FormTrees → Result KindTree Fault
-runs_kind env start forms =
-    count_of env 0 start forms >>= λ count.
-    field_of env 1 start forms >>= λ one.
-    Ok (kind.Runs count one)
-
-unfoldable pub stable_kind : Env → ℕ → FormTrees → Result KindTree Fault
-stable_kind env start forms =
-    secs_of env 0 start forms >>= λ secs.
-    field_of env 1 start forms >>= λ one.
-    Ok (kind.Stable secs one)
 
 -- ---- all kinds
 
 -- windows, and tests of one thing
 unfoldable pub window_kind : Env → StreamWord → ℕ → FormTrees → Result KindTree Fault
-window_kind env word.FixedEvent start forms = count_of env 0 start forms >>= λ count. Ok (kind.FixedEvent count)
-window_kind env word.MovingEvent start forms = count_of env 0 start forms >>= λ count. Ok (kind.MovingEvent count)
-window_kind env word.FixedTime start forms = secs_of env 0 start forms >>= λ secs. Ok (kind.FixedTime secs)
-window_kind env word.MovingTime start forms = secs_of env 0 start forms >>= λ secs. Ok (kind.MovingTime secs)
+window_kind env word.FixedEvent start forms = one_argument count_at kind.FixedEvent env start forms
+window_kind env word.MovingEvent start forms = one_argument count_at kind.MovingEvent env start forms
+window_kind env word.FixedTime start forms = one_argument secs_at kind.FixedTime env start forms
+window_kind env word.MovingTime start forms = one_argument secs_at kind.MovingTime env start forms
 window_kind env word.Expired start forms = Ok (kind.Where expired_rule)
 window_kind env word.Tagged start forms = tagged_kind env start forms
 window_kind env word.Over start forms = order_kind Greater env start forms
@@ -207,25 +163,25 @@ window_kind env _ start forms = Err (start, why.Form)
 -- and those that count or compare
 unfoldable pub counting_kind : Env → StreamWord → ℕ → FormTrees → Result KindTree Fault
 counting_kind env word.Changed start forms = changed_kind env start forms
-counting_kind env word.Runs start forms = runs_kind env start forms
-counting_kind env word.Throttle start forms = count_and_secs env start forms >>= λ both. Ok (kind.Throttle both.0 both.1)
-counting_kind env word.Rollup start forms = count_and_secs env start forms >>= λ both. Ok (kind.Rollup both.0 both.1)
-counting_kind env word.Batch start forms = count_and_secs env start forms >>= λ both. Ok (kind.Batch both.0 both.1)
-counting_kind env word.Stable start forms = stable_kind env start forms
+counting_kind env word.Runs start forms = two_arguments count_at field_at kind.Runs env start forms
+counting_kind env word.Throttle start forms = two_arguments count_at secs_at kind.Throttle env start forms
+counting_kind env word.Rollup start forms = two_arguments count_at secs_at kind.Rollup env start forms
+counting_kind env word.Batch start forms = two_arguments count_at secs_at kind.Batch env start forms
+counting_kind env word.Stable start forms = two_arguments secs_at field_at kind.Stable env start forms
 counting_kind env word.Coalesce start forms = coalesce_secs env start forms >>= λ secs. Ok (kind.Coalesce secs)
-counting_kind env word.Smap start forms = smap_kind env start forms
+counting_kind env word.Smap start forms = one_argument fold_at kind.Smap env start forms
 counting_kind env word start forms = window_kind env word start forms
 
 -- and those that pass events on or end their way
 unfoldable pub kind_of : Env → StreamWord → ℕ → FormTrees → Result KindTree Fault
 kind_of env word.Index start forms = Ok kind.Index
-kind_of env word.Notice start forms = notice_kind env start forms
+kind_of env word.Notice start forms = one_argument text_at kind.Notice env start forms
 kind_of env word.Sdo start forms = Ok kind.Sdo
-kind_of env word.Where start forms = where_kind env start forms
+kind_of env word.Where start forms = one_argument rule_at kind.Where env start forms
 kind_of env word.With start forms = sets_of env start forms >>= λ sets. Ok (kind.With sets)
 kind_of env word.Default start forms = sets_of env start forms >>= λ sets. Ok (kind.Default sets)
-kind_of env word.Tag start forms = tag_kind env start forms
-kind_of env word.By start forms = by_kind env start forms
+kind_of env word.Tag start forms = one_argument texts_at kind.Tag env start forms
+kind_of env word.By start forms = one_argument fields_at kind.By env start forms
 kind_of env word start forms = counting_kind env word start forms
 
 -- ---- the number of arguments before the streams

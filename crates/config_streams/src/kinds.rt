@@ -8,7 +8,8 @@ ghost use Rattle.config_terms.specs.Steps.{Gives, GivesAs, nth as nth_of};
 ghost use Rattle.std.specs.Option.{option_map};
 ghost use Rattle.config_terms.specs.Code.{argument_in, map_in};
 ghost use Rattle.config_terms.specs.Arguments.{some_of};
-ghost use Rattle.config_streams.specs.Kinds.{count_of as count_from, secs_of as secs_from, field_of as field_from, sets_of as sets_in, one_set as one_set_of, is_map, is_map_in, init_of as init_in, some_init as some_init_of, fold_named as fold_named_by, fold_at as fold_from, has_secs as secs_stand, is_number as is_number_of, coalesce_secs as coalesce_secs_of, expired_rule as expired_tree, all_tagged as all_tagged_by, tag_rules as tag_trees, tagged_kind as tagged_kind_of, order_kind as order_kind_of, notice_kind as notice_kind_of, where_kind as where_kind_of, tag_kind as tag_kind_of, by_kind as by_kind_of, smap_kind as smap_kind_of, count_and_secs as both_of, changed_kind as changed_kind_of, runs_kind as runs_kind_of, stable_kind as stable_kind_of, window_kind as window_kind_of, counting_kind as counting_kind_of, kind_of as kind_from, leads as leads_of};
+ghost use Rattle.config_terms.specs.Words.{fold_word as fold_word_of};
+ghost use Rattle.config_streams.specs.Kinds.{count_at as count_in, secs_at as secs_in, sets_of as sets_in, one_set as one_set_of, is_map, is_map_in, init_of as init_in, some_init as some_init_of, fold_named as fold_named_by, fold_at as fold_from, has_secs as secs_stand, is_number as is_number_of, coalesce_secs as coalesce_secs_of, expired_rule as expired_tree, all_tagged as all_tagged_by, tag_rules as tag_trees, tagged_kind as tagged_kind_of, order_kind as order_kind_of, changed_kind as changed_kind_of, window_kind as window_kind_of, counting_kind as counting_kind_of, kind_of as kind_from, leads as leads_of};
 
 use config_terms::{
     Argument, Binding, ConfigFault, ConfigWhy, StreamWord, View, argument, argument_of, field_at,
@@ -21,31 +22,16 @@ use sexp_read::{Form, Shape};
 use std::alloc::Global;
 use stream_plan::{Kind, MAX_COUNT, MAX_SECS};
 
-fn count_of(env: &[Binding], n: usize, start: usize, forms: &[Form]) -> Result<u32, ConfigFault>
-    ensures { Gives result (count_from env.now n start (form_trees forms.now)) }
+fn count_at(env: &[Binding], form: &Form) -> Result<u32, ConfigFault>
+    ensures { Gives result (count_in env.now (form_tree form.now)) }
 {
-    let form = argument(start, n, forms)?;
     ranged_at(env, form, 1, MAX_COUNT)
 }
 
-fn secs_of(env: &[Binding], n: usize, start: usize, forms: &[Form]) -> Result<u32, ConfigFault>
-    ensures { Gives result (secs_from env.now n start (form_trees forms.now)) }
+fn secs_at(env: &[Binding], form: &Form) -> Result<u32, ConfigFault>
+    ensures { Gives result (secs_in env.now (form_tree form.now)) }
 {
-    let form = argument(start, n, forms)?;
     ranged_at(env, form, 1, MAX_SECS)
-}
-
-fn field_of(
-    alloc: Global,
-    env: &[Binding],
-    n: usize,
-    start: usize,
-    forms: &[Form],
-) -> Result<Field, ConfigFault>
-    ensures { Gives result (field_from env.now n start (form_trees forms.now)) }
-{
-    let form = argument(start, n, forms)?;
-    field_at(alloc, env, form)
 }
 
 /// The sets of a map, or the one set that is written without brackets.
@@ -161,7 +147,8 @@ fn coalesce_secs(env: &[Binding], start: usize, forms: &[Form]) -> Result<u32, C
     ensures { Gives result (coalesce_secs_of env.now start (form_trees forms.now)) }
 {
     if has_secs(env, forms) {
-        secs_of(env, 0, start, forms)
+        let form = argument(start, 0, forms)?;
+        secs_at(env, form)
     } else {
         Ok(1)
     }
@@ -242,81 +229,6 @@ fn order_kind(
     }))
 }
 
-#[tactic(auto, unfolding(crate::specs::Kinds::notice_kind))]
-fn notice_kind(
-    alloc: Global,
-    env: &[Binding],
-    start: usize,
-    forms: &[Form],
-) -> Result<Kind, ConfigFault>
-    ensures { GivesAs kind_tree result (notice_kind_of env.now start (form_trees forms.now)) }
-{
-    let form = argument(start, 0, forms)?;
-    let name = text_at(alloc, env, form)?;
-    Ok(Kind::Notice(name))
-}
-
-#[tactic(auto, unfolding(crate::specs::Kinds::where_kind))]
-fn where_kind(
-    alloc: Global,
-    env: &[Binding],
-    start: usize,
-    forms: &[Form],
-) -> Result<Kind, ConfigFault>
-    ensures { GivesAs kind_tree result (where_kind_of env.now start (form_trees forms.now)) }
-{
-    let form = argument(start, 0, forms)?;
-    let rule = rule_at(alloc, env, form)?;
-    Ok(Kind::Where(rule))
-}
-
-#[tactic(auto, unfolding(crate::specs::Kinds::tag_kind))]
-fn tag_kind(
-    alloc: Global,
-    env: &[Binding],
-    start: usize,
-    forms: &[Form],
-) -> Result<Kind, ConfigFault>
-    ensures { GivesAs kind_tree result (tag_kind_of env.now start (form_trees forms.now)) }
-{
-    let form = argument(start, 0, forms)?;
-    let tags = texts_at(alloc, env, form)?;
-    Ok(Kind::Tag(tags))
-}
-
-#[tactic(auto, unfolding(crate::specs::Kinds::by_kind))]
-fn by_kind(
-    alloc: Global,
-    env: &[Binding],
-    start: usize,
-    forms: &[Form],
-) -> Result<Kind, ConfigFault>
-    ensures { GivesAs kind_tree result (by_kind_of env.now start (form_trees forms.now)) }
-{
-    let form = argument(start, 0, forms)?;
-    let fields = fields_at(alloc, env, form)?;
-    Ok(Kind::By(fields))
-}
-
-#[tactic(auto, unfolding(crate::specs::Kinds::smap_kind))]
-fn smap_kind(env: &[Binding], start: usize, forms: &[Form]) -> Result<Kind, ConfigFault>
-    ensures { GivesAs kind_tree result (smap_kind_of env.now start (form_trees forms.now)) }
-{
-    let form = argument(start, 0, forms)?;
-    let fold = fold_at(env, form)?;
-    Ok(Kind::Smap(fold))
-}
-
-#[tactic(auto, unfolding(crate::specs::Kinds::count_and_secs))]
-fn count_and_secs(env: &[Binding], start: usize, forms: &[Form]) -> Result<(u32, u32), ConfigFault>
-    ensures { GivesAs (λ both. (both.0, both.1)) result
-        (both_of env.now start (form_trees forms.now)) }
-{
-    let count = count_of(env, 0, start, forms)?;
-    let secs = secs_of(env, 1, start, forms)?;
-    Ok((count, secs))
-}
-
 #[tactic(auto, unfolding(crate::specs::Kinds::changed_kind))]
 fn changed_kind(
     alloc: Global,
@@ -326,37 +238,10 @@ fn changed_kind(
 ) -> Result<Kind, ConfigFault>
     ensures { GivesAs kind_tree result (changed_kind_of env.now start (form_trees forms.now)) }
 {
-    let field = field_of(alloc, env, 0, start, forms)?;
+    let form = argument(start, 0, forms)?;
+    let field = field_at(alloc, env, form)?;
     let init = init_of(alloc, env, forms)?;
     Ok(Kind::Changed { field, init })
-}
-
-#[tactic(auto, unfolding(crate::specs::Kinds::runs_kind))]
-fn runs_kind(
-    alloc: Global,
-    env: &[Binding],
-    start: usize,
-    forms: &[Form],
-) -> Result<Kind, ConfigFault>
-    ensures { GivesAs kind_tree result (runs_kind_of env.now start (form_trees forms.now)) }
-{
-    let count = count_of(env, 0, start, forms)?;
-    let field = field_of(alloc, env, 1, start, forms)?;
-    Ok(Kind::Runs { count, field })
-}
-
-#[tactic(auto, unfolding(crate::specs::Kinds::stable_kind))]
-fn stable_kind(
-    alloc: Global,
-    env: &[Binding],
-    start: usize,
-    forms: &[Form],
-) -> Result<Kind, ConfigFault>
-    ensures { GivesAs kind_tree result (stable_kind_of env.now start (form_trees forms.now)) }
-{
-    let secs = secs_of(env, 0, start, forms)?;
-    let field = field_of(alloc, env, 1, start, forms)?;
-    Ok(Kind::Stable { secs, field })
 }
 
 /// The kind of a stream that begins with the word at `start`, by the arguments after it.
@@ -372,9 +257,9 @@ pub(crate) fn kind_of(
 {
     match word {
         StreamWord::Index => Ok(Kind::Index),
-        StreamWord::Notice => notice_kind(alloc, env, start, forms),
+        StreamWord::Notice => Ok(Kind::Notice(text_at(alloc, env, argument(start, 0, forms)?)?)),
         StreamWord::Sdo => Ok(Kind::Sdo),
-        StreamWord::Where => where_kind(alloc, env, start, forms),
+        StreamWord::Where => Ok(Kind::Where(rule_at(alloc, env, argument(start, 0, forms)?)?)),
         StreamWord::With => {
             let sets = sets_of(alloc, env, start, forms)?;
             Ok(Kind::With(sets))
@@ -383,8 +268,8 @@ pub(crate) fn kind_of(
             let sets = sets_of(alloc, env, start, forms)?;
             Ok(Kind::Default(sets))
         }
-        StreamWord::Tag => tag_kind(alloc, env, start, forms),
-        StreamWord::By => by_kind(alloc, env, start, forms),
+        StreamWord::Tag => Ok(Kind::Tag(texts_at(alloc, env, argument(start, 0, forms)?)?)),
+        StreamWord::By => Ok(Kind::By(fields_at(alloc, env, argument(start, 0, forms)?)?)),
         _ => counting_kind(alloc, env, word, start, forms),
     }
 }
@@ -403,25 +288,31 @@ fn counting_kind(
 {
     match word {
         StreamWord::Changed => changed_kind(alloc, env, start, forms),
-        StreamWord::Runs => runs_kind(alloc, env, start, forms),
-        StreamWord::Throttle => {
-            let (count, secs) = count_and_secs(env, start, forms)?;
-            Ok(Kind::Throttle { count, secs })
-        }
-        StreamWord::Rollup => {
-            let (count, secs) = count_and_secs(env, start, forms)?;
-            Ok(Kind::Rollup { count, secs })
-        }
-        StreamWord::Batch => {
-            let (count, secs) = count_and_secs(env, start, forms)?;
-            Ok(Kind::Batch { count, secs })
-        }
-        StreamWord::Stable => stable_kind(alloc, env, start, forms),
+        StreamWord::Runs => Ok(Kind::Runs {
+            count: count_at(env, argument(start, 0, forms)?)?,
+            field: field_at(alloc, env, argument(start, 1, forms)?)?,
+        }),
+        StreamWord::Throttle => Ok(Kind::Throttle {
+            count: count_at(env, argument(start, 0, forms)?)?,
+            secs: secs_at(env, argument(start, 1, forms)?)?,
+        }),
+        StreamWord::Rollup => Ok(Kind::Rollup {
+            count: count_at(env, argument(start, 0, forms)?)?,
+            secs: secs_at(env, argument(start, 1, forms)?)?,
+        }),
+        StreamWord::Batch => Ok(Kind::Batch {
+            count: count_at(env, argument(start, 0, forms)?)?,
+            secs: secs_at(env, argument(start, 1, forms)?)?,
+        }),
+        StreamWord::Stable => Ok(Kind::Stable {
+            secs: secs_at(env, argument(start, 0, forms)?)?,
+            field: field_at(alloc, env, argument(start, 1, forms)?)?,
+        }),
         StreamWord::Coalesce => {
             let secs = coalesce_secs(env, start, forms)?;
             Ok(Kind::Coalesce { secs })
         }
-        StreamWord::Smap => smap_kind(env, start, forms),
+        StreamWord::Smap => Ok(Kind::Smap(fold_at(env, argument(start, 0, forms)?)?)),
         _ => window_kind(alloc, env, word, start, forms),
     }
 }
@@ -438,22 +329,18 @@ fn window_kind(
     ensures { GivesAs kind_tree result (window_kind_of env.now word start (form_trees forms.now)) }
 {
     match word {
-        StreamWord::FixedEvent => {
-            let count = count_of(env, 0, start, forms)?;
-            Ok(Kind::FixedEvent { count })
-        }
-        StreamWord::MovingEvent => {
-            let count = count_of(env, 0, start, forms)?;
-            Ok(Kind::MovingEvent { count })
-        }
-        StreamWord::FixedTime => {
-            let secs = secs_of(env, 0, start, forms)?;
-            Ok(Kind::FixedTime { secs })
-        }
-        StreamWord::MovingTime => {
-            let secs = secs_of(env, 0, start, forms)?;
-            Ok(Kind::MovingTime { secs })
-        }
+        StreamWord::FixedEvent => Ok(Kind::FixedEvent {
+            count: count_at(env, argument(start, 0, forms)?)?,
+        }),
+        StreamWord::MovingEvent => Ok(Kind::MovingEvent {
+            count: count_at(env, argument(start, 0, forms)?)?,
+        }),
+        StreamWord::FixedTime => Ok(Kind::FixedTime {
+            secs: secs_at(env, argument(start, 0, forms)?)?,
+        }),
+        StreamWord::MovingTime => Ok(Kind::MovingTime {
+            secs: secs_at(env, argument(start, 0, forms)?)?,
+        }),
         StreamWord::Expired => {
             let rule = expired_rule(alloc)?;
             Ok(Kind::Where(rule))
