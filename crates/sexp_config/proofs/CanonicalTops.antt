@@ -67,12 +67,15 @@ small_ascii (b ∷ text) h = let parts = and_parts (small b) (list_all small tex
 default_host : IsUtf8 (codes "127.0.0.1")
 default_host = IsUtf8-from_ascii (codes "127.0.0.1") (small_ascii (codes "127.0.0.1") refl)
 
+default_port : IsPort 5555
+default_port = omega arith
+
 host_good : (host : Option (List ℕ)) → SomeGood IsUtf8 host → IsUtf8 (unwrap_or host (codes "127.0.0.1"))
 host_good None good = default_host
 host_good (Some host) good = good
 
 port_good : (port : Option ℕ) → SomeGood IsPort port → IsPort (unwrap_or port 5555)
-port_good None good = omega arith
+port_good None good = default_port
 port_good (Some port) good = good
 
 entries_good : (env : Env) → GoodEnv env → (forms : BareTrees) (host : Option (List ℕ)) (port : Option ℕ) → AreEntries env forms host port → AreWritable forms → SomeGood IsUtf8 host × SomeGood IsPort port
@@ -82,7 +85,7 @@ entries_good env e _ _ port (a_host {h = h} {forms = forms} {host = host} key is
 entries_good env e _ host _ (a_port {forms = forms} {port = port} key (a_ranged is low high) others) w = ((entries_good env e forms host None others w.1.1).0, high)
 
 server_written : (env : Env) → GoodEnv env → (forms : BareTrees) (server : Server) → IsServer env forms server → AreWritable forms → ServerWritten server
-server_written env e _ _ by_default w = server_is (listening None None) default_host (omega arith)
+server_written env e _ _ by_default w = server_is (listening None None) default_host default_port
 server_written env e _ _ (by_map {entries = entries} {host = host} {port = port} are) w =
     let good = entries_good env e entries host port are w.0 in server_is (listening host port) (host_good host good.0) (port_good port good.1)
 
@@ -162,7 +165,7 @@ expiry_top None forms streams all rest = rest
 expiry_top (Some expiry) forms streams all rest = (more_tops (an_expiry all.0.0) rest.0, (all.0.1, rest.1))
 
 server_or : (server : Option Server) → AllGood ServerWritten (option_to_list server) → ServerWritten (unwrap_or server (listening None None))
-server_or None all = server_is (listening None None) default_host (omega arith)
+server_or None all = server_is (listening None None) default_host default_port
 server_or (Some server) all = all.0
 
 pub config_written : (forms : BareTrees) (config : Config) → AreConfig forms config → AreWritable forms → AreConfig (listed (config_forms config)) config × AreWritable (listed (config_forms config))

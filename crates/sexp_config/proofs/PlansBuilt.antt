@@ -109,5 +109,6 @@ is_left streams path cause built is =
 
 pub read_plans : ReadPlansHaveNoFault
 read_plans text config is =
-    let built = well_built config.plan (tops_fit [] (bare_trees is.forms) _ is.holds.said (omega (arith, is.read.shallow, depth_is is.forms))) in
+    let shallow : depth is.forms ≤ 64 = is.read.shallow in
+    let built = well_built config.plan (tops_fit [] (bare_trees is.forms) _ is.holds.said (omega (arith, shallow, depth_is is.forms))) in
     (faultless_is_sound config.plan).1 (record { few = is.holds.few; shallow = built.shallow; followed = built.followed; in_range = built.in_range; taken = is.holds.taken })

@@ -24,7 +24,7 @@ use Rattle.window_streams.specs.declared.moving_event.MovingEventState.{MovingEv
 use Rattle.window_streams.specs.declared.fixed_time.FixedTimeState.{FixedTimeState}
 use Rattle.window_streams.specs.declared.moving_time.MovingTimeState.{MovingTimeState}
 use Rattle.window_streams.specs.declared.coalesce.CoalesceState.{CoalesceState}
-use Rattle.stream_plan.specs.Tree.{KindTree, Index, Notice, Sdo, Where, With, Default, Tag, By, Changed, Runs, Throttle, Rollup, Batch, Stable, FixedEvent, MovingEvent, FixedTime, MovingTime, Coalesce, Smap}
+use Rattle.stream_plan.specs.Tree.{Sdo, Smap}
 use Rattle.stream_meaning.specs.declared.entry.Entry.TheVariants.{Item as In}
 use Rattle.stream_meaning.specs.History.{History, ◌▸◌, window_of}
 use Rattle.stream_meaning.specs.Rates.{events_now, count_in, rolls_into, one_if}
@@ -34,26 +34,9 @@ use Rattle.stream_states.specs.declared.kept.KeptState.{KeptState}
 use Rattle.stream_states.specs.declared.kept.KeptState.TheVariants as kept
 
 pub vectors_pass_nothing : VectorsPassNothing
-vectors_pass_nothing Index h es keeps = refl
-vectors_pass_nothing (Notice name) h es keeps = refl
 vectors_pass_nothing Sdo h es keeps = cc
-vectors_pass_nothing (Where rule) h es keeps = refl
-vectors_pass_nothing (With sets) h es keeps = refl
-vectors_pass_nothing (Default sets) h es keeps = refl
-vectors_pass_nothing (Tag tags) h es keeps = refl
-vectors_pass_nothing (By fields) h es keeps = refl
-vectors_pass_nothing (Changed field init) h es keeps = refl
-vectors_pass_nothing (Runs n field) h es keeps = refl
-vectors_pass_nothing (Throttle n secs) h es keeps = refl
-vectors_pass_nothing (Rollup n secs) h es keeps = refl
-vectors_pass_nothing (Batch n secs) h es keeps = refl
-vectors_pass_nothing (Stable secs field) h es keeps = refl
-vectors_pass_nothing (FixedEvent n) h es keeps = refl
-vectors_pass_nothing (MovingEvent n) h es keeps = refl
-vectors_pass_nothing (FixedTime secs) h es keeps = refl
-vectors_pass_nothing (MovingTime secs) h es keeps = refl
-vectors_pass_nothing (Coalesce secs) h es keeps = refl
 vectors_pass_nothing (Smap fold) h es keeps = cc
+vectors_pass_nothing kind h es keeps = refl
 
 rolls_same : (n secs window : ℕ) (h : History) (es : List Event) → rolls_into n secs window (h ▸ In (Many es)) ≡ rolls_into n secs window h
 rolls_same n secs zero h es = refl

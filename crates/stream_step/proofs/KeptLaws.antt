@@ -57,18 +57,9 @@ given_meant before made kind h copied event none same passes =
 
 -- ---- a vector
 
-kept_keeps : (state : KeptState) → keeps (kept_kind state) ≡ true
+pub kept_keeps : (state : KeptState) → keeps (kept_kind state) ≡ true
 kept_keeps (Changed state) = refl
-kept_keeps (Runs state) = refl
-kept_keeps (Throttle state) = refl
-kept_keeps (Rollup state) = refl
-kept_keeps (Batch state) = refl
-kept_keeps (Stable state) = refl
-kept_keeps (FixedEvent state) = refl
-kept_keeps (MovingEvent state) = refl
-kept_keeps (FixedTime state) = refl
-kept_keeps (MovingTime state) = refl
-kept_keeps (Coalesce state) = refl
+kept_keeps state = refl
 
 -- a stream whose state is kept passes nothing on at a vector
 pub vector_passes_nothing : (kind : KindTree) (state : KeptState) (h : History) (item : Item) (es : List Event) → item ≡ Many es → KeptRepresents kind state h →

@@ -10,7 +10,7 @@ use Rattle.pred_eval.specs.Tree.{Tree}
 use Rattle.pred_eval.proofs.SearchLaws.{read_front, read_back, read_length}
 use Rattle.regex.specs.declared.string.regex.Regex.{Regex}
 use Rattle.stream_plan.specs.Ready.{kind_patterns}
-use Rattle.stream_plan.specs.Tree.{KindTree, Index, Notice, Sdo, Where, With, Default, Tag, By, Changed, Runs, Throttle, Rollup, Batch, Stable, FixedEvent, MovingEvent, FixedTime, MovingTime, Coalesce, Smap}
+use Rattle.stream_plan.specs.Tree.{KindTree, Where, Rollup, Batch, Stable, Coalesce}
 use Rattle.stream_meaning.specs.Deadlines.{next_deadline}
 use Rattle.stream_states.specs.Kept.{keeps, KeptRepresents}
 use Rattle.stream_states.specs.declared.kept.KeptState.{KeptState}
@@ -80,47 +80,14 @@ states_stay texts kind state h represents quiet =
 -- the kinds that keep something of what came have no regular expression
 pub kept_patterns : (kind : KindTree) → keeps kind ≡ true → kind_patterns kind ≡ []
 kept_patterns (Where rule) kept = cc
-kept_patterns Index kept = refl
-kept_patterns (Notice name) kept = refl
-kept_patterns Sdo kept = refl
-kept_patterns (With sets) kept = refl
-kept_patterns (Default sets) kept = refl
-kept_patterns (Tag tags) kept = refl
-kept_patterns (By fields) kept = refl
-kept_patterns (Changed field init) kept = refl
-kept_patterns (Runs count field) kept = refl
-kept_patterns (Throttle count secs) kept = refl
-kept_patterns (Rollup count secs) kept = refl
-kept_patterns (Batch count secs) kept = refl
-kept_patterns (Stable secs field) kept = refl
-kept_patterns (FixedEvent count) kept = refl
-kept_patterns (MovingEvent count) kept = refl
-kept_patterns (FixedTime secs) kept = refl
-kept_patterns (MovingTime secs) kept = refl
-kept_patterns (Coalesce secs) kept = refl
-kept_patterns (Smap fold) kept = refl
+kept_patterns kind kept = refl
 
 numbers_never_due : (texts : List (List ℕ)) (kind : KindTree) (state : State) (h : History) → HasNumbers texts kind state → None ≡ next_deadline kind h
 numbers_never_due texts (Rollup count secs) state h numbers = cc
 numbers_never_due texts (Batch count secs) state h numbers = cc
 numbers_never_due texts (Stable secs field) state h numbers = cc
 numbers_never_due texts (Coalesce secs) state h numbers = cc
-numbers_never_due texts Index state h numbers = refl
-numbers_never_due texts (Notice name) state h numbers = refl
-numbers_never_due texts Sdo state h numbers = refl
-numbers_never_due texts (Where rule) state h numbers = refl
-numbers_never_due texts (With sets) state h numbers = refl
-numbers_never_due texts (Default sets) state h numbers = refl
-numbers_never_due texts (Tag tags) state h numbers = refl
-numbers_never_due texts (By fields) state h numbers = refl
-numbers_never_due texts (Changed field init) state h numbers = refl
-numbers_never_due texts (Runs count field) state h numbers = refl
-numbers_never_due texts (Throttle count secs) state h numbers = refl
-numbers_never_due texts (FixedEvent count) state h numbers = refl
-numbers_never_due texts (MovingEvent count) state h numbers = refl
-numbers_never_due texts (FixedTime secs) state h numbers = refl
-numbers_never_due texts (MovingTime secs) state h numbers = refl
-numbers_never_due texts (Smap fold) state h numbers = refl
+numbers_never_due texts kind state h numbers = refl
 
 -- a stream that keeps nothing of what came is never due
 pub never_due : (texts : List (List ℕ)) (kind : KindTree) (state : State) (h : History) → is_kept state ≡ false → StateRepresents texts kind state h → None ≡ next_deadline kind h

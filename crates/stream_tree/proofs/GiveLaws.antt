@@ -24,7 +24,7 @@ use Rattle.stream_tree.specs.Running.{FirstRun, ForestRuns, StreamRuns}
 use Rattle.stream_tree.proofs.ForestLaws.{forest_begins, forest_more, forest_ends}
 use Rattle.stream_step.specs.stream_states.Kept.{keeps}
 use Rattle.stream_tree.proofs.PerformLaws.{own_grew}
-use Rattle.stream_tree.proofs.StreamLaws.{kept_keeps}
+use Rattle.stream_step.proofs.KeptLaws.{kept_keeps}
 
 -- the state of an `index` holds nothing
 index_stays : (texts : List (List ℕ)) (state : State) (h : History) (x : Entry) → StateRepresents texts Index state h → StateRepresents texts Index state (h ▸ x)

@@ -13,7 +13,7 @@ use Rattle.pred_eval.specs.Truth.{holds}
 use Rattle.stream_plan.specs.Faults.{preorder_at, preorder_in, count_of}
 use Rattle.stream_plan.specs.Kinds.{is_count, is_secs, is_in_range, passes_on}
 use Rattle.stream_plan.specs.Sound.{IsInRange, IsSound}
-use Rattle.stream_plan.specs.Tree.{KindTree, Index, Notice, Sdo, Where, With, Default, Tag, By, Changed, Runs, Throttle, Rollup, Batch, Stable, FixedEvent, MovingEvent, FixedTime, MovingTime, Coalesce, Smap, StreamTree, StreamTrees, stream, none, also}
+use Rattle.stream_plan.specs.Tree.{KindTree, Index, Notice, Sdo, Where, With, Default, Tag, By, Rollup, Batch, Coalesce, Smap, StreamTree, StreamTrees, stream, none, also}
 use Rattle.stream_meaning.specs.Branches.{fork_keys, branches}
 use Rattle.stream_meaning.specs.declared.entry.Entry.{Entry}
 use Rattle.stream_meaning.specs.declared.entry.Entry.TheVariants.{Tick, Item as In}

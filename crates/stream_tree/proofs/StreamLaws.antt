@@ -22,10 +22,9 @@ use Rattle.stream_meaning.proofs.ForkLaws.{unseen_fork}
 use Rattle.stream_meaning.proofs.MomentLaws.{branch_moments}
 use Rattle.stream_step.specs.declared.passed.Passed.{Passed}
 use Rattle.stream_step.specs.declared.state.State.{State}
-use Rattle.stream_step.specs.stream_states.declared.kept.KeptState.{KeptState}
-use Rattle.stream_step.specs.stream_states.declared.kept.KeptState.TheVariants as kept
-use Rattle.stream_step.specs.stream_states.Kept.{keeps, kept_kind}
+use Rattle.stream_step.specs.stream_states.Kept.{keeps}
 use Rattle.stream_step.specs.declared.state.State.TheVariants as variant
+use Rattle.stream_step.proofs.KeptLaws.{kept_keeps}
 use Rattle.stream_step.specs.Step.{emissions_meant, is_kept, StateRepresents, Acts}
 use Rattle.stream_tree.specs.Forest.{Meaning, Below, first_of, forked_by, keys_by, BelowRepresents, PartsRepresent, ForestRepresents}
 use Rattle.stream_tree.specs.Running.{ComesAt, Stops, StreamRuns, StreamStops, UnseenHaveTicks, entering, AllCome, AllAreAt, TickRuns, TickStops, EmissionsRun, EmissionsStop}
@@ -53,19 +52,6 @@ still_alone h (In item) alone = alone
 unseen_ticked : (kind : KindTree) (h : History) (x : Entry) → UnseenHaveTicks (forked_by kind) (keys_by (forked_by kind) h) (λ branch. ticked x (child_history kind branch h))
 unseen_ticked (By fields) h x = λ key absent. still_alone (child_history (By fields) (Fork key) h) x (unseen_fork fields key h absent)
 unseen_ticked kind h x = tt
-
-pub kept_keeps : (state : KeptState) → keeps (kept_kind state) ≡ true
-kept_keeps (kept.Changed state) = refl
-kept_keeps (kept.Runs state) = refl
-kept_keeps (kept.Throttle state) = refl
-kept_keeps (kept.Rollup state) = refl
-kept_keeps (kept.Batch state) = refl
-kept_keeps (kept.Stable state) = refl
-kept_keeps (kept.FixedEvent state) = refl
-kept_keeps (kept.MovingEvent state) = refl
-kept_keeps (kept.FixedTime state) = refl
-kept_keeps (kept.MovingTime state) = refl
-kept_keeps (kept.Coalesce state) = refl
 
 -- the state of a `by` has a number alone
 by_keeps_nothing : (texts : List (List ℕ)) (fields : List Field) (state : State) (h : History) → StateRepresents texts (By fields) state h → is_kept state ≡ false
