@@ -13,7 +13,7 @@ use Rattle.pred_eval.specs.Tree.{Tree, Order}
 use Rattle.sexp_read.specs.declared.piece.Atom.TheVariants as atom
 use Rattle.sexp_read.specs.declared.piece.Bracket.TheVariants.{Round, Square, Curly}
 use Rattle.sexp_read.specs.Tree.{FormTree, FormTrees, Single, Group, none, also}
-use Rattle.sexp_read.specs.Written.{BareTree, BareTrees, no_trees, and_trees, bare_tree, bare_trees, listed}
+use Rattle.sexp_read.specs.Written.{BareTree, BareTrees, no_trees, bare_tree, bare_trees, listed}
 use Rattle.stream_plan.specs.Tree.{KindTree}
 use Rattle.stream_plan.specs.Tree as plan
 use Rattle.config_terms.specs.declared.binding.Bound.TheVariants as bound

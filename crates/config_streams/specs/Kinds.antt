@@ -1,6 +1,5 @@
 -- The kinds of streams, by their words and arguments.
 use Rattle.std.specs.Prelude.{ℕ, Bool, true, false, not, if◌then◌else◌, List, [], ◌∷◌, codes, Option, Some, None, Result, Ok, Err}
-use Rattle.ev_types.specs.declared.field.Field.{Field}
 use Rattle.ev_types.specs.declared.field.Field.TheVariants.{State, Metric}
 use Rattle.ev_types.specs.declared.settings.Fold.{Fold}
 use Rattle.ev_types.specs.declared.settings.Set.{Set}

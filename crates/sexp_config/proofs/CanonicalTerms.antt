@@ -8,11 +8,10 @@ use Rattle.ev_types.specs.declared.field.Field.{Field}
 use Rattle.ev_types.specs.declared.field.Field.TheVariants as field
 use Rattle.ev_types.specs.declared.settings.Set.{Set}
 use Rattle.ev_types.specs.declared.value.Value.{Value}
-use Rattle.ev_types.specs.declared.value.Value.TheVariants as value
 use Rattle.ev_types.specs.Names.{field_name, is_hidden, named_field, protocol_field}
 use Rattle.pred_eval.specs.declared.rule.Ordering.{Ordering}
 use Rattle.pred_eval.specs.declared.rule.Ordering.TheVariants.{Less, LessEqual, Greater, GreaterEqual}
-use Rattle.pred_eval.specs.Tree.{Tree, Trees, Always, Never, Not, All, Any, Tagged, Equal, Order, Wild, Search}
+use Rattle.pred_eval.specs.Tree.{Tree, Trees, Equal, Order}
 use Rattle.pred_eval.specs.Tree as pred
 use Rattle.sexp_read.specs.Bytes.{is_name}
 use Rattle.sexp_read.specs.Written.{BareTree, BareTrees, listed, is_pattern, IsWithin64, IsWritableTree, AreWritable}
@@ -23,7 +22,7 @@ use Rattle.config_terms.specs.Arguments.{Env, bound_value}
 use Rattle.config_terms.specs.Grammar.{IsLiteral, a_text, a_pattern, a_number, a_keyword, a_name, IsValue, text_value, number_value, nil_value, IsTested, bare, keyed, all_of, any_of, IsPredicate, always, never, never_nil, all_parts, any_part, negated, tagged, equal, unequal, compared, like, holds, found, ArePredicates, no_parts, more_parts}
 use Rattle.config_terms.specs.Terms.{IsField, a_field, AreTexts, no_texts, more_texts, IsTexts, text_alone, text_vector, AreFields, no_fields, more_fields, IsFields, field_alone, field_vector, a_set, AreSets, no_sets, more_sets}
 use Rattle.config_terms.proofs.Outcomes.{SomeGood, some_found}
-use Rattle.sexp_config.specs.Canonical.{text_form, vector_form, map_form, value_form, field_form, rule_field_form, rule_form, rule_forms, set_forms}
+use Rattle.sexp_config.specs.Canonical.{text_form, vector_form, value_form, field_form, rule_field_form, rule_form, rule_forms, set_forms}
 
 -- ---- all of a list
 

@@ -8,22 +8,20 @@ use Rattle.std.specs.Prelude.{option_to_list}
 use Rattle.std.specs.Str.{IsUtf8, IsAscii}
 use Rattle.ev_types.specs.declared.settings.Expiry.{Expiry}
 use Rattle.ev_types.specs.declared.settings.KeepKey.{KeepKey}
-use Rattle.ev_types.specs.declared.settings.KeepKey.TheVariants as keep
 use Rattle.ev_types.specs.Names.{named_field, protocol_field}
-use Rattle.sexp_read.specs.Written.{BareTree, BareTrees, no_trees, and_trees, listed, IsWritableTree, AreWritable}
+use Rattle.sexp_read.specs.Written.{BareTree, BareTrees, listed, IsWritableTree, AreWritable}
 use Rattle.stream_plan.specs.declared.kinds.TheConstants.{MAX_SECS}
-use Rattle.stream_plan.specs.Tree.{StreamTrees, none}
+use Rattle.stream_plan.specs.Tree.{StreamTrees}
 use Rattle.config_terms.specs.declared.binding.Bound.{Bound}
 use Rattle.config_terms.specs.declared.binding.Bound.TheVariants as bound
 use Rattle.config_terms.specs.Arguments.{Env}
 use Rattle.config_terms.specs.Grammar.{a_text, a_number, a_keyword}
 use Rattle.config_terms.specs.Terms.{IsRanged, a_ranged, a_field}
-use Rattle.config_streams.specs.Grammar.{with_streams}
 use Rattle.config_streams.proofs.GrammarRead.{with_none}
 use Rattle.sexp_config.specs.declared.config.Config.{Config}
 use Rattle.sexp_config.specs.Canonical.{keyword_form, text_form, number_form, vector_form, map_form, keep_form, server_form, expiry_form, expiry_forms, streams_form, config_forms}
-use Rattle.config_terms.specs.Words.{tags_text, keep_text, host_text, port_text}
-use Rattle.sexp_config.specs.Grammar.{IsNamed, a_value, the_index, AreNames, no_names, more_names, Server, listening, AreEntries, no_entries, a_host, a_port, IsServer, by_default, by_map, IsKey, field_key, tags_key, AreKeys, no_keys, more_keys, host_and_service, IsExpiry, every_ten, every, keeping, Said, nothing_said, together, IsTop, a_server, an_expiry, some_streams, with_names, AreTops, no_tops, more_tops, AreConfig}
+use Rattle.config_terms.specs.Words.{keep_text, host_text, port_text}
+use Rattle.sexp_config.specs.Grammar.{IsNamed, a_value, the_index, AreNames, no_names, more_names, Server, listening, AreEntries, no_entries, a_host, a_port, IsServer, by_default, by_map, field_key, tags_key, AreKeys, no_keys, more_keys, host_and_service, IsExpiry, every_ten, every, keeping, Said, nothing_said, IsTop, a_server, an_expiry, some_streams, with_names, AreTops, no_tops, more_tops, AreConfig}
 use Rattle.config_terms.proofs.Outcomes.{SomeGood}
 use Rattle.sexp_config.proofs.CanonicalTerms.{AllGood, all_both, GoodBound, GoodBinding, GoodEnv, literal_good, field_written}
 use Rattle.sexp_config.proofs.CanonicalStreams.{number_written, AllWritten, row_written, joined_written, streams_written}

@@ -1,6 +1,6 @@
 -- Streams that forms represent are well built: their numbers and sets are in their ranges, no stream has streams but those
 -- that may follow it, and none is deeper than its form.
-use Rattle.std.proofs.Common.{◌≡◌, ℕ, suc, ◌+◌, ◌≤◌, Bool, true, false, not, nat_le, ◌&&◌, ◌||◌, codes, List, [], ◌∷◌, refl, arith}
+use Rattle.std.proofs.Common.{◌≡◌, ℕ, suc, ◌+◌, ◌≤◌, Bool, true, false, not, ◌&&◌, ◌||◌, codes, List, [], ◌∷◌, refl, arith}
 use Rattle.std.proofs.lemmas.Bool.{le-leb}
 use Rattle.ev_types.specs.declared.settings.Set.{Set}
 use Rattle.ev_types.specs.Set.{all_fit}
@@ -11,8 +11,8 @@ use Rattle.stream_plan.specs.Kinds.{may_have_children, may_have_otherwise, is_co
 use Rattle.stream_plan.specs.Tree.{KindTree, StreamTree, stream, StreamTrees, none, also}
 use Rattle.config_terms.specs.Arguments.{Env}
 use Rattle.config_terms.specs.Grammar.{worded}
-use Rattle.config_terms.specs.Terms.{IsRanged, a_ranged, a_set, AreSets, no_sets, more_sets}
-use Rattle.config_streams.specs.Grammar.{IsCount, AreSecs, and_then, IsKind, sdo, where_, with_one, with_all, default_one, default_all, tagging, by, changed, changed_from, runs, throttle, rollup, batch, stable, fixed_event, moving_event, fixed_time, moving_time, coalesce, coalesce_every, smap, expired, tagged, over, under, IsStream, index_word, index_name, index_list, notice, passing, where_else, AreStreams, no_streams, more_streams, with_streams}
+use Rattle.config_terms.specs.Terms.{a_ranged, a_set, AreSets, no_sets, more_sets}
+use Rattle.config_streams.specs.Grammar.{IsCount, AreSecs, and_then, IsKind, with_one, with_all, default_one, default_all, runs, throttle, rollup, batch, stable, fixed_event, moving_event, fixed_time, moving_time, coalesce_every, IsStream, index_word, index_name, index_list, notice, passing, where_else, AreStreams, no_streams, more_streams, with_streams}
 use Rattle.config_streams.proofs.KindsRead.{kind_passes}
 use Rattle.sexp_config.specs.Grammar.{Said, IsTop, a_server, an_expiry, some_streams, with_names, AreTops, no_tops, more_tops}
 
