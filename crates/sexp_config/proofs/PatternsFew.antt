@@ -7,7 +7,7 @@ use Rattle.sexp_read.proofs.TokensFew.{tokens_few}
 use Rattle.sexp_read.specs.Grammar.{IsForms, form_spelling, spelling, longest}
 use Rattle.sexp_read.specs.Tokens.{Closed}
 use Rattle.sexp_read.specs.Tree.{FormTree, FormTrees, Single, Group}
-use Rattle.sexp_read.specs.Tree as form
+use Rattle.sexp_read.specs.Tree as tree
 use Rattle.sexp_read.specs.Written.{BareTree, BareTrees, Leaf, Branch, no_trees, and_trees, bare_tree, bare_trees, listed}
 use Rattle.stream_plan.specs.Ready.{kind_patterns, stream_patterns, plan_patterns}
 use Rattle.stream_plan.specs.Tree.{KindTree, StreamTree, stream, StreamTrees, none, also}
@@ -36,8 +36,8 @@ mutual
   form_spelled (Group bracket forms start last) = omega (arith, spelled forms, length-append (spelling forms) (Closed bracket last ∷ []))
 
   spelled : (forms : FormTrees) → brackets (bare_trees forms) ≤ length (spelling forms)
-  spelled form.none = omega arith
-  spelled (form.also f forms) = omega (arith, form_spelled f, spelled forms, length-append (form_spelling f) (spelling forms))
+  spelled tree.none = omega arith
+  spelled (tree.also f forms) = omega (arith, form_spelled f, spelled forms, length-append (form_spelling f) (spelling forms))
 
 few_brackets : (text : List ℕ) (forms : FormTrees) → IsForms text forms → brackets (bare_trees forms) ≤ longest
 few_brackets text forms read = omega (arith, spelled forms, tokens_few text, ap length read.read.spelled, read.short)
