@@ -3,14 +3,13 @@ use Rattle.std.proofs.Common.{◌≡◌, ℕ, suc, ◌<◌, ◌≤◌, true, con
 use Rattle.std.specs.Option.{option_or}
 use Rattle.std.proofs.lemmas.Bool.{cond-true, cond-false, cases_Bool}
 use Rattle.std.proofs.lemmas.Option.{none-some, same_Some}
-use Rattle.regex_hir.specs.Re.{Re, Trace, Rest, attempt, accept}
+use Rattle.regex_hir.specs.Re.{Re, Rest, attempt, accept}
 use Rattle.regex_hir.specs.Find.{Match, find, first_between}
 use Rattle.regex_hir.specs.Text.{is_boundary}
 use Rattle.regex_hir.specs.Meaning.{meaning}
 use Rattle.regex_hir.specs.declared.hir.Hir.{Hir}
-use Rattle.regex_hir.proofs.FindLemmas.{match_at, IsFirst, IsFirst-of_first_between, first_between_of_IsFirst, first_between_none, first_between_past, first_between_unfold, first_between_cong, none_of_first_between}
+use Rattle.regex_hir.proofs.FindLemmas.{match_at, IsFirst-of_first_between, first_between_of_IsFirst, first_between_none, first_between_past, first_between_unfold, first_between_cong, none_of_first_between}
 use Rattle.regex_hir.proofs.AttemptLemmas.{attempt_none}
-use Rattle.regex_extract.specs.Bounds.{IsAnchored}
 use Rattle.regex_syntax.specs.Grammar.{Names, read}
 use Rattle.regex_vm.specs.Found.{first_match, span}
 use Rattle.regex.specs.Names.{names_of}

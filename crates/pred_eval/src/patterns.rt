@@ -150,7 +150,10 @@ pub fn build_all<P: Patterns>(
     let mut number: u32 = 0;
     for text in texts {
         match patterns.build(alloc, text) {
-            PatternAnswer::Built(regex) => built.push(Finder::new(alloc, regex)?)?,
+            PatternAnswer::Built(regex) => {
+                let finder = Finder::new(alloc, regex)?;
+                built.push(finder)?;
+            }
             PatternAnswer::Refused => return Err(BuildFault::Pattern { number }),
             PatternAnswer::Memory => return Err(BuildFault::Memory),
         }
