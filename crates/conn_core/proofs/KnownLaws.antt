@@ -22,18 +22,22 @@ use Rattle.conn_core.specs.Known.{Answered, AreUnclosed, EndsWith, IsOpenedBy, I
 unclosed_grown : (before run : List Entry) → unclosed (before ++ run) ≡ fold unclosed_after (unclosed before) run
 unclosed_grown before run = fold-append unclosed_after [] before run
 
-sends_keep : (number : ℕ) (run : List Entry) (links : List ℕ) → AreSendsTo number run → fold unclosed_after links run ≡ links
+sends_keep : (number : ℕ) (run : List Entry) (links : List ℕ) → AreSendsTo number run
+    → fold unclosed_after links run ≡ links
 sends_keep number [] links all = refl
 sends_keep number (Listen address answer ∷ run) links all = absurd all
 sends_keep number (Next wants turn piece ∷ run) links all = absurd all
 sends_keep number (Send other bytes answer ∷ run) links all = sends_keep number run links all.1
 sends_keep number (Close other ∷ run) links all = absurd all
 
-same_after_sends : (number other : ℕ) (entries run : List Entry) → AreSendsTo number run → is_unclosed other entries ≡ is_unclosed other (entries ++ run)
+same_after_sends : (number other : ℕ) (entries run : List Entry) → AreSendsTo number run
+    → is_unclosed other entries ≡ is_unclosed other (entries ++ run)
 same_after_sends number other entries run all =
-    ap (list_any (λ (o : ℕ). o == other)) (sym (unclosed_grown entries run ∙ sends_keep number run (unclosed entries) all))
+    ap (list_any (λ (o : ℕ). o == other))
+    (sym (unclosed_grown entries run ∙ sends_keep number run (unclosed entries) all))
 
-same_after_close : (number other : ℕ) (entries : List Entry) → other ≢ number → is_unclosed other entries ≡ is_unclosed other (entries ++ Close number ∷ [])
+same_after_close : (number other : ℕ) (entries : List Entry) → other ≢ number
+    → is_unclosed other entries ≡ is_unclosed other (entries ++ Close number ∷ [])
 same_after_close number other entries apart =
     sym (ap (list_any (λ (o : ℕ). o == other)) (unclosed_grown entries (Close number ∷ []))
     ∙ any-filter_same (λ (o : ℕ). o == other) (λ (o : ℕ). not (o == number)) true
@@ -42,55 +46,72 @@ same_after_close number other entries apart =
 -- ---- what is known of all links of a table
 
 -- of a log that is reported, and then grew
-grown_known : (log : Option (List Entry)) (run : List Entry) (P : List Entry → Type 0) → ((entries : List Entry) → log ≡ Some entries → P (entries ++ run))
+grown_known : (log : Option (List Entry)) (run : List Entry) (P : List Entry → Type 0)
+    → ((entries : List Entry) → log ≡ Some entries → P (entries ++ run))
     → (entries : List Entry) → grown log run ≡ Some entries → P entries
 grown_known None run P there entries is = absurd (cc is)
 grown_known (Some log) run P there entries is = let same : log ++ run ≡ entries = cc in subst P same (there log refl)
 
-pub known_sends : (log : Option (List Entry)) (wants : List Want) (number : ℕ) (run : List Entry) → AreSendsTo number run → AreUnclosed log wants → AreUnclosed (grown log run) wants
+pub known_sends : (log : Option (List Entry)) (wants : List Want) (number : ℕ) (run : List Entry)
+    → AreSendsTo number run → AreUnclosed log wants → AreUnclosed (grown log run) wants
 known_sends log wants number run sends known =
-    grown_known log run (λ (entries : List Entry). (i : ℕ) → i < length wants → IsTrue (is_unclosed (number_at wants i) entries))
-    (λ entries is i within. subst IsTrue (same_after_sends number (number_at wants i) entries run sends) (known entries is i within))
+    grown_known log run
+    (λ (entries : List Entry). (i : ℕ) → i < length wants → IsTrue (is_unclosed (number_at wants i) entries))
+    (λ entries is i within.
+    subst IsTrue (same_after_sends number (number_at wants i) entries run sends) (known entries is i within))
 
-pub known_apart : (log : Option (List Entry)) (wants : List Want) (number : ℕ) → HasNoNumber number wants → AreUnclosed log wants → AreUnclosed (grown log (Close number ∷ [])) wants
+pub known_apart : (log : Option (List Entry)) (wants : List Want) (number : ℕ) → HasNoNumber number wants
+    → AreUnclosed log wants → AreUnclosed (grown log (Close number ∷ [])) wants
 known_apart log wants number none known =
-    grown_known log (Close number ∷ []) (λ (entries : List Entry). (i : ℕ) → i < length wants → IsTrue (is_unclosed (number_at wants i) entries))
-    (λ entries is i within. subst IsTrue (same_after_close number (number_at wants i) entries (none i within)) (known entries is i within))
+    grown_known log (Close number ∷ [])
+    (λ (entries : List Entry). (i : ℕ) → i < length wants → IsTrue (is_unclosed (number_at wants i) entries))
+    (λ entries is i within.
+    subst IsTrue (same_after_close number (number_at wants i) entries (none i within)) (known entries is i within))
 
 pub known_removed : (log : Option (List Entry)) (wants : List Want) (number place : ℕ) → place < length wants
     → ((other : ℕ) → other < length wants → number_at wants other ≡ number → other ≡ place) → AreUnclosed log wants
     → AreUnclosed (grown log (Close number ∷ [])) (remove wants place)
 known_removed log wants number place within only known =
-    grown_known log (Close number ∷ []) (λ (entries : List Entry). (i : ℕ) → i < length (remove wants place) → IsTrue (is_unclosed (number_at (remove wants place) i) entries))
+    grown_known log (Close number ∷ [])
+    (λ (entries : List Entry).
+    (i : ℕ) → i < length (remove wants place) → IsTrue (is_unclosed (number_at (remove wants place) i) entries))
     (λ entries is i bound.
     let count = length-remove wants place within in
     let there : (j : ℕ) → j < length wants → (j ≡ place → ⊥) → number_at (remove wants place) i ≡ number_at wants j
     → IsTrue (is_unclosed (number_at (remove wants place) i) (entries ++ Close number ∷ [])) =
     λ j in_range apart same. subst (λ (n : ℕ). IsTrue (is_unclosed n (entries ++ Close number ∷ []))) (sym same)
-    (subst IsTrue (same_after_close number (number_at wants j) entries (λ is_number. apart (only j in_range is_number))) (known entries is j in_range)) in
+    (subst IsTrue (same_after_close number (number_at wants j) entries (λ is_number. apart (only j in_range is_number)))
+    (known entries is j in_range)) in
     let side : (i < place) ⊎ (place ≤ i) = grind arith in
     elim side [
       | inl less ↦ there i (omega arith) (λ same. omega arith) (number_below wants place within i less)
       | inr le ↦ there (i + 1) (omega arith) (λ same. omega arith) (number_above wants place within i le)
     ])
 
-pub known_added : (log : Option (List Entry)) (wants : List Want) (want : Want) → IsUnclosed log want.link → AreUnclosed log wants → AreUnclosed log (wants ++ want ∷ [])
+pub known_added : (log : Option (List Entry)) (wants : List Want) (want : Want) → IsUnclosed log want.link
+    → AreUnclosed log wants → AreUnclosed log (wants ++ want ∷ [])
 known_added log wants want opened known entries is i bound =
     let count = length_more wants want in
     let side : (i < length wants) ⊎ (i ≡ length wants) = grind arith in
     elim side [
-      | inl within ↦ subst (λ (n : ℕ). IsTrue (is_unclosed n entries)) (sym (number_before wants want i within)) (known entries is i within)
-      | inr last ↦ subst (λ (n : ℕ). IsTrue (is_unclosed n entries)) (sym (number_last wants want i last)) (opened entries is)
+      | inl within ↦
+          subst (λ (n : ℕ). IsTrue (is_unclosed n entries)) (sym (number_before wants want i within))
+          (known entries is i within)
+      | inr last ↦
+          subst (λ (n : ℕ). IsTrue (is_unclosed n entries)) (sym (number_last wants want i last)) (opened entries is)
     ]
 
-pub known_set : (log : Option (List Entry)) (wants : List Want) (place : ℕ) (want : Want) → want.link ≡ number_at wants place → place < length wants
+pub known_set : (log : Option (List Entry)) (wants : List Want) (place : ℕ) (want : Want)
+    → want.link ≡ number_at wants place → place < length wants
     → AreUnclosed log wants → AreUnclosed log (set wants place want)
 known_set log wants place want same within known entries is i bound =
     subst (λ (n : ℕ). IsTrue (is_unclosed n entries)) (sym (number_set wants place want same within i))
     (known entries is i (subst (λ (n : ℕ). i < n) (length-set wants place want) bound))
 
-pub may_close_at : (log : Option (List Entry)) (wants : List Want) (number place : ℕ) → place < length wants → number_at wants place ≡ number → AreUnclosed log wants → MayClose log number
-may_close_at log wants number place within same known entries is = subst (λ (n : ℕ). IsTrue (is_unclosed n entries)) same (known entries is place within)
+pub may_close_at : (log : Option (List Entry)) (wants : List Want) (number place : ℕ) → place < length wants
+    → number_at wants place ≡ number → AreUnclosed log wants → MayClose log number
+may_close_at log wants number place within same known entries is =
+    subst (λ (n : ℕ). IsTrue (is_unclosed n entries)) same (known entries is place within)
 
 -- ---- the link that a turn opened
 
@@ -102,9 +123,11 @@ opened_by log turn answered = by_what turn.what refl
     by_what (Opened number) is = λ entries reported.
         let ends : EndsWith turn entries = answered entries reported in
         let last : unclosed entries ≡ number ∷ unclosed ends.before =
-        ap unclosed ends.is ∙ unclosed_grown ends.before (Next ends.wants turn ends.piece ∷ []) ∙ ap (unclosed_after_turn (unclosed ends.before)) is in
+        ap unclosed ends.is ∙ unclosed_grown ends.before (Next ends.wants turn ends.piece ∷ [])
+        ∙ ap (unclosed_after_turn (unclosed ends.before)) is in
         subst (λ (ls : List ℕ). IsTrue (list_any (λ (o : ℕ). o == number) ls)) (sym last)
-        (subst (λ (b : Bool). IsTrue (b || list_any (λ (o : ℕ). o == number) (unclosed ends.before))) (sym (eq-eqb number number refl)) refl)
+        (subst (λ (b : Bool). IsTrue (b || list_any (λ (o : ℕ). o == number) (unclosed ends.before)))
+        (sym (eq-eqb number number refl)) refl)
     by_what (Read number count) is = tt
     by_what (Ended number) is = tt
     by_what (Broken number) is = tt
@@ -114,18 +137,22 @@ opened_by log turn answered = by_what turn.what refl
     by_what Memory is = tt
 
 -- a turn closes no link
-pub known_next : (log : Option (List Entry)) (wants asked : List Want) (turn : Turn) (piece : List ℕ) → AreUnclosed log wants → AreUnclosed (grown log (Next asked turn piece ∷ [])) wants
+pub known_next : (log : Option (List Entry)) (wants asked : List Want) (turn : Turn) (piece : List ℕ)
+    → AreUnclosed log wants → AreUnclosed (grown log (Next asked turn piece ∷ [])) wants
 known_next log wants asked turn piece known =
-    grown_known log (Next asked turn piece ∷ []) (λ (entries : List Entry). (i : ℕ) → i < length wants → IsTrue (is_unclosed (number_at wants i) entries))
+    grown_known log (Next asked turn piece ∷ [])
+    (λ (entries : List Entry). (i : ℕ) → i < length wants → IsTrue (is_unclosed (number_at wants i) entries))
     (λ entries is i within.
-    subst (λ (ls : List ℕ). IsTrue (list_any (λ (o : ℕ). o == number_at wants i) ls)) (sym (unclosed_grown entries (Next asked turn piece ∷ [])))
+    subst (λ (ls : List ℕ). IsTrue (list_any (λ (o : ℕ). o == number_at wants i) ls))
+    (sym (unclosed_grown entries (Next asked turn piece ∷ [])))
     (by_what (number_at wants i) (unclosed entries) turn.what (known entries is i within)))
   where
     either : (a b : Bool) → b ≡ true → (a || b) ≡ true
     either true b is = refl
     either false b is = is
 
-    by_what : (number : ℕ) (links : List ℕ) (what : What) → IsTrue (list_any (λ (o : ℕ). o == number) links) → IsTrue (list_any (λ (o : ℕ). o == number) (unclosed_after_turn links what))
+    by_what : (number : ℕ) (links : List ℕ) (what : What) → IsTrue (list_any (λ (o : ℕ). o == number) links)
+        → IsTrue (list_any (λ (o : ℕ). o == number) (unclosed_after_turn links what))
     by_what number links Idle is = is
     by_what number links (Opened other) is = either (other == number) (list_any (λ (o : ℕ). o == number) links) is
     by_what number links (Read other count) is = is

@@ -16,12 +16,15 @@ got_nothing None = refl
 got_nothing (Some text) = ap Some (sym (append-nil text))
 
 twice : (text : Option (List ℕ)) (first second : List ℕ)
-    → option_map (λ (bytes : List ℕ). bytes ++ second) (option_map (λ (bytes : List ℕ). bytes ++ first) text) ≡ option_map (λ (bytes : List ℕ). bytes ++ (first ++ second)) text
+    → option_map (λ (bytes : List ℕ). bytes ++ second) (option_map (λ (bytes : List ℕ). bytes ++ first) text)
+    ≡ option_map (λ (bytes : List ℕ). bytes ++ (first ++ second)) text
 twice None first second = refl
 twice (Some text) first second = ap Some (append_assoc text first second)
 
-pub got_then : (a b c : Option (List ℕ)) (first second : List ℕ) → Got a first b → Got b second c → Got a (first ++ second) c
-got_then a b c first second one two = two ∙ ap (option_map (λ (bytes : List ℕ). bytes ++ second)) one ∙ twice a first second
+pub got_then : (a b c : Option (List ℕ)) (first second : List ℕ) → Got a first b → Got b second c
+    → Got a (first ++ second) c
+got_then a b c first second one two =
+    two ∙ ap (option_map (λ (bytes : List ℕ). bytes ++ second)) one ∙ twice a first second
 
 -- the first n bytes are as many of a longer list
 front_of : (n : ℕ) (bytes rest : List ℕ) → (m : ℕ) × (take n bytes ≡ take m (bytes ++ rest))
@@ -29,23 +32,30 @@ front_of n bytes rest =
     let side : (n ≤ length bytes) ⊎ (length bytes ≤ n) = grind arith in
     elim side [
       | inl within ↦ (n, sym (take-append-le n bytes rest within))
-      | inr over ↦ (length bytes, take_all n bytes over ∙ sym (take_all (length bytes) bytes (omega arith)) ∙ sym (take-append-le (length bytes) bytes rest (omega arith)))
+      | inr over ↦ (
+        length bytes,
+        take_all n bytes over ∙ sym (take_all (length bytes) bytes (omega arith))
+            ∙ sym (take-append-le (length bytes) bytes rest (omega arith)),
+      )
     ]
 
-pub front_then : (a b c : Option (List ℕ)) (first second rest whole : List ℕ) → whole ≡ first ++ (second ++ rest) → Got a first b → GotPrefix b second c → GotPrefix a whole c
+pub front_then : (a b c : Option (List ℕ)) (first second rest whole : List ℕ) → whole ≡ first ++ (second ++ rest)
+    → Got a first b → GotPrefix b second c → GotPrefix a whole c
 front_then a b c first second rest whole is one two =
     let front = front_of two.0 second rest in (
       length first + front.0,
       got_then a b c first (take two.0 second) one two.1
           ∙ ap (λ (bytes : List ℕ). option_map (λ (text : List ℕ). text ++ (first ++ bytes)) a) front.1
-          ∙ ap (λ (bytes : List ℕ). option_map (λ (text : List ℕ). text ++ bytes) a) (sym (take-append-add first (second ++ rest) front.0) ∙ ap (take (length first + front.0)) (sym is)),
+          ∙ ap (λ (bytes : List ℕ). option_map (λ (text : List ℕ). text ++ bytes) a)
+          (sym (take-append-add first (second ++ rest) front.0) ∙ ap (take (length first + front.0)) (sym is)),
     )
 
 pub front_nothing : (text : Option (List ℕ)) (whole : List ℕ) → GotPrefix text whole text
 front_nothing text whole = (0, got_nothing text)
 
 -- one more notice
-pub lines_more : (notices : List Notice) (i : ℕ) (notice : Notice) → i < length notices → notice ≡ get_or notices i notice
+pub lines_more : (notices : List Notice) (i : ℕ) (notice : Notice) → i < length notices
+    → notice ≡ get_or notices i notice
     → lines_of (take (i + 1) notices) ≡ lines_of (take i notices) ++ notice_line notice
 lines_more notices i notice within is =
     ap lines_of (take_more notices i notice within)
@@ -54,7 +64,8 @@ lines_more notices i notice within is =
     ∙ ap (λ (bytes : List ℕ). lines_of (take i notices) ++ bytes) (append-nil (notice_line notice))
 
 -- the lines before a notice, its own, and those after it
-pub lines_split : (notices : List Notice) (i : ℕ) (notice : Notice) → i < length notices → notice ≡ get_or notices i notice
+pub lines_split : (notices : List Notice) (i : ℕ) (notice : Notice) → i < length notices
+    → notice ≡ get_or notices i notice
     → lines_of notices ≡ lines_of (take i notices) ++ (notice_line notice ++ lines_of (drop (i + 1) notices))
 lines_split notices i notice within is =
     ap lines_of (sym (take-append-drop i notices))
@@ -68,7 +79,8 @@ pub counted_nothing : (puts : Option ℕ) → CountedPuts puts 0 puts
 counted_nothing None = refl
 counted_nothing (Some count) = refl
 
-counted_one : (puts : Option ℕ) (i : ℕ) → option_map (puts_after 1) (option_map (puts_after i) puts) ≡ option_map (puts_after (suc i)) puts
+counted_one : (puts : Option ℕ) (i : ℕ)
+    → option_map (puts_after 1) (option_map (puts_after i) puts) ≡ option_map (puts_after (suc i)) puts
 counted_one None i = refl
 counted_one (Some count) i = refl
 
@@ -110,6 +122,7 @@ first_then old mid new notices i notice within is got puts prefix same = record 
   part = take prefix.0 (notice_line notice);
   next = subst (λ (bytes : List ℕ). IsPrefix (take prefix.0 (notice_line notice)) bytes)
       (sym (next_line notices i notice within is)) (part_of prefix.0 (notice_line notice));
-  text = got_then old.text mid.text new.text (lines_of (take i notices)) (take prefix.0 (notice_line notice)) got prefix.1;
+  text =
+      got_then old.text mid.text new.text (lines_of (take i notices)) (take prefix.0 (notice_line notice)) got prefix.1;
   puts = same ∙ puts;
 }

@@ -44,15 +44,21 @@ gives_then plan a b c one two = record {
 }
 
 gives_entry : (plan : StreamTrees) (h : History) (x : StreamEntry) → Gives plan h (h ▸ x)
-gives_entry plan h x = record { made = notices_among (outputs_at plan (h ▸ x)); is = notices-append (outputs_of plan h) (outputs_at plan (h ▸ x)) }
+gives_entry plan h x = record {
+  made = notices_among (outputs_at plan (h ▸ x));
+  is = notices-append (outputs_of plan h) (outputs_at plan (h ▸ x));
+}
 
-gives_streamed : (plan : StreamTrees) (es : List Event) (state : CoreState) → Gives plan state.history (streamed plan es state).history
+gives_streamed : (plan : StreamTrees) (es : List Event) (state : CoreState)
+    → Gives plan state.history (streamed plan es state).history
 gives_streamed plan [] state = gives_nothing plan state.history
 gives_streamed plan (event ∷ es) state =
-    gives_then plan state.history (state.history ▸ In (One event)) (streamed plan es (entered plan (In (One event)) state)).history
+    gives_then plan state.history (state.history ▸ In (One event))
+    (streamed plan es (entered plan (In (One event)) state)).history
     (gives_entry plan state.history (In (One event))) (gives_streamed plan es (entered plan (In (One event)) state))
 
-gives_swept : (plan : StreamTrees) (expiry : Option Expiry) (state : CoreState) → Gives plan state.history (swept plan expiry state).history
+gives_swept : (plan : StreamTrees) (expiry : Option Expiry) (state : CoreState)
+    → Gives plan state.history (swept plan expiry state).history
 gives_swept plan None state = gives_nothing plan state.history
 gives_swept plan (Some expiry) state = at_test ((moment_of state.history - begun state.history) % expiry.interval == 0)
   where
@@ -60,16 +66,20 @@ gives_swept plan (Some expiry) state = at_test ((moment_of state.history - begun
     at_test true = gives_streamed plan (expired_copies expiry.keep state) (with_reap state)
     at_test false = gives_nothing plan state.history
 
-gives_arrived : (plan : StreamTrees) (expiry : Option Expiry) (arrival : Arrival) (state : CoreState) → Gives plan state.history (arrived plan expiry arrival state).history
+gives_arrived : (plan : StreamTrees) (expiry : Option Expiry) (arrival : Arrival) (state : CoreState)
+    → Gives plan state.history (arrived plan expiry arrival state).history
 gives_arrived plan expiry Elapsed state =
-    gives_then plan state.history (state.history ▸ Tick) (swept plan expiry (entered plan Tick state)).history (gives_entry plan state.history Tick)
+    gives_then plan state.history (state.history ▸ Tick) (swept plan expiry (entered plan Tick state)).history
+    (gives_entry plan state.history Tick)
     (gives_swept plan expiry (entered plan Tick state))
 gives_arrived plan expiry (Post event) state = gives_entry plan state.history (In (One event))
 
-gives_from : (plan : StreamTrees) (expiry : Option Expiry) (arrivals : List Arrival) (state : CoreState) → Gives plan state.history (core_state_from plan expiry arrivals state).history
+gives_from : (plan : StreamTrees) (expiry : Option Expiry) (arrivals : List Arrival) (state : CoreState)
+    → Gives plan state.history (core_state_from plan expiry arrivals state).history
 gives_from plan expiry [] state = gives_nothing plan state.history
 gives_from plan expiry (arrival ∷ arrivals) state =
-    gives_then plan state.history (arrived plan expiry arrival state).history (core_state_from plan expiry arrivals (arrived plan expiry arrival state)).history
+    gives_then plan state.history (arrived plan expiry arrival state).history
+    (core_state_from plan expiry arrivals (arrived plan expiry arrival state)).history
     (gives_arrived plan expiry arrival state) (gives_from plan expiry arrivals (arrived plan expiry arrival state))
 
 -- ---- more arrivals
@@ -82,26 +92,41 @@ pub grows_nothing : (arrivals : List Arrival) → Grows arrivals arrivals
 grows_nothing arrivals = record { more = []; is = sym (append-nil arrivals) }
 
 pub grows_then : (a b c : List Arrival) → Grows a b → Grows b c → Grows a c
-grows_then a b c one two = record { more = one.more ++ two.more; is = two.is ∙ ap (λ (xs : List Arrival). xs ++ two.more) one.is ∙ append_assoc a one.more two.more }
+grows_then a b c one two = record {
+  more = one.more ++ two.more;
+  is = two.is ∙ ap (λ (xs : List Arrival). xs ++ two.more) one.is ∙ append_assoc a one.more two.more;
+}
 
-grows_answered : (config : CoreConfig) (now : ℕ) (messages : List Message) (talk : Talk) → Grows talk.arrivals (all_answered config now messages talk).arrivals
+grows_answered : (config : CoreConfig) (now : ℕ) (messages : List Message) (talk : Talk)
+    → Grows talk.arrivals (all_answered config now messages talk).arrivals
 grows_answered config now [] talk = grows_nothing talk.arrivals
 grows_answered config now (message ∷ messages) talk =
-    grows_then talk.arrivals (answered config now message talk).arrivals (all_answered config now messages (answered config now message talk)).arrivals
-    (record { more = posts_of now message.body; is = refl }) (grows_answered config now messages (answered config now message talk))
+    grows_then talk.arrivals (answered config now message talk).arrivals
+    (all_answered config now messages (answered config now message talk)).arrivals
+    (record { more = posts_of now message.body; is = refl })
+    (grows_answered config now messages (answered config now message talk))
 
-grows_read : (config : CoreConfig) (piece : List ℕ) (verdicts : List (Option Refusal)) (state : RunState) (found : Option Link) → Grows state.arrivals (read_by config piece verdicts state found).arrivals
+grows_read : (config : CoreConfig) (piece : List ℕ) (verdicts : List (Option Refusal)) (state : RunState)
+    (found : Option Link)
+    → Grows state.arrivals (read_by config piece verdicts state found).arrivals
 grows_read config piece verdicts state None = grows_nothing state.arrivals
 grows_read config piece verdicts state (Some link) = at_test (is_open link)
   where
-    at_test : (t : Bool) → Grows state.arrivals (cond t (with_talk state (all_answered config state.now (messages_in piece verdicts link) (talk_of piece state link))) state).arrivals
+    at_test : (t : Bool)
+        → Grows state.arrivals
+        (cond t
+        (with_talk state (all_answered config state.now (messages_in piece verdicts link) (talk_of piece state link)))
+        state).arrivals
     at_test true = grows_answered config state.now (messages_in piece verdicts link) (talk_of piece state link)
     at_test false = grows_nothing state.arrivals
 
-grows_occurred : (config : CoreConfig) (what : What) (piece : List ℕ) (verdicts : List (Option Refusal)) (state : RunState) → Grows state.arrivals (occurred config what piece verdicts state).arrivals
+grows_occurred : (config : CoreConfig) (what : What) (piece : List ℕ) (verdicts : List (Option Refusal))
+    (state : RunState)
+    → Grows state.arrivals (occurred config what piece verdicts state).arrivals
 grows_occurred config Idle piece verdicts state = grows_nothing state.arrivals
 grows_occurred config (Opened number) piece verdicts state = grows_nothing state.arrivals
-grows_occurred config (Read number count) piece verdicts state = grows_read config piece verdicts state (find_link number state.links)
+grows_occurred config (Read number count) piece verdicts state =
+    grows_read config piece verdicts state (find_link number state.links)
 grows_occurred config (Ended number) piece verdicts state = grows_nothing state.arrivals
 grows_occurred config (Broken number) piece verdicts state = grows_nothing state.arrivals
 grows_occurred config (Room number) piece verdicts state = grows_nothing state.arrivals
@@ -109,10 +134,15 @@ grows_occurred config Stopped piece verdicts state = grows_nothing state.arrival
 grows_occurred config Failed piece verdicts state = grows_nothing state.arrivals
 grows_occurred config Memory piece verdicts state = grows_nothing state.arrivals
 
-grows_turned : (config : CoreConfig) (turn : Turn) (piece : List ℕ) (verdicts : List (Option Refusal)) (state : RunState) → Grows state.arrivals (turned config turn piece verdicts state).arrivals
+grows_turned : (config : CoreConfig) (turn : Turn) (piece : List ℕ) (verdicts : List (Option Refusal))
+    (state : RunState)
+    → Grows state.arrivals (turned config turn piece verdicts state).arrivals
 grows_turned config turn piece verdicts state = at_test (is_turn_answer turn.what)
   where
-    at_test : (t : Bool) → Grows state.arrivals (cond t (occurred config turn.what piece verdicts (passed (next_moment state.now turn.secs) state)) state).arrivals
+    at_test : (t : Bool)
+        → Grows state.arrivals
+        (cond t (occurred config turn.what piece verdicts (passed (next_moment state.now turn.secs) state))
+        state).arrivals
     at_test true =
         grows_then state.arrivals (passed (next_moment state.now turn.secs) state).arrivals
         (occurred config turn.what piece verdicts (passed (next_moment state.now turn.secs) state)).arrivals
@@ -120,16 +150,19 @@ grows_turned config turn piece verdicts state = at_test (is_turn_answer turn.wha
         (grows_occurred config turn.what piece verdicts (passed (next_moment state.now turn.secs) state))
     at_test false = grows_nothing state.arrivals
 
-grows_entry : (config : CoreConfig) (entry : Entry) (verdicts : List (Option Refusal)) (state : RunState) → Grows state.arrivals (after_entry config entry verdicts state).arrivals
+grows_entry : (config : CoreConfig) (entry : Entry) (verdicts : List (Option Refusal)) (state : RunState)
+    → Grows state.arrivals (after_entry config entry verdicts state).arrivals
 grows_entry config (Listen address answer) verdicts state = grows_nothing state.arrivals
 grows_entry config (Next wants turn piece) verdicts state = grows_turned config turn piece verdicts state
 grows_entry config (Send number bytes answer) verdicts state = grows_nothing state.arrivals
 grows_entry config (Close number) verdicts state = grows_nothing state.arrivals
 
-grows_from : (config : CoreConfig) (steps : List Step) (state : RunState) → Grows state.arrivals (state_from config steps state).arrivals
+grows_from : (config : CoreConfig) (steps : List Step) (state : RunState)
+    → Grows state.arrivals (state_from config steps state).arrivals
 grows_from config [] state = grows_nothing state.arrivals
 grows_from config (step ∷ steps) state =
-    grows_then state.arrivals (after_step config step state).arrivals (state_from config steps (after_step config step state)).arrivals
+    grows_then state.arrivals (after_step config step state).arrivals
+    (state_from config steps (after_step config step state)).arrivals
     (grows_entry config step.entry step.verdicts state) (grows_from config steps (after_step config step state))
 
 -- ---- more steps
@@ -142,11 +175,14 @@ pub more_notices : (config : CoreConfig) (steps more : List Step) → Tells conf
 more_notices config steps more =
     let before : List Arrival = (state_after config steps).arrivals in
     let grows = grows_from config more (state_after config steps) in
-    let gives = gives_from config.plan config.expiry grows.more (core_state_from config.plan config.expiry before (record { history = since config.start; log = [] })) in
+    let gives =
+    gives_from config.plan config.expiry grows.more
+    (core_state_from config.plan config.expiry before (record { history = since config.start; log = [] })) in
     record {
       made = gives.made;
       is = ap (λ (s : RunState). notices_by config s.arrivals) (state_append config steps more (first_state config))
           ∙ ap (notices_by config) grows.is
-          ∙ ap (λ (s : CoreState). notices_in config.plan s.history) (arrivals_in_order config.plan config.expiry config.start before grows.more)
+          ∙ ap (λ (s : CoreState). notices_in config.plan s.history)
+          (arrivals_in_order config.plan config.expiry config.start before grows.more)
           ∙ gives.is;
     }

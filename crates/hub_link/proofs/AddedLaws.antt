@@ -28,11 +28,14 @@ added_then a b c P Q R one two both = record {
   holds = both one.run two.run one.holds two.holds;
 }
 
-pub added_weaken : (a b : LinksReport) (P Q : List Entry → Type 0) → ((run : List Entry) → P run → Q run) → Added a b P → Added a b Q
-added_weaken a b P Q f one = record { run = one.run; grew = one.grew; no_fault = one.no_fault; calls = one.calls; holds = f one.run one.holds }
+pub added_weaken : (a b : LinksReport) (P Q : List Entry → Type 0) → ((run : List Entry) → P run → Q run) → Added a b P
+    → Added a b Q
+added_weaken a b P Q f one =
+    record { run = one.run; grew = one.grew; no_fault = one.no_fault; calls = one.calls; holds = f one.run one.holds }
 
 -- what a send adds
-pub send_calls : (link : ℕ) (bytes : List ℕ) (answer : SendAnswer) → AllByRecursion IsSendOrClose (send_entries link bytes answer)
+pub send_calls : (link : ℕ) (bytes : List ℕ) (answer : SendAnswer)
+    → AllByRecursion IsSendOrClose (send_entries link bytes answer)
 send_calls link bytes (send.Took count) = (tt, tt)
 send_calls link bytes send.Later = (tt, tt)
 send_calls link bytes send.Failed = (tt, tt)

@@ -31,15 +31,20 @@ use Rattle.hub_link.proofs.SendLaws.{closes}
 
 -- messages that are answered change the replies of a link alone
 answered_link : (config : CoreConfig) (now : ℕ) (messages : List Message) (talk : Talk)
-    → (all_answered config now messages talk).link ≡ record talk.link { replies = (all_answered config now messages talk).link.replies }
+    → (all_answered config now messages talk).link
+    ≡ record talk.link { replies = (all_answered config now messages talk).link.replies }
 answered_link config now [] talk = refl
-answered_link config now (message ∷ messages) talk = answered_link config now messages (answered config now message talk)
+answered_link config now (message ∷ messages) talk =
+    answered_link config now messages (answered config now message talk)
 
-talk_at : (piece : List ℕ) (core : Core) (link : HubLink) (state : RunState) (meant : Link) → IsAt core link state meant → IsTalk core link.unsent (talk_of piece state meant)
-talk_at piece core link state meant is = record { arrivals = is.arrivals; left_is = is.represents.unsent; within = is.represents.within }
+talk_at : (piece : List ℕ) (core : Core) (link : HubLink) (state : RunState) (meant : Link) → IsAt core link state meant
+    → IsTalk core link.unsent (talk_of piece state meant)
+talk_at piece core link state meant is =
+    record { arrivals = is.arrivals; left_is = is.represents.unsent; within = is.represents.within }
 
 -- the link whose frames were answered
-represents_answered : (piece : List ℕ) (link one : HubLink) (core core' : Core) (old new : Reported) (messages : List Message) (state : RunState) (meant : Link)
+represents_answered : (piece : List ℕ) (link one : HubLink) (core core' : Core) (old new : Reported)
+    (messages : List Message) (state : RunState) (meant : Link)
     → IsAt core link state meant → one.number ≡ link.number → one.stage ≡ link.stage → one.blocked ≡ link.blocked
     → one.input ≡ partial (meant.came ++ piece)
     → Answered core core' one.unsent old new messages (talk_of piece state meant)
@@ -60,32 +65,49 @@ represents_answered piece link one core core' old new messages state meant is nu
 abbrev pub IsOpenLink : HubLink → Type 0
 IsOpenLink link = (meant : Link) → RepresentsLink link meant → is_open meant ≡ true
 
-frames_in : (link : HubLink) (piece : List ℕ) (meant : Link) → IsOpenLink link → RepresentsLink link meant → frames_of (link.input ++ piece) ≡ new_frames meant.came piece
-frames_in link piece meant opened is = ap (λ (bs : List ℕ). frames_of (bs ++ piece)) (is.input (opened meant is)) ∙ sym (new_frames_rest meant.came piece)
+frames_in : (link : HubLink) (piece : List ℕ) (meant : Link) → IsOpenLink link → RepresentsLink link meant
+    → frames_of (link.input ++ piece) ≡ new_frames meant.came piece
+frames_in link piece meant opened is =
+    ap (λ (bs : List ℕ). frames_of (bs ++ piece)) (is.input (opened meant is)) ∙ sym (new_frames_rest meant.came piece)
 
-rest_in : (link : HubLink) (piece : List ℕ) (meant : Link) → IsOpenLink link → RepresentsLink link meant → partial (link.input ++ piece) ≡ partial (meant.came ++ piece)
-rest_in link piece meant opened is = ap (λ (bs : List ℕ). partial (bs ++ piece)) (is.input (opened meant is)) ∙ sym (partial_append meant.came piece)
+rest_in : (link : HubLink) (piece : List ℕ) (meant : Link) → IsOpenLink link → RepresentsLink link meant
+    → partial (link.input ++ piece) ≡ partial (meant.came ++ piece)
+rest_in link piece meant opened is =
+    ap (λ (bs : List ℕ). partial (bs ++ piece)) (is.input (opened meant is)) ∙ sym (partial_append meant.came piece)
 
 are_verdicts : (piece : List ℕ) (verdicts : List (Option Refusal)) (link : HubLink) (core : Core)
     → IsOpenLink link → length verdicts ≤ length (frames_of (link.input ++ piece))
-    → ((talk : Talk) → IsTalk core link.unsent talk → ArePossible (config_of core) (now_of core) (judged (frames_of (link.input ++ piece)) verdicts) talk)
-    → (state : RunState) (meant : Link) → IsAt core link state meant → VerdictsIf (is_open meant) (config_of core) piece verdicts state meant
+    → ((talk : Talk) → IsTalk core link.unsent talk
+    → ArePossible (config_of core) (now_of core) (judged (frames_of (link.input ++ piece)) verdicts) talk)
+    → (state : RunState) (meant : Link) → IsAt core link state meant
+    → VerdictsIf (is_open meant) (config_of core) piece verdicts state meant
 are_verdicts piece verdicts link core opened few possible state meant is =
     let frames = frames_in link piece meant opened is.represents in
     let all : AreVerdicts (config_of core) piece verdicts state meant = record {
       few = subst (λ (fs : List (List ℕ)). length verdicts ≤ length fs) frames few;
-      possible = subst (λ (now : ℕ). ArePossible (config_of core) now (messages_in piece verdicts meant) (talk_of piece state meant)) is.now
-          (subst (λ (fs : List (List ℕ)). ArePossible (config_of core) (now_of core) (judged fs verdicts) (talk_of piece state meant)) frames
+      possible =
+          subst
+          (λ (now : ℕ). ArePossible (config_of core) now (messages_in piece verdicts meant) (talk_of piece state meant))
+          is.now
+          (subst
+          (λ (fs : List (List ℕ)).
+          ArePossible (config_of core) (now_of core) (judged fs verdicts) (talk_of piece state meant))
+          frames
           (possible (talk_of piece state meant) (talk_at piece core link state meant is)));
     } in
-    subst (λ (t : Bool). VerdictsIf t (config_of core) piece verdicts state meant) (sym (opened meant is.represents)) all
+    subst (λ (t : Bool). VerdictsIf t (config_of core) piece verdicts state meant) (sym (opened meant is.represents))
+    all
 
 -- no frame was answered
-no_verdicts_are : (piece : List ℕ) (link : HubLink) (core : Core) (state : RunState) (meant : Link) → VerdictsIf (is_open meant) (config_of core) piece [] state meant
+no_verdicts_are : (piece : List ℕ) (link : HubLink) (core : Core) (state : RunState) (meant : Link)
+    → VerdictsIf (is_open meant) (config_of core) piece [] state meant
 no_verdicts_are piece link core state meant = by_case (is_open meant)
   where
     by_case : (t : Bool) → VerdictsIf t (config_of core) piece [] state meant
-    by_case true = record { few = omega arith; possible = none_refused (config_of core) state.now (new_frames meant.came piece) (talk_of piece state meant) }
+    by_case true = record {
+      few = omega arith;
+      possible = none_refused (config_of core) state.now (new_frames meant.came piece) (talk_of piece state meant);
+    }
     by_case false = refl
 
 -- ---- the piece
@@ -93,7 +115,8 @@ no_verdicts_are piece link core state meant = by_case (is_open meant)
 abbrev no_talk : RunState → Link → Talk
 no_talk state meant = record { arrivals = state.arrivals; link = meant }
 
-pub hears_nothing : (piece : List ℕ) (link : HubLink) (core : Core) (patterns : PatternsReport) (old : Reported) → ((meant : Link) → RepresentsLink link meant → is_open meant ≡ false)
+pub hears_nothing : (piece : List ℕ) (link : HubLink) (core : Core) (patterns : PatternsReport) (old : Reported)
+    → ((meant : Link) → RepresentsLink link meant → is_open meant ≡ false)
     → HearsPiece piece link link core core patterns patterns old old (Ok tt)
 hears_nothing piece link core patterns old shut = record {
   verdicts = [];
@@ -101,7 +124,11 @@ hears_nothing piece link core patterns old shut = record {
   possible = λ state meant is. no_verdicts_are piece link core state meant;
   heard = λ state meant is.
       let same : no_talk state meant ≡ talk_after (config_of core) piece [] state meant =
-      sym (ap (λ (t : Bool). cond t (read_talk (all_answered (config_of core) state.now (messages_in piece [] meant) (talk_of piece state meant))) (no_talk state meant)) (shut meant is.represents)) in
+      sym (ap
+      (λ (t : Bool). cond t
+      (read_talk (all_answered (config_of core) state.now (messages_in piece [] meant) (talk_of piece state meant)))
+      (no_talk state meant))
+      (shut meant is.represents)) in
       record {
         more = [];
         arrivals = ap (λ (t : Talk). t.arrivals) (sym same) ∙ sym (append-nil state.arrivals);
@@ -111,7 +138,8 @@ hears_nothing piece link core patterns old shut = record {
       };
 }
 
-module _ (piece : List ℕ) (link : HubLink) (core core' : Core) (patterns patterns' : PatternsReport) (old new : Reported) (opened : IsOpenLink link) where
+module _ (piece : List ℕ) (link : HubLink) (core core' : Core) (patterns patterns' : PatternsReport)
+    (old new : Reported) (opened : IsOpenLink link) where
   -- memory ran out at one of the messages, or at a length over the limit
   pub hears_in_part : {left : List ℕ} (link' : HubLink) (memory : Memory) (result : Result (Unit {0}) Memory)
       → AnswersFrames (link.input ++ piece) link.unsent left core core' patterns patterns' old new result
@@ -124,7 +152,9 @@ module _ (piece : List ℕ) (link : HubLink) (core core' : Core) (patterns patte
   }
 
   -- all frames were answered, and a length over the limit where one follows
-  pub hears_all : (one link' : HubLink) → AnswersFrames {T = Unit {0}} (link.input ++ piece) link.unsent one.unsent core core' patterns patterns' old new (Ok tt)
+  pub hears_all : (one link' : HubLink)
+      → AnswersFrames {T = Unit {0}} (link.input ++ piece) link.unsent one.unsent core core' patterns patterns' old new
+      (Ok tt)
       → one.number ≡ link.number → KeepsRest piece link one
       → ((meant : Link) → is_open meant ≡ true → RepresentsLink one meant → RepresentsLink link' (cut_off meant))
       → HearsPiece piece link link' core core' patterns patterns' old new (Ok tt)
@@ -142,11 +172,20 @@ module _ (piece : List ℕ) (link : HubLink) (core core' : Core) (patterns patte
         represents_answered piece link one core core' old new messages state meant is number keeps.stage keeps.blocked
         (keeps.input ∙ rest_in link piece meant opened is.represents) answers in
         let still_open : is_open talked.link ≡ true =
-        ap (λ (l : Link). is_open l) (answered_link config (now_of core) messages (talk_of piece state meant)) ∙ open_now in
+        ap (λ (l : Link). is_open l) (answered_link config (now_of core) messages (talk_of piece state meant))
+        ∙ open_now in
         let same : read_talk talked ≡ talk_after config piece frames.verdicts state meant =
         ap (λ (now : ℕ). read_talk (all_answered config now messages (talk_of piece state meant))) is.now
-        ∙ ap (λ (fs : List (List ℕ)). read_talk (all_answered config state.now (judged fs frames.verdicts) (talk_of piece state meant))) (frames_in link piece meant opened is.represents)
-        ∙ ap (λ (t : Bool). cond t (read_talk (all_answered config state.now (messages_in piece frames.verdicts meant) (talk_of piece state meant))) (no_talk state meant)) (sym open_now) in
+        ∙ ap
+        (λ (fs : List (List ℕ)).
+        read_talk (all_answered config state.now (judged fs frames.verdicts) (talk_of piece state meant)))
+        (frames_in link piece meant opened is.represents)
+        ∙ ap
+        (λ (t : Bool). cond t
+        (read_talk
+        (all_answered config state.now (messages_in piece frames.verdicts meant) (talk_of piece state meant)))
+        (no_talk state meant))
+        (sym open_now) in
         record {
           more = answers.more;
           arrivals = ap (λ (t : Talk). t.arrivals) (sym same) ∙ answers.arrivals;
@@ -157,9 +196,12 @@ module _ (piece : List ℕ) (link : HubLink) (core core' : Core) (patterns patte
   }
 
   -- and memory may run out at that length
-  pub hears_cut : (one link' : HubLink) (result : Result (Unit {0}) Memory) → AnswersFrames {T = Unit {0}} (link.input ++ piece) link.unsent one.unsent core core' patterns patterns' old new (Ok tt)
+  pub hears_cut : (one link' : HubLink) (result : Result (Unit {0}) Memory)
+      → AnswersFrames {T = Unit {0}} (link.input ++ piece) link.unsent one.unsent core core' patterns patterns' old new
+      (Ok tt)
       → one.number ≡ link.number → KeepsRest piece link one
-      → OnOk result ((meant : Link) → is_open meant ≡ true → RepresentsLink one meant → RepresentsLink link' (cut_off meant))
+      → OnOk result
+      ((meant : Link) → is_open meant ≡ true → RepresentsLink one meant → RepresentsLink link' (cut_off meant))
       → HearsPiece piece link link' core core' patterns patterns' old new result
   hears_cut one link' (Ok tt) frames number keeps cut = hears_all one link' frames number keeps cut
   hears_cut one link' (Err memory) frames number keeps cut = hears_in_part link' memory (Ok tt) frames
@@ -175,12 +217,14 @@ within_test bytes other = by_case (is_oversized bytes) refl
     by_case : (t : Bool) → is_oversized bytes ≡ t → is_oversized bytes ≡ false
     by_case true is =
         let both = and_parts (nat_le 4 (length bytes)) (nat_lt BODY_LIMIT (length_at bytes)) is in
-        absurd (other (record { head = leb-true 4 (length bytes) both.0; over = ltb-true BODY_LIMIT (length_at bytes) both.1 }))
+        absurd (other
+        (record { head = leb-true 4 (length bytes) both.0; over = ltb-true BODY_LIMIT (length_at bytes) both.1 }))
     by_case false is = is
 
 -- the reply to the length is appended, and no more is read
 pub cuts_off : (link link' : HubLink) (size : ℕ) → IsOversized link.input → size ≡ length_at link.input
-    → link'.number ≡ link.number → link'.stage ≡ ReadClosed → link'.blocked ≡ link.blocked → link'.unsent ≡ link.unsent ++ reply_to_oversized size
+    → link'.number ≡ link.number → link'.stage ≡ ReadClosed → link'.blocked ≡ link.blocked
+    → link'.unsent ≡ link.unsent ++ reply_to_oversized size
     → (meant : Link) → is_open meant ≡ true → RepresentsLink link meant → RepresentsLink link' (cut_off meant)
 cuts_off link link' size over size_is number stage blocked unsent_is meant opened is =
     let held : partial meant.came ≡ link.input = sym (is.input opened) in
@@ -192,39 +236,56 @@ cuts_off link link' size over size_is number stage blocked unsent_is meant opene
       stage = stage;
       blocked = blocked ∙ is.blocked;
       input = λ open_now. absurd (cc open_now);
-      unsent = unsent_is ∙ ap (λ (n : ℕ). link.unsent ++ reply_to_oversized n) size_there ∙ ap (λ (bs : List ℕ). bs ++ reply) is.unsent ∙ sym (unsent_with_reply reply meant is.within);
+      unsent =
+          unsent_is ∙ ap (λ (n : ℕ). link.unsent ++ reply_to_oversized n) size_there
+          ∙ ap (λ (bs : List ℕ). bs ++ reply) is.unsent ∙ sym (unsent_with_reply reply meant is.within);
       within = within_with_reply reply meant is.within;
     } in
-    subst (λ (t : Bool). RepresentsLink link' (cond t (with_stage ReadClosed (with_reply reply meant)) meant)) (sym test) there
+    subst (λ (t : Bool). RepresentsLink link' (cond t (with_stage ReadClosed (with_reply reply meant)) meant))
+    (sym test) there
 
-pub cuts_nothing : (link : HubLink) → (IsOversized link.input → ⊥) → (meant : Link) → is_open meant ≡ true → RepresentsLink link meant → RepresentsLink link (cut_off meant)
+pub cuts_nothing : (link : HubLink) → (IsOversized link.input → ⊥) → (meant : Link) → is_open meant ≡ true
+    → RepresentsLink link meant → RepresentsLink link (cut_off meant)
 cuts_nothing link other meant opened is =
     let held : link.input ≡ partial meant.came = is.input opened in
-    let test : is_oversized (partial meant.came) ≡ false = within_test (partial meant.came) (subst (λ (bs : List ℕ). IsOversized bs → ⊥) held other) in
-    subst (λ (t : Bool). RepresentsLink link (cond t (with_stage ReadClosed (with_reply (reply_to_oversized (length_at (partial meant.came))) meant)) meant)) (sym test) is
+    let test : is_oversized (partial meant.came) ≡ false =
+    within_test (partial meant.came) (subst (λ (bs : List ℕ). IsOversized bs → ⊥) held other) in
+    subst
+    (λ (t : Bool). RepresentsLink link
+    (cond t (with_stage ReadClosed (with_reply (reply_to_oversized (length_at (partial meant.came))) meant)) meant))
+    (sym test) is
 
 pub frame_is_within : (bytes : List ℕ) → HasFrame bytes → IsOversized bytes → ⊥
 frame_is_within bytes has over = oversized_has_none bytes over has
 
 -- ---- what changes a link
 
-connected_as : (link : HubLink) (meant : Link) (t : Bool) → (is_open_stage link.stage || is_read_closed_stage link.stage) ≡ t → RepresentsLink link meant → is_connected meant ≡ t
-connected_as link meant t is represents = ap (λ (s : Stage). is_open_stage s || is_read_closed_stage s) (sym represents.stage) ∙ is
+connected_as : (link : HubLink) (meant : Link) (t : Bool)
+    → (is_open_stage link.stage || is_read_closed_stage link.stage) ≡ t → RepresentsLink link meant
+    → is_connected meant ≡ t
+connected_as link meant t is represents =
+    ap (λ (s : Stage). is_open_stage s || is_read_closed_stage s) (sym represents.stage) ∙ is
 
-open_as : (link : HubLink) (meant : Link) (t : Bool) → is_open_stage link.stage ≡ t → RepresentsLink link meant → is_open meant ≡ t
+open_as : (link : HubLink) (meant : Link) (t : Bool) → is_open_stage link.stage ≡ t → RepresentsLink link meant
+    → is_open meant ≡ t
 open_as link meant t is represents = ap is_open_stage (sym represents.stage) ∙ is
 
-pub is_shut : (link : HubLink) → is_open_stage link.stage ≡ false → (meant : Link) → RepresentsLink link meant → is_open meant ≡ false
+pub is_shut : (link : HubLink) → is_open_stage link.stage ≡ false → (meant : Link) → RepresentsLink link meant
+    → is_open meant ≡ false
 is_shut link is meant represents = open_as link meant false is represents
 
-pub is_opened : (link : HubLink) → is_open_stage link.stage ≡ true → (meant : Link) → RepresentsLink link meant → is_open meant ≡ true
+pub is_opened : (link : HubLink) → is_open_stage link.stage ≡ true → (meant : Link) → RepresentsLink link meant
+    → is_open meant ≡ true
 is_opened link is meant represents = open_as link meant true is represents
 
 pub stays_ended : (link : HubLink) → is_open_stage link.stage ≡ false → RepresentsChanged ended link link
 stays_ended link is meant represents =
-    subst (λ (t : Bool). RepresentsLink link (cond t (with_stage ReadClosed meant) meant)) (sym (open_as link meant false is represents)) represents
+    subst (λ (t : Bool). RepresentsLink link (cond t (with_stage ReadClosed meant) meant))
+    (sym (open_as link meant false is represents)) represents
 
-pub ends : (link link' : HubLink) → is_open_stage link.stage ≡ true → link'.number ≡ link.number → link'.stage ≡ ReadClosed → link'.blocked ≡ link.blocked → link'.unsent ≡ link.unsent → RepresentsChanged ended link link'
+pub ends : (link link' : HubLink) → is_open_stage link.stage ≡ true → link'.number ≡ link.number
+    → link'.stage ≡ ReadClosed → link'.blocked ≡ link.blocked → link'.unsent ≡ link.unsent
+    → RepresentsChanged ended link link'
 ends link link' is number stage blocked unsent_is meant represents =
     let there : RepresentsLink link' (with_stage ReadClosed meant) = record {
       number = number ∙ represents.number;
@@ -234,23 +295,31 @@ ends link link' is number stage blocked unsent_is meant represents =
       unsent = unsent_is ∙ represents.unsent;
       within = represents.within;
     } in
-    subst (λ (t : Bool). RepresentsLink link' (cond t (with_stage ReadClosed meant) meant)) (sym (open_as link meant true is represents)) there
+    subst (λ (t : Bool). RepresentsLink link' (cond t (with_stage ReadClosed meant) meant))
+    (sym (open_as link meant true is represents)) there
 
-pub stays_broken : (link : HubLink) → (is_open_stage link.stage || is_read_closed_stage link.stage) ≡ false → RepresentsChanged broken link link
+pub stays_broken : (link : HubLink) → (is_open_stage link.stage || is_read_closed_stage link.stage) ≡ false
+    → RepresentsChanged broken link link
 stays_broken link is meant represents =
-    subst (λ (t : Bool). RepresentsLink link (cond t (with_stage Closing meant) meant)) (sym (connected_as link meant false is represents)) represents
+    subst (λ (t : Bool). RepresentsLink link (cond t (with_stage Closing meant) meant))
+    (sym (connected_as link meant false is represents)) represents
 
-pub breaks : (link link' : HubLink) → (is_open_stage link.stage || is_read_closed_stage link.stage) ≡ true → link'.number ≡ link.number → link'.stage ≡ Closing → link'.blocked ≡ link.blocked
+pub breaks : (link link' : HubLink) → (is_open_stage link.stage || is_read_closed_stage link.stage) ≡ true
+    → link'.number ≡ link.number → link'.stage ≡ Closing → link'.blocked ≡ link.blocked
     → link'.unsent ≡ link.unsent → RepresentsChanged broken link link'
 breaks link link' is number stage blocked unsent_is meant represents =
-    subst (λ (t : Bool). RepresentsLink link' (cond t (with_stage Closing meant) meant)) (sym (connected_as link meant true is represents))
+    subst (λ (t : Bool). RepresentsLink link' (cond t (with_stage Closing meant) meant))
+    (sym (connected_as link meant true is represents))
     (closes link link' number stage blocked unsent_is meant represents)
 
-pub stays_unblocked : (link : HubLink) → (is_open_stage link.stage || is_read_closed_stage link.stage) ≡ false → RepresentsChanged unblocked link link
+pub stays_unblocked : (link : HubLink) → (is_open_stage link.stage || is_read_closed_stage link.stage) ≡ false
+    → RepresentsChanged unblocked link link
 stays_unblocked link is meant represents =
-    subst (λ (t : Bool). RepresentsLink link (cond t (record meant { blocked = false }) meant)) (sym (connected_as link meant false is represents)) represents
+    subst (λ (t : Bool). RepresentsLink link (cond t (record meant { blocked = false }) meant))
+    (sym (connected_as link meant false is represents)) represents
 
-pub unblocks : (link link' : HubLink) → (is_open_stage link.stage || is_read_closed_stage link.stage) ≡ true → link'.number ≡ link.number → link'.stage ≡ link.stage → link'.blocked ≡ false
+pub unblocks : (link link' : HubLink) → (is_open_stage link.stage || is_read_closed_stage link.stage) ≡ true
+    → link'.number ≡ link.number → link'.stage ≡ link.stage → link'.blocked ≡ false
     → link'.input ≡ link.input → link'.unsent ≡ link.unsent → RepresentsChanged unblocked link link'
 unblocks link link' is number stage blocked input unsent_is meant represents =
     let there : RepresentsLink link' (record meant { blocked = false }) = record {
@@ -261,10 +330,13 @@ unblocks link link' is number stage blocked input unsent_is meant represents =
       unsent = unsent_is ∙ represents.unsent;
       within = represents.within;
     } in
-    subst (λ (t : Bool). RepresentsLink link' (cond t (record meant { blocked = false }) meant)) (sym (connected_as link meant true is represents)) there
+    subst (λ (t : Bool). RepresentsLink link' (cond t (record meant { blocked = false }) meant))
+    (sym (connected_as link meant true is represents)) there
 
-pub opens : (link : HubLink) (number : ℕ) (has_room : Bool) (links : List Link) → link.number ≡ number → link.stage ≡ cond has_room Open Closing → link.blocked ≡ false → link.input ≡ []
-    → link.unsent ≡ [] → has_room ≡ nat_lt (length (connected links)) connected_limit → RepresentsLink link (new_link number links)
+pub opens : (link : HubLink) (number : ℕ) (has_room : Bool) (links : List Link) → link.number ≡ number
+    → link.stage ≡ cond has_room Open Closing → link.blocked ≡ false → link.input ≡ []
+    → link.unsent ≡ [] → has_room ≡ nat_lt (length (connected links)) connected_limit
+    → RepresentsLink link (new_link number links)
 opens link number has_room links number_is stage blocked bytes unsent_is room = record {
   number = number_is;
   stage = stage ∙ ap (λ (t : Bool). cond t Open Closing) room;
@@ -276,13 +348,19 @@ opens link number has_room links number_is stage blocked bytes unsent_is room = 
 
 -- ---- what is wanted of a link, and whether it is to be closed
 
-pub wants_so : (link : HubLink) (meant : Link) (want : Want) → want.link ≡ link.number → want.read ≡ (is_open_stage link.stage && nat_lt (length link.unsent) BODY_LIMIT)
+pub wants_so : (link : HubLink) (meant : Link) (want : Want) → want.link ≡ link.number
+    → want.read ≡ (is_open_stage link.stage && nat_lt (length link.unsent) BODY_LIMIT)
     → want.room ≡ nat_lt 0 (length link.unsent) → RepresentsLink link meant → want ≡ want_of meant
 wants_so link meant want number read room represents =
-    ap (λ (n : ℕ). let w : Want = record { link = n; read = want.read; room = want.room } in w) (number ∙ represents.number)
+    ap (λ (n : ℕ). let w : Want = record { link = n; read = want.read; room = want.room } in w)
+    (number ∙ represents.number)
     ∙ ap (λ (t : Bool). let w : Want = record { link = meant.number; read = t; room = want.room } in w)
-    (read ∙ ap (λ (s : Stage). is_open_stage s && nat_lt (length link.unsent) BODY_LIMIT) represents.stage ∙ ap (λ (bs : List ℕ). is_open meant && nat_lt (length bs) BODY_LIMIT) represents.unsent)
-    ∙ ap (λ (t : Bool). let w : Want = record { link = meant.number; read = is_open meant && nat_lt (length (unsent meant)) BODY_LIMIT; room = t } in w)
+    (read ∙ ap (λ (s : Stage). is_open_stage s && nat_lt (length link.unsent) BODY_LIMIT) represents.stage
+    ∙ ap (λ (bs : List ℕ). is_open meant && nat_lt (length bs) BODY_LIMIT) represents.unsent)
+    ∙ ap (λ (t : Bool).
+    let w : Want =
+    record { link = meant.number; read = is_open meant && nat_lt (length (unsent meant)) BODY_LIMIT; room = t } in
+    w)
     (room ∙ ap (λ (bs : List ℕ). nat_lt 0 (length bs)) represents.unsent)
 
 over_as : (meant : Link) (stage : Stage) → IsTrue (is_over_as stage (length (unsent meant))) ↔ MayCloseAs meant stage
@@ -295,10 +373,12 @@ over_as meant ReadClosed = (λ is. none_left (unsent meant) is, λ none. ap (λ 
 over_as meant Closing = (λ _. tt, λ _. refl)
 over_as meant Closed = (λ is. absurd (cc is), λ may. absurd may)
 
-pub tells_over : (link : HubLink) (meant : Link) (over : Bool) → over ≡ is_over_as link.stage (length link.unsent) → RepresentsLink link meant → IsTrue over ↔ MayClose meant
+pub tells_over : (link : HubLink) (meant : Link) (over : Bool) → over ≡ is_over_as link.stage (length link.unsent)
+    → RepresentsLink link meant → IsTrue over ↔ MayClose meant
 tells_over link meant over is represents =
     subst (λ (t : Bool). IsTrue t ↔ MayClose meant)
-    (sym (is ∙ ap (λ (s : Stage). is_over_as s (length link.unsent)) represents.stage ∙ ap (λ (bs : List ℕ). is_over_as meant.stage (length bs)) represents.unsent))
+    (sym (is ∙ ap (λ (s : Stage). is_over_as s (length link.unsent)) represents.stage
+    ∙ ap (λ (bs : List ℕ). is_over_as meant.stage (length bs)) represents.unsent))
     (over_as meant meant.stage)
 
 pub on_ok_three : {T E A B C D : Type 0} (r : Result T E) → (A → B → C → D) → OnOk r A → OnOk r B → OnOk r C → OnOk r D

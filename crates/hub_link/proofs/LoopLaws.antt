@@ -18,7 +18,8 @@ sent_nothing report link = record {
   sends = added_nothing report (Sends link link) (sends_nothing link link (λ meant is. is));
 }
 
-pub sent_more : (a b c : LinksReport) (one two three : HubLink) → SentSoFar a b one two → SentSoFar b c two three → SentSoFar a c one three
+pub sent_more : (a b c : LinksReport) (one two three : HubLink) → SentSoFar a b one two → SentSoFar b c two three
+    → SentSoFar a c one three
 sent_more a b c one two three before after = record {
   number = after.number ∙ before.number;
   sends = added_then a b c (Sends one two) (Sends two three) (Sends one three) before.sends after.sends

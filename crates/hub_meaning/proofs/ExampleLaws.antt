@@ -24,7 +24,8 @@ late_room_example = (
 
 -- the link when its peer has ended, of whose reply four bytes were taken
 half_taken : Link
-half_taken = record { number = 0; stage = ReadClosed; blocked = true; came = []; replies = ok_reply; taken = 0 ∷ 0 ∷ 0 ∷ 2 ∷ [] }
+half_taken =
+    record { number = 0; stage = ReadClosed; blocked = true; came = []; replies = ok_reply; taken = 0 ∷ 0 ∷ 0 ∷ 2 ∷ [] }
 
 pub closed_early_example : ClosedEarlyExample
 unfolding half_taken

@@ -33,7 +33,8 @@ pub record Took (config : CoreConfig) (hub : Hub) (old new : RunReport) (count :
 abbrev pub TookFrom : Hub → Hub → RunReport → RunReport → ℕ → List Entry → Type 0
 TookFrom hub hub' old new count run = (config : CoreConfig) → Follows hub config [] → Took config hub' old new count run
 
-took_nothing : (config : CoreConfig) (hub : Hub) (report : RunReport) → Follows hub config [] → Took config hub report report 0 []
+took_nothing : (config : CoreConfig) (hub : Hub) (report : RunReport) → Follows hub config []
+    → Took config hub report report 0 []
 took_nothing config hub report follows = record {
   turns = [];
   are = refl;
@@ -43,29 +44,38 @@ took_nothing config hub report follows = record {
   going = tt;
 }
 
-module _ (config : CoreConfig) (hub hub' : Hub) (old mid new : RunReport) (count : ℕ) (first second : List Entry) (took : Took config hub old mid count first) where
+module _ (config : CoreConfig) (hub hub' : Hub) (old mid new : RunReport) (count : ℕ) (first second : List Entry)
+    (took : Took config hub old mid count first) where
   may_go_on : (limit : ℕ) → count < limit → MayGoOn limit took.turns
   may_go_on limit fewer = record { fewer = omega (arith, took.count_is, fewer); going = took.going }
 
   -- the calls with those of one more turn
-  entries_with : (last : TakenTurn) → second ≡ entries_of_turn last → first ++ second ≡ entries_of (took.turns ++ last ∷ [])
+  entries_with : (last : TakenTurn) → second ≡ entries_of_turn last
+      → first ++ second ≡ entries_of (took.turns ++ last ∷ [])
   entries_with last are =
-      ap (λ (run : List Entry). run ++ second) took.are ∙ ap (λ (run : List Entry). entries_of took.turns ++ run) are ∙ sym (entries_more took.turns last)
+      ap (λ (run : List Entry). run ++ second) took.are ∙ ap (λ (run : List Entry). entries_of took.turns ++ run) are
+      ∙ sym (entries_more took.turns last)
 
-  took_more : (turn : Turn) → turn.what ≢ Stopped → DoesTurn hub hub' mid new (Ok tt) turn second → Took config hub' old new (count + 1) (first ++ second)
+  took_more : (turn : Turn) → turn.what ≢ Stopped → DoesTurn hub hub' mid new (Ok tt) turn second
+      → Took config hub' old new (count + 1) (first ++ second)
   took_more turn goes_on one =
       let does = one.does config (steps_of took.turns) took.follows in
       let last : TakenTurn = taken_turn (wants_in hub) turn one.piece does.verdicts one.calls in
       record {
         turns = took.turns ++ last ∷ [];
         are = entries_with last one.are;
-        takes = takes_more config old mid new hub hub' took.turns turn one.piece one.calls took.takes one.came one.once does;
-        follows = follows_more config old mid new hub hub' took.turns turn one.piece one.calls took.takes one.came one.once does;
+        takes =
+            takes_more config old mid new hub hub' took.turns turn one.piece one.calls took.takes one.came one.once
+            does;
+        follows =
+            follows_more config old mid new hub hub' took.turns turn one.piece one.calls took.takes one.came one.once
+            does;
         count_is = omega (arith, length-append took.turns (last ∷ []), took.count_is);
         going = all_more GoesOn took.turns last took.going goes_on;
       }
 
-  ends_stopped : (limit : ℕ) → count < limit → (turn : Turn) → turn.what ≡ Stopped → DoesTurn hub hub' mid new (Ok tt) turn second
+  ends_stopped : (limit : ℕ) → count < limit → (turn : Turn) → turn.what ≡ Stopped
+      → DoesTurn hub hub' mid new (Ok tt) turn second
       → AllTaken config limit old new hub' (first ++ second)
   ends_stopped limit fewer turn stopped one =
       let does = one.does config (steps_of took.turns) took.follows in
@@ -73,12 +83,24 @@ module _ (config : CoreConfig) (hub hub' : Hub) (old mid new : RunReport) (count
       record {
         turns = took.turns ++ last ∷ [];
         are = entries_with last one.are;
-        takes = takes_more config old mid new hub hub' took.turns turn one.piece one.calls took.takes one.came one.once does;
-        ended = inl (record { before = took.turns; last = last; are = refl; went_on = may_go_on limit fewer; stopped = stopped });
-        follows = follows_more config old mid new hub hub' took.turns turn one.piece one.calls took.takes one.came one.once does;
+        takes =
+            takes_more config old mid new hub hub' took.turns turn one.piece one.calls took.takes one.came one.once
+            does;
+        ended =
+            inl (record {
+              before = took.turns;
+              last = last;
+              are = refl;
+              went_on = may_go_on limit fewer;
+              stopped = stopped;
+            });
+        follows =
+            follows_more config old mid new hub hub' took.turns turn one.piece one.calls took.takes one.came one.once
+            does;
       }
 
-  ends_cut : (limit : ℕ) → count < limit → (fault : RunFault) (stop : Stop) → (fault ≡ Sink → stop ≡ SinkFault) → StopsAt hub hub' mid new stop second → CutShort config limit fault old new (first ++ second)
+  ends_cut : (limit : ℕ) → count < limit → (fault : RunFault) (stop : Stop) → (fault ≡ Sink → stop ≡ SinkFault)
+      → StopsAt hub hub' mid new stop second → CutShort config limit fault old new (first ++ second)
   ends_cut limit fewer fault stop tells at =
       let one = at.cut in
       let does = one.does config (steps_of took.turns) took.follows in
@@ -87,16 +109,21 @@ module _ (config : CoreConfig) (hub hub' : Hub) (old mid new : RunReport) (count
         turns = took.turns;
         last = last;
         are = entries_with last one.are;
-        stops = stops_more config old mid new hub hub' took.turns at.turn one.piece one.calls took.takes one.came one.once fault stop tells does;
+        stops =
+            stops_more config old mid new hub hub' took.turns at.turn one.piece one.calls took.takes one.came one.once
+            fault stop tells does;
         going = may_go_on limit fewer;
       }
 
-  ends_lost : (limit : ℕ) → count < limit → HasNoTurn hub mid new second → LinksLost config limit old new (first ++ second)
+  ends_lost : (limit : ℕ) → count < limit → HasNoTurn hub mid new second
+      → LinksLost config limit old new (first ++ second)
   ends_lost limit fewer none = record {
     turns = took.turns;
     wants = wants_in hub;
     turn = none.asked.turn;
-    are = ap (λ (run : List Entry). run ++ second) took.are ∙ ap (λ (run : List Entry). entries_of took.turns ++ run) none.asked.are;
+    are =
+        ap (λ (run : List Entry). run ++ second) took.are
+        ∙ ap (λ (run : List Entry). entries_of took.turns ++ run) none.asked.are;
     takes = subst (λ (report : RunReport). TakesTurns config old report took.turns) (sym none.same) took.takes;
     going = may_go_on limit fewer;
     wanted = took.follows.state.links.wants;
@@ -111,7 +138,8 @@ module _ (config : CoreConfig) (hub hub' : Hub) (old mid new : RunReport) (count
     going = may_go_on limit fewer;
   }
 
-  ends_failed : (limit : ℕ) → count < limit → (fault : RunFault) → TakesTurn hub hub' mid new (Err fault) second → TurnsTo config limit old new hub' (Err fault) (first ++ second)
+  ends_failed : (limit : ℕ) → count < limit → (fault : RunFault) → TakesTurn hub hub' mid new (Err fault) second
+      → TurnsTo config limit old new hub' (Err fault) (first ++ second)
   ends_failed limit fewer Links one = ends_lost limit fewer one
   ends_failed limit fewer Sink one = ends_cut limit fewer Sink SinkFault (λ _. refl) one
   ends_failed limit fewer Memory one = elim one [
@@ -120,7 +148,8 @@ module _ (config : CoreConfig) (hub hub' : Hub) (old mid new : RunReport) (count
   ]
 
 -- as many turns were taken as may be
-ends_at_limit : (config : CoreConfig) (hub : Hub) (old new : RunReport) (limit : ℕ) (run : List Entry) → Took config hub old new limit run → AllTaken config limit old new hub run
+ends_at_limit : (config : CoreConfig) (hub : Hub) (old new : RunReport) (limit : ℕ) (run : List Entry)
+    → Took config hub old new limit run → AllTaken config limit old new hub run
 ends_at_limit config hub old new limit run took = record {
   turns = took.turns;
   are = took.are;
@@ -135,40 +164,56 @@ pub record SoFar (before now : LinksReport) (hub hub' : Hub) (old new : RunRepor
   pub known : AreUnclosed now.log (wants_in hub')
   pub took : AddsRun before now (TookFrom hub hub' old new count)
 
-pub so_far_nothing : (links : LinksReport) (hub : Hub) (report : RunReport) → AreUnclosed links.log (wants_in hub) → SoFar links links hub hub report report 0
+pub so_far_nothing : (links : LinksReport) (hub : Hub) (report : RunReport) → AreUnclosed links.log (wants_in hub)
+    → SoFar links links hub hub report report 0
 so_far_nothing links hub report known = record {
   known = known;
-  took = adds_nothing links (TookFrom hub hub report report 0) (λ config follows. took_nothing config hub report follows);
+  took =
+      adds_nothing links (TookFrom hub hub report report 0) (λ config follows. took_nothing config hub report follows);
 }
 
-module _ (a b c : LinksReport) (hub one two : Hub) (old mid new : RunReport) (count : ℕ) (so_far : SoFar a b hub one old mid count) where
+module _ (a b c : LinksReport) (hub one two : Hub) (old mid new : RunReport) (count : ℕ)
+    (so_far : SoFar a b hub one old mid count) where
   -- one more turn, which was not the last
-  pub so_far_more : (turn : Turn) → turn.what ≢ Stopped → AreUnclosed c.log (wants_in two) → AddsRun b c (TakesTurn one two mid new (Ok turn)) → SoFar a c hub two old new (count + 1)
+  pub so_far_more : (turn : Turn) → turn.what ≢ Stopped → AreUnclosed c.log (wants_in two)
+      → AddsRun b c (TakesTurn one two mid new (Ok turn)) → SoFar a c hub two old new (count + 1)
   so_far_more turn goes_on known takes = record {
     known = known;
-    took = adds_then a b c (TookFrom hub one old mid count) (TakesTurn one two mid new (Ok turn)) (TookFrom hub two old new (count + 1)) so_far.took takes
-        (λ first second took does config follows. took_more config one two old mid new count first second (took config follows) turn goes_on does);
+    took =
+        adds_then a b c (TookFrom hub one old mid count) (TakesTurn one two mid new (Ok turn))
+        (TookFrom hub two old new (count + 1)) so_far.took takes
+        (λ first second took does config follows.
+        took_more config one two old mid new count first second (took config follows) turn goes_on does);
   }
 
   -- the last turn
-  pub so_far_stopped : (limit : ℕ) → count < limit → (turn : Turn) → turn.what ≡ Stopped → AddsRun b c (TakesTurn one two mid new (Ok turn))
+  pub so_far_stopped : (limit : ℕ) → count < limit → (turn : Turn) → turn.what ≡ Stopped
+      → AddsRun b c (TakesTurn one two mid new (Ok turn))
       → AddsRun a c (TakesAll hub two limit old new (Ok tt))
   so_far_stopped limit fewer turn stopped takes =
-      adds_then a b c (TookFrom hub one old mid count) (TakesTurn one two mid new (Ok turn)) (TakesAll hub two limit old new (Ok tt)) so_far.took takes
-      (λ first second took does config follows. ends_stopped config one two old mid new count first second (took config follows) limit fewer turn stopped does)
+      adds_then a b c (TookFrom hub one old mid count) (TakesTurn one two mid new (Ok turn))
+      (TakesAll hub two limit old new (Ok tt)) so_far.took takes
+      (λ first second took does config follows.
+      ends_stopped config one two old mid new count first second (took config follows) limit fewer turn stopped does)
 
   -- a turn that was not finished
-  pub so_far_failed : (limit : ℕ) → count < limit → (fault : RunFault) → AddsRun b c (TakesTurn one two mid new (Err fault)) → AddsRun a c (TakesAll hub two limit old new (Err fault))
+  pub so_far_failed : (limit : ℕ) → count < limit → (fault : RunFault)
+      → AddsRun b c (TakesTurn one two mid new (Err fault)) → AddsRun a c (TakesAll hub two limit old new (Err fault))
   so_far_failed limit fewer fault takes =
-      adds_then a b c (TookFrom hub one old mid count) (TakesTurn one two mid new (Err fault)) (TakesAll hub two limit old new (Err fault)) so_far.took takes
-      (λ first second took does config follows. ends_failed config one two old mid new count first second (took config follows) limit fewer fault does)
+      adds_then a b c (TookFrom hub one old mid count) (TakesTurn one two mid new (Err fault))
+      (TakesAll hub two limit old new (Err fault)) so_far.took takes
+      (λ first second took does config follows.
+      ends_failed config one two old mid new count first second (took config follows) limit fewer fault does)
 
 -- no turn is left
-pub so_far_at_limit : (a b : LinksReport) (hub one : Hub) (old new : RunReport) (count limit : ℕ) → count ≡ limit → SoFar a b hub one old new count
+pub so_far_at_limit : (a b : LinksReport) (hub one : Hub) (old new : RunReport) (count limit : ℕ) → count ≡ limit
+    → SoFar a b hub one old new count
     → AddsRun a b (TakesAll hub one limit old new (Ok tt))
 so_far_at_limit a b hub one old new count limit same so_far =
     adds_weaken a b (TookFrom hub one old new count) (TakesAll hub one limit old new (Ok tt))
-    (λ run took config follows. ends_at_limit config one old new limit run (subst (λ (n : ℕ). Took config one old new n run) same (took config follows))) so_far.took
+    (λ run took config follows. ends_at_limit config one old new limit run
+    (subst (λ (n : ℕ). Took config one old new n run) same (took config follows)))
+    so_far.took
 
 pub not_last : (t : Bool) (turn : Turn) → (IsTrue t ↔ turn.what ≡ Stopped) → t ≡ false → turn.what ≢ Stopped
 not_last t turn tells is stopped = false≢true (sym is ∙ tells.1 stopped)

@@ -27,7 +27,8 @@ use Rattle.hub_run.proofs.AddsLaws.{adds_weaken}
 
 -- ---- the call
 
-next_as : (wants : List Want) (buf : List ℕ) (turn : Turn) (what : What) → what ≢ NoMemory → entries_of_turn wants buf turn what ≡ Next wants turn (piece_of what buf) ∷ []
+next_as : (wants : List Want) (buf : List ℕ) (turn : Turn) (what : What) → what ≢ NoMemory
+    → entries_of_turn wants buf turn what ≡ Next wants turn (piece_of what buf) ∷ []
 next_as wants buf turn Idle not_memory = refl
 next_as wants buf turn (Opened number) not_memory = refl
 next_as wants buf turn (Read number count) not_memory = refl
@@ -38,13 +39,16 @@ next_as wants buf turn Stopped not_memory = refl
 next_as wants buf turn Failed not_memory = refl
 next_as wants buf turn NoMemory not_memory = absurd (not_memory refl)
 
-pub next_is : (wants : List Want) (buf : List ℕ) (turn : Turn) → turn.what ≢ NoMemory → next_entries wants buf turn ≡ Next wants turn (piece_of turn.what buf) ∷ []
+pub next_is : (wants : List Want) (buf : List ℕ) (turn : Turn) → turn.what ≢ NoMemory
+    → next_entries wants buf turn ≡ Next wants turn (piece_of turn.what buf) ∷ []
 next_is wants buf turn not_memory = next_as wants buf turn turn.what not_memory
 
-pub next_failed : (wants : List Want) (buf : List ℕ) (turn : Turn) → turn.what ≡ Failed → AskFails wants (next_entries wants buf turn)
+pub next_failed : (wants : List Want) (buf : List ℕ) (turn : Turn) → turn.what ≡ Failed
+    → AskFails wants (next_entries wants buf turn)
 next_failed wants buf turn is = record { turn = turn; are = ap (entries_of_turn wants buf turn) is; failed = is }
 
-pub next_memory : (wants : List Want) (buf : List ℕ) (turn : Turn) → turn.what ≡ NoMemory → next_entries wants buf turn ≡ []
+pub next_memory : (wants : List Want) (buf : List ℕ) (turn : Turn) → turn.what ≡ NoMemory
+    → next_entries wants buf turn ≡ []
 next_memory wants buf turn is = ap (entries_of_turn wants buf turn) is
 
 pub next_quiet : (what : What) (old new : ℕ) → what ≢ Failed → HasNextCause old new what → new ≡ old
@@ -60,23 +64,28 @@ next_quiet NoMemory old new not_failed cause = cause
 
 -- ---- a turn was asked for
 
-module _ (before after : LinksReport) (asked : List Want) (buf : List ℕ) (turn : Turn) (asks : AddsRun before after (AsksFor asked buf (Ok turn))) where
+module _ (before after : LinksReport) (asked : List Want) (buf : List ℕ) (turn : Turn)
+    (asks : AddsRun before after (AsksFor asked buf (Ok turn))) where
   asked_log : after.log ≡ grown before.log (Next asked turn (piece_of turn.what buf) ∷ [])
   asked_log = asks.grew.log ∙ ap (grown before.log) asks.holds
 
   pub asked_known : (wants : List Want) → AreUnclosed before.log wants → AreUnclosed after.log wants
-  asked_known wants known = subst (λ (l : Option (List Entry)). AreUnclosed l wants) (sym asked_log) (known_next before.log wants asked turn (piece_of turn.what buf) known)
+  asked_known wants known =
+      subst (λ (l : Option (List Entry)). AreUnclosed l wants) (sym asked_log)
+      (known_next before.log wants asked turn (piece_of turn.what buf) known)
 
   pub asked_answered : Answered after.log turn
   asked_answered = subst (λ (l : Option (List Entry)). Answered l turn) (sym asked_log) (ends_with before.log)
     where
-      ends_with : (log : Option (List Entry)) (entries : List Entry) → grown log (Next asked turn (piece_of turn.what buf) ∷ []) ≡ Some entries → EndsWith turn entries
+      ends_with : (log : Option (List Entry)) (entries : List Entry)
+          → grown log (Next asked turn (piece_of turn.what buf) ∷ []) ≡ Some entries → EndsWith turn entries
       ends_with None entries is = absurd (cc is)
       ends_with (Some log) entries is =
           let same : log ++ Next asked turn (piece_of turn.what buf) ∷ [] ≡ entries = cc in
           record { before = log; wants = asked; piece = piece_of turn.what buf; is = sym same }
 
-pub ask_failed : (fault : RunFault) (hub : Hub) (report : RunReport) (buf : List ℕ) (run : List Entry) → AsksFor (wants_in hub) buf (Err fault) run
+pub ask_failed : (fault : RunFault) (hub : Hub) (report : RunReport) (buf : List ℕ) (run : List Entry)
+    → AsksFor (wants_in hub) buf (Err fault) run
     → TakesTurn hub hub report report (Err fault) run
 ask_failed Links hub report buf run asks = record { asked = asks; same = refl }
 ask_failed Sink hub report buf run asks = absurd asks
@@ -84,8 +93,10 @@ ask_failed Memory hub report buf run asks = inl (record { is = asks; same = refl
 
 -- ---- the turn that came
 
-module _ (a b c : LinksReport) (hub hub' : Hub) (old new : RunReport) (buf piece : List ℕ) (turn : Turn) (result : Result (Unit {0}) Stop) where
-  pub turn_done : AddsRun a b (AsksFor (wants_in hub) buf (Ok turn)) → turn.what ≢ Failed → turn.what ≢ NoMemory → piece ≡ piece_of turn.what buf
+module _ (a b c : LinksReport) (hub hub' : Hub) (old new : RunReport) (buf piece : List ℕ) (turn : Turn)
+    (result : Result (Unit {0}) Stop) where
+  pub turn_done : AddsRun a b (AsksFor (wants_in hub) buf (Ok turn)) → turn.what ≢ Failed → turn.what ≢ NoMemory
+      → piece ≡ piece_of turn.what buf
       → Added b c (TurnsFrom turn piece hub hub' old.patterns new.patterns old.forks new.forks old.sink new.sink result)
       → AddsRun a c (DoesTurn hub hub' old new result turn)
   turn_done asks not_failed not_memory is does = record {
@@ -94,7 +105,9 @@ module _ (a b c : LinksReport) (hub hub' : Hub) (old new : RunReport) (buf piece
     holds = record {
       piece = piece;
       calls = does.run;
-      are = ap (λ (run : List Entry). run ++ does.run) asks.holds ∙ ap (λ (bytes : List ℕ). Next (wants_in hub) turn bytes ∷ does.run) (sym is);
+      are =
+          ap (λ (run : List Entry). run ++ does.run) asks.holds
+          ∙ ap (λ (bytes : List ℕ). Next (wants_in hub) turn bytes ∷ does.run) (sym is);
       came = turn_is turn.what not_failed not_memory;
       once = does.calls;
       does = does.holds;
@@ -102,12 +115,16 @@ module _ (a b c : LinksReport) (hub hub' : Hub) (old new : RunReport) (buf piece
   }
 
 -- the hub stopped in the middle of it
-pub turn_stopped : (a c : LinksReport) (hub hub' : Hub) (old new : RunReport) (turn : Turn) (stop : Stop) → AddsRun a c (DoesTurn hub hub' old new (Err stop) turn)
+pub turn_stopped : (a c : LinksReport) (hub hub' : Hub) (old new : RunReport) (turn : Turn) (stop : Stop)
+    → AddsRun a c (DoesTurn hub hub' old new (Err stop) turn)
     → AddsRun a c (StopsAt hub hub' old new stop)
 turn_stopped a c hub hub' old new turn stop does =
-    adds_weaken a c (DoesTurn hub hub' old new (Err stop) turn) (StopsAt hub hub' old new stop) (λ run one. record { turn = turn; cut = one }) does
+    adds_weaken a c (DoesTurn hub hub' old new (Err stop) turn) (StopsAt hub hub' old new stop)
+    (λ run one. record { turn = turn; cut = one }) does
 
-pub turn_out_of_memory : (a c : LinksReport) (hub hub' : Hub) (old new : RunReport) → AddsRun a c (StopsAt hub hub' old new StopMemory)
+pub turn_out_of_memory : (a c : LinksReport) (hub hub' : Hub) (old new : RunReport)
+    → AddsRun a c (StopsAt hub hub' old new StopMemory)
     → AddsRun a c (TakesTurn hub hub' old new (Err Memory))
 turn_out_of_memory a c hub hub' old new stops =
-    adds_weaken a c (StopsAt hub hub' old new StopMemory) (TakesTurn hub hub' old new (Err Memory)) (λ run at. inr at) stops
+    adds_weaken a c (StopsAt hub hub' old new StopMemory) (TakesTurn hub hub' old new (Err Memory)) (λ run at. inr at)
+    stops

@@ -26,7 +26,8 @@ unfolding spelled_within
 spelled_within_length zero value = omega arith
 spelled_within_length (suc n) value =
     let more = spelled_within_length n (value / 128) in
-    elim (nat_lt value 128) as (λ b. length (cond b (value ∷ []) ((128 + value % 128) ∷ spelled_within n (value / 128))) ≤ suc n + 1)
+    elim (nat_lt value 128) as
+    (λ b. length (cond b (value ∷ []) ((128 + value % 128) ∷ spelled_within n (value / 128))) ≤ suc n + 1)
     [ true ↦ omega arith | false ↦ omega arith ]
 
 varint_length : (value : ℕ) → length (varint value) ≤ 10
@@ -46,7 +47,8 @@ pub limited_within : (msg : Msg) → length (spelling msg) ≤ BODY_LIMIT → li
 unfolding limited
 limited_within msg small = grind (arith, nat_tests)
 
-pub limited_over : (msg : Msg) → BODY_LIMIT < length (spelling msg) → limited msg ≡ refused (over_limit (length (spelling msg)))
+pub limited_over : (msg : Msg) → BODY_LIMIT < length (spelling msg)
+    → limited msg ≡ refused (over_limit (length (spelling msg)))
 unfolding limited
 limited_over msg large = grind (arith, nat_tests)
 

@@ -14,5 +14,6 @@ pub steps_entries : (turns : List TakenTurn) → map entry_of (steps_of turns) �
 steps_entries [] = refl
 steps_entries (turn ∷ turns) =
     map-append entry_of (steps_of_turn turn) (steps_of turns)
-    ∙ ap (λ (es : List Entry). (Next turn.wants turn.turn turn.piece ∷ es) ++ map entry_of (steps_of turns)) (plain_entries turn.calls)
+    ∙ ap (λ (es : List Entry). (Next turn.wants turn.turn turn.piece ∷ es) ++ map entry_of (steps_of turns))
+    (plain_entries turn.calls)
     ∙ ap (λ (es : List Entry). (Next turn.wants turn.turn turn.piece ∷ turn.calls) ++ es) (steps_entries turns)

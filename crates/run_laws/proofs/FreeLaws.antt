@@ -57,10 +57,12 @@ closed_whole link Closing whole may = absurd whole
 closed_whole link Closed whole may = whole
 
 free_ended : (link : Link) → IsFree link → IsFree (ended link)
-free_ended link old = choice (is_open link) (with_stage ReadClosed link) link (record { free = old.free; whole = tt }) old
+free_ended link old =
+    choice (is_open link) (with_stage ReadClosed link) link (record { free = old.free; whole = tt }) old
 
 free_unblocked : (link : Link) → IsFree link → IsFree (unblocked link)
-free_unblocked link old = choice (is_connected link) (record link { blocked = false }) link (record { free = refl; whole = old.whole }) old
+free_unblocked link old =
+    choice (is_connected link) (record link { blocked = false }) link (record { free = refl; whole = old.whole }) old
 
 free_sent : (bytes : List ℕ) (link : Link) → MaySend bytes link → IsFree (sent bytes (Took (length bytes)) link)
 free_sent bytes link may = record {
@@ -92,20 +94,27 @@ free_opened : (links : List Link) → AreFree links → AreFree (opened 0 links)
 free_opened [] all = (record { free = refl; whole = tt }, tt)
 free_opened (link ∷ links) all =
     let below : nat_lt link.number 0 ≡ false = le-ltb link.number 0 (omega arith) in
-    let other : is_above 0 (link ∷ links) ≡ false = and_left (nat_lt link.number 0) (list_all (λ l. nat_lt l.number 0) links) below in
-    subst (λ (t : Bool). AreFree (cond t ((link ∷ links) ++ new_link 0 (link ∷ links) ∷ []) (link ∷ links))) (sym other) all
+    let other : is_above 0 (link ∷ links) ≡ false =
+    and_left (nat_lt link.number 0) (list_all (λ l. nat_lt l.number 0) links) below in
+    subst (λ (t : Bool). AreFree (cond t ((link ∷ links) ++ new_link 0 (link ∷ links) ∷ []) (link ∷ links))) (sym other)
+    all
 
-answered_free : (config : CoreConfig) (now : ℕ) (messages : List Message) (talk : Talk) → talk.link.blocked ≡ false → talk.link.stage ≡ Open
-    → ((all_answered config now messages talk).link.blocked ≡ false) × ((all_answered config now messages talk).link.stage ≡ Open)
+answered_free : (config : CoreConfig) (now : ℕ) (messages : List Message) (talk : Talk) → talk.link.blocked ≡ false
+    → talk.link.stage ≡ Open
+    → ((all_answered config now messages talk).link.blocked ≡ false)
+    × ((all_answered config now messages talk).link.stage ≡ Open)
 answered_free config now [] talk free is = (free, is)
-answered_free config now (message ∷ messages) talk free is = answered_free config now messages (answered config now message talk) free is
+answered_free config now (message ∷ messages) talk free is =
+    answered_free config now messages (answered config now message talk) free is
 
 cut_free : (link : Link) → link.blocked ≡ false → link.stage ≡ Open → IsFree (cut_off link)
 cut_free link free is =
-    choice (is_oversized (partial link.came)) (with_stage ReadClosed (with_reply (reply_to_oversized (length_at (partial link.came))) link)) link
+    choice (is_oversized (partial link.came))
+    (with_stage ReadClosed (with_reply (reply_to_oversized (length_at (partial link.came))) link)) link
     (record { free = free; whole = tt }) (open_free link free is)
 
-free_read : (config : CoreConfig) (piece : List ℕ) (verdicts : List (Option Refusal)) (state : RunState) (link : Link) → IsFree link → AreFree state.links
+free_read : (config : CoreConfig) (piece : List ℕ) (verdicts : List (Option Refusal)) (state : RunState) (link : Link)
+    → IsFree link → AreFree state.links
     → AreFree (read_from config piece verdicts state link).links
 free_read config piece verdicts state link one all = by (is_open link) (open_is link.stage)
   where
@@ -114,39 +123,54 @@ free_read config piece verdicts state link one all = by (is_open link) (open_is 
 
     by : (t : Bool) → (t ≡ true → link.stage ≡ Open) → AreFree (cond t (with_talk state talk) state).links
     by true is =
-        let still = answered_free config state.now (messages_in piece verdicts link) (talk_of piece state link) one.free (is refl) in
-        all_changed IsFree talk.link.number (λ _. cut_off talk.link) (λ other _ old. cut_free talk.link still.0 still.1) state.links all
+        let still =
+        answered_free config state.now (messages_in piece verdicts link) (talk_of piece state link) one.free
+        (is refl) in
+        all_changed IsFree talk.link.number (λ _. cut_off talk.link) (λ other _ old. cut_free talk.link still.0 still.1)
+        state.links all
     by false is = all
 
-free_read_by : (config : CoreConfig) (piece : List ℕ) (verdicts : List (Option Refusal)) (state : RunState) (found : Option Link) → ((link : Link) → found ≡ Some link → IsFree link)
+free_read_by : (config : CoreConfig) (piece : List ℕ) (verdicts : List (Option Refusal)) (state : RunState)
+    (found : Option Link)
+    → ((link : Link) → found ≡ Some link → IsFree link)
     → AreFree state.links → AreFree (read_by config piece verdicts state found).links
 free_read_by config piece verdicts state None one all = all
-free_read_by config piece verdicts state (Some link) one all = free_read config piece verdicts state link (one link refl) all
+free_read_by config piece verdicts state (Some link) one all =
+    free_read config piece verdicts state link (one link refl) all
 
-pub free_occurred : (config : CoreConfig) (occurrence : What) (piece : List ℕ) (verdicts : List (Option Refusal)) (state : RunState) → IsGentle occurrence → AreFree state.links
+pub free_occurred : (config : CoreConfig) (occurrence : What) (piece : List ℕ) (verdicts : List (Option Refusal))
+    (state : RunState)
+    → IsGentle occurrence → AreFree state.links
     → AreFree (occurred config occurrence piece verdicts state).links
 free_occurred config what.Idle piece verdicts state gentle all = all
-free_occurred config (what.Opened number) piece verdicts state gentle all = subst (λ (n : ℕ). AreFree (opened n state.links)) (sym gentle) (free_opened state.links all)
+free_occurred config (what.Opened number) piece verdicts state gentle all =
+    subst (λ (n : ℕ). AreFree (opened n state.links)) (sym gentle) (free_opened state.links all)
 free_occurred config (what.Read number count) piece verdicts state gentle all =
-    free_read_by config piece verdicts state (find_link number state.links) (λ link found. all_found IsFree number state.links link found all) all
-free_occurred config (what.Ended number) piece verdicts state gentle all = all_changed IsFree number ended (λ link _ old. free_ended link old) state.links all
+    free_read_by config piece verdicts state (find_link number state.links)
+    (λ link found. all_found IsFree number state.links link found all) all
+free_occurred config (what.Ended number) piece verdicts state gentle all =
+    all_changed IsFree number ended (λ link _ old. free_ended link old) state.links all
 free_occurred config (what.Broken number) piece verdicts state gentle all = absurd gentle
-free_occurred config (what.Room number) piece verdicts state gentle all = all_changed IsFree number unblocked (λ link _ old. free_unblocked link old) state.links all
+free_occurred config (what.Room number) piece verdicts state gentle all =
+    all_changed IsFree number unblocked (λ link _ old. free_unblocked link old) state.links all
 free_occurred config what.Stopped piece verdicts state gentle all = all
 free_occurred config what.Failed piece verdicts state gentle all = all
 free_occurred config what.Memory piece verdicts state gentle all = all
 
 -- ---- sends and closes
 
-pub free_after_send : (number : ℕ) (bytes : List ℕ) (links : List Link) (link : Link) → AreRising links → find_link number links ≡ Some link → MaySend bytes link
+pub free_after_send : (number : ℕ) (bytes : List ℕ) (links : List Link) (link : Link) → AreRising links
+    → find_link number links ≡ Some link → MaySend bytes link
     → AreFree links → AreFree (changed number (sent bytes (Took (length bytes))) links)
 free_after_send number bytes links link rising found may all =
     all_replaced IsFree number (sent bytes (Took (length bytes))) links link rising found (free_sent bytes link may) all
 
-pub free_after_close : (number : ℕ) (links : List Link) (link : Link) → AreRising links → find_link number links ≡ Some link → MayClose link
+pub free_after_close : (number : ℕ) (links : List Link) (link : Link) → AreRising links
+    → find_link number links ≡ Some link → MayClose link
     → AreFree links → AreFree (changed number closed links)
 free_after_close number links link rising found may all =
-    all_replaced IsFree number closed links link rising found (free_closed link may (all_found IsFree number links link found all)) all
+    all_replaced IsFree number closed links link rising found
+    (free_closed link may (all_found IsFree number links link found all)) all
 
 -- ---- once all links are settled
 
@@ -154,7 +178,8 @@ nothing : (bytes : List ℕ) → (0 < length bytes → ⊥) → bytes ≡ []
 nothing [] none = refl
 nothing (byte ∷ bytes) none = absurd (none (omega arith))
 
-settled_as : (link : Link) (s : Stage) → link.blocked ≡ false → IsWholeAs (unsent link) s → IsSettledAs link s → unsent link ≡ []
+settled_as : (link : Link) (s : Stage) → link.blocked ≡ false → IsWholeAs (unsent link) s → IsSettledAs link s
+    → unsent link ≡ []
 settled_as link Open free whole settled = nothing (unsent link) (λ some. cc (settled some, free))
 settled_as link ReadClosed free whole settled = absurd (cc (settled.1, free))
 settled_as link Closing free whole settled = absurd settled
@@ -165,4 +190,5 @@ IsAllSent link = unsent link ≡ []
 
 pub settled_sent : (links : List Link) → AreFree links → AreSettled links → AllByRecursion IsAllSent links
 settled_sent [] all settled = tt
-settled_sent (link ∷ links) all settled = (settled_as link link.stage all.0.free all.0.whole settled.0, settled_sent links all.1 settled.1)
+settled_sent (link ∷ links) all settled =
+    (settled_as link link.stage all.0.free all.0.whole settled.0, settled_sent links all.1 settled.1)

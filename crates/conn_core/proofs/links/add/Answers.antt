@@ -8,9 +8,11 @@ use Rattle.conn_core.proofs.links.add.Goals as goal
 pub returns : goal.returns
 returns c = record {
   value = c.open-link.result;
-  represents = λ links few. c.open-link.ensures.represents links (lt-ltb (length (connected links)) connected_limit few);
+  represents =
+      λ links few. c.open-link.ensures.represents links (lt-ltb (length (connected links)) connected_limit few);
   wants = c.in_ok-add.ensures.wants
-      ∙ ap (λ (want : Want). c.args.table.now.wants ++ want ∷ []) (c.want.ensures.represents (new_link c.args.number []) (c.open-link.ensures.represents [] refl));
+      ∙ ap (λ (want : Want). c.args.table.now.wants ++ want ∷ [])
+      (c.want.ensures.represents (new_link c.args.number []) (c.open-link.ensures.represents [] refl));
   values = c.in_ok-add.ensures.values;
   newest = c.in_ok-add.ensures.newest ∙ ap Some (c.want.ensures.number ∙ c.open-link.ensures.number);
 }

@@ -23,7 +23,8 @@ settle-requires-clause-at g c =
 
 pub returns-in_default-clause-changes : goal.returns-in_default-clause-changes
 returns-in_default-clause-changes g c =
-    added_nothing (g.L.Links.report c.args.links.now) (Changes (changed c.args.number ended) c.args.table.now c.args.table.now (Ok tt))
+    added_nothing (g.L.Links.report c.args.links.now)
+    (Changes (changed c.args.number ended) c.args.table.now c.args.table.now (Ok tt))
     (changes_absent ended c.args.table.now c.args.number ended_fixed c.in_default.ensures)
 
 pub returns-in_err-settle-clause-changes : goal.returns-in_err-settle-clause-changes
@@ -33,11 +34,14 @@ returns-in_err-settle-clause-changes g c =
     let place = c.in-Some.place in
     let value = c.value_mut.result.now in
     let value' = c.end.new.self in
-    let at = λ (other : HubLink). sym (get_or_read table.values place value c.in-Some.ensures.within c.value_mut.ensures.value other) in
+    let at =
+    λ (other : HubLink).
+    sym (get_or_read table.values place value c.in-Some.ensures.within c.value_mut.ensures.value other) in
     rw p.1 (added_weaken (g.L.Links.report c.args.links.now) (g.L.Links.report c.settle.new.links)
     (Settles (record table { values = set table.values place value' }) c.settle.new.table c.args.number place (Err p.0))
     (Changes (changed c.args.number ended) table c.settle.new.table (Err p.0))
-    (λ run settles. changes_found ended table c.settle.new.table c.args.number place value value' (Err p.0) run ended_number ended_unclosed c.in-Some.ensures at c.end.ensures.represents settles)
+    (λ run settles. changes_found ended table c.settle.new.table c.args.number place value value' (Err p.0) run
+    ended_number ended_unclosed c.in-Some.ensures at c.end.ensures.represents settles)
     c.in_err-settle.ensures.settles)
 
 pub returns-clause-changes : goal.returns-clause-changes
@@ -46,9 +50,12 @@ returns-clause-changes g c =
     let place = c.in-Some.place in
     let value = c.value_mut.result.now in
     let value' = c.end.new.self in
-    let at = λ (other : HubLink). sym (get_or_read table.values place value c.in-Some.ensures.within c.value_mut.ensures.value other) in
+    let at =
+    λ (other : HubLink).
+    sym (get_or_read table.values place value c.in-Some.ensures.within c.value_mut.ensures.value other) in
     added_weaken (g.L.Links.report c.args.links.now) (g.L.Links.report c.settle.new.links)
     (Settles (record table { values = set table.values place value' }) c.settle.new.table c.args.number place (Ok tt))
     (Changes (changed c.args.number ended) table c.settle.new.table (Ok tt))
-    (λ run settles. changes_found ended table c.settle.new.table c.args.number place value value' (Ok tt) run ended_number ended_unclosed c.in-Some.ensures at c.end.ensures.represents settles)
+    (λ run settles. changes_found ended table c.settle.new.table c.args.number place value value' (Ok tt) run
+    ended_number ended_unclosed c.in-Some.ensures at c.end.ensures.represents settles)
     c.in_ok-settle.ensures.settles

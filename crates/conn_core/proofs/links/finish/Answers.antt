@@ -15,10 +15,13 @@ use Rattle.conn_core.proofs.links.finish.Goals as goal
 pub returns-then-is_over-clause-known : goal.returns-then-is_over-clause-known
 returns-then-is_over-clause-known g c =
     let wants = c.args.table.now.wants in
-    let within : c.args.place < length wants = subst (λ (n : ℕ). c.args.place < n) (sym c.requires.at.beside) c.requires.at.within in
+    let within : c.args.place < length wants =
+    subst (λ (n : ℕ). c.args.place < n) (sym c.requires.at.beside) c.requires.at.within in
     subst (λ (log : Option (List Entry)). AreUnclosed log c.remove.new.self.wants) (sym c.close.ensures.adds.log)
-    (subst (AreUnclosed (grown (g.L.Links.report c.args.links.now).log (Close c.args.number ∷ []))) (sym c.remove.ensures.wants)
-    (known_removed (g.L.Links.report c.args.links.now).log wants c.args.number c.args.place within c.requires.at.only c.requires.known))
+    (subst (AreUnclosed (grown (g.L.Links.report c.args.links.now).log (Close c.args.number ∷ [])))
+    (sym c.remove.ensures.wants)
+    (known_removed (g.L.Links.report c.args.links.now).log wants c.args.number c.args.place within c.requires.at.only
+    c.requires.known))
 
 pub returns-then-is_over-clause-finishes : goal.returns-then-is_over-clause-finishes
 returns-then-is_over-clause-finishes g c = record {
@@ -36,10 +39,13 @@ returns-then-is_over-clause-finishes g c = record {
 
 pub returns-else-is_over-clause-finishes : goal.returns-else-is_over-clause-finishes
 returns-else-is_over-clause-finishes g c =
-    added_nothing (g.L.Links.report c.args.links.now) (Finishes c.args.table.now c.set_want.new.self c.args.number c.args.place (Ok tt))
+    added_nothing (g.L.Links.report c.args.links.now)
+    (Finishes c.args.table.now c.set_want.new.self c.args.number c.args.place (Ok tt))
     (finishes_kept c.args.table.now c.set_want.new.self c.args.number c.args.place c.want-want.result
     (λ meant all.
     let represents : RepresentsLink c.value-link.result.now meant =
-    subst (λ (v : HubLink). RepresentsLink v meant) (sym c.value-link.ensures) (all c.value-link.result.now) in
-    (λ may. let is = (c.if-is_over.ensures meant represents).1 may in absurd (cc is), c.want-want.ensures.represents meant represents))
+    subst (λ (v : HubLink). RepresentsLink v meant) (sym c.value-link.ensures) (all c.value-link.result.now) in (
+      λ may. let is = (c.if-is_over.ensures meant represents).1 may in absurd (cc is),
+      c.want-want.ensures.represents meant represents,
+    ))
     c.set_want.ensures.wants c.set_want.ensures.values c.set_want.ensures.newest)

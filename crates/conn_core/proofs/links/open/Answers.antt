@@ -19,7 +19,8 @@ returns-then-len-ge-CONNECTED_LIMIT-clause-known g c =
     let same = ap (λ (t : Kept HubLink). t.wants) c.note.ensures in
     subst (λ (log : Option (List Entry)). AreUnclosed log c.note.new.self.wants) (sym c.close.ensures.adds.log)
     (subst (AreUnclosed (grown (g.L.Links.report c.args.links.now).log (Close c.args.number ∷ []))) (sym same)
-    (known_apart (g.L.Links.report c.args.links.now).log wants c.args.number (c.is_newer.ensures.absent c.if-not-is_newer.false) c.requires.known))
+    (known_apart (g.L.Links.report c.args.links.now).log wants c.args.number
+    (c.is_newer.ensures.absent c.if-not-is_newer.false) c.requires.known))
 
 pub returns-then-len-ge-CONNECTED_LIMIT-clause-changes : goal.returns-then-len-ge-CONNECTED_LIMIT-clause-changes
 returns-then-len-ge-CONNECTED_LIMIT-clause-changes g c = record {
@@ -27,11 +28,16 @@ returns-then-len-ge-CONNECTED_LIMIT-clause-changes g c = record {
   grew = c.close.ensures.adds;
   no_fault = c.close.ensures.no_fault;
   calls = (tt, tt);
-  holds = changes_full c.args.table.now c.note.new.self c.args.number (sym c.is_newer.ensures.value ∙ c.if-not-is_newer.false) (omega arith)
-      (ap (λ (t : Kept HubLink). t.wants) c.note.ensures) (ap (λ (t : Kept HubLink). t.values) c.note.ensures) (ap (λ (t : Kept HubLink). t.newest) c.note.ensures);
+  holds =
+      changes_full c.args.table.now c.note.new.self c.args.number
+      (sym c.is_newer.ensures.value ∙ c.if-not-is_newer.false) (omega arith)
+      (ap (λ (t : Kept HubLink). t.wants) c.note.ensures) (ap (λ (t : Kept HubLink). t.values) c.note.ensures)
+      (ap (λ (t : Kept HubLink). t.newest) c.note.ensures);
 }
 
 pub returns-clause-changes : goal.returns-clause-changes
 returns-clause-changes g c =
-    added_nothing (g.L.Links.report c.args.links.now) (Changes (opened c.args.number) c.args.table.now c.add.new.table (Ok tt))
-    (changes_added c.args.table.now c.add.new.table c.args.number (sym c.is_newer.ensures.value ∙ c.if-not-is_newer.false) (omega arith) c.in_ok-add.ensures)
+    added_nothing (g.L.Links.report c.args.links.now)
+    (Changes (opened c.args.number) c.args.table.now c.add.new.table (Ok tt))
+    (changes_added c.args.table.now c.add.new.table c.args.number
+    (sym c.is_newer.ensures.value ∙ c.if-not-is_newer.false) (omega arith) c.in_ok-add.ensures)

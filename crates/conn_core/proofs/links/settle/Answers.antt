@@ -29,17 +29,25 @@ finish-requires-clause-known g c =
     let wants = c.args.table.now.wants in
     let sends = c.in_ok-send_all.ensures.sends in
     subst (λ (log : Option (List Entry)). AreUnclosed log wants) (sym sends.grew.log)
-    (known_sends (g.L.Links.report c.args.links.now).log wants (number_of c.value_mut.result.now) sends.run sends.holds.only c.requires.known)
+    (known_sends (g.L.Links.report c.args.links.now).log wants (number_of c.value_mut.result.now) sends.run
+    sends.holds.only c.requires.known)
 
 pub returns-in_err-send_all-clause-settles : goal.returns-in_err-send_all-clause-settles
 returns-in_err-send_all-clause-settles g c =
     let p = err_from_is_err_and c.from_residual.result c.from_residual.ensures.1 in
     let table = c.args.table.now in
-    let at = λ (other : HubLink). sym (get_or_read table.values c.args.place c.value_mut.result.now c.requires.at.within c.value_mut.ensures.value other) in
+    let at =
+    λ (other : HubLink). sym
+    (get_or_read table.values c.args.place c.value_mut.result.now c.requires.at.within c.value_mut.ensures.value
+    other) in
     rw p.1 (added_weaken (g.L.Links.report c.args.links.now) (g.L.Links.report c.send_all.new.links)
-    (Sends c.value_mut.result.now c.send_all.new.self) (Settles table (record table { values = set table.values c.args.place c.send_all.new.self }) c.args.number c.args.place (Err p.0))
-    (λ run sends. settles_failed table (record table { values = set table.values c.args.place c.send_all.new.self }) c.args.number c.args.place c.value_mut.result.now c.send_all.new.self at
-    (record table { values = set table.values c.args.place c.send_all.new.self }) (Err p.0) run refl sends) c.in_err-send_all.ensures.sends)
+    (Sends c.value_mut.result.now c.send_all.new.self)
+    (Settles table (record table { values = set table.values c.args.place c.send_all.new.self }) c.args.number
+    c.args.place (Err p.0))
+    (λ run sends. settles_failed table (record table { values = set table.values c.args.place c.send_all.new.self })
+    c.args.number c.args.place c.value_mut.result.now c.send_all.new.self at
+    (record table { values = set table.values c.args.place c.send_all.new.self }) (Err p.0) run refl sends)
+    c.in_err-send_all.ensures.sends)
 
 pub returns-clause-settles : goal.returns-clause-settles
 returns-clause-settles g c =
@@ -47,8 +55,13 @@ returns-clause-settles g c =
     let value = c.value_mut.result.now in
     let value' = c.send_all.new.self in
     let middle = record table { values = set table.values c.args.place value' } in
-    let at = λ (other : HubLink). sym (get_or_read table.values c.args.place value c.requires.at.within c.value_mut.ensures.value other) in
-    added_then (g.L.Links.report c.args.links.now) (g.L.Links.report c.send_all.new.links) (g.L.Links.report c.finish.new.links)
-    (Sends value value') (Finishes middle c.finish.new.table c.args.number c.args.place (Ok tt)) (Settles table c.finish.new.table c.args.number c.args.place (Ok tt))
+    let at =
+    λ (other : HubLink).
+    sym (get_or_read table.values c.args.place value c.requires.at.within c.value_mut.ensures.value other) in
+    added_then (g.L.Links.report c.args.links.now) (g.L.Links.report c.send_all.new.links)
+    (g.L.Links.report c.finish.new.links)
+    (Sends value value') (Finishes middle c.finish.new.table c.args.number c.args.place (Ok tt))
+    (Settles table c.finish.new.table c.args.number c.args.place (Ok tt))
     c.in_ok-send_all.ensures.sends c.finish.ensures.finishes
-    (λ first second sends finishes. settles_sent table c.finish.new.table c.args.number c.args.place value value' at first second sends c.in_ok-send_all.ensures.sent finishes)
+    (λ first second sends finishes. settles_sent table c.finish.new.table c.args.number c.args.place value value' at
+    first second sends c.in_ok-send_all.ensures.sent finishes)

@@ -21,8 +21,12 @@ returns-in-Ok-clause-takes g c =
     (g.O.Sink.report c.args.sink.now) in
     let report' = run_report (g.P.Patterns.report c.turn.new.patterns) c.turn.new.steps.forks
     (g.O.Sink.report c.turn.new.sink) in
-    let asks = subst (λ (wants : List Want). AddsRun before asked (AsksFor wants buf (Ok turn))) c.wants.ensures c.in_ok-turn.ensures.asks in
-    turn_done before asked after c.args.hub.now c.turn.new.self report report' buf piece turn (Ok tt) asks c.in_ok-turn.ensures.not_failed c.in_ok-turn.ensures.not_memory (c.piece_len-count.ensures.piece buf) c.in-Ok.ensures.turns
+    let asks =
+    subst (λ (wants : List Want). AddsRun before asked (AsksFor wants buf (Ok turn))) c.wants.ensures
+    c.in_ok-turn.ensures.asks in
+    turn_done before asked after c.args.hub.now c.turn.new.self report report' buf piece turn (Ok tt) asks
+    c.in_ok-turn.ensures.not_failed c.in_ok-turn.ensures.not_memory (c.piece_len-count.ensures.piece buf)
+    c.in-Ok.ensures.turns
 
 pub returns-in-Err-SinkFault-clause-takes : goal.returns-in-Err-SinkFault-clause-takes
 returns-in-Err-SinkFault-clause-takes g c =
@@ -36,11 +40,16 @@ returns-in-Err-SinkFault-clause-takes g c =
     (g.O.Sink.report c.args.sink.now) in
     let report' = run_report (g.P.Patterns.report c.turn.new.patterns) c.turn.new.steps.forks
     (g.O.Sink.report c.turn.new.sink) in
-    let asks = subst (λ (wants : List Want). AddsRun before asked (AsksFor wants buf (Ok turn))) c.wants.ensures c.in_ok-turn.ensures.asks in
-    let does = subst (λ (stop : Stop). Added asked after (TurnsFrom turn piece c.args.hub.now c.turn.new.self report.patterns report'.patterns report.forks report'.forks
+    let asks =
+    subst (λ (wants : List Want). AddsRun before asked (AsksFor wants buf (Ok turn))) c.wants.ensures
+    c.in_ok-turn.ensures.asks in
+    let does =
+    subst (λ (stop : Stop). Added asked after
+    (TurnsFrom turn piece c.args.hub.now c.turn.new.self report.patterns report'.patterns report.forks report'.forks
     report.sink report'.sink (Err stop))) c.in-Err-SinkFault.field-0-is c.in-Err-SinkFault.ensures.turns in
     turn_stopped before after c.args.hub.now c.turn.new.self report report' turn SinkFault
-    (turn_done before asked after c.args.hub.now c.turn.new.self report report' buf piece turn (Err SinkFault) asks c.in_ok-turn.ensures.not_failed c.in_ok-turn.ensures.not_memory (c.piece_len-count.ensures.piece buf) does)
+    (turn_done before asked after c.args.hub.now c.turn.new.self report report' buf piece turn (Err SinkFault) asks
+    c.in_ok-turn.ensures.not_failed c.in_ok-turn.ensures.not_memory (c.piece_len-count.ensures.piece buf) does)
 
 pub returns-in-Err-Memory-clause-takes : goal.returns-in-Err-Memory-clause-takes
 returns-in-Err-Memory-clause-takes g c =
@@ -54,8 +63,14 @@ returns-in-Err-Memory-clause-takes g c =
     (g.O.Sink.report c.args.sink.now) in
     let report' = run_report (g.P.Patterns.report c.turn.new.patterns) c.turn.new.steps.forks
     (g.O.Sink.report c.turn.new.sink) in
-    let asks = subst (λ (wants : List Want). AddsRun before asked (AsksFor wants buf (Ok turn))) c.wants.ensures c.in_ok-turn.ensures.asks in
-    let does = subst (λ (stop : Stop). Added asked after (TurnsFrom turn piece c.args.hub.now c.turn.new.self report.patterns report'.patterns report.forks report'.forks
+    let asks =
+    subst (λ (wants : List Want). AddsRun before asked (AsksFor wants buf (Ok turn))) c.wants.ensures
+    c.in_ok-turn.ensures.asks in
+    let does =
+    subst (λ (stop : Stop). Added asked after
+    (TurnsFrom turn piece c.args.hub.now c.turn.new.self report.patterns report'.patterns report.forks report'.forks
     report.sink report'.sink (Err stop))) c.in-Err-Memory.field-0-is c.in-Err-Memory.ensures.turns in
-    turn_out_of_memory before after c.args.hub.now c.turn.new.self report report' (turn_stopped before after c.args.hub.now c.turn.new.self report report' turn Memory
-    (turn_done before asked after c.args.hub.now c.turn.new.self report report' buf piece turn (Err Memory) asks c.in_ok-turn.ensures.not_failed c.in_ok-turn.ensures.not_memory (c.piece_len-count.ensures.piece buf) does))
+    turn_out_of_memory before after c.args.hub.now c.turn.new.self report report'
+    (turn_stopped before after c.args.hub.now c.turn.new.self report report' turn Memory
+    (turn_done before asked after c.args.hub.now c.turn.new.self report report' buf piece turn (Err Memory) asks
+    c.in_ok-turn.ensures.not_failed c.in_ok-turn.ensures.not_memory (c.piece_len-count.ensures.piece buf) does))

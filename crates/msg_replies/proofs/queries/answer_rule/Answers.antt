@@ -11,7 +11,13 @@ returns-in-Err-Pattern-clause-answers g c =
     let cause = rw c.in-Err-Pattern.field-0-is at c.in-Err-Pattern.ensures.cause in
     let reported = rw c.in-Err-Pattern.field-0-is at c.in-Err-Pattern.ensures.reported in
     record {
-      refusal = Some (record { number = c.in-Err-Pattern.number; text = slice_index_or (searches (tree_of c.args.rule)) c.in-Err-Pattern.number [] });
-      verdict = refused_verdict (tree_of c.args.rule) c.in-Err-Pattern.number _ _ cause.0 cause.1 c.in-Err-Pattern.ensures.refusals reported;
+      refusal =
+          Some (record {
+            number = c.in-Err-Pattern.number;
+            text = slice_index_or (searches (tree_of c.args.rule)) c.in-Err-Pattern.number [];
+          });
+      verdict =
+          refused_verdict (tree_of c.args.rule) c.in-Err-Pattern.number _ _ cause.0 cause.1
+          c.in-Err-Pattern.ensures.refusals reported;
       answered = on_ok c.refuse_pattern.result (λ wrote arrivals holds. wrote) c.refuse_pattern.ensures;
     }

@@ -10,9 +10,11 @@ answer_rule-requires g c = omega (arith, patterns_are_few c.args.text.now (tree_
 
 pub returns-in-Ok-clause-answers : goal.returns-in-Ok-clause-answers
 returns-in-Ok-clause-answers g c =
-    rw (c.in-Ok.ensures.only (query_of c.args.text.now) (texts_are_answered c.args.text.now)) c.answer_rule.ensures.answers
+    rw (c.in-Ok.ensures.only (query_of c.args.text.now) (texts_are_answered c.args.text.now))
+    c.answer_rule.ensures.answers
 
 pub returns-in-Err-clause-answers : goal.returns-in-Err-clause-answers
 returns-in-Err-clause-answers g c =
     answers_fault c.args.text.now c.in-Err.fault _ _ _ _ c.refuse_query.result
-    (c.in-Err.ensures.only (query_of c.args.text.now) (texts_are_answered c.args.text.now)) c.refuse_query.ensures.memory c.refuse_query.ensures.reply
+    (c.in-Err.ensures.only (query_of c.args.text.now) (texts_are_answered c.args.text.now))
+    c.refuse_query.ensures.memory c.refuse_query.ensures.reply

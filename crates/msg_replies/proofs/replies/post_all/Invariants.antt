@@ -11,4 +11,5 @@ invariant-loop-event g l =
     × (drop l.event-index l.events ≡ drop l.event-index l.fn.events)
     × (take l.event-index l.events ≡ replicate l.event-index (event_at (pos 0)))
     × ((arrivals : List Arrival) → Represents l.fn.core arrivals
-    → Arrives l.fn.core l.core arrivals (map Post (take l.event-index l.fn.events)) (reported l.fn.notices l.fn.steps.forks) (reported l.notices l.steps.forks))
+    → Arrives l.fn.core l.core arrivals (map Post (take l.event-index l.fn.events))
+    (reported l.fn.notices l.fn.steps.forks) (reported l.notices l.steps.forks))

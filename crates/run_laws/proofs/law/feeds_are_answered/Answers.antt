@@ -11,4 +11,6 @@ pub returns : goal.returns
 returns c config limit bytes address secs turns run legal settled =
     ap (bytes_taken 0) (sym (steps_entries turns))
     ∙ fed_from config limit bytes (steps_of turns)
-    (subst (λ (entries : List Entry). AreAnswered (begun (feed_script limit bytes)) (filter succeeded entries)) (sym (steps_entries turns)) run.1) legal settled
+    (subst (λ (entries : List Entry). AreAnswered (begun (feed_script limit bytes)) (filter succeeded entries))
+    (sym (steps_entries turns)) run.1)
+    legal settled

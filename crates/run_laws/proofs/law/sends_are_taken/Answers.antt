@@ -12,9 +12,13 @@ use Rattle.run_laws.proofs.law.sends_are_taken.Goals as goal
 
 pub returns-clause-sent : goal.returns-clause-sent
 returns-clause-sent c config turns number legal =
-    ap (bytes_taken number) (sym (steps_entries turns)) ∙ sym (taken_from config number (steps_of turns) (first_state config) legal)
+    ap (bytes_taken number) (sym (steps_entries turns))
+    ∙ sym (taken_from config number (steps_of turns) (first_state config) legal)
 
 pub returns-clause-prefix : goal.returns-clause-prefix
 returns-clause-prefix c config turns number legal =
-    subst (λ (entries : List Entry). IsPrefix (bytes_taken number entries) (replies_on number (state_after config (steps_of turns)).links)) (steps_entries turns)
+    subst
+    (λ (entries : List Entry).
+    IsPrefix (bytes_taken number entries) (replies_on number (state_after config (steps_of turns)).links))
+    (steps_entries turns)
     (prefix_from config number (steps_of turns) legal)

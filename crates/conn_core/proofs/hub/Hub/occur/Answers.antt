@@ -14,8 +14,11 @@ returns-in_default g c =
     let before = reported c.args.notices.now c.args.steps.now.forks in
     record {
       known = c.change.ensures.known;
-      occurs = added_weaken (g.L.Links.report c.args.links.now) (g.L.Links.report c.change.new.links) (Changes (links_after c.args.what) hub.table c.change.new.table c.change.result)
+      occurs =
+          added_weaken (g.L.Links.report c.args.links.now) (g.L.Links.report c.change.new.links)
+          (Changes (links_after c.args.what) hub.table c.change.new.table c.change.result)
           (OccursFrom c.args.what c.args.piece.now hub hub' patterns patterns before before c.change.result)
-          (λ run changes. occurs_changed c.args.what c.args.piece.now hub c.change.new.table patterns before c.change.result run (readless c.args.what c.in_default.not-Read) changes)
+          (λ run changes. occurs_changed c.args.what c.args.piece.now hub c.change.new.table patterns before
+          c.change.result run (readless c.args.what c.in_default.not-Read) changes)
           c.change.ensures.changes;
     }

@@ -29,7 +29,8 @@ returns-in_default-clause-occurs g c count =
     let hub = c.args.self.now in
     let patterns = g.P.Patterns.report c.args.patterns.now in
     let before = reported c.args.notices.now c.args.steps.now.forks in
-    added_nothing (g.L.Links.report c.args.links.now) (OccursFrom (Read c.args.number count) c.args.piece.now hub hub patterns patterns before before (Ok tt))
+    added_nothing (g.L.Links.report c.args.links.now)
+    (OccursFrom (Read c.args.number count) c.args.piece.now hub hub patterns patterns before before (Ok tt))
     (occurs_absent c.args.number count c.args.piece.now hub patterns before c.in_default.ensures)
 
 pub returns-in_err-hear-clause-occurs : goal.returns-in_err-hear-clause-occurs
@@ -45,8 +46,10 @@ returns-in_err-hear-clause-occurs g c count =
     let patterns' = g.P.Patterns.report c.hear.new.patterns in
     let before = reported c.args.notices.now c.args.steps.now.forks in
     let after = reported c.hear.new.notices c.hear.new.steps.forks in
-    rw p.1 (added_nothing (g.L.Links.report c.args.links.now) (OccursFrom (Read c.args.number count) c.args.piece.now hub hub' patterns patterns' before after (Err p.0))
-    (occurs_unheard c.args.number count place c.args.piece.now hub c.hear.new.core value value' patterns patterns' before after c.in-Some.ensures
+    rw p.1 (added_nothing (g.L.Links.report c.args.links.now)
+    (OccursFrom (Read c.args.number count) c.args.piece.now hub hub' patterns patterns' before after (Err p.0))
+    (occurs_unheard c.args.number count place c.args.piece.now hub c.hear.new.core value value' patterns patterns'
+    before after c.in-Some.ensures
     (λ other. sym (get_or_read hub.table.values place value c.in-Some.ensures.within c.value_mut.ensures.value other))
     hub' (Err c.in_err-hear.field-0.0) (Err p.0) refl c.in_err-hear.ensures.hears))
 
@@ -63,9 +66,11 @@ returns-in_err-settle-clause-occurs g c count =
     let patterns' = g.P.Patterns.report c.hear.new.patterns in
     let before = reported c.args.notices.now c.args.steps.now.forks in
     let after = reported c.hear.new.notices c.hear.new.steps.forks in
-    rw p.1 (added_weaken (g.L.Links.report c.args.links.now) (g.L.Links.report c.settle.new.links) (Settles table' c.settle.new.table c.args.number place (Err p.0))
+    rw p.1 (added_weaken (g.L.Links.report c.args.links.now) (g.L.Links.report c.settle.new.links)
+    (Settles table' c.settle.new.table c.args.number place (Err p.0))
     (OccursFrom (Read c.args.number count) c.args.piece.now hub hub' patterns patterns' before after (Err p.0))
-    (λ run settles. occurs_heard c.args.number count place c.args.piece.now hub c.hear.new.core value value' patterns patterns' before after c.in-Some.ensures
+    (λ run settles. occurs_heard c.args.number count place c.args.piece.now hub c.hear.new.core value value' patterns
+    patterns' before after c.in-Some.ensures
     (λ other. sym (get_or_read hub.table.values place value c.in-Some.ensures.within c.value_mut.ensures.value other))
     c.settle.new.table c.hear.new.spent (Err p.0) run c.in_ok-hear.ensures.hears settles)
     c.in_err-settle.ensures.settles)
@@ -82,9 +87,11 @@ returns-clause-occurs g c count =
     let patterns' = g.P.Patterns.report c.hear.new.patterns in
     let before = reported c.args.notices.now c.args.steps.now.forks in
     let after = reported c.hear.new.notices c.hear.new.steps.forks in
-    added_weaken (g.L.Links.report c.args.links.now) (g.L.Links.report c.settle.new.links) (Settles table' c.settle.new.table c.args.number place (Ok tt))
+    added_weaken (g.L.Links.report c.args.links.now) (g.L.Links.report c.settle.new.links)
+    (Settles table' c.settle.new.table c.args.number place (Ok tt))
     (OccursFrom (Read c.args.number count) c.args.piece.now hub hub' patterns patterns' before after (Ok tt))
-    (λ run settles. occurs_heard c.args.number count place c.args.piece.now hub c.hear.new.core value value' patterns patterns' before after c.in-Some.ensures
+    (λ run settles. occurs_heard c.args.number count place c.args.piece.now hub c.hear.new.core value value' patterns
+    patterns' before after c.in-Some.ensures
     (λ other. sym (get_or_read hub.table.values place value c.in-Some.ensures.within c.value_mut.ensures.value other))
     c.settle.new.table c.hear.new.spent (Ok tt) run c.in_ok-hear.ensures.hears settles)
     c.in_ok-settle.ensures.settles

@@ -26,8 +26,10 @@ returns-in_err-pass-clause-turns g c =
     let patterns = g.P.Patterns.report c.args.patterns.now in
     let text = g.O.Sink.report c.args.sink.now in
     rw p.1 (added_nothing (g.L.Links.report c.args.links.now)
-    (TurnsFrom c.args.turn c.args.piece.now hub hub' patterns patterns c.args.steps.now.forks c.pass.new.steps.forks text text (Err p.0))
-    (λ config steps follows. turns_unpassed c.args.turn c.args.piece.now hub config steps (turn_is c.args.turn.what c.requires.failed c.requires.memory) follows
+    (TurnsFrom c.args.turn c.args.piece.now hub hub' patterns patterns c.args.steps.now.forks c.pass.new.steps.forks
+    text text (Err p.0))
+    (λ config steps follows. turns_unpassed c.args.turn c.args.piece.now hub config steps
+    (turn_is c.args.turn.what c.requires.failed c.requires.memory) follows
     hub' patterns c.args.steps.now.forks c.pass.new.steps.forks text (Err p.0) refl (no_sink p.0 (Err p.0) refl p.2)))
 
 pub returns-in_err-occur-clause-turns : goal.returns-in_err-occur-clause-turns
@@ -45,17 +47,22 @@ returns-in_err-occur-clause-turns g c =
     let after = reported c.occur.new.notices forks' in
     let failure = c.occur.result in
     rw p.1 (added_weaken (g.L.Links.report c.args.links.now) (g.L.Links.report c.occur.new.links)
-    (OccursFrom c.args.turn.what c.args.piece.now one hub' patterns patterns' middle after (Err c.in_err-occur.field-0.0))
+    (OccursFrom c.args.turn.what c.args.piece.now one hub' patterns patterns' middle after
+    (Err c.in_err-occur.field-0.0))
     (TurnsFrom c.args.turn c.args.piece.now hub hub' patterns patterns' forks forks' text text (Err p.0))
     (λ run occurs config steps follows.
     let is = turn_is c.args.turn.what c.requires.failed c.requires.memory in
-    turns_unfinished c.args.turn c.args.piece.now hub config steps is follows one hub' patterns patterns' middle after forks forks' text (Err p.0) (Err c.in_err-occur.field-0.0) run refl (no_sink p.0 (Err p.0) refl p.2)
-    (passed_at c.args.turn c.args.piece.now hub config steps is follows c.pass.new.core (reported c.fresh-notices.result forks) middle c.in_ok-pass.ensures.now c.in_ok-pass.ensures.arrives) occurs)
+    turns_unfinished c.args.turn c.args.piece.now hub config steps is follows one hub' patterns patterns' middle after
+    forks forks' text (Err p.0) (Err c.in_err-occur.field-0.0) run refl (no_sink p.0 (Err p.0) refl p.2)
+    (passed_at c.args.turn c.args.piece.now hub config steps is follows c.pass.new.core
+    (reported c.fresh-notices.result forks) middle c.in_ok-pass.ensures.now c.in_ok-pass.ensures.arrives)
+    occurs)
     c.in_err-occur.ensures.occurs)
 
 pub returns-in_err-write_lines-clause-turns : goal.returns-in_err-write_lines-clause-turns
 returns-in_err-write_lines-clause-turns g c =
-    let p = err_from_is_err_and c.from_residual-in_err-write_lines.result c.from_residual-in_err-write_lines.ensures.1 in
+    let p =
+    err_from_is_err_and c.from_residual-in_err-write_lines.result c.from_residual-in_err-write_lines.ensures.1 in
     let hub = c.args.self.now in
     let one : Hub = record hub { core = c.pass.new.core } in
     let hub' = c.occur.new.self in
@@ -67,17 +74,27 @@ returns-in_err-write_lines-clause-turns g c =
     let forks' = c.occur.new.steps.forks in
     let middle = reported c.pass.new.notices c.pass.new.steps.forks in
     let notices = c.occur.new.notices in
-    let front = subst (λ (ns : List Notice). GotPrefix text.text (lines_of ns) text'.text) c.as_slice.ensures c.in_err-write_lines.ensures.prefix in
-    let first_lines = subst (λ (ns : List Notice). GotFirstLines text ns text') c.as_slice.ensures c.in_err-write_lines.ensures.first_lines in
+    let front =
+    subst (λ (ns : List Notice). GotPrefix text.text (lines_of ns) text'.text) c.as_slice.ensures
+    c.in_err-write_lines.ensures.prefix in
+    let first_lines =
+    subst (λ (ns : List Notice). GotFirstLines text ns text') c.as_slice.ensures
+    c.in_err-write_lines.ensures.first_lines in
     let arrives = subst (λ (ns : List Notice). (arrivals : List Arrival) → Represents hub.core arrivals
-    → Arrives hub.core c.pass.new.core arrivals (replicate (next_moment (now_of hub.core) c.args.turn.secs - now_of hub.core) Elapsed) (reported ns forks) middle) c.fresh-notices.ensures c.in_ok-pass.ensures.arrives in
+    → Arrives hub.core c.pass.new.core arrivals
+    (replicate (next_moment (now_of hub.core) c.args.turn.secs - now_of hub.core) Elapsed) (reported ns forks) middle)
+    c.fresh-notices.ensures c.in_ok-pass.ensures.arrives in
     rw p.1 (added_weaken (g.L.Links.report c.args.links.now) (g.L.Links.report c.occur.new.links)
     (OccursFrom c.args.turn.what c.args.piece.now one hub' patterns patterns' middle (reported notices forks') (Ok tt))
     (TurnsFrom c.args.turn c.args.piece.now hub hub' patterns patterns' forks forks' text text' (Err p.0))
     (λ run occurs config steps follows.
     let is = turn_is c.args.turn.what c.requires.failed c.requires.memory in
-    turns_reported c.args.turn c.args.piece.now hub config steps is follows one hub' patterns patterns' middle notices forks forks' text text' (Err p.0) run arrives
-    (passed_at c.args.turn c.args.piece.now hub config steps is follows c.pass.new.core (reported [] forks) middle c.in_ok-pass.ensures.now arrives) occurs tt front first_lines (λ is none. let same = p.2 in c.in_err-write_lines.ensures.some (cc) (c.as_slice.ensures ∙ none)))
+    turns_reported c.args.turn c.args.piece.now hub config steps is follows one hub' patterns patterns' middle notices
+    forks forks' text text' (Err p.0) run arrives
+    (passed_at c.args.turn c.args.piece.now hub config steps is follows c.pass.new.core (reported [] forks) middle
+    c.in_ok-pass.ensures.now arrives)
+    occurs tt front first_lines
+    (λ is none. let same = p.2 in c.in_err-write_lines.ensures.some (cc) (c.as_slice.ensures ∙ none)))
     c.in_ok-occur.ensures.occurs)
 
 pub returns-clause-turns : goal.returns-clause-turns
@@ -93,14 +110,20 @@ returns-clause-turns g c =
     let forks' = c.occur.new.steps.forks in
     let middle = reported c.pass.new.notices c.pass.new.steps.forks in
     let notices = c.occur.new.notices in
-    let lines = subst (λ (ns : List Notice). GotLines text ns text') c.as_slice.ensures c.in_ok-write_lines.ensures.all in
+    let lines =
+    subst (λ (ns : List Notice). GotLines text ns text') c.as_slice.ensures c.in_ok-write_lines.ensures.all in
     let arrives = subst (λ (ns : List Notice). (arrivals : List Arrival) → Represents hub.core arrivals
-    → Arrives hub.core c.pass.new.core arrivals (replicate (next_moment (now_of hub.core) c.args.turn.secs - now_of hub.core) Elapsed) (reported ns forks) middle) c.fresh-notices.ensures c.in_ok-pass.ensures.arrives in
+    → Arrives hub.core c.pass.new.core arrivals
+    (replicate (next_moment (now_of hub.core) c.args.turn.secs - now_of hub.core) Elapsed) (reported ns forks) middle)
+    c.fresh-notices.ensures c.in_ok-pass.ensures.arrives in
     added_weaken (g.L.Links.report c.args.links.now) (g.L.Links.report c.occur.new.links)
     (OccursFrom c.args.turn.what c.args.piece.now one hub' patterns patterns' middle (reported notices forks') (Ok tt))
     (TurnsFrom c.args.turn c.args.piece.now hub hub' patterns patterns' forks forks' text text' (Ok tt))
     (λ run occurs config steps follows.
     let is = turn_is c.args.turn.what c.requires.failed c.requires.memory in
-    turns_reported c.args.turn c.args.piece.now hub config steps is follows one hub' patterns patterns' middle notices forks forks' text text' (Ok tt) run arrives
-    (passed_at c.args.turn c.args.piece.now hub config steps is follows c.pass.new.core (reported [] forks) middle c.in_ok-pass.ensures.now arrives) occurs lines tt tt (λ bad. absurd (cc bad)))
+    turns_reported c.args.turn c.args.piece.now hub config steps is follows one hub' patterns patterns' middle notices
+    forks forks' text text' (Ok tt) run arrives
+    (passed_at c.args.turn c.args.piece.now hub config steps is follows c.pass.new.core (reported [] forks) middle
+    c.in_ok-pass.ensures.now arrives)
+    occurs lines tt tt (λ bad. absurd (cc bad)))
     c.in_ok-occur.ensures.occurs

@@ -21,7 +21,8 @@ returns-in-Took-clause-less c can other =
 pub returns-in-Later-clause-represents : goal.returns-in-Later-clause-represents
 returns-in-Later-clause-represents c =
     let after : HubLink = record c.args.self.now { blocked = true } in
-    noted_as c.args.self.now after c.args.answer Later c.in-Later.is (notes_later c.args.self.now after refl refl refl refl refl)
+    noted_as c.args.self.now after c.args.answer Later c.in-Later.is
+    (notes_later c.args.self.now after refl refl refl refl refl)
 
 pub returns-in-Later-clause-less : goal.returns-in-Later-clause-less
 returns-in-Later-clause-less c can other =
@@ -31,7 +32,8 @@ returns-in-Later-clause-less c can other =
 pub returns-in-Failed-clause-represents : goal.returns-in-Failed-clause-represents
 returns-in-Failed-clause-represents c =
     let after : HubLink = record c.args.self.now { stage = Closing } in
-    noted_as c.args.self.now after c.args.answer Failed c.in-Failed.is (closes c.args.self.now after refl refl refl refl)
+    noted_as c.args.self.now after c.args.answer Failed c.in-Failed.is
+    (closes c.args.self.now after refl refl refl refl)
 
 pub returns-in-Failed-clause-less : goal.returns-in-Failed-clause-less
 returns-in-Failed-clause-less c can other =

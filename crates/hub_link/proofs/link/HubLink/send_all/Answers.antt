@@ -9,13 +9,16 @@ sends-init g c = sent_nothing (g.L.Links.report c.args.links.now) c.args.self.no
 pub sends-preserved : goal.sends-preserved
 sends-preserved g c =
     sent_more (g.L.Links.report c.args.links.now) (g.L.Links.report c.sends.links) (g.L.Links.report c.send.new.links)
-    c.args.self.now c.sends.self c.send.new.self c.sends.invariant (record { number = c.send.ensures.number; sends = c.send.ensures.sends })
+    c.args.self.now c.sends.self c.send.new.self c.sends.invariant
+    (record { number = c.send.ensures.number; sends = c.send.ensures.sends })
 
 pub returns-in_err-send-clause-sends : goal.returns-in_err-send-clause-sends
 returns-in_err-send-clause-sends g c =
-    let all : SentSoFar (g.L.Links.report c.args.links.now) (g.L.Links.report c.send.new.links) c.args.self.now c.send.new.self =
+    let all : SentSoFar (g.L.Links.report c.args.links.now) (g.L.Links.report c.send.new.links) c.args.self.now
+    c.send.new.self =
     sent_more (g.L.Links.report c.args.links.now) (g.L.Links.report c.sends.links) (g.L.Links.report c.send.new.links)
-    c.args.self.now c.sends.self c.send.new.self c.sends.invariant (record { number = c.send.ensures.number; sends = c.send.ensures.sends }) in
+    c.args.self.now c.sends.self c.send.new.self c.sends.invariant
+    (record { number = c.send.ensures.number; sends = c.send.ensures.sends }) in
     all.sends
 
 pub returns-clause-sent : goal.returns-clause-sent
