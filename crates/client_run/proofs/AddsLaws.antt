@@ -18,7 +18,8 @@ adds_then a b c P Q R one two both = record {
   holds = both one.run two.run one.holds two.holds;
 }
 
-pub adds_weaken : (a b : LinksReport) (P Q : List Entry → Type 0) → ((run : List Entry) → P run → Q run) → AddsRun a b P → AddsRun a b Q
+pub adds_weaken : (a b : LinksReport) (P Q : List Entry → Type 0) → ((run : List Entry) → P run → Q run) → AddsRun a b P
+    → AddsRun a b Q
 adds_weaken a b P Q f one = record { run = one.run; grew = one.grew; holds = f one.run one.holds }
 
 -- calls of which none is a fault

@@ -22,13 +22,16 @@ none_of None other = refl
 none_of (Some outcome) other = absurd (other outcome refl)
 
 abbrev pub TookFrom : Client → Client → ℕ → List Entry → Type 0
-TookFrom client client' count run = (start : ℕ) → Represents client (begun start) → wants_in client ≡ [] → Took (stream_of client) start client' count run
+TookFrom client client' count run =
+    (start : ℕ) → Represents client (begun start) → wants_in client ≡ []
+    → Took (stream_of client) start client' count run
 
 pub record SoFar (before now : LinksReport) (client client' : Client) (count : ℕ) : Type 0 where
   pub known : IsUnclosed now.log (link_of client')
   pub took : AddsRun before now (TookFrom client client' count)
 
-pub so_far_nothing : (links : LinksReport) (client : Client) → IsUnclosed links.log (link_of client) → SoFar links links client client 0
+pub so_far_nothing : (links : LinksReport) (client : Client) → IsUnclosed links.log (link_of client)
+    → SoFar links links client client 0
 so_far_nothing links client known = record {
   known = known;
   took = adds_nothing links (TookFrom client client 0) (λ start is wants. took_nothing start client is wants);
@@ -36,36 +39,51 @@ so_far_nothing links client known = record {
 
 module _ (a b c : LinksReport) (client one two : Client) (count : ℕ) (so_far : SoFar a b client one count) where
   -- one more turn, after which the exchange goes on
-  pub so_far_more : stream_of two ≡ stream_of one → IsUnclosed c.log (link_of two) → AddsRun b c (TakesTurn one two (Ok None)) → SoFar a c client two (count + 1)
+  pub so_far_more : stream_of two ≡ stream_of one → IsUnclosed c.log (link_of two)
+      → AddsRun b c (TakesTurn one two (Ok None)) → SoFar a c client two (count + 1)
   so_far_more same known takes = record {
     known = known;
-    took = adds_then a b c (TookFrom client one count) (TakesTurn one two (Ok None)) (TookFrom client two (count + 1)) so_far.took takes
-        (λ first second took does start is wants. took_more (stream_of client) start one two count first second (took start is wants) same does);
+    took =
+        adds_then a b c (TookFrom client one count) (TakesTurn one two (Ok None)) (TookFrom client two (count + 1))
+        so_far.took takes
+        (λ first second took does start is wants.
+        took_more (stream_of client) start one two count first second (took start is wants) same does);
   }
 
   -- the last turn
-  pub so_far_ended : (limit : ℕ) → count < limit → (outcome : Outcome) → AddsRun b c (TakesTurn one two (Ok (Some outcome))) → AddsRun a c (TakesAll client two limit (Ok outcome))
+  pub so_far_ended : (limit : ℕ) → count < limit → (outcome : Outcome)
+      → AddsRun b c (TakesTurn one two (Ok (Some outcome))) → AddsRun a c (TakesAll client two limit (Ok outcome))
   so_far_ended limit fewer outcome takes =
-      adds_then a b c (TookFrom client one count) (TakesTurn one two (Ok (Some outcome))) (TakesAll client two limit (Ok outcome)) so_far.took takes
-      (λ first second took does start is wants. inl (ends_in_turn (stream_of client) start one two count first second (took start is wants) limit fewer outcome does))
+      adds_then a b c (TookFrom client one count) (TakesTurn one two (Ok (Some outcome)))
+      (TakesAll client two limit (Ok outcome)) so_far.took takes
+      (λ first second took does start is wants. inl
+      (ends_in_turn (stream_of client) start one two count first second (took start is wants) limit fewer outcome does))
 
-  failed_so : (limit : ℕ) → count < limit → (fault : RunFault) (first second : List Entry) (start : ℕ) → Took (stream_of client) start one count first → TakesTurn one two (Err fault) second
+  failed_so : (limit : ℕ) → count < limit → (fault : RunFault) (first second : List Entry) (start : ℕ)
+      → Took (stream_of client) start one count first → TakesTurn one two (Err fault) second
       → TurnsTo (stream_of client) start limit (replies_of two) (Err fault) (first ++ second)
-  failed_so limit fewer Links first second start took does = loses_links (stream_of client) start one two count first second took limit fewer does
+  failed_so limit fewer Links first second start took does =
+      loses_links (stream_of client) start one two count first second took limit fewer does
   failed_so limit fewer Memory first second start took does = elim does [
     | inl none ↦ inl (runs_out (stream_of client) start one two count first second took limit fewer none)
     | inr cut ↦ inr (stops_short (stream_of client) start one two count first second took limit fewer cut)
   ]
 
   -- a turn that did not come, or was not finished
-  pub so_far_failed : (limit : ℕ) → count < limit → (fault : RunFault) → AddsRun b c (TakesTurn one two (Err fault)) → AddsRun a c (TakesAll client two limit (Err fault))
+  pub so_far_failed : (limit : ℕ) → count < limit → (fault : RunFault) → AddsRun b c (TakesTurn one two (Err fault))
+      → AddsRun a c (TakesAll client two limit (Err fault))
   so_far_failed limit fewer fault takes =
-      adds_then a b c (TookFrom client one count) (TakesTurn one two (Err fault)) (TakesAll client two limit (Err fault)) so_far.took takes
-      (λ first second took does start is wants. failed_so limit fewer fault first second start (took start is wants) does)
+      adds_then a b c (TookFrom client one count) (TakesTurn one two (Err fault))
+      (TakesAll client two limit (Err fault)) so_far.took takes
+      (λ first second took does start is wants.
+      failed_so limit fewer fault first second start (took start is wants) does)
 
   -- no turn is left
-  pub so_far_at_limit : (limit : ℕ) → count ≡ limit → replies_of two ≡ replies_of one → MakesCalls b c (λ calls. calls ≡ closing (link_of one)) → AddsRun a c (TakesAll client two limit (Ok Lost))
+  pub so_far_at_limit : (limit : ℕ) → count ≡ limit → replies_of two ≡ replies_of one
+      → MakesCalls b c (λ calls. calls ≡ closing (link_of one)) → AddsRun a c (TakesAll client two limit (Ok Lost))
   so_far_at_limit limit all same closes =
-      adds_then a b c (TookFrom client one count) (λ calls. calls ≡ closing (link_of one)) (TakesAll client two limit (Ok Lost)) so_far.took
+      adds_then a b c (TookFrom client one count) (λ calls. calls ≡ closing (link_of one))
+      (TakesAll client two limit (Ok Lost)) so_far.took
       (adds_made b c (λ calls. calls ≡ closing (link_of one)) closes)
-      (λ first second took closed start is wants. inr (ends_at_limit (stream_of client) start one two count first second (took start is wants) closed same limit all))
+      (λ first second took closed start is wants. inr
+      (ends_at_limit (stream_of client) start one two count first second (took start is wants) closed same limit all))

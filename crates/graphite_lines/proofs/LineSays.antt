@@ -13,6 +13,7 @@ pub words_accepted : (path value time : List ℕ) (part : Option ℕ) (host : Op
 words_accepted path value time part host service m t p v w m_is t_is host_is service_is =
     rw (p, v, w, m_is, t_is, host_is, service_is) refl
 
-pub short_host : (host : Option (Bor (List ℕ))) (n : ℕ) → n ≤ 1024 → IfSome host (λ h. length h.now ≤ n) → IfSome host (λ h. length h.now ≤ 1024)
+pub short_host : (host : Option (Bor (List ℕ))) (n : ℕ) → n ≤ 1024 → IfSome host (λ h. length h.now ≤ n)
+    → IfSome host (λ h. length h.now ≤ 1024)
 short_host None n few short = tt
 short_host (Some h) n few short = omega arith

@@ -24,13 +24,15 @@ blanks_first : (bytes : List ℕ) (n : ℕ) → n ≤ length bytes → ((k : ℕ
 blanks_first bytes zero within all = refl
 blanks_first [] (suc n) within all = absurd (omega arith)
 blanks_first (byte ∷ bytes) (suc n) within all =
-    blank_first byte bytes (all 0 (omega arith)) ∙ blanks_first bytes n (omega arith) (λ k less. all (suc k) (omega arith))
+    blank_first byte bytes (all 0 (omega arith))
+    ∙ blanks_first bytes n (omega arith) (λ k less. all (suc k) (omega arith))
 
 -- up to the first byte of a word
 pub words_from : (bytes : List ℕ) → words_of bytes ≡ words_of (drop (position_or_len is_word_byte bytes) bytes)
 words_from bytes =
     let within : position_or_len is_word_byte bytes ≤ length bytes = prefix_len-le-length _ bytes in
-    blanks_first bytes (position_or_len is_word_byte bytes) within (λ k less. not-false _ (fails_before_first is_word_byte bytes k 0 less))
+    blanks_first bytes (position_or_len is_word_byte bytes) within
+    (λ k less. not-false _ (fails_before_first is_word_byte bytes k 0 less))
 
 drop_whole : (bytes : List ℕ) → drop (length bytes) bytes ≡ []
 drop_whole [] = refl
@@ -52,7 +54,8 @@ skipped bytes start is inside =
     rw (dropped bytes start inside) (not-true _ passes)
 
 -- a word is what is before the first blank
-kept_first : (word : List ℕ) (parts : List (List ℕ)) → 0 < length word → filter has_bytes (word ∷ parts) ≡ word ∷ filter has_bytes parts
+kept_first : (word : List ℕ) (parts : List (List ℕ)) → 0 < length word
+    → filter has_bytes (word ∷ parts) ≡ word ∷ filter has_bytes parts
 kept_first [] parts h = absurd (omega arith)
 kept_first (byte ∷ bytes) parts h = refl
 
@@ -66,11 +69,14 @@ pub word_at_blank : (bytes : List ℕ) (n : ℕ) → n ≡ position_or_len is_bl
 unfolding words_of
 word_at_blank bytes n is inside some =
     let before : position_or_len is_blank bytes < length bytes = omega arith in
-    let split : slice_split is_blank bytes ≡ take n bytes ∷ slice_split is_blank (drop (n + 1) bytes) = rw is (slice_split_first is_blank bytes 0 before) in
+    let split : slice_split is_blank bytes ≡ take n bytes ∷ slice_split is_blank (drop (n + 1) bytes) =
+    rw is (slice_split_first is_blank bytes 0 before) in
     let blank : is_blank (get_or bytes n 0) ≡ true = rw is (passes_at_first is_blank bytes 0 before) in
     let rest : drop n bytes ≡ get_or bytes n 0 ∷ drop (n + 1) bytes = dropped bytes n inside in
-    ap (filter has_bytes) split ∙ kept_first (take n bytes) (slice_split is_blank (drop (n + 1) bytes)) (first_length n bytes some (omega arith))
-    ∙ ap (λ words. take n bytes ∷ words) (sym (ap words_of rest ∙ blank_first (get_or bytes n 0) (drop (n + 1) bytes) blank))
+    ap (filter has_bytes) split
+    ∙ kept_first (take n bytes) (slice_split is_blank (drop (n + 1) bytes)) (first_length n bytes some (omega arith))
+    ∙ ap (λ words. take n bytes ∷ words)
+    (sym (ap words_of rest ∙ blank_first (get_or bytes n 0) (drop (n + 1) bytes) blank))
 
 pub word_alone : (bytes : List ℕ) → position_or_len is_blank bytes ≡ length bytes → 0 < length bytes
     → words_of bytes ≡ bytes ∷ words_of []
@@ -78,7 +84,8 @@ unfolding words_of
 word_alone bytes h some = ap (filter has_bytes) (split_nowhere is_blank bytes h) ∙ kept_first bytes [] some
 
 -- a word begins where its first byte is no blank
-pub some_before_blank : (bytes : List ℕ) → 0 < length bytes → is_blank (get_or bytes 0 0) ≡ false → 0 < position_or_len is_blank bytes
+pub some_before_blank : (bytes : List ℕ) → 0 < length bytes → is_blank (get_or bytes 0 0) ≡ false
+    → 0 < position_or_len is_blank bytes
 some_before_blank [] some h = absurd (omega arith)
 some_before_blank (byte ∷ bytes) some h = rw h (omega arith)
 

@@ -18,7 +18,8 @@ unfolding spelled_within
 within_few zero value = omega arith
 within_few (suc n) value =
     let more = within_few n (value / 128) in
-    elim (nat_lt value 128) as (λ b. length (cond b (value ∷ []) ((128 + value % 128) ∷ spelled_within n (value / 128))) ≤ suc n + 1)
+    elim (nat_lt value 128) as
+    (λ b. length (cond b (value ∷ []) ((128 + value % 128) ∷ spelled_within n (value / 128))) ≤ suc n + 1)
     [ true ↦ omega arith | false ↦ omega arith ]
 
 varint_few : (value : ℕ) → length (varint value) ≤ 10
@@ -61,29 +62,44 @@ state_field_few drawn =
 
 names_few : (second drawn : ℕ) → length (spelled (name_values (load_event second drawn))) ≤ 56
 names_few second drawn =
-    let whole : length (spelled (name_values (load_event second drawn))) ≡ (1 + length (varint (cast_unsigned w64 (pos second))))
-    + (length (spelled (optional 2 Bytes (Some (state_of drawn)))) + (length (spelled (optional 3 Bytes (Some (codes "s" ++ decimal (drawn / 10 % 5)))))
-    + (length (spelled (optional 4 Bytes (Some (codes "h" ++ decimal (drawn % 10))))) + 0))) = names_length (load_event second drawn) in
-    omega (arith, whole, varint_few (cast_unsigned w64 (pos second)), state_field_few drawn, service_few drawn, host_few drawn)
+    let whole : length (spelled (name_values (load_event second drawn)))
+    ≡ (1 + length (varint (cast_unsigned w64 (pos second))))
+    + (length (spelled (optional 2 Bytes (Some (state_of drawn))))
+    + (length (spelled (optional 3 Bytes (Some (codes "s" ++ decimal (drawn / 10 % 5)))))
+    + (length (spelled (optional 4 Bytes (Some (codes "h" ++ decimal (drawn % 10))))) + 0))) =
+    names_length (load_event second drawn) in
+    omega (
+      arith,
+      whole,
+      varint_few (cast_unsigned w64 (pos second)),
+      state_field_few drawn,
+      service_few drawn,
+      host_few drawn,
+    )
 
 numbers_few : (second drawn : ℕ) → length (spelled (number_values (load_event second drawn))) ≤ 11
 numbers_few second drawn =
-    let metric : length (spelled (number_values (load_event second drawn))) ≡ 1 + length (varint (zigzag (pos (drawn / 200 % 1000)))) =
+    let metric : length (spelled (number_values (load_event second drawn)))
+    ≡ 1 + length (varint (zigzag (pos (drawn / 200 % 1000)))) =
     metric_length (pos (drawn / 200 % 1000)) in
     omega (arith, metric, varint_few (zigzag (pos (drawn / 200 % 1000))))
 
 event_few : (second drawn : ℕ) → length (spelled (event_values (load_event second drawn))) ≤ 67
 event_few second drawn =
-    let whole : length (spelled (event_values (load_event second drawn))) ≡ length (spelled (name_values (load_event second drawn)))
-    + (0 + (0 + (0 + length (spelled (number_values (load_event second drawn)))))) = event_length (load_event second drawn) in
+    let whole : length (spelled (event_values (load_event second drawn)))
+    ≡ length (spelled (name_values (load_event second drawn)))
+    + (0 + (0 + (0 + length (spelled (number_values (load_event second drawn)))))) =
+    event_length (load_event second drawn) in
     omega (arith, whole, names_few second drawn, numbers_few second drawn)
 
 -- the messages of a load fit one read
 pub event_fits : (second drawn : ℕ) → length (spelling (event_msg (load_event second drawn))) ≤ 65532
 event_fits second drawn =
-    let whole : length (spelling (event_msg (load_event second drawn))) ≡ 0 + (0 + (0 + length (spelled (optional 6 Bytes (Some (spelled (event_values (load_event second drawn)))))))) =
+    let whole : length (spelling (event_msg (load_event second drawn)))
+    ≡ 0 + (0 + (0 + length (spelled (optional 6 Bytes (Some (spelled (event_values (load_event second drawn)))))))) =
     message_length (event_msg (load_event second drawn)) in
-    omega (arith, whole, text_few 6 (spelled (event_values (load_event second drawn))) (omega arith), event_few second drawn)
+    omega
+    (arith, whole, text_few 6 (spelled (event_values (load_event second drawn))) (omega arith), event_few second drawn)
 
 query_length : length (spelling query_msg) ≡ 8
 unfolding spelling message_values query_values field_spelling varint spelled_within
@@ -122,7 +138,8 @@ pushed_more before steps start count number i positive below was =
     let left : suc (count + 1 - (i + 1)) ≡ count + 1 - i = omega arith in
     record {
       drawn = next_number before steps start count number i positive was ∙ ap (number_at start) same;
-      whole = events_more steps start i (count + 1 - (i + 1)) ∙ (ap (λ n. steps ++ event_steps start i n) left ∙ was.whole);
+      whole =
+          events_more steps start i (count + 1 - (i + 1)) ∙ (ap (λ n. steps ++ event_steps start i n) left ∙ was.whole);
     }
 
 pub pushed_all : (before steps : List Step) (start count number i : ℕ) → i ≡ count + 1
@@ -144,7 +161,8 @@ frame_length body =
 pub frames_more : (bytes after : List ℕ) (count all : ℕ) → HasFrame bytes → after ≡ after_frame bytes
     → count + length (frames_of bytes) ≡ all → count + 1 + length (frames_of after) ≡ all
 frames_more bytes after count all has is was =
-    let one : length (frames_of bytes) ≡ suc (length (frames_of (after_frame bytes))) = ap length (frames_at_frame bytes has) in
+    let one : length (frames_of bytes) ≡ suc (length (frames_of (after_frame bytes))) =
+    ap length (frames_at_frame bytes has) in
     let same : length (frames_of after) ≡ length (frames_of (after_frame bytes)) = ap (λ b. length (frames_of b)) is in
     omega (arith, one, same, was)
 

@@ -20,40 +20,54 @@ unclosed_grown : (before run : List Entry) → unclosed (before ++ run) ≡ fold
 unclosed_grown before run = fold-append unclosed_after [] before run
 
 -- a send closes no link
-send_keeps : (number other : ℕ) (bytes : List ℕ) (answer : SendAnswer) (entries : List Entry) → is_unclosed other entries ≡ is_unclosed other (entries ++ send_entries number bytes answer)
+send_keeps : (number other : ℕ) (bytes : List ℕ) (answer : SendAnswer) (entries : List Entry)
+    → is_unclosed other entries ≡ is_unclosed other (entries ++ send_entries number bytes answer)
 send_keeps number other bytes answer entries =
-    ap (list_any (λ (o : ℕ). o == other)) (sym (unclosed_grown entries (send_entries number bytes answer) ∙ by_answer answer))
+    ap (list_any (λ (o : ℕ). o == other))
+    (sym (unclosed_grown entries (send_entries number bytes answer) ∙ by_answer answer))
   where
-    by_answer : (answer : SendAnswer) → fold unclosed_after (unclosed entries) (send_entries number bytes answer) ≡ unclosed entries
+    by_answer : (answer : SendAnswer)
+        → fold unclosed_after (unclosed entries) (send_entries number bytes answer) ≡ unclosed entries
     by_answer (send.Took count) = refl
     by_answer send.Later = refl
     by_answer send.Failed = refl
     by_answer send.Memory = refl
 
-may_close_after : (log : Option (List Entry)) (number other : ℕ) (bytes : List ℕ) (answer : SendAnswer) → MayClose log other → MayClose (grown log (send_entries number bytes answer)) other
+may_close_after : (log : Option (List Entry)) (number other : ℕ) (bytes : List ℕ) (answer : SendAnswer)
+    → MayClose log other → MayClose (grown log (send_entries number bytes answer)) other
 may_close_after None number other bytes answer known entries is = absurd (cc is)
 may_close_after (Some log) number other bytes answer known entries is =
     let same : log ++ send_entries number bytes answer ≡ entries = cc in
-    subst (λ (es : List Entry). IsTrue (is_unclosed other es)) same (subst IsTrue (send_keeps number other bytes answer log) (known log refl))
+    subst (λ (es : List Entry). IsTrue (is_unclosed other es)) same
+    (subst IsTrue (send_keeps number other bytes answer log) (known log refl))
 
-pub known_after_send : (log log' : Option (List Entry)) (link : Option ℕ) (number : ℕ) (bytes : List ℕ) (answer : SendAnswer) → log' ≡ grown log (send_entries number bytes answer)
+pub known_after_send : (log log' : Option (List Entry)) (link : Option ℕ) (number : ℕ) (bytes : List ℕ)
+    (answer : SendAnswer)
+    → log' ≡ grown log (send_entries number bytes answer)
     → IsUnclosed log link → IsUnclosed log' link
 known_after_send log log' None number bytes answer grew known = tt
-known_after_send log log' (Some other) number bytes answer grew known = subst (λ (l : Option (List Entry)). MayClose l other) (sym grew) (may_close_after log number other bytes answer known)
+known_after_send log log' (Some other) number bytes answer grew known =
+    subst (λ (l : Option (List Entry)). MayClose l other) (sym grew)
+    (may_close_after log number other bytes answer known)
 
 -- the link that a turn opened
-opened_now : (log : Option (List Entry)) (turn : Turn) (number : ℕ) → turn.what ≡ Opened number → Answered log turn → MayClose log number
+opened_now : (log : Option (List Entry)) (turn : Turn) (number : ℕ) → turn.what ≡ Opened number → Answered log turn
+    → MayClose log number
 opened_now log turn number is answered entries reported =
     let ends : EndsWith turn entries = answered entries reported in
     let last : unclosed entries ≡ number ∷ unclosed ends.before =
-    ap unclosed ends.is ∙ unclosed_grown ends.before (Next ends.wants turn ends.piece ∷ []) ∙ ap (unclosed_after_turn (unclosed ends.before)) is in
+    ap unclosed ends.is ∙ unclosed_grown ends.before (Next ends.wants turn ends.piece ∷ [])
+    ∙ ap (unclosed_after_turn (unclosed ends.before)) is in
     subst (λ (ls : List ℕ). IsTrue (list_any (λ (o : ℕ). o == number) ls)) (sym last)
-    (subst (λ (b : Bool). IsTrue (b || list_any (λ (o : ℕ). o == number) (unclosed ends.before))) (sym (eq-eqb number number refl)) refl)
+    (subst (λ (b : Bool). IsTrue (b || list_any (λ (o : ℕ). o == number) (unclosed ends.before)))
+    (sym (eq-eqb number number refl)) refl)
 
-pub known_after_turn : (log : Option (List Entry)) (turn : Turn) (link : Option ℕ) → Answered log turn → IsUnclosed log link → IsUnclosed log (link_after turn.what link)
+pub known_after_turn : (log : Option (List Entry)) (turn : Turn) (link : Option ℕ) → Answered log turn
+    → IsUnclosed log link → IsUnclosed log (link_after turn.what link)
 known_after_turn log turn link answered known = by_what turn.what refl
   where
-    by_link : (link : Option ℕ) (number : ℕ) → turn.what ≡ Opened number → IsUnclosed log link → IsUnclosed log (option_or link (Some number))
+    by_link : (link : Option ℕ) (number : ℕ) → turn.what ≡ Opened number → IsUnclosed log link
+        → IsUnclosed log (option_or link (Some number))
     by_link None number is known = opened_now log turn number is answered
     by_link (Some other) number is known = known
 

@@ -10,14 +10,16 @@ pub record SentSoFar (before now : LinksReport) (client client' : Client) : Type
   pub known : IsUnclosed now.log (link_of client')
   pub sends : MakesCalls before now (Sends client client')
 
-pub sent_nothing : (report : LinksReport) (client : Client) → IsUnclosed report.log (link_of client) → SentSoFar report report client client
+pub sent_nothing : (report : LinksReport) (client : Client) → IsUnclosed report.log (link_of client)
+    → SentSoFar report report client client
 sent_nothing report client known = record {
   keeps = keeps_nothing client;
   known = known;
   sends = makes_nothing report (Sends client client) (sends_nothing client);
 }
 
-pub sent_more : (a b c : LinksReport) (one two three : Client) → SentSoFar a b one two → SentSoFar b c two three → SentSoFar a c one three
+pub sent_more : (a b c : LinksReport) (one two three : Client) → SentSoFar a b one two → SentSoFar b c two three
+    → SentSoFar a c one three
 sent_more a b c one two three before after = record {
   keeps = keeps_then one two three before.keeps after.keeps;
   known = after.known;

@@ -30,24 +30,29 @@ makes_then a b c P Q R one two both = record {
   holds = both one.run two.run one.holds two.holds;
 }
 
-pub makes_weaken : (a b : LinksReport) (P Q : List Entry → Type 0) → ((run : List Entry) → P run → Q run) → MakesCalls a b P → MakesCalls a b Q
-makes_weaken a b P Q f one = record { run = one.run; grew = one.grew; no_fault = one.no_fault; holds = f one.run one.holds }
+pub makes_weaken : (a b : LinksReport) (P Q : List Entry → Type 0) → ((run : List Entry) → P run → Q run)
+    → MakesCalls a b P → MakesCalls a b Q
+makes_weaken a b P Q f one =
+    record { run = one.run; grew = one.grew; no_fault = one.no_fault; holds = f one.run one.holds }
 
 -- ---- sends, one after another
 
-pub after_append : (first second : List Entry) (exchange : Exchange) → after_sends second (after_sends first exchange) ≡ after_sends (first ++ second) exchange
+pub after_append : (first second : List Entry) (exchange : Exchange)
+    → after_sends second (after_sends first exchange) ≡ after_sends (first ++ second) exchange
 after_append [] second exchange = refl
 after_append (Listen address answer ∷ first) second exchange = after_append first second exchange
 after_append (Next wants turn piece ∷ first) second exchange = after_append first second exchange
 after_append (Send number bytes answer ∷ first) second exchange = after_append first second (sent bytes answer exchange)
 after_append (Close number ∷ first) second exchange = after_append first second exchange
 
-may_append : (stream : List ℕ) (first second : List Entry) (exchange : Exchange) → AreSends stream first exchange → AreSends stream second (after_sends first exchange)
+may_append : (stream : List ℕ) (first second : List Entry) (exchange : Exchange) → AreSends stream first exchange
+    → AreSends stream second (after_sends first exchange)
     → AreSends stream (first ++ second) exchange
 may_append stream [] second exchange before after = after
 may_append stream (Listen address answer ∷ first) second exchange before after = absurd before
 may_append stream (Next wants turn piece ∷ first) second exchange before after = absurd before
-may_append stream (Send number bytes answer ∷ first) second exchange before after = (before.0, may_append stream first second (sent bytes answer exchange) before.1 after)
+may_append stream (Send number bytes answer ∷ first) second exchange before after =
+    (before.0, may_append stream first second (sent bytes answer exchange) before.1 after)
 may_append stream (Close number ∷ first) second exchange before after = absurd before
 
 pub keeps_nothing : (client : Client) → KeepsReplies client client
@@ -55,15 +60,21 @@ keeps_nothing client = record { stream = refl; link = refl; replies = refl }
 
 pub keeps_then : (one two three : Client) → KeepsReplies one two → KeepsReplies two three → KeepsReplies one three
 keeps_then one two three first second =
-    record { stream = second.stream ∙ first.stream; link = second.link ∙ first.link; replies = second.replies ∙ first.replies }
+    record {
+      stream = second.stream ∙ first.stream;
+      link = second.link ∙ first.link;
+      replies = second.replies ∙ first.replies;
+    }
 
 pub sends_nothing : (client : Client) → Sends client client []
 sends_nothing client exchange is = record { may = tt; represents = is }
 
-pub sends_then : (one two three : Client) (first second : List Entry) → KeepsReplies one two → Sends one two first → Sends two three second → Sends one three (first ++ second)
+pub sends_then : (one two three : Client) (first second : List Entry) → KeepsReplies one two → Sends one two first
+    → Sends two three second → Sends one three (first ++ second)
 sends_then one two three first second keeps before after exchange is =
     let there : SendsFrom one two first exchange = before exchange is in
-    let later : SendsFrom two three second (after_sends first exchange) = after (after_sends first exchange) there.represents in
+    let later : SendsFrom two three second (after_sends first exchange) =
+    after (after_sends first exchange) there.represents in
     record {
       may = may_append (stream_of one) first second exchange there.may
           (subst (λ (stream : List ℕ). AreSends stream second (after_sends first exchange)) keeps.stream later.may);
@@ -79,7 +90,8 @@ pub record MaySendTo (client : Client) (number : ℕ) : Type 0 where
   pub on : client.link ≡ Some number
 
 abbrev pub may_send : Client → Bool
-may_send client = not client.gone && (not client.blocked && nat_lt 0 (length (drop client.requests.taken client.requests.stream)))
+may_send client =
+    not client.gone && (not client.blocked && nat_lt 0 (length (drop client.requests.taken client.requests.stream)))
 
 not_true : (t : Bool) → not t ≡ true → t ≡ false
 not_true true is = absurd (cc is)
@@ -90,8 +102,12 @@ may_send_to client number is = by_test (may_send client) refl is
   where
     by_test : (t : Bool) → may_send client ≡ t → cond t client.link None ≡ Some number → MaySendTo client number
     by_test true test is =
-        let outer = and_parts (not client.gone) (not client.blocked && nat_lt 0 (length (drop client.requests.taken client.requests.stream))) test in
-        let inner = and_parts (not client.blocked) (nat_lt 0 (length (drop client.requests.taken client.requests.stream))) outer.1 in
+        let outer =
+        and_parts (not client.gone)
+        (not client.blocked && nat_lt 0 (length (drop client.requests.taken client.requests.stream))) test in
+        let inner =
+        and_parts (not client.blocked) (nat_lt 0 (length (drop client.requests.taken client.requests.stream)))
+        outer.1 in
         record {
           works = not_true client.gone outer.0;
           free = not_true client.blocked inner.0;
@@ -105,10 +121,12 @@ may_send_to client number is = by_test (may_send client) refl is
 all_of : (bytes : List ℕ) → bytes ≡ take (length bytes) bytes
 all_of bytes = sym (take_all (length bytes) bytes (let same : length bytes ≤ length bytes = omega arith in same))
 
-unsent_as : (client : Client) (exchange : Exchange) → Represents client exchange → drop client.requests.taken client.requests.stream ≡ unsent (stream_of client) exchange
+unsent_as : (client : Client) (exchange : Exchange) → Represents client exchange
+    → drop client.requests.taken client.requests.stream ≡ unsent (stream_of client) exchange
 unsent_as client exchange is = ap (λ (n : ℕ). drop n client.requests.stream) is.count
 
-may_send_all : (client : Client) (number : ℕ) (exchange : Exchange) → MaySendTo client number → Represents client exchange
+may_send_all : (client : Client) (number : ℕ) (exchange : Exchange) → MaySendTo client number
+    → Represents client exchange
     → MaySend (stream_of client) number (drop client.requests.taken client.requests.stream) exchange
 may_send_all client number exchange may is = record {
   on = sym is.link ∙ may.on;
@@ -120,8 +138,10 @@ may_send_all client number exchange may is = record {
 }
 
 -- what the client notes of an answer
-noted_took : (client client' : Client) (count : ℕ) (exchange : Exchange) → count ≤ length (drop client.requests.taken client.requests.stream) → NotesTaken count client client'
-    → Represents client exchange → Represents client' (sent (drop client.requests.taken client.requests.stream) (Took count) exchange)
+noted_took : (client client' : Client) (count : ℕ) (exchange : Exchange)
+    → count ≤ length (drop client.requests.taken client.requests.stream) → NotesTaken count client client'
+    → Represents client exchange
+    → Represents client' (sent (drop client.requests.taken client.requests.stream) (Took count) exchange)
 noted_took client client' count exchange within notes is =
     let others = notes.others in
     let more : List ℕ = take count (drop client.requests.taken client.requests.stream) in
@@ -131,15 +151,20 @@ noted_took client client' count exchange within notes is =
       link = ap (λ (c : Client). c.link) others ∙ is.link;
       blocked = ap (λ (c : Client). c.blocked) others;
       gone = ap (λ (c : Client). c.gone) others ∙ is.gone;
-      taken = taken_more client.requests client'.requests count notes.stream notes.taken ∙ ap (λ (bytes : List ℕ). bytes ++ more) is.taken;
-      count = notes.taken ∙ ap (λ (n : ℕ). n + count) is.count ∙ ap (λ (n : ℕ). length exchange.taken + n) (sym long) ∙ sym (length-append exchange.taken more);
+      taken =
+          taken_more client.requests client'.requests count notes.stream notes.taken
+          ∙ ap (λ (bytes : List ℕ). bytes ++ more) is.taken;
+      count =
+          notes.taken ∙ ap (λ (n : ℕ). n + count) is.count ∙ ap (λ (n : ℕ). length exchange.taken + n) (sym long)
+          ∙ sym (length-append exchange.taken more);
       input = ap (λ (c : Client). c.input) others ∙ is.input;
       replies = ap (λ (c : Client). c.replies) others ∙ is.replies;
       accepted = is.accepted;
       answered = notes.answered (length exchange.replies) is.answered;
     }
 
-noted_later : (client : Client) (exchange : Exchange) → Represents client exchange → Represents (record client { blocked = true }) (record exchange { blocked = true })
+noted_later : (client : Client) (exchange : Exchange) → Represents client exchange
+    → Represents (record client { blocked = true }) (record exchange { blocked = true })
 noted_later client exchange is = record {
   now = is.now;
   link = is.link;
@@ -153,7 +178,8 @@ noted_later client exchange is = record {
   answered = is.answered;
 }
 
-noted_failed : (client : Client) (exchange : Exchange) → Represents client exchange → Represents (record client { gone = true }) (record exchange { gone = true })
+noted_failed : (client : Client) (exchange : Exchange) → Represents client exchange
+    → Represents (record client { gone = true }) (record exchange { gone = true })
 noted_failed client exchange is = record {
   now = is.now;
   link = is.link;
@@ -169,36 +195,59 @@ noted_failed client exchange is = record {
 
 module _ (client client' : Client) (number : ℕ) where
   -- the bytes are all that is unsent
-  sends_all : (answer : SendAnswer) → link_to_send client ≡ Some number → IsWithin (length (drop client.requests.taken client.requests.stream)) answer
-      → Notes answer client client' → Sends client client' (send_entries number (drop client.requests.taken client.requests.stream) answer)
+  sends_all : (answer : SendAnswer) → link_to_send client ≡ Some number
+      → IsWithin (length (drop client.requests.taken client.requests.stream)) answer
+      → Notes answer client client'
+      → Sends client client' (send_entries number (drop client.requests.taken client.requests.stream) answer)
   sends_all (Took count) may within notes exchange is = record {
     may = (may_send_all client number exchange (may_send_to client number may) is, tt);
     represents = noted_took client client' count exchange within notes is;
   }
   sends_all Later may within notes exchange is = record {
     may = (may_send_all client number exchange (may_send_to client number may) is, tt);
-    represents = subst (λ (c : Client). Represents c (record exchange { blocked = true })) (sym notes) (noted_later client exchange is);
+    represents =
+        subst (λ (c : Client). Represents c (record exchange { blocked = true })) (sym notes)
+        (noted_later client exchange is);
   }
   sends_all Failed may within notes exchange is = record {
     may = (may_send_all client number exchange (may_send_to client number may) is, tt);
-    represents = subst (λ (c : Client). Represents c (record exchange { gone = true })) (sym notes) (noted_failed client exchange is);
+    represents =
+        subst (λ (c : Client). Represents c (record exchange { gone = true })) (sym notes)
+        (noted_failed client exchange is);
   }
-  sends_all Memory may within notes exchange is = record { may = tt; represents = subst (λ (c : Client). Represents c exchange) (sym notes) is }
+  sends_all Memory may within notes exchange is =
+      record { may = tt; represents = subst (λ (c : Client). Represents c exchange) (sym notes) is }
 
-  pub sends_answered : (answer : SendAnswer) (bytes : List ℕ) → bytes ≡ drop client.requests.taken client.requests.stream → link_to_send client ≡ Some number
-      → IsWithin (length (drop client.requests.taken client.requests.stream)) answer → Notes answer client client' → Sends client client' (send_entries number bytes answer)
+  pub sends_answered : (answer : SendAnswer) (bytes : List ℕ)
+      → bytes ≡ drop client.requests.taken client.requests.stream → link_to_send client ≡ Some number
+      → IsWithin (length (drop client.requests.taken client.requests.stream)) answer → Notes answer client client'
+      → Sends client client' (send_entries number bytes answer)
   sends_answered answer bytes are may within notes =
-      subst (λ (bs : List ℕ). Sends client client' (send_entries number bs answer)) (sym are) (sends_all answer may within notes)
+      subst (λ (bs : List ℕ). Sends client client' (send_entries number bs answer)) (sym are)
+      (sends_all answer may within notes)
 
-pub notes_keep : (client client' : Client) (answer : SendAnswer) → Notes answer client client' → KeepsReplies client client'
+pub notes_keep : (client client' : Client) (answer : SendAnswer) → Notes answer client client'
+    → KeepsReplies client client'
 notes_keep client client' (Took count) notes = record {
   stream = notes.stream;
   link = ap (λ (c : Client). c.link) notes.others;
   replies = ap (λ (c : Client). c.replies) notes.others;
 }
-notes_keep client client' Later notes = record { stream = ap (λ (c : Client). c.requests.stream) notes; link = ap (λ (c : Client). c.link) notes; replies = ap (λ (c : Client). c.replies) notes }
-notes_keep client client' Failed notes = record { stream = ap (λ (c : Client). c.requests.stream) notes; link = ap (λ (c : Client). c.link) notes; replies = ap (λ (c : Client). c.replies) notes }
-notes_keep client client' Memory notes = record { stream = ap (λ (c : Client). c.requests.stream) notes; link = ap (λ (c : Client). c.link) notes; replies = ap (λ (c : Client). c.replies) notes }
+notes_keep client client' Later notes = record {
+  stream = ap (λ (c : Client). c.requests.stream) notes;
+  link = ap (λ (c : Client). c.link) notes;
+  replies = ap (λ (c : Client). c.replies) notes;
+}
+notes_keep client client' Failed notes = record {
+  stream = ap (λ (c : Client). c.requests.stream) notes;
+  link = ap (λ (c : Client). c.link) notes;
+  replies = ap (λ (c : Client). c.replies) notes;
+}
+notes_keep client client' Memory notes = record {
+  stream = ap (λ (c : Client). c.requests.stream) notes;
+  link = ap (λ (c : Client). c.link) notes;
+  replies = ap (λ (c : Client). c.replies) notes;
+}
 
 -- ---- the measure of the loop that sends
 
@@ -207,14 +256,22 @@ left_over client = length (drop client.requests.taken client.requests.stream)
 
 sendable_blocked : (client : Client) → client.blocked ≡ true → sendable client ≡ 0
 sendable_blocked client is =
-    ap (λ (t : Bool). cond (is_some (cond (not client.gone && (not t && nat_lt 0 (left_over client))) client.link None)) (left_over client) 0) is ∙ none (not client.gone)
+    ap
+    (λ (t : Bool). cond (is_some (cond (not client.gone && (not t && nat_lt 0 (left_over client))) client.link None))
+    (left_over client) 0)
+    is
+    ∙ none (not client.gone)
   where
     none : (t : Bool) → cond (is_some (cond (t && false) client.link None)) (left_over client) 0 ≡ 0
     none true = refl
     none false = refl
 
 sendable_gone : (client : Client) → client.gone ≡ true → sendable client ≡ 0
-sendable_gone client is = ap (λ (t : Bool). cond (is_some (cond (not t && (not client.blocked && nat_lt 0 (left_over client))) client.link None)) (left_over client) 0) is
+sendable_gone client is =
+    ap
+    (λ (t : Bool). cond (is_some (cond (not t && (not client.blocked && nat_lt 0 (left_over client))) client.link None))
+    (left_over client) 0)
+    is
 
 sendable_all : (client : Client) (number : ℕ) → link_to_send client ≡ Some number → sendable client ≡ left_over client
 sendable_all client number is = ap (λ (link : Option ℕ). cond (is_some link) (left_over client) 0) is
@@ -226,7 +283,8 @@ sendable_within client = by_case (is_some (link_to_send client))
     by_case true = omega arith
     by_case false = omega arith
 
-took_less : (client client' : Client) (number count : ℕ) → link_to_send client ≡ Some number → count ≤ left_over client → NotesTaken count client client' → sendable client' < sendable client
+took_less : (client client' : Client) (number count : ℕ) → link_to_send client ≡ Some number → count ≤ left_over client
+    → NotesTaken count client client' → sendable client' < sendable client
 took_less client client' number zero may within notes =
     let none : sendable client' ≡ 0 = sendable_blocked client' (ap (λ (c : Client). c.blocked) notes.others) in
     let all = sendable_all client number may in
@@ -236,16 +294,20 @@ took_less client client' number zero may within notes =
 took_less client client' number (suc n) may within notes =
     let most = sendable_within client' in
     let all = sendable_all client number may in
-    let before : left_over client ≡ length client.requests.stream - client.requests.taken = length-drop client.requests.taken client.requests.stream in
-    let after : left_over client' ≡ length client'.requests.stream - client'.requests.taken = length-drop client'.requests.taken client'.requests.stream in
+    let before : left_over client ≡ length client.requests.stream - client.requests.taken =
+    length-drop client.requests.taken client.requests.stream in
+    let after : left_over client' ≡ length client'.requests.stream - client'.requests.taken =
+    length-drop client'.requests.taken client'.requests.stream in
     let same : length client'.requests.stream ≡ length client.requests.stream = ap length notes.stream in
     let more = notes.taken in
     omega arith
 
 -- fewer bytes are sendable once some were taken, or none was
 pub sends_less : (client client' : Client) (number : ℕ) (answer : SendAnswer) → link_to_send client ≡ Some number
-    → IsWithin (length (drop client.requests.taken client.requests.stream)) answer → Notes answer client client' → answer ≢ Memory → sendable client' < sendable client
-sends_less client client' number (Took count) may within notes other = took_less client client' number count may within notes
+    → IsWithin (length (drop client.requests.taken client.requests.stream)) answer → Notes answer client client'
+    → answer ≢ Memory → sendable client' < sendable client
+sends_less client client' number (Took count) may within notes other =
+    took_less client client' number count may within notes
 sends_less client client' number Later may within notes other =
     let none : sendable client' ≡ 0 = sendable_blocked client' (ap (λ (c : Client). c.blocked) notes) in
     let all = sendable_all client number may in

@@ -15,7 +15,8 @@ use Rattle.riemann_client.specs.declared.progress.Progress.TheVariants.{More, Wh
 
 -- ---- all requests are sent that are taken
 
-some_blocked : (gone blocked : Bool) (link : Option ℕ) (count number : ℕ) → cond (not gone && (not blocked && nat_lt 0 count)) link None ≡ None → gone ≡ false → link ≡ Some number
+some_blocked : (gone blocked : Bool) (link : Option ℕ) (count number : ℕ)
+    → cond (not gone && (not blocked && nat_lt 0 count)) link None ≡ None → gone ≡ false → link ≡ Some number
     → 0 < count → blocked ≡ true
 some_blocked gone true link count number none works on some = refl
 some_blocked true false link count number none works on some = absurd (cc works)
@@ -24,15 +25,19 @@ some_blocked false false link count number none works on some =
     let there : cond (nat_lt 0 count) link None ≡ link = ap (λ (t : Bool). cond t link None) is in
     absurd (cc (none, there, on))
 
-settled_so : (client : Client) (exchange : Exchange) (stream : List ℕ) → stream_of client ≡ stream → link_to_send client ≡ None → client.gone ≡ false → Represents client exchange → IsSettled stream exchange
+settled_so : (client : Client) (exchange : Exchange) (stream : List ℕ) → stream_of client ≡ stream
+    → link_to_send client ≡ None → client.gone ≡ false → Represents client exchange → IsSettled stream exchange
 settled_so client exchange stream same none works is some number on =
     let left : drop client.requests.taken client.requests.stream ≡ unsent stream exchange =
     ap (λ (n : ℕ). drop n client.requests.stream) is.count ∙ ap (drop (length exchange.taken)) same in
-    sym is.blocked ∙ some_blocked client.gone client.blocked client.link (length (drop client.requests.taken client.requests.stream)) number none works (is.link ∙ on)
+    sym is.blocked
+    ∙ some_blocked client.gone client.blocked client.link (length (drop client.requests.taken client.requests.stream))
+    number none works (is.link ∙ on)
     (subst (λ (bytes : List ℕ). 0 < length bytes) (sym left) some)
 
 -- a link that is noted for waiting changes nothing of the exchange
-with_wants : (client : Client) (wants : List Want) (exchange : Exchange) → Represents client exchange → Represents (record client { wants = wants }) exchange
+with_wants : (client : Client) (wants : List Want) (exchange : Exchange) → Represents client exchange
+    → Represents (record client { wants = wants }) exchange
 with_wants client wants exchange is = record {
   now = is.now;
   link = is.link;
@@ -50,24 +55,33 @@ all_nothing : (calls : List Entry) → calls ++ [] ≡ calls
 all_nothing [] = refl
 all_nothing (call ∷ calls) = ap (λ (cs : List Entry). call ∷ cs) (all_nothing calls)
 
-module _ (client one client' : Client) (first second : List Entry) (keeps : KeepsReplies client one) (sends : Sends client one first) where
+module _ (client one client' : Client) (first second : List Entry) (keeps : KeepsReplies client one)
+    (sends : Sends client one first) where
   -- the sends were made, and then the turn ended so
-  pub turn_settles : (progress : Progress) → link_to_send one ≡ None → SettlesTo one client' progress second → GoesOnFrom client client' progress (first ++ second)
+  pub turn_settles : (progress : Progress) → link_to_send one ≡ None → SettlesTo one client' progress second
+      → GoesOnFrom client client' progress (first ++ second)
   turn_settles More none settles before after due is =
       let there : SendsFrom client one first after = sends after is in
       let calls : first ++ second ≡ first = ap (λ (cs : List Entry). first ++ cs) settles.none ∙ all_nothing first in
       let wants : List Want = wants_on (nat_lt 0 (length (drop one.requests.taken one.requests.stream))) one.link in
-      let unsent_is : drop one.requests.taken one.requests.stream ≡ unsent (stream_of client) (after_sends first after) =
-      ap (λ (n : ℕ). drop n one.requests.stream) there.represents.count ∙ ap (drop (length (after_sends first after).taken)) keeps.stream in
+      let unsent_is : drop one.requests.taken one.requests.stream
+      ≡ unsent (stream_of client) (after_sends first after) =
+      ap (λ (n : ℕ). drop n one.requests.stream) there.represents.count
+      ∙ ap (drop (length (after_sends first after).taken)) keeps.stream in
       subst (λ (cs : List Entry). GoesOn client' (stream_of client) before after cs) (sym calls) (record {
         due = due;
         may = there.may;
-        represents = subst (λ (c : Client). Represents c (after_sends first after)) (sym settles.client_is) (with_wants one wants (after_sends first after) there.represents);
+        represents =
+            subst (λ (c : Client). Represents c (after_sends first after)) (sym settles.client_is)
+            (with_wants one wants (after_sends first after) there.represents);
         works = sym there.represents.gone ∙ settles.works;
-        settled = settled_so one (after_sends first after) (stream_of client) keeps.stream none settles.works there.represents;
+        settled =
+            settled_so one (after_sends first after) (stream_of client) keeps.stream none settles.works
+            there.represents;
         wants = ap (λ (c : Client). c.wants) settles.client_is
             ∙ ap (λ (bytes : List ℕ). wants_on (nat_lt 0 (length bytes)) one.link) unsent_is
-            ∙ ap (wants_on (nat_lt 0 (length (unsent (stream_of client) (after_sends first after))))) there.represents.link;
+            ∙ ap (wants_on (nat_lt 0 (length (unsent (stream_of client) (after_sends first after)))))
+            there.represents.link;
       })
   turn_settles Whole none settles before after due is = absurd settles
   turn_settles (Unasked number) none settles before after due is = absurd settles
@@ -96,7 +110,8 @@ module _ (client one client' : Client) (first second : List Entry) (keeps : Keep
 
 -- ---- a turn
 
-ends_as : (client' : Client) (stream : List ℕ) (before after : Exchange) (progress : Progress) (calls : List Entry) → progress ≢ More → progress ≢ Memory
+ends_as : (client' : Client) (stream : List ℕ) (before after : Exchange) (progress : Progress) (calls : List Entry)
+    → progress ≢ More → progress ≢ Memory
     → Ends client' stream before after progress calls → TurnsTo client' stream before after progress calls
 ends_as client' stream before after More calls other alive ends = absurd (other refl)
 ends_as client' stream before after Whole calls other alive ends = ends
@@ -107,8 +122,10 @@ ends_as client' stream before after Memory calls other alive ends = absurd (aliv
 
 module _ (client one client' : Client) (turn : Turn) (piece : List ℕ) (same : stream_of one ≡ stream_of client) where
   -- the exchange is over, and the link was closed
-  pub turn_ends : (progress : Progress) (calls : List Entry) → progress ≢ More → progress ≢ Memory → calls ≡ closing (link_of one)
-      → (progress ≢ Memory → (before : Exchange) → Represents client before → Hears one (stream_of client) before (heard turn piece before) progress)
+  pub turn_ends : (progress : Progress) (calls : List Entry) → progress ≢ More → progress ≢ Memory
+      → calls ≡ closing (link_of one)
+      → (progress ≢ Memory → (before : Exchange) → Represents client before
+      → Hears one (stream_of client) before (heard turn piece before) progress)
       → TurnsFrom turn piece client one progress calls
   turn_ends progress calls other alive closed hears before is =
       let there = hears alive before is in
@@ -117,7 +134,8 @@ module _ (client one client' : Client) (turn : Turn) (piece : List ℕ) (same : 
 
   -- it goes on, and requests were sent
   pub turn_goes_on : (heard_as progress : Progress) (calls : List Entry) → heard_as ≡ More
-      → (heard_as ≢ Memory → (before : Exchange) → Represents client before → Hears one (stream_of client) before (heard turn piece before) heard_as)
+      → (heard_as ≢ Memory → (before : Exchange) → Represents client before
+      → Hears one (stream_of client) before (heard turn piece before) heard_as)
       → GoesOnFrom one client' progress calls → TurnsFrom turn piece client client' progress calls
   turn_goes_on heard_as progress calls more hears goes_on before is =
       let alive : heard_as ≢ Memory = λ memory. absurd (cc (more, memory)) in
@@ -128,12 +146,14 @@ module _ (client one client' : Client) (turn : Turn) (piece : List ℕ) (same : 
       (there.represents more))
 
 -- memory ran out at what came
-pub turn_unheard : (client client' : Client) (turn : Turn) (piece : List ℕ) → TurnsFrom turn piece client client' Memory []
+pub turn_unheard : (client client' : Client) (turn : Turn) (piece : List ℕ)
+    → TurnsFrom turn piece client client' Memory []
 turn_unheard client client' turn piece before is = record { may = tt; none = λ other. refl }
 
 -- ---- whether it was the last turn is noted, which changes nothing else
 
-with_ended : (client : Client) (ended : Bool) (exchange : Exchange) → Represents client exchange → Represents (record client { ended = ended }) exchange
+with_ended : (client : Client) (ended : Bool) (exchange : Exchange) → Represents client exchange
+    → Represents (record client { ended = ended }) exchange
 with_ended client ended exchange is = record {
   now = is.now;
   link = is.link;
@@ -148,10 +168,12 @@ with_ended client ended exchange is = record {
 }
 
 module _ (client' : Client) (ended : Bool) (stream : List ℕ) (before after : Exchange) where
-  noted_end : (progress : Progress) (calls : List Entry) → Ends client' stream before after progress calls → Ends (record client' { ended = ended }) stream before after progress calls
+  noted_end : (progress : Progress) (calls : List Entry) → Ends client' stream before after progress calls
+      → Ends (record client' { ended = ended }) stream before after progress calls
   noted_end progress calls ends = record { is = ends.is; calls_are = ends.calls_are; replies = ends.replies }
 
-  noted_as : (progress : Progress) (calls : List Entry) → TurnsTo client' stream before after progress calls → TurnsTo (record client' { ended = ended }) stream before after progress calls
+  noted_as : (progress : Progress) (calls : List Entry) → TurnsTo client' stream before after progress calls
+      → TurnsTo (record client' { ended = ended }) stream before after progress calls
   noted_as More calls on = record {
     due = on.due;
     may = on.may;
@@ -174,7 +196,9 @@ module _ (client' : Client) (ended : Bool) (stream : List ℕ) (before after : E
   })
   noted_as Memory calls out = out
 
-pub turn_noted : (client one : Client) (turn : Turn) (piece : List ℕ) (ended : Bool) (progress : Progress) (calls : List Entry) → TurnsFrom turn piece client one progress calls
+pub turn_noted : (client one : Client) (turn : Turn) (piece : List ℕ) (ended : Bool) (progress : Progress)
+    (calls : List Entry)
+    → TurnsFrom turn piece client one progress calls
     → TurnsFrom turn piece client (record one { ended = ended }) progress calls
 turn_noted client one turn piece ended progress calls turns before is =
     noted_as one ended (stream_of client) before (heard turn piece before) progress calls (turns before is)

@@ -20,11 +20,15 @@ returns-in_err-outcome-clause-takes g c =
     let client = c.args.client.now in
     let client' = c.turn-progress.new.self in
     let p = err_from_is_err_and c.from_residual-in_err-outcome.result c.from_residual-in_err-outcome.ensures.1 in
-    let asks = subst (λ (wants : List Want). AddsRun before asked (AsksFor wants buf (Ok turn))) c.wants.ensures c.in_ok-turn.ensures.asks in
+    let asks =
+    subst (λ (wants : List Want). AddsRun before asked (AsksFor wants buf (Ok turn))) c.wants.ensures
+    c.in_ok-turn.ensures.asks in
     let does : AddsRun before after (DoesTurn client client' came) =
-    turn_done before asked after client client' buf (take c.piece_len-count.result buf) turn came asks c.in_ok-turn.ensures.not_failed c.in_ok-turn.ensures.not_memory
+    turn_done before asked after client client' buf (take c.piece_len-count.result buf) turn came asks
+    c.in_ok-turn.ensures.not_failed c.in_ok-turn.ensures.not_memory
     (c.piece_len-count.ensures.piece buf) c.turn-progress.ensures.turns in
-    rw (p.1, p.2) (subst (λ (r : Result (Option Outcome) RunFault). AddsRun before after (TakesTurn client client' r)) (sym c.answer_of.ensures ∙ c.in_err-outcome.was)
+    rw (p.1, p.2) (subst (λ (r : Result (Option Outcome) RunFault). AddsRun before after (TakesTurn client client' r))
+    (sym c.answer_of.ensures ∙ c.in_err-outcome.was)
     (done_as before after client client' came does))
 
 pub returns-clause-takes : goal.returns-clause-takes
@@ -37,9 +41,13 @@ returns-clause-takes g c =
     let came = c.turn-progress.result in
     let client = c.args.client.now in
     let client' = c.turn-progress.new.self in
-    let asks = subst (λ (wants : List Want). AddsRun before asked (AsksFor wants buf (Ok turn))) c.wants.ensures c.in_ok-turn.ensures.asks in
+    let asks =
+    subst (λ (wants : List Want). AddsRun before asked (AsksFor wants buf (Ok turn))) c.wants.ensures
+    c.in_ok-turn.ensures.asks in
     let does : AddsRun before after (DoesTurn client client' came) =
-    turn_done before asked after client client' buf (take c.piece_len-count.result buf) turn came asks c.in_ok-turn.ensures.not_failed c.in_ok-turn.ensures.not_memory
+    turn_done before asked after client client' buf (take c.piece_len-count.result buf) turn came asks
+    c.in_ok-turn.ensures.not_failed c.in_ok-turn.ensures.not_memory
     (c.piece_len-count.ensures.piece buf) c.turn-progress.ensures.turns in
-    subst (λ (r : Result (Option Outcome) RunFault). AddsRun before after (TakesTurn client client' r)) (sym c.answer_of.ensures ∙ c.in_ok-outcome.was)
+    subst (λ (r : Result (Option Outcome) RunFault). AddsRun before after (TakesTurn client client' r))
+    (sym c.answer_of.ensures ∙ c.in_ok-outcome.was)
     (done_as before after client client' came does)

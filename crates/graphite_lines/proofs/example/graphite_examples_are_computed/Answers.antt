@@ -52,5 +52,7 @@ returns-clause-lines c = record {
 }
 
 pub returns-clause-texts : goal.returns-clause-texts
-unfolding accepted are_zeros chars encode event_values field_spelling frames_with is_path is_time is_utf8 is_value is_whole line_says lines_of message_values refused_from spelled_within spelling varint without_cr words_of
-returns-clause-texts c = record { ends = refl; nothing = refl; frame = refl; one_frame = refl; one_refused = refl; third_line = refl }
+unfolding accepted are_zeros chars encode event_values field_spelling frames_with is_path is_time is_utf8 is_value
+    is_whole line_says lines_of message_values refused_from spelled_within spelling varint without_cr words_of
+returns-clause-texts c =
+    record { ends = refl; nothing = refl; frame = refl; one_frame = refl; one_refused = refl; third_line = refl }

@@ -15,11 +15,13 @@ returns c =
     let metric_is : to_z w64 (of_z w64 c.in-Some-read_value.metric) ≡ value_of value = search rules in
     let time_is : to_z w64 (of_z w64 c.in-Some-read_time.time) ≡ time_of time = search rules in
     let host_is : option_copied placed.host ≡ host_in part path = rw c.in-Some.ensures.1 at c.place.ensures.host in
-    let service_is : placed.front.now ++ placed.back.now ≡ service_in part path = rw c.in-Some.ensures.1 at c.place.ensures.service in
+    let service_is : placed.front.now ++ placed.back.now ≡ service_in part path =
+    rw c.in-Some.ensures.1 at c.place.ensures.service in
     let few = path_length path c.in-Some.ensures.0 in
     let same = ap length c.in-Some.ensures.1 in
     let most : length c.in-Some.path.now ≤ 1024 = omega arith in (
-      words_accepted path value time part (option_copied placed.host) (placed.front.now ++ placed.back.now) _ _ c.in-Some.ensures.0
+      words_accepted path value time part (option_copied placed.host) (placed.front.now ++ placed.back.now) _ _
+          c.in-Some.ensures.0
           c.in-Some-read_value.ensures.0 c.in-Some-read_time.ensures.0 metric_is time_is host_is service_is,
       record {
         service = let short = c.place.ensures.short in omega arith;

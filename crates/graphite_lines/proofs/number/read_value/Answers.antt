@@ -14,7 +14,9 @@ pub returns-else-not-are_zeros : goal.returns-else-not-are_zeros
 returns-else-not-are_zeros c =
     let word = c.args.word.now in let point = c.in-Some.point in
     read_before word point c.read_whole.result c.in-Some.ensures.0 c.in-Some.ensures.1
-    (ap are_zeros (sym (take_rest word (point + 1))) ∙ sym c.are_zeros.ensures ∙ c.if-not-are_zeros.false) c.read_whole.ensures
+    (ap are_zeros (sym (take_rest word (point + 1))) ∙ sym c.are_zeros.ensures ∙ c.if-not-are_zeros.false)
+    c.read_whole.ensures
 
 pub returns-in-None : goal.returns-in-None
-returns-in-None c = read_alone c.args.word.now c.read_whole-in-None.result c.in-None.ensures c.read_whole-in-None.ensures
+returns-in-None c =
+    read_alone c.args.word.now c.read_whole-in-None.result c.in-None.ensures c.read_whole-in-None.ensures

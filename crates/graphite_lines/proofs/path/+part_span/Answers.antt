@@ -14,11 +14,13 @@ pub returns-in-Some-part_span : goal.returns-in-Some-part_span
 returns-in-Some-part_span t c =
     let path = c.args.path.now in let number = c.args.number in let dot = c.in-Some.dot in
     let many : 1 < number = omega arith in
-    later_span path number dot c.in-Some-part_span.start c.in-Some-part_span.end many c.in-Some.ensures.0 c.in-Some.ensures.1
+    later_span path number dot c.in-Some-part_span.start c.in-Some-part_span.end many c.in-Some.ensures.0
+    c.in-Some.ensures.1
     (rw (take_rest path (dot + 1)) at c.in-Some-part_span.ensures)
 
 pub returns-in-None : goal.returns-in-None
 returns-in-None t c =
     let path = c.args.path.now in let number = c.args.number in let dot = c.in-Some.dot in
     let many : 1 < number = omega arith in
-    no_later_part path number dot many c.in-Some.ensures.0 c.in-Some.ensures.1 (rw (take_rest path (dot + 1)) at c.in-None.ensures)
+    no_later_part path number dot many c.in-Some.ensures.0 c.in-Some.ensures.1
+    (rw (take_rest path (dot + 1)) at c.in-None.ensures)

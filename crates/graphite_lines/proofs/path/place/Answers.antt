@@ -32,6 +32,8 @@ returns-in-Some-part_span c =
     record {
       host = rw (c.in-Some.is, c.range.ensures.value) host.0;
       service = rw (c.in-Some.is, c.range-in-Some-part_span.ensures.value, c.range_from.ensures.value, whole) host.1;
-      short = rw (c.range-in-Some-part_span.ensures.value, c.range_from.ensures.value, whole) (cut_length path start end span.ordered span.within);
+      short =
+          rw (c.range-in-Some-part_span.ensures.value, c.range_from.ensures.value, whole)
+          (cut_length path start end span.ordered span.within);
       host_short = rw c.range.ensures.value (part_length path start end span.ordered span.within);
     }

@@ -4,7 +4,8 @@ use Rattle.graphite_lines.proofs.path.read_path.Goals as goal
 
 pub returns-in-Ok : goal.returns-in-Ok
 returns-in-Ok c = (
-  path_of_text c.args.word.now c.if-word-gt-PATH_LIMIT.false (sym c.are_path_bytes.ensures ∙ c.if-not-are_path_bytes.false) c.in-Ok.ensures.cases.1,
+  path_of_text c.args.word.now c.if-word-gt-PATH_LIMIT.false
+      (sym c.are_path_bytes.ensures ∙ c.if-not-are_path_bytes.false) c.in-Ok.ensures.cases.1,
   c.in-Ok.ensures.cases.0,
 )
 

@@ -11,5 +11,7 @@ returns-clause-ok c =
     let said = c.args.said in
     let time : c.cast_unsigned.result ≡ cast_unsigned w64 said.time = search rules in
     let metric : c.zigzag.result ≡ zigzag said.metric = search rules in
-    said_grown said.time (said_service said) (option_copied said.placed.host) said.metric _ _ _ _ _ c.cast_unsigned.result c.zigzag.result
-    c.in_ok-put_field.ensures.ok c.in_ok-put_service.ensures.ok c.in_ok-put_host.ensures.ok c.in_ok-put_field-2.ensures.ok time metric
+    said_grown said.time (said_service said) (option_copied said.placed.host) said.metric _ _ _ _ _
+    c.cast_unsigned.result c.zigzag.result
+    c.in_ok-put_field.ensures.ok c.in_ok-put_service.ensures.ok c.in_ok-put_host.ensures.ok
+    c.in_ok-put_field-2.ensures.ok time metric

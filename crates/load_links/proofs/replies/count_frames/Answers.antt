@@ -5,4 +5,5 @@ use Rattle.load_links.proofs.replies.count_frames.Goals as goal
 
 pub frames-preserved : goal.frames-preserved
 frames-preserved c = counted_more c.frames.rest.now c.in-Some.after.now c.frames.count
-    (length (frames_of c.args.bytes.now)) (length c.args.bytes.now) c.in-Some.ensures.0 c.in-Some.ensures.1 c.frames.invariant
+    (length (frames_of c.args.bytes.now)) (length c.args.bytes.now) c.in-Some.ensures.0 c.in-Some.ensures.1
+    c.frames.invariant

@@ -11,23 +11,33 @@ frames-init c = record {
 
 pub frames-preserved : goal.frames-preserved
 frames-preserved c = record {
-  same = same_then c.args.requests.now c.frames.requests c.accept_front.new.requests c.frames.invariant.same c.in_ok-accept_front.ensures.same;
-  so_far = so_far_more c.args.now c.args.input.now c.frames.input c.accept_front.new.input c.args.requests.now c.frames.requests c.accept_front.new.requests
+  same =
+      same_then c.args.requests.now c.frames.requests c.accept_front.new.requests c.frames.invariant.same
+      c.in_ok-accept_front.ensures.same;
+  so_far =
+      so_far_more c.args.now c.args.input.now c.frames.input c.accept_front.new.input c.args.requests.now
+      c.frames.requests c.accept_front.new.requests
       c.args.replies.now c.frames.replies c.accept_front.new.replies c.frames.invariant.same c.frames.invariant.so_far
-      (subst (AcceptsFront c.args.now c.frames.input c.accept_front.new.input c.frames.requests c.accept_front.new.requests c.frames.replies c.accept_front.new.replies)
+      (subst (AcceptsFront c.args.now c.frames.input c.accept_front.new.input c.frames.requests
+      c.accept_front.new.requests c.frames.replies c.accept_front.new.replies)
       c.in-Accepted.is c.in_ok-accept_front.ensures.accepts);
 }
 
 pub returns-in-NotWhole-clause-accepts : goal.returns-in-NotWhole-clause-accepts
 returns-in-NotWhole-clause-accepts c =
-    so_far_end c.args.now c.args.input.now c.frames.input c.accept_front.new.input c.args.requests.now c.frames.requests c.accept_front.new.requests
+    so_far_end c.args.now c.args.input.now c.frames.input c.accept_front.new.input c.args.requests.now c.frames.requests
+    c.accept_front.new.requests
     c.args.replies.now c.frames.replies c.accept_front.new.replies c.frames.invariant.same c.frames.invariant.so_far
-    (subst (AcceptsFront c.args.now c.frames.input c.accept_front.new.input c.frames.requests c.accept_front.new.requests c.frames.replies c.accept_front.new.replies)
+    (subst (AcceptsFront c.args.now c.frames.input c.accept_front.new.input c.frames.requests
+    c.accept_front.new.requests c.frames.replies c.accept_front.new.replies)
     c.in-NotWhole.is c.in_ok-accept_front.ensures.accepts)
 
 pub returns-in-Faulty-clause-accepts : goal.returns-in-Faulty-clause-accepts
 returns-in-Faulty-clause-accepts c =
-    so_far_fault c.args.now c.args.input.now c.frames.input c.accept_front.new.input c.args.requests.now c.frames.requests c.accept_front.new.requests
-    c.args.replies.now c.frames.replies c.accept_front.new.replies c.frames.invariant.same c.frames.invariant.so_far c.in-Faulty.fault
-    (subst (AcceptsFront c.args.now c.frames.input c.accept_front.new.input c.frames.requests c.accept_front.new.requests c.frames.replies c.accept_front.new.replies)
+    so_far_fault c.args.now c.args.input.now c.frames.input c.accept_front.new.input c.args.requests.now
+    c.frames.requests c.accept_front.new.requests
+    c.args.replies.now c.frames.replies c.accept_front.new.replies c.frames.invariant.same c.frames.invariant.so_far
+    c.in-Faulty.fault
+    (subst (AcceptsFront c.args.now c.frames.input c.accept_front.new.input c.frames.requests
+    c.accept_front.new.requests c.frames.replies c.accept_front.new.replies)
     c.in-Faulty.is c.in_ok-accept_front.ensures.accepts)

@@ -11,8 +11,10 @@ pub returns : goal.returns
 returns c =
     let fits : SFits w64 c.args.event.now.time = search rules in
     let time : length (varint c.cast_unsigned.result) ≡ length (varint (cast_unsigned w64 c.args.event.now.time)) =
-    ap (λ n. length (varint n)) (c.cast_unsigned.ensures ∙ ap (λ (z : ℤ). cast_unsigned w64 z) (to_z-of_z w64 c.args.event.now.time fits)) in
-    let total : 1 + c.varint_len-time.result + c.in_ok-sum-2.field-0 ≡ length (spelled (name_values c.args.event.now)) = omega (
+    ap (λ n. length (varint n))
+    (c.cast_unsigned.ensures ∙ ap (λ (z : ℤ). cast_unsigned w64 z) (to_z-of_z w64 c.args.event.now.time fits)) in
+    let total : 1 + c.varint_len-time.result + c.in_ok-sum-2.field-0 ≡ length (spelled (name_values c.args.event.now)) =
+    omega (
       arith,
       names_length c.args.event.now,
       time,

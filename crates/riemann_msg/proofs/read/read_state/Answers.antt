@@ -11,4 +11,5 @@ pub returns : goal.returns
 returns c =
     let draft : Event → StateDraft = λ event. record { event = event } in
     let fresh = ap draft (c.at.ensures ∙ ap event_at (to_z-of_z w64 c.args.now c.ranges.now)) in
-    state_read c.args.now c.args.bytes.now c.args.base _ c.read_fields.new.draft fresh c.in_ok-read_fields.ensures.ok.0 c.in_ok-read_fields.ensures.ok.1
+    state_read c.args.now c.args.bytes.now c.args.base _ c.read_fields.new.draft fresh c.in_ok-read_fields.ensures.ok.0
+    c.in_ok-read_fields.ensures.ok.1

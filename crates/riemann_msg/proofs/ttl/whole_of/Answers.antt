@@ -21,7 +21,9 @@ returns-then-places-gt-FRACTION_BITS c = λ none.
     let is : p + e ≡ 150 = omega arith in
     let cut : (s % 2 ^ p) * 2 ^ e ≡ 0 = sym (scaled_rest s e p 150 is) ∙ none in
     elim c.then-places-gt-FRACTION_BITS.branch [
-      | then-places-gt-FRACTION_BITS-via-then-places-gt-FRACTION_BITS w ↦ no_product (s % 2 ^ p) e (small_rest s p (omega arith) (omega arith) (omega (arith, w.if-places-gt-FRACTION_BITS.true))) cut
+      | then-places-gt-FRACTION_BITS-via-then-places-gt-FRACTION_BITS w ↦
+          no_product (s % 2 ^ p) e
+          (small_rest s p (omega arith) (omega arith) (omega (arith, w.if-places-gt-FRACTION_BITS.true))) cut
       | then-places-gt-FRACTION_BITS-via-else-places-gt-FRACTION_BITS+then-significand-places-ne0 w ↦
           no_product (s % 2 ^ p) e (masked_some s p (omega arith) w.if-significand-places-ne0.true) cut
     ]
@@ -32,5 +34,8 @@ returns c =
     let e = c.args.exponent in
     let p = 150 - e in
     let is : p + e ≡ 150 = omega arith in
-    let turned : e + p ≡ 150 = omega arith in
-    (scaled_rest s e p 150 is ∙ ap (λ n. n * 2 ^ e) (masked_none s p (omega arith) c.if-significand-places-ne0.false) ∙ zero-mul (2 ^ e), sym (scaled_half s e p 150 turned))
+    let turned : e + p ≡ 150 = omega arith in (
+      scaled_rest s e p 150 is ∙ ap (λ n. n * 2 ^ e) (masked_none s p (omega arith) c.if-significand-places-ne0.false)
+          ∙ zero-mul (2 ^ e),
+      sym (scaled_half s e p 150 turned),
+    )

@@ -10,4 +10,6 @@ pub returns-in-NotYet : goal.returns-in-NotYet
 returns-in-NotYet c = sym (not_oversized_test c.args.self.now.input.bytes c.in-NotYet.ensures.1)
 
 pub returns-in-Whole : goal.returns-in-Whole
-returns-in-Whole c = sym (not_oversized_test c.args.self.now.input.bytes (λ over. oversized_has_none c.args.self.now.input.bytes over c.in-Whole.ensures.0))
+returns-in-Whole c =
+    sym (not_oversized_test c.args.self.now.input.bytes
+    (λ over. oversized_has_none c.args.self.now.input.bytes over c.in-Whole.ensures.0))

@@ -8,6 +8,10 @@ returns-clause-sends g c = record {
   run = send_entries c.args.link c.unsent.result.now c.send-answer.result;
   grew = c.send-answer.ensures.adds;
   no_fault = c.send-answer.ensures.no_fault;
-  holds = sends_answered c.args.self.now c.note.new.self c.args.link c.send-answer.result c.unsent.result.now c.unsent.ensures c.requires.may
-      (subst (λ (bytes : List ℕ). IsWithin (length bytes) c.send-answer.result) c.unsent.ensures c.send-answer.ensures.within) c.note.ensures;
+  holds =
+      sends_answered c.args.self.now c.note.new.self c.args.link c.send-answer.result c.unsent.result.now
+      c.unsent.ensures c.requires.may
+      (subst (λ (bytes : List ℕ). IsWithin (length bytes) c.send-answer.result) c.unsent.ensures
+      c.send-answer.ensures.within)
+      c.note.ensures;
 }

@@ -12,7 +12,8 @@ sends-preserved g c =
 
 pub returns-in_err-send-clause-sends : goal.returns-in_err-send-clause-sends
 returns-in_err-send-clause-sends g c =
-    let all : SentSoFar (g.L.Links.report c.args.links.now) (g.L.Links.report c.send.new.links) c.args.self.now c.send.new.self =
+    let all : SentSoFar (g.L.Links.report c.args.links.now) (g.L.Links.report c.send.new.links) c.args.self.now
+    c.send.new.self =
     sent_more (g.L.Links.report c.args.links.now) (g.L.Links.report c.sends.links) (g.L.Links.report c.send.new.links)
     c.args.self.now c.sends.self c.send.new.self c.sends.invariant
     (record { keeps = c.send.ensures.keeps; known = c.send.ensures.known; sends = c.send.ensures.sends }) in

@@ -7,7 +7,9 @@ use Rattle.riemann_client.proofs.requests.Requests.answer_next.Goals as goal
 pub returns-in-Some-clause-answers : goal.returns-in-Some-clause-answers
 returns-in-Some-clause-answers c =
     let seen : c.split_at-2.result.1.now ≡ waiting c.args.self.now =
-    c.split_at-2.ensures.back ∙ ap (drop c.self.inside.answered) (c.split_at.ensures.front ∙ ap (take c.self.inside.taken) c.as_slice.ensures) ∙ ap (λ (r : Requested). waiting r) c.self.view_is in
+    c.split_at-2.ensures.back
+    ∙ ap (drop c.self.inside.answered) (c.split_at.ensures.front ∙ ap (take c.self.inside.taken) c.as_slice.ensures)
+    ∙ ap (λ (r : Requested). waiting r) c.self.view_is in
     answers_sent c.args.self.now _ c.in-Some.length
     (ap (λ (r : Requested). r.stream) c.self.view_is)
     (ap (λ (r : Requested). r.taken) c.self.view_is)
@@ -17,5 +19,7 @@ returns-in-Some-clause-answers c =
 pub returns-in-None-clause-answers : goal.returns-in-None-clause-answers
 returns-in-None-clause-answers c =
     let seen : c.split_at-2.result.1.now ≡ waiting c.args.self.now =
-    c.split_at-2.ensures.back ∙ ap (drop c.self.inside.answered) (c.split_at.ensures.front ∙ ap (take c.self.inside.taken) c.as_slice.ensures) ∙ ap (λ (r : Requested). waiting r) c.self.view_is in
+    c.split_at-2.ensures.back
+    ∙ ap (drop c.self.inside.answered) (c.split_at.ensures.front ∙ ap (take c.self.inside.taken) c.as_slice.ensures)
+    ∙ ap (λ (r : Requested). waiting r) c.self.view_is in
     answers_none c.args.self.now c.args.self.now (subst (λ (bytes : List ℕ). HasFrame bytes → ⊥) seen c.in-None.ensures)
