@@ -14,7 +14,8 @@ use Rattle.pred_eval.specs.Tree.{Tree, Trees, Always, Never, Not, All, Any, Tagg
 use Rattle.pred_eval.specs.Truth.{holds, all_hold}
 use Rattle.pred_eval.proofs.TreeLaws.{tree_of_all}
 
-pub asked_of_all : (rule : Rule) (rules : Vec Rule Global) → rule ≡ code.All rules → asked_host (tree_of rule) ≡ first_host (trees_in rules.items)
+pub asked_of_all : (rule : Rule) (rules : Vec Rule Global) → rule ≡ code.All rules
+    → asked_host (tree_of rule) ≡ first_host (trees_in rules.items)
 asked_of_all rule rules e = ap asked_host (ap tree_of e ∙ tree_of_all rules)
 
 field_needs : (field : Field) (value : Value) → IfSome (if_host field value) (NeedsHost (Equal field value))
@@ -50,15 +51,19 @@ later_met false b e = absurd (cc)
 AllNeed : Trees → Value → Type 0
 AllNeed rules value = (event : Event) → all_hold rules event ≡ true → same_value (text_value event.host) value ≡ true
 
-either_needs : (rule : Tree) (rules : Trees) (first later : Option Value) → IfSome first (NeedsHost rule) → IfSome later (AllNeed rules) → IfSome (option_or first later) (AllNeed (also rule rules))
+either_needs : (rule : Tree) (rules : Trees) (first later : Option Value) → IfSome first (NeedsHost rule)
+    → IfSome later (AllNeed rules) → IfSome (option_or first later) (AllNeed (also rule rules))
 unfolding AllNeed
-either_needs rule rules (Some value) later first_needs later_need = λ event met. first_needs event (first_met (holds rule event) (all_hold rules event) met)
-either_needs rule rules None (Some value) first_needs later_need = λ event met. later_need event (later_met (holds rule event) (all_hold rules event) met)
+either_needs rule rules (Some value) later first_needs later_need =
+    λ event met. first_needs event (first_met (holds rule event) (all_hold rules event) met)
+either_needs rule rules None (Some value) first_needs later_need =
+    λ event met. later_need event (later_met (holds rule event) (all_hold rules event) met)
 either_needs rule rules None None first_needs later_need = tt
 
 all_need : (rules : Trees) → IfSome (first_host rules) (AllNeed rules)
 all_need none = tt
-all_need (also rule rules) = either_needs rule rules (equal_host rule) (first_host rules) (part_needs rule) (all_need rules)
+all_need (also rule rules) =
+    either_needs rule rules (equal_host rule) (first_host rules) (part_needs rule) (all_need rules)
 
 pub needs_host : (rule : Tree) → IfSome (asked_host rule) (NeedsHost rule)
 unfolding AllNeed

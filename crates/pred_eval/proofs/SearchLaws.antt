@@ -20,12 +20,14 @@ use Rattle.regex.proofs.ForCallers.{is_match_alike}
 use Rattle.pred_eval.specs.declared.finder.States.{States}
 use Rattle.pred_eval.specs.Search.{is_found, finds, IsReadFrom, AreReadFrom, HasMatchesOf}
 
-of_some : {A : Type 0} (o : Option A) (P : A → Type 0) (Q : Option A → Type 0) → ((x : A) → P x → Q (Some x)) → IsSomeAnd o P → Q o
+of_some : {A : Type 0} (o : Option A) (P : A → Type 0) (Q : Option A → Type 0) → ((x : A) → P x → Q (Some x))
+    → IsSomeAnd o P → Q o
 of_some None P Q f h = absurd h
 of_some (Some x) P Q f h = f x h
 
 -- a tree finds what the text that is read as it says
-finds_by_tree : (pattern : List ℕ) (tree : Hir) (names : Names) → Reads default_config pattern tree names → (text : List ℕ) → ((k : ℕ) → get_or text k 0 < 256) →
+finds_by_tree : (pattern : List ℕ) (tree : Hir) (names : Names) → Reads default_config pattern tree names →
+    (text : List ℕ) → ((k : ℕ) → get_or text k 0 < 256) →
     is_some (find_str (meaning tree) text 0) ≡ finds pattern text
 unfolding Reads
 finds_by_tree pattern tree names reads text bytes =
@@ -37,7 +39,8 @@ module _ (pattern : List ℕ) (regex : Regex) (from : IsReadFrom pattern regex) 
   reads = rw (from.source, from.config) at from.read
 
   -- the regular expression finds what its text says
-  pub finds_what_is_read : (text : List ℕ) → ((k : ℕ) → get_or text k 0 < 256) → is_some (find_str (regex_pattern regex) text 0) ≡ finds pattern text
+  pub finds_what_is_read : (text : List ℕ) → ((k : ℕ) → get_or text k 0 < 256)
+      → is_some (find_str (regex_pattern regex) text 0) ≡ finds pattern text
   finds_what_is_read text bytes = finds_by_tree pattern regex.pattern.program.hir _ reads text bytes
 
 module _ (re : Re) (text : List ℕ) where
@@ -52,9 +55,12 @@ module _ (re : Re) (text : List ℕ) where
   ]
 
   -- what is found in the bytes is found between characters, if it begins there
-  found_between : (o : Option Match) → find re text 0 ≡ o → ((m : Match) → o ≡ Some m → is_boundary text m.start ≡ true) → find_str re text 0 ≡ o
+  found_between : (o : Option Match) → find re text 0 ≡ o → ((m : Match) → o ≡ Some m → is_boundary text m.start ≡ true)
+      → find_str re text 0 ≡ o
   unfolding find find_str within_text
-  found_between None e begins = first_between_none within_text 0 (length text) (λ i low high. none_within i (none_of_first_between _ 0 (length text) e i low high))
+  found_between None e begins =
+      first_between_none within_text 0 (length text)
+      (λ i low high. none_within i (none_of_first_between _ 0 (length text) e i low high))
   found_between (Some m) e begins =
       let first = IsFirst-of_first_between _ 0 (length text) m e in
       first_between_of_IsFirst within_text 0 (length text) m (record {
@@ -64,7 +70,8 @@ module _ (re : Re) (text : List ℕ) where
         before = λ i low high. none_within i (first.before i low high);
       })
 
-module _ (pattern : List ℕ) (states : States) (of : HasMatchesOf pattern states) (text : List ℕ) (bytes : (k : ℕ) → get_or text k 0 < 256) where
+module _ (pattern : List ℕ) (states : States) (of : HasMatchesOf pattern states) (text : List ℕ)
+    (bytes : (k : ℕ) → get_or text k 0 < 256) where
   re : Re
   re = meaning of.tree
 
@@ -95,44 +102,56 @@ module _ (pattern : List ℕ) (states : States) (of : HasMatchesOf pattern state
   unfolding find re at
   found_in_bytes = first_between_cong _ _ 0 last_start (λ i _ _. of.same text i) ∙ up_to_last
 
-  found_alike : (o : Option Match) → first_match states.nfa text (length text) 0 last_start ≡ o → ((m : Match) → o ≡ Some m → is_boundary text m.start ≡ true) →
+  found_alike : (o : Option Match) → first_match states.nfa text (length text) 0 last_start ≡ o →
+      ((m : Match) → o ≡ Some m → is_boundary text m.start ≡ true) →
       is_some o ≡ finds pattern text
   unfolding re
   found_alike o e begins =
-      ap is_some (sym (found_between re text o (sym found_in_bytes ∙ e) begins)) ∙ finds_by_tree pattern of.tree of.names of.read text bytes
+      ap is_some (sym (found_between re text o (sym found_in_bytes ∙ e) begins))
+      ∙ finds_by_tree pattern of.tree of.names of.read text bytes
 
-  spans_alike : (o : Option Match) → first_match states.nfa text (length text) 0 last_start ≡ o → (spanned : Option (ℕ × ℕ)) → spanned ≡ option_map span o →
+  spans_alike : (o : Option Match) → first_match states.nfa text (length text) 0 last_start ≡ o →
+      (spanned : Option (ℕ × ℕ)) → spanned ≡ option_map span o →
       ((s : ℕ × ℕ) → spanned ≡ Some s → is_boundary text s.0 ≡ true) → is_some spanned ≡ finds pattern text
   spans_alike None e spanned same begins = ap is_some same ∙ found_alike None e (λ m some. absurd (none-some m some))
   spans_alike (Some m) e spanned same begins =
-      ap is_some same ∙ found_alike (Some m) e (λ n some. ap (λ (n : Match). is_boundary text n.start) (sym (same_Some _ _ some)) ∙ begins (span m) same)
+      ap is_some same
+      ∙ found_alike (Some m) e
+      (λ n some. ap (λ (n : Match). is_boundary text n.start) (sym (same_Some _ _ some)) ∙ begins (span m) same)
 
   -- the states have a match exactly where the regular expression is found, if theirs begins between characters
-  pub states_find : (hay : List ℕ) (last : ℕ) → text ≡ hay → last_start ≡ last → (spanned : Option (ℕ × ℕ)) → spanned ≡ option_map span (first_match states.nfa hay (length text) 0 last) →
+  pub states_find : (hay : List ℕ) (last : ℕ) → text ≡ hay → last_start ≡ last → (spanned : Option (ℕ × ℕ)) →
+      spanned ≡ option_map span (first_match states.nfa hay (length text) 0 last) →
       ((s : ℕ × ℕ) → spanned ≡ Some s → is_boundary text s.0 ≡ true) → is_some spanned ≡ finds pattern text
   states_find hay last is until spanned same begins =
       spans_alike _ refl spanned
-      (same ∙ ap (λ hay. option_map span (first_match states.nfa hay (length text) 0 last)) (sym is) ∙ ap (λ last. option_map span (first_match states.nfa text (length text) 0 last)) (sym until))
+      (same ∙ ap (λ hay. option_map span (first_match states.nfa hay (length text) 0 last)) (sym is)
+      ∙ ap (λ last. option_map span (first_match states.nfa text (length text) 0 last)) (sym until))
       begins
 
-pub read_length : (patterns : List (List ℕ)) (regexes : List Regex) → AreReadFrom patterns regexes → length patterns ≡ length regexes
+pub read_length : (patterns : List (List ℕ)) (regexes : List Regex) → AreReadFrom patterns regexes
+    → length patterns ≡ length regexes
 read_length [] [] h = refl
 read_length [] (regex ∷ regexes) h = absurd h
 read_length (pattern ∷ patterns) [] h = absurd h
 read_length (pattern ∷ patterns) (regex ∷ regexes) h = ap suc (read_length patterns regexes h.1)
 
-pub read_front : (front back : List (List ℕ)) (regexes : List Regex) → AreReadFrom (front ++ back) regexes → AreReadFrom front (take (length front) regexes)
+pub read_front : (front back : List (List ℕ)) (regexes : List Regex) → AreReadFrom (front ++ back) regexes
+    → AreReadFrom front (take (length front) regexes)
 read_front [] back regexes h = tt
 read_front (pattern ∷ front) back [] h = absurd h
 read_front (pattern ∷ front) back (regex ∷ regexes) h = (h.0, read_front front back regexes h.1)
 
-pub read_back : (front back : List (List ℕ)) (regexes : List Regex) → AreReadFrom (front ++ back) regexes → AreReadFrom back (drop (length front) regexes)
+pub read_back : (front back : List (List ℕ)) (regexes : List Regex) → AreReadFrom (front ++ back) regexes
+    → AreReadFrom back (drop (length front) regexes)
 read_back [] back regexes h = h
 read_back (pattern ∷ front) back [] h = absurd h
 read_back (pattern ∷ front) back (regex ∷ regexes) h = read_back front back regexes h.1
 
-pub read_front_fits : (front back : List (List ℕ)) (regexes : List Regex) → AreReadFrom (front ++ back) regexes → length front ≤ length regexes
+pub read_front_fits : (front back : List (List ℕ)) (regexes : List Regex) → AreReadFrom (front ++ back) regexes
+    → length front ≤ length regexes
 read_front_fits front back regexes h = omega (arith, read_length (front ++ back) regexes h, length-append front back)
 
-pub read_alone : (pattern : List ℕ) (regex : Regex) (regexes : List Regex) → AreReadFrom (pattern ∷ []) (regex ∷ regexes) → IsReadFrom pattern regex
+pub read_alone : (pattern : List ℕ) (regex : Regex) (regexes : List Regex)
+    → AreReadFrom (pattern ∷ []) (regex ∷ regexes) → IsReadFrom pattern regex
 read_alone pattern regex regexes h = h.0

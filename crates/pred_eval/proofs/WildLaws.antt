@@ -27,8 +27,15 @@ or_parts false b e f = absurd (true≢false (sym e ∙ f))
 pub somewhere : (test : List ℕ → Bool) (text : List ℕ) → list_any test (tails text) ≡ true → PassesSomewhere test text
 somewhere test [] e = record { front = []; rest = []; parts = refl; passes = or_parts (test []) false e refl }
 somewhere test (byte ∷ text) e = elim (cases_Bool (list_any test (tails text))) [
-  | inl later ↦ let s = somewhere test text later in record { front = byte ∷ s.front; rest = s.rest; parts = ap (λ t. byte ∷ t) s.parts; passes = s.passes }
-  | inr none ↦ record { front = []; rest = byte ∷ text; parts = refl; passes = or_parts (test (byte ∷ text)) (list_any test (tails text)) e none }
+  | inl later ↦
+      let s = somewhere test text later in
+      record { front = byte ∷ s.front; rest = s.rest; parts = ap (λ t. byte ∷ t) s.parts; passes = s.passes }
+  | inr none ↦ record {
+    front = [];
+    rest = byte ∷ text;
+    parts = refl;
+    passes = or_parts (test (byte ∷ text)) (list_any test (tails text)) e none;
+  }
 ]
 
 or_first : (a b : Bool) → a ≡ true → (a || b) ≡ true
@@ -43,12 +50,15 @@ any_here : (test : List ℕ → Bool) (rest : List ℕ) → test rest ≡ true �
 any_here test [] e = or_first (test []) false e
 any_here test (byte ∷ rest) e = or_first (test (byte ∷ rest)) (list_any test (tails rest)) e
 
-any_following : (test : List ℕ → Bool) (front rest : List ℕ) → test rest ≡ true → list_any test (tails (front ++ rest)) ≡ true
+any_following : (test : List ℕ → Bool) (front rest : List ℕ) → test rest ≡ true
+    → list_any test (tails (front ++ rest)) ≡ true
 any_following test [] rest e = any_here test rest e
-any_following test (byte ∷ front) rest e = or_second (test (byte ∷ (front ++ rest))) (list_any test (tails (front ++ rest))) (any_following test front rest e)
+any_following test (byte ∷ front) rest e =
+    or_second (test (byte ∷ (front ++ rest))) (list_any test (tails (front ++ rest))) (any_following test front rest e)
 
 pub any_tail : (test : List ℕ → Bool) (text : List ℕ) → PassesSomewhere test text → list_any test (tails text) ≡ true
-any_tail test text s = subst (λ t. list_any test (tails t) ≡ true) (sym s.parts) (any_following test s.front s.rest s.passes)
+any_tail test text s =
+    subst (λ t. list_any test (tails t) ≡ true) (sym s.parts) (any_following test s.front s.rest s.passes)
 
 -- ---- the test is the relation
 
@@ -57,7 +67,8 @@ nothing_is_nil [] e = refl
 nothing_is_nil (byte ∷ text) e = absurd (true≢false (sym e))
 
 -- the byte, and what is left after it
-pub byte_before : (byte : ℕ) (test : List ℕ → Bool) (text : List ℕ) → is_byte_before byte test text ≡ true → (rest : List ℕ) × (text ≡ byte ∷ rest) × (test rest ≡ true)
+pub byte_before : (byte : ℕ) (test : List ℕ → Bool) (text : List ℕ) → is_byte_before byte test text ≡ true
+    → (rest : List ℕ) × (text ≡ byte ∷ rest) × (test rest ≡ true)
 byte_before byte test [] e = absurd (true≢false (sym e))
 byte_before byte test (first ∷ text) e =
     let both = and_parts (first == byte) (test text) e in
@@ -66,11 +77,13 @@ byte_before byte test (first ∷ text) e =
 before_byte : (byte : ℕ) (test : List ℕ → Bool) (rest : List ℕ) → is_byte_before byte test (byte ∷ rest) ≡ test rest
 before_byte byte test rest = ap (λ b. b && test rest) (eq-eqb byte byte refl)
 
-joined_more : (byte : ℕ) (first : List ℕ) (later : List (List ℕ)) (text : List ℕ) → IsJoined first later text → IsJoined (byte ∷ first) later (byte ∷ text)
+joined_more : (byte : ℕ) (first : List ℕ) (later : List (List ℕ)) (text : List ℕ) → IsJoined first later text
+    → IsJoined (byte ∷ first) later (byte ∷ text)
 joined_more byte first [] text e = ap (λ t. byte ∷ t) e
 joined_more byte first (next ∷ later) text j = (j.0, j.1, ap (λ t. byte ∷ t) j.2, j.3)
 
-joined_less : (byte : ℕ) (first : List ℕ) (later : List (List ℕ)) (text : List ℕ) → IsJoined (byte ∷ first) later text → (rest : List ℕ) × (text ≡ byte ∷ rest) × IsJoined first later rest
+joined_less : (byte : ℕ) (first : List ℕ) (later : List (List ℕ)) (text : List ℕ) → IsJoined (byte ∷ first) later text
+    → (rest : List ℕ) × (text ≡ byte ∷ rest) × IsJoined first later rest
 joined_less byte first [] text e = (first, e, refl)
 joined_less byte first (next ∷ later) text j = (first ++ (j.0 ++ j.1), j.2, (j.0, j.1, refl, j.3))
 
@@ -79,23 +92,30 @@ Joins parts text = IsJoined parts.first parts.later text
 
 module _ (byte : ℕ) (pattern : List ℕ) where
   abbrev more : Bool → Parts
-  more is_any = cond is_any (record { first = []; later = (parts_of pattern).first ∷ (parts_of pattern).later }) (record { first = byte ∷ (parts_of pattern).first; later = (parts_of pattern).later })
+  more is_any =
+      cond is_any (record { first = []; later = (parts_of pattern).first ∷ (parts_of pattern).later })
+      (record { first = byte ∷ (parts_of pattern).first; later = (parts_of pattern).later })
 
   abbrev step : Bool → List ℕ → Bool
   step is_any text = cond is_any (list_any (is_wild pattern) (tails text)) (is_byte_before byte (is_wild pattern) text)
 
-  step_forth : ((text : List ℕ) → is_wild pattern text ≡ true → IsWild pattern text) → (is_any : Bool) (text : List ℕ) → step is_any text ≡ true → Joins (more is_any) text
-  step_forth ih true text e = let s = somewhere (is_wild pattern) text e in (s.front, s.rest, s.parts, ih s.rest s.passes)
+  step_forth : ((text : List ℕ) → is_wild pattern text ≡ true → IsWild pattern text) → (is_any : Bool) (text : List ℕ)
+      → step is_any text ≡ true → Joins (more is_any) text
+  step_forth ih true text e =
+      let s = somewhere (is_wild pattern) text e in (s.front, s.rest, s.parts, ih s.rest s.passes)
   step_forth ih false text e =
       let b = byte_before byte (is_wild pattern) text e in
       subst (IsJoined (byte ∷ (parts_of pattern).first) (parts_of pattern).later) (sym b.1)
       (joined_more byte (parts_of pattern).first (parts_of pattern).later b.0 (ih b.0 b.2))
 
-  step_back : ((text : List ℕ) → IsWild pattern text → is_wild pattern text ≡ true) → (is_any : Bool) (text : List ℕ) → Joins (more is_any) text → step is_any text ≡ true
-  step_back ih true text j = any_tail (is_wild pattern) text (record { front = j.0; rest = j.1; parts = j.2; passes = ih j.1 j.3 })
+  step_back : ((text : List ℕ) → IsWild pattern text → is_wild pattern text ≡ true) → (is_any : Bool) (text : List ℕ)
+      → Joins (more is_any) text → step is_any text ≡ true
+  step_back ih true text j =
+      any_tail (is_wild pattern) text (record { front = j.0; rest = j.1; parts = j.2; passes = ih j.1 j.3 })
   step_back ih false text j =
       let b = joined_less byte (parts_of pattern).first (parts_of pattern).later text j in
-      subst (λ t. is_byte_before byte (is_wild pattern) t ≡ true) (sym b.1) (before_byte byte (is_wild pattern) b.0 ∙ ih b.0 b.2)
+      subst (λ t. is_byte_before byte (is_wild pattern) t ≡ true) (sym b.1)
+      (before_byte byte (is_wild pattern) b.0 ∙ ih b.0 b.2)
 
 wild_forth : (pattern text : List ℕ) → is_wild pattern text ≡ true → IsWild pattern text
 wild_forth [] text e = nothing_is_nil text e
@@ -114,21 +134,26 @@ pub data IsPlain : List ℕ → Type 0 where
   nothing : IsPlain []
   one_more : (byte : ℕ) (part : List ℕ) → (byte == percent) ≡ false → IsPlain part → IsPlain (byte ∷ part)
 
-byte_is_itself : (byte : ℕ) (pattern : List ℕ) → (byte == percent) ≡ false → (text : List ℕ) → is_wild (byte ∷ pattern) text ≡ is_byte_before byte (is_wild pattern) text
+byte_is_itself : (byte : ℕ) (pattern : List ℕ) → (byte == percent) ≡ false → (text : List ℕ)
+    → is_wild (byte ∷ pattern) text ≡ is_byte_before byte (is_wild pattern) text
 byte_is_itself byte pattern e text = ap (λ b. step byte pattern b text) e
 
 -- a text that matches begins with the plain part
-pub plain_front : (part : List ℕ) → IsPlain part → (pattern text : List ℕ) → is_wild (part ++ pattern) text ≡ true → (rest : List ℕ) × (text ≡ part ++ rest) × (is_wild pattern rest ≡ true)
+pub plain_front : (part : List ℕ) → IsPlain part → (pattern text : List ℕ) → is_wild (part ++ pattern) text ≡ true
+    → (rest : List ℕ) × (text ≡ part ++ rest) × (is_wild pattern rest ≡ true)
 plain_front [] plain pattern text e = (text, refl, e)
 plain_front (byte ∷ part) (one_more _ _ other plain) pattern text e =
-    let b = byte_before byte (is_wild (part ++ pattern)) text (sym (byte_is_itself byte (part ++ pattern) other text) ∙ e) in
+    let b =
+    byte_before byte (is_wild (part ++ pattern)) text (sym (byte_is_itself byte (part ++ pattern) other text) ∙ e) in
     let r = plain_front part plain pattern b.0 b.2 in
     (r.0, b.1 ∙ ap (λ t. byte ∷ t) r.1, r.2)
 
-pub following_plain : (part : List ℕ) → IsPlain part → (pattern rest : List ℕ) → is_wild pattern rest ≡ true → is_wild (part ++ pattern) (part ++ rest) ≡ true
+pub following_plain : (part : List ℕ) → IsPlain part → (pattern rest : List ℕ) → is_wild pattern rest ≡ true
+    → is_wild (part ++ pattern) (part ++ rest) ≡ true
 following_plain [] plain pattern rest e = e
 following_plain (byte ∷ part) (one_more _ _ other plain) pattern rest e =
-    byte_is_itself byte (part ++ pattern) other (byte ∷ (part ++ rest)) ∙ before_byte byte (is_wild (part ++ pattern)) (part ++ rest)
+    byte_is_itself byte (part ++ pattern) other (byte ∷ (part ++ rest))
+    ∙ before_byte byte (is_wild (part ++ pattern)) (part ++ rest)
     ∙ following_plain part plain pattern rest e
 
 -- ---- what the code does with a part
@@ -143,7 +168,8 @@ plain_is_equal part plain text =
     let r = plain_front part plain [] text (subst (λ p. is_wild p text ≡ true) (sym (append-nil part)) wild) in
     d.1 (sym (r.1 ∙ ap (λ t. part ++ t) (nothing_is_nil r.0 r.2) ∙ append-nil part)))
 
-pub front_taken : (part : List ℕ) → IsPlain part → (pattern rest : List ℕ) → is_wild pattern rest ≡ is_wild (part ++ pattern) (part ++ rest)
+pub front_taken : (part : List ℕ) → IsPlain part → (pattern rest : List ℕ)
+    → is_wild pattern rest ≡ is_wild (part ++ pattern) (part ++ rest)
 front_taken part plain pattern rest =
     both_ways (is_wild pattern rest) (is_wild (part ++ pattern) (part ++ rest))
     (following_plain part plain pattern rest)
@@ -151,12 +177,14 @@ front_taken part plain pattern rest =
     let r = plain_front part plain pattern (part ++ rest) e in
     subst (λ t. is_wild pattern t ≡ true) (append_cancel_left part r.0 rest (sym r.1)) r.2)
 
-pub no_front : (part : List ℕ) → IsPlain part → (pattern text : List ℕ) → ((rest : List ℕ) → text ≡ part ++ rest → ⊥) → is_wild (part ++ pattern) text ≡ false
+pub no_front : (part : List ℕ) → IsPlain part → (pattern text : List ℕ) → ((rest : List ℕ) → text ≡ part ++ rest → ⊥)
+    → is_wild (part ++ pattern) text ≡ false
 no_front part plain pattern text none = false_from_ne_true (is_wild (part ++ pattern) text) (λ e.
     let r = plain_front part plain pattern text e in none r.0 r.1)
 
 -- the text ends with a plain part
-pub plain_end : (part : List ℕ) → IsPlain part → (text : List ℕ) (answer : Bool) → (answer ≡ true → (front : List ℕ) × (text ≡ front ++ part)) →
+pub plain_end : (part : List ℕ) → IsPlain part → (text : List ℕ) (answer : Bool) →
+    (answer ≡ true → (front : List ℕ) × (text ≡ front ++ part)) →
     ((front : List ℕ) → text ≡ front ++ part → answer ≡ true) → answer ≡ is_wild (percent ∷ part) text
 plain_end part plain text answer ends ended =
     both_ways answer (is_wild (percent ∷ part) text)
@@ -168,7 +196,8 @@ plain_end part plain text answer ends ended =
     }))
     (λ e.
     let s = somewhere (is_wild part) text e in
-    ended s.front (s.parts ∙ ap (λ t. s.front ++ t) (sym ((bytes_eq-Decides part s.rest).0 (plain_is_equal part plain s.rest ∙ s.passes)))))
+    ended s.front (s.parts
+    ∙ ap (λ t. s.front ++ t) (sym ((bytes_eq-Decides part s.rest).0 (plain_is_equal part plain s.rest ∙ s.passes)))))
 
 occurs_following : (front part rest text : List ℕ) → text ≡ front ++ (part ++ rest) → OccursAt text part (length front)
 occurs_following front part rest text e =
@@ -178,36 +207,44 @@ occurs_following front part rest text e =
     (ap (take (length part)) (drop-append_seam front (part ++ rest)) ∙ take-append_seam part rest))
 
 -- a text that matches after a gap has the part at some place
-has_part : (part : List ℕ) → IsPlain part → (pattern text : List ℕ) → is_wild (percent ∷ (part ++ pattern)) text ≡ true →
+has_part : (part : List ℕ) → IsPlain part → (pattern text : List ℕ) →
+    is_wild (percent ∷ (part ++ pattern)) text ≡ true →
     (front : List ℕ) × (rest : List ℕ) × (text ≡ front ++ (part ++ rest)) × (is_wild pattern rest ≡ true)
 has_part part plain pattern text e =
     let s = somewhere (is_wild (part ++ pattern)) text e in
     let r = plain_front part plain pattern s.rest s.passes in
     (s.front, r.0, s.parts ∙ ap (λ t. s.front ++ t) r.1, r.2)
 
-pub no_place : (part : List ℕ) → IsPlain part → (pattern text : List ℕ) → ((k : ℕ) → k < length text + 1 → OccursAt text part k → ⊥) → is_wild (percent ∷ (part ++ pattern)) text ≡ false
+pub no_place : (part : List ℕ) → IsPlain part → (pattern text : List ℕ)
+    → ((k : ℕ) → k < length text + 1 → OccursAt text part k → ⊥) → is_wild (percent ∷ (part ++ pattern)) text ≡ false
 no_place part plain pattern text none = false_from_ne_true (is_wild (percent ∷ (part ++ pattern)) text) (λ e.
     let h = has_part part plain pattern text e in
-    none (length h.0) (omega (arith, ap length h.2, length-append h.0 (part ++ h.1))) (occurs_following h.0 part h.1 text h.2))
+    none (length h.0) (omega (arith, ap length h.2, length-append h.0 (part ++ h.1)))
+    (occurs_following h.0 part h.1 text h.2))
 
 drop_front : (front rest : List ℕ) (n : ℕ) → length front ≡ n → drop n (front ++ rest) ≡ rest
 drop_front front rest n e = subst (λ k. drop k (front ++ rest) ≡ rest) e (drop-append_seam front rest)
 
 -- Nothing is lost where the part is taken at its first place: what is left there ends in what is left at any other.
-pub first_place : (part : List ℕ) → IsPlain part → (pattern text : List ℕ) (place : ℕ) → OccursAt text part place → ((k : ℕ) → k < place → OccursAt text part k → ⊥) →
-    is_wild (percent ∷ pattern) (drop (place + length part) text) ≡ is_wild (percent ∷ (part ++ (percent ∷ pattern))) text
+pub first_place : (part : List ℕ) → IsPlain part → (pattern text : List ℕ) (place : ℕ) → OccursAt text part place →
+    ((k : ℕ) → k < place → OccursAt text part k → ⊥) →
+    is_wild (percent ∷ pattern) (drop (place + length part) text)
+    ≡ is_wild (percent ∷ (part ++ (percent ∷ pattern))) text
 first_place part plain pattern text place occurs before =
     let later = drop (place + length part) text in
     both_ways (is_wild (percent ∷ pattern) later) (is_wild (percent ∷ (part ++ (percent ∷ pattern))) text)
     (λ e. any_tail (is_wild (part ++ (percent ∷ pattern))) text (record {
       front = take place text;
       rest = part ++ later;
-      parts = sym (take-append-drop place text) ∙ ap (λ t. take place text ++ t) (OccursAt-split text part place occurs);
+      parts =
+          sym (take-append-drop place text) ∙ ap (λ t. take place text ++ t) (OccursAt-split text part place occurs);
       passes = following_plain part plain (percent ∷ pattern) later e;
     }))
     (λ e.
     let h = has_part part plain (percent ∷ pattern) text e in
-    let from : place ≤ length h.0 = ⊎_elim (λ (lt : length h.0 < place). absurd (before (length h.0) lt (occurs_following h.0 part h.1 text h.2))) (λ (ge : place ≤ length h.0). ge) (cases_lt (length h.0) place) in
+    let from : place ≤ length h.0 =
+    ⊎_elim (λ (lt : length h.0 < place). absurd (before (length h.0) lt (occurs_following h.0 part h.1 text h.2)))
+    (λ (ge : place ≤ length h.0). ge) (cases_lt (length h.0) place) in
     let s = somewhere (is_wild pattern) h.1 h.3 in
     let all : text ≡ (h.0 ++ part) ++ h.1 = h.2 ∙ sym (append_assoc h.0 part h.1) in
     let gap = length h.0 - place in
@@ -218,13 +255,16 @@ first_place part plain pattern text place occurs before =
     any_tail (is_wild pattern) later (record {
       front = take gap later ++ s.front;
       rest = s.rest;
-      parts = sym (take-append-drop gap later) ∙ ap (λ t. take gap later ++ t) (left ∙ s.parts) ∙ sym (append_assoc (take gap later) s.front s.rest);
+      parts =
+          sym (take-append-drop gap later) ∙ ap (λ t. take gap later ++ t) (left ∙ s.parts)
+          ∙ sym (append_assoc (take gap later) s.front s.rest);
       passes = s.passes;
     }))
 
 -- ---- the same, as the code has it
 
-plain_before : (pattern : List ℕ) (at : ℕ) → at ≤ length pattern → ((k : ℕ) → k < at → (slice_index pattern k == percent) ≡ true → ⊥) → IsPlain (take at pattern)
+plain_before : (pattern : List ℕ) (at : ℕ) → at ≤ length pattern
+    → ((k : ℕ) → k < at → (slice_index pattern k == percent) ≡ true → ⊥) → IsPlain (take at pattern)
 plain_before pattern zero le none = nothing
 plain_before [] (suc at) le none = absurd (omega arith)
 plain_before (byte ∷ pattern) (suc at) le none =
@@ -243,48 +283,64 @@ abbrev pub part_following : ℕ → ℕ → List ℕ → List ℕ
 part_following m n bytes = let found = take (length bytes - m) (drop m bytes) in take (length found - n) (drop n found)
 
 following_both : (m n : ℕ) (bytes : List ℕ) → part_following m n bytes ≡ drop (m + n) bytes
-following_both m n bytes = ap (λ found. take (length found - n) (drop n found)) (following m bytes) ∙ following n (drop m bytes) ∙ drop-drop n m bytes
+following_both m n bytes =
+    ap (λ found. take (length found - n) (drop n found)) (following m bytes) ∙ following n (drop m bytes)
+    ∙ drop-drop n m bytes
 
-module _ (pattern : List ℕ) (at : ℕ) (first : NoneBefore (Passes (is_byte percent) pattern) 0 (length pattern) at) (here : Passes (is_byte percent) pattern at) where
+module _ (pattern : List ℕ) (at : ℕ) (first : NoneBefore (Passes (is_byte percent) pattern) 0 (length pattern) at)
+    (here : Passes (is_byte percent) pattern at) where
   plain : IsPlain (take at pattern)
   plain = plain_before pattern at (omega (arith, first.high)) (λ k lt. first.before k (omega arith) lt)
 
   whole : take at pattern ++ (percent ∷ drop (at + 1) pattern) ≡ pattern
   whole =
-      ap (λ t. take at pattern ++ t) (ap (λ b. b ∷ drop (at + 1) pattern) (sym (eqb-true (slice_index pattern at) percent here)) ∙ sym (drop_more pattern at 0 first.high))
+      ap (λ t. take at pattern ++ t)
+      (ap (λ b. b ∷ drop (at + 1) pattern) (sym (eqb-true (slice_index pattern at) percent here))
+      ∙ sym (drop_more pattern at 0 first.high))
       ∙ take-append-drop at pattern
 
-  pub begins_so : (text rest : List ℕ) → text ≡ take at pattern ++ rest → is_wild (percent ∷ take (length pattern - (at + 1)) (drop (at + 1) pattern)) rest ≡ is_wild pattern text
+  pub begins_so : (text rest : List ℕ) → text ≡ take at pattern ++ rest
+      → is_wild (percent ∷ take (length pattern - (at + 1)) (drop (at + 1) pattern)) rest ≡ is_wild pattern text
   begins_so text rest e =
-      ap (λ p. is_wild (percent ∷ p) rest) (following (at + 1) pattern) ∙ front_taken (take at pattern) plain (percent ∷ drop (at + 1) pattern) rest
+      ap (λ p. is_wild (percent ∷ p) rest) (following (at + 1) pattern)
+      ∙ front_taken (take at pattern) plain (percent ∷ drop (at + 1) pattern) rest
       ∙ ap (λ p. is_wild p (take at pattern ++ rest)) whole ∙ ap (is_wild pattern) (sym e)
 
-  pub begins_otherwise : (text : List ℕ) → ((rest : List ℕ) → text ≡ take at pattern ++ rest → ⊥) → false ≡ is_wild pattern text
+  pub begins_otherwise : (text : List ℕ) → ((rest : List ℕ) → text ≡ take at pattern ++ rest → ⊥)
+      → false ≡ is_wild pattern text
   begins_otherwise text none =
-      sym (no_front (take at pattern) plain (percent ∷ drop (at + 1) pattern) text none) ∙ ap (λ p. is_wild p text) whole
+      sym (no_front (take at pattern) plain (percent ∷ drop (at + 1) pattern) text none)
+      ∙ ap (λ p. is_wild p text) whole
 
   length_of_part : length (take at pattern) ≡ at
   length_of_part = length-take-le at pattern (omega (arith, first.high))
 
-  goes_on_from : (text : List ℕ) (place : ℕ) → NoneBefore (OccursAt text (take at pattern)) 0 (length text + 1) place → OccursAt text (take at pattern) place →
+  goes_on_from : (text : List ℕ) (place : ℕ) → NoneBefore (OccursAt text (take at pattern)) 0 (length text + 1) place →
+      OccursAt text (take at pattern) place →
       is_wild (percent ∷ drop (at + 1) pattern) (drop (place + at) text) ≡ is_wild (percent ∷ pattern) text
   goes_on_from text place found occurs =
       ap (λ n. is_wild (percent ∷ drop (at + 1) pattern) (drop (place + n) text)) (sym length_of_part)
-      ∙ first_place (take at pattern) plain (drop (at + 1) pattern) text place occurs (λ k lt. found.before k (omega arith) lt)
+      ∙ first_place (take at pattern) plain (drop (at + 1) pattern) text place occurs
+      (λ k lt. found.before k (omega arith) lt)
       ∙ ap (λ p. is_wild (percent ∷ p) text) whole
 
   pub fits : (text : List ℕ) (place : ℕ) → OccursAt text (take at pattern) place → place + at ≤ length text
   fits text place occurs = omega (arith, occurs.fits, length_of_part)
 
-  pub goes_on : (text : List ℕ) (place : ℕ) → NoneBefore (OccursAt text (take at pattern)) 0 (length text + 1) place → OccursAt text (take at pattern) place →
+  pub goes_on : (text : List ℕ) (place : ℕ) → NoneBefore (OccursAt text (take at pattern)) 0 (length text + 1) place →
+      OccursAt text (take at pattern) place →
       is_wild (percent ∷ part_following at 1 pattern) (part_following place at text) ≡ is_wild (percent ∷ pattern) text
   goes_on text place found occurs =
-      ap₂ (λ p t. is_wild (percent ∷ p) t) (following_both at 1 pattern) (following_both place at text) ∙ goes_on_from text place found occurs
+      ap₂ (λ p t. is_wild (percent ∷ p) t) (following_both at 1 pattern) (following_both place at text)
+      ∙ goes_on_from text place found occurs
 
-  pub fits_following : (text : List ℕ) (place : ℕ) → OccursAt text (take at pattern) place → at ≤ length (take (length text - place) (drop place text))
-  fits_following text place occurs = omega (arith, fits text place occurs, ap length (following place text), length-drop place text)
+  pub fits_following : (text : List ℕ) (place : ℕ) → OccursAt text (take at pattern) place
+      → at ≤ length (take (length text - place) (drop place text))
+  fits_following text place occurs =
+      omega (arith, fits text place occurs, ap length (following place text), length-drop place text)
 
-  pub is_nowhere : (text : List ℕ) → Nowhere (OccursAt text (take at pattern)) 0 (length text + 1) → false ≡ is_wild (percent ∷ pattern) text
+  pub is_nowhere : (text : List ℕ) → Nowhere (OccursAt text (take at pattern)) 0 (length text + 1)
+      → false ≡ is_wild (percent ∷ pattern) text
   is_nowhere text none =
       sym (no_place (take at pattern) plain (percent ∷ drop (at + 1) pattern) text (λ k lt. none k (omega arith) lt))
       ∙ ap (λ p. is_wild (percent ∷ p) text) whole

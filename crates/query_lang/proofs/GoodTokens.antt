@@ -39,7 +39,8 @@ abbrev GoodToken : Option Token → Type 0
 GoodToken None = Unit {0}
 GoodToken (Some t) = Good t
 
-good_if : (test : Bool) (x y : Option (Token × List ℕ)) → (test ≡ true → GoodFound x) → GoodFound y → GoodFound (cond test x y)
+good_if : (test : Bool) (x y : Option (Token × List ℕ)) → (test ≡ true → GoodFound x) → GoodFound y
+    → GoodFound (cond test x y)
 good_if true x y first second = first refl
 good_if false x y first second = second
 
@@ -50,22 +51,30 @@ token_if false x y first second = second
 words_good : (name : List ℕ) → GoodToken (word_of name)
 unfolding word_of
 words_good name =
-    token_if (bytes_eq name (codes "and")) (Some token.And) _ tt (token_if (bytes_eq name (codes "or")) (Some token.Or) _ tt (token_if (bytes_eq name (codes "not")) (Some token.Not) _ tt
-    (token_if (bytes_eq name (codes "true")) (Some token.True) _ tt (token_if (bytes_eq name (codes "false")) (Some token.False) _ tt (token_if (bytes_eq name (codes "nil")) (Some token.Nil) _ tt
+    token_if (bytes_eq name (codes "and")) (Some token.And) _ tt
+    (token_if (bytes_eq name (codes "or")) (Some token.Or) _ tt
+    (token_if (bytes_eq name (codes "not")) (Some token.Not) _ tt
+    (token_if (bytes_eq name (codes "true")) (Some token.True) _ tt
+    (token_if (bytes_eq name (codes "false")) (Some token.False) _ tt
+    (token_if (bytes_eq name (codes "nil")) (Some token.Nil) _ tt
     (token_if (bytes_eq name (codes "tagged")) (Some token.Tagged) None tt tt))))))
 
-name_or_word : (name : List ℕ) (first : ℕ) (more : List ℕ) → name ≡ first ∷ more → is_name_start first ≡ true → AllPassing is_name_byte name
+name_or_word : (name : List ℕ) (first : ℕ) (more : List ℕ) → name ≡ first ∷ more → is_name_start first ≡ true
+    → AllPassing is_name_byte name
     → (found : Option Token) → word_of name ≡ found → GoodToken found → Good (unwrap_or found (token.Name name))
-name_or_word name first more is starts passes None plain good = record { first = first; more = more; name_is = is; starts = starts; passes = passes; plain = plain }
+name_or_word name first more is starts passes None plain good =
+    record { first = first; more = more; name_is = is; starts = starts; passes = passes; plain = plain }
 name_or_word name first more is starts passes (Some word) plain good = good
 
 name_good : (b : ℕ) (bytes : List ℕ) → is_name_start b ≡ true → Good (name_at (b ∷ bytes)).0
 unfolding name_at
 name_good b bytes starts =
-    let size : prefix_len is_name_byte (b ∷ bytes) ≡ suc (prefix_len is_name_byte bytes) = rw (start_is_name_byte b starts) (one-add (prefix_len is_name_byte bytes)) in
+    let size : prefix_len is_name_byte (b ∷ bytes) ≡ suc (prefix_len is_name_byte bytes) =
+    rw (start_is_name_byte b starts) (one-add (prefix_len is_name_byte bytes)) in
     let name = take (prefix_len is_name_byte (b ∷ bytes)) (b ∷ bytes) in
     let is : name ≡ b ∷ take (prefix_len is_name_byte bytes) bytes = ap (λ (n : ℕ). take n (b ∷ bytes)) size in
-    name_or_word name b (take (prefix_len is_name_byte bytes) bytes) is starts (run_passes is_name_byte (b ∷ bytes)) (word_of name) refl (words_good name)
+    name_or_word name b (take (prefix_len is_name_byte bytes) bytes) is starts (run_passes is_name_byte (b ∷ bytes))
+    (word_of name) refl (words_good name)
 
 abbrev FitsFound : Option ℤ → Type 0
 FitsFound None = Unit {0}
@@ -93,26 +102,32 @@ numbers_fit : (literal : List ℕ) → FitsFound (number_of literal)
 unfolding number_of
 numbers_fit [] = tt
 numbers_fit (b ∷ digits) =
-    fits_either (eqb b 45) _ _ (fits_if _ _ (λ is. negative_fits (digits_value 10 digits) (test_le (length digits) (digits_value 10 digits) is)))
+    fits_either (eqb b 45) _ _
+    (fits_if _ _ (λ is. negative_fits (digits_value 10 digits) (test_le (length digits) (digits_value 10 digits) is)))
     (fits_if _ _ (λ is. test_lt (digits_value 10 (b ∷ digits)) is))
 
-number_good : (rest : List ℕ) (number : Option ℤ) → FitsFound number → GoodFound (option_map (λ number. (token.Number number, rest)) number)
+number_good : (rest : List ℕ) (number : Option ℤ) → FitsFound number
+    → GoodFound (option_map (λ number. (token.Number number, rest)) number)
 number_good rest None fits = tt
 number_good rest (Some number) fits = fits
 
-string_good : (found : Option (List ℕ × List ℕ)) → GoodFound (option_and_then (λ found. cond (is_utf8 found.0) (Some (token.Quoted found.0, found.1)) None) found)
+string_good : (found : Option (List ℕ × List ℕ))
+    → GoodFound (option_and_then (λ found. cond (is_utf8 found.0) (Some (token.Quoted found.0, found.1)) None) found)
 string_good None = tt
 string_good (Some found) = good_if (is_utf8 found.0) (Some (token.Quoted found.0, found.1)) None (λ utf8. utf8) tt
 
-with_rest_good : (rest : List ℕ) (found : Option Token) → GoodToken found → GoodFound (option_map (λ token. (token, rest)) found)
+with_rest_good : (rest : List ℕ) (found : Option Token) → GoodToken found
+    → GoodFound (option_map (λ token. (token, rest)) found)
 with_rest_good rest None good = tt
 with_rest_good rest (Some t) good = good
 
 short_good : (b : ℕ) → GoodToken (short_symbol b)
 unfolding short_symbol
 short_good b =
-    token_if (eqb b 40) (Some token.Open) _ tt (token_if (eqb b 41) (Some token.Close) _ tt (token_if (eqb b 61) (Some (token.Operator operator.Equal)) _ tt
-    (token_if (eqb b 60) (Some (token.Operator (operator.Order Less))) _ tt (token_if (eqb b 62) (Some (token.Operator (operator.Order Greater))) None tt tt))))
+    token_if (eqb b 40) (Some token.Open) _ tt
+    (token_if (eqb b 41) (Some token.Close) _ tt (token_if (eqb b 61) (Some (token.Operator operator.Equal)) _ tt
+    (token_if (eqb b 60) (Some (token.Operator (operator.Order Less))) _ tt
+    (token_if (eqb b 62) (Some (token.Operator (operator.Order Greater))) None tt tt))))
 
 long_good : (b c : ℕ) → GoodToken (long_symbol b c)
 unfolding long_symbol
@@ -123,7 +138,8 @@ long_good b c =
     (token_if (eqb b 61 && eqb c 126) (Some (token.Operator operator.Wild)) _ tt
     (token_if (eqb b 126 && eqb c 61) (Some (token.Operator operator.Search)) None tt tt))))
 
-or_short_good : (b : ℕ) (bytes rest : List ℕ) (found : Option Token) → GoodToken found → GoodFound (or_short b bytes (option_map (λ token. (token, rest)) found))
+or_short_good : (b : ℕ) (bytes rest : List ℕ) (found : Option Token) → GoodToken found
+    → GoodFound (or_short b bytes (option_map (λ token. (token, rest)) found))
 or_short_good b bytes rest None good = with_rest_good bytes (short_symbol b) (short_good b)
 or_short_good b bytes rest (Some t) good = good
 
@@ -137,7 +153,8 @@ unfolding token_at number_at string_at
 token_good [] = tt
 token_good (b ∷ bytes) =
     good_if (is_name_start b) _ _ (λ starts. name_good b bytes starts)
-    (good_if (is_number_start b) _ _ (λ _. good_if (goes_on (drop (1 + prefix_len is_ascii_digit bytes) (b ∷ bytes))) None _ (λ _. tt)
+    (good_if (is_number_start b) _ _
+    (λ _. good_if (goes_on (drop (1 + prefix_len is_ascii_digit bytes) (b ∷ bytes))) None _ (λ _. tt)
     (number_good _ _ (numbers_fit (take (1 + prefix_len is_ascii_digit bytes) (b ∷ bytes)))))
     (good_if (eqb b 34) _ _ (λ _. string_good (quoted bytes)) (symbol_good (b ∷ bytes))))
 
@@ -147,8 +164,10 @@ AllGood (t ∷ tokens) = Good t × AllGood tokens
 
 pub tokens_good : (text : List ℕ) (tokens : List Token) (rest : List ℕ) → Begins text tokens rest → AllGood tokens
 tokens_good text [] rest begins = tt
-tokens_good text (t ∷ tokens) rest (after, read, begins) =
-    (subst (λ (found : Option (Token × List ℕ)). GoodFound found) read (token_good (past_blanks text)), tokens_good after tokens rest begins)
+tokens_good text (t ∷ tokens) rest (after, read, begins) = (
+  subst (λ (found : Option (Token × List ℕ)). GoodFound found) read (token_good (past_blanks text)),
+  tokens_good after tokens rest begins,
+)
 
 -- trees
 
@@ -200,9 +219,12 @@ means_or name (Some f) y first second = first
 protocol_means : (name : List ℕ) → Means name (protocol_field name)
 unfolding protocol_field
 protocol_means name =
-    means_if name (bytes_eq name (codes "host")) (Some field.Host) _ tt (means_if name (bytes_eq name (codes "service")) (Some field.Service) _ tt
-    (means_if name (bytes_eq name (codes "state")) (Some field.State) _ tt (means_if name (bytes_eq name (codes "description")) (Some field.Description) _ tt
-    (means_if name (bytes_eq name (codes "time")) (Some field.Time) _ tt (means_if name (bytes_eq name (codes "ttl")) (Some field.Ttl) _ tt
+    means_if name (bytes_eq name (codes "host")) (Some field.Host) _ tt
+    (means_if name (bytes_eq name (codes "service")) (Some field.Service) _ tt
+    (means_if name (bytes_eq name (codes "state")) (Some field.State) _ tt
+    (means_if name (bytes_eq name (codes "description")) (Some field.Description) _ tt
+    (means_if name (bytes_eq name (codes "time")) (Some field.Time) _ tt
+    (means_if name (bytes_eq name (codes "ttl")) (Some field.Ttl) _ tt
     (means_if name (bytes_eq name (codes "metric")) (Some field.Metric) None tt tt))))))
 
 field_means : (name : List ℕ) → Means name (named_field name)
@@ -214,8 +236,10 @@ field_means name =
 
 field_good : (name : List ℕ) (f : Field) → named_field name ≡ Some f → IsName name → GoodField f
 field_good name (field.Attribute key) is named =
-    let same : key ≡ name = subst (λ (found : Option Field). Means name found) is (field_means name) in
-    (subst (λ (text : List ℕ). IsName text) (sym same) named, subst (λ (text : List ℕ). named_field text ≡ Some (field.Attribute key)) (sym same) is)
+    let same : key ≡ name = subst (λ (found : Option Field). Means name found) is (field_means name) in (
+      subst (λ (text : List ℕ). IsName text) (sym same) named,
+      subst (λ (text : List ℕ). named_field text ≡ Some (field.Attribute key)) (sym same) is,
+    )
 field_good name f is named = tt
 
 abbrev GoodTest : Option Tree → Type 0
@@ -257,7 +281,8 @@ any_good (tree ∷ []) some good = good.0
 any_good (tree ∷ second ∷ trees) some good = (tt, listed_good (tree ∷ second ∷ trees) good)
 
 mutual
-  anys_good : {tokens rest : List Token} {trees : List Tree} → IsAny tokens trees rest → AllGood tokens → NonEmpty trees × GoodList trees × AllGood rest
+  anys_good : {tokens rest : List Token} {trees : List Tree} → IsAny tokens trees rest → AllGood tokens
+      → NonEmpty trees × GoodList trees × AllGood rest
   anys_good (one_alternative {parts = parts} all) good =
       let (some, trees, rest) = alls_good all good in
       (tt, (all_good parts some trees, tt), rest)
@@ -266,7 +291,8 @@ mutual
       let (others_some, others, rest) = anys_good any after.1 in
       (tt, (all_good parts some trees, others), rest)
 
-  alls_good : {tokens rest : List Token} {trees : List Tree} → IsAll tokens trees rest → AllGood tokens → NonEmpty trees × GoodList trees × AllGood rest
+  alls_good : {tokens rest : List Token} {trees : List Tree} → IsAll tokens trees rest → AllGood tokens
+      → NonEmpty trees × GoodList trees × AllGood rest
   alls_good (one_part one) good =
       let (tree, rest) = ones_good one good in
       (tt, (tree, tt), rest)
@@ -275,7 +301,8 @@ mutual
       let (some, trees, rest) = alls_good all after.1 in
       (tt, (tree, trees), rest)
 
-  ones_good : {tokens rest : List Token} {tree : Tree} → IsOne tokens tree rest → AllGood tokens → GoodTree tree × AllGood rest
+  ones_good : {tokens rest : List Token} {tree : Tree} → IsOne tokens tree rest → AllGood tokens
+      → GoodTree tree × AllGood rest
   ones_good (negated one) good = ones_good one good.1
   ones_good (grouped {trees = trees} any) good =
       let (some, all, rest) = anys_good any good.1 in
@@ -284,8 +311,12 @@ mutual
   ones_good never good = (tt, good.1)
   ones_good nothing good = (tt, good.1)
   ones_good tagged good = (good.1.0, good.1.1)
-  ones_good (test {name = name} {field = f} {operator = o} {literal = literal} is tested) good =
-      (subst (λ (found : Option Tree). GoodTest found) tested (test_good f o literal (field_good name f is good.0) good.1.1.0), good.1.1.1)
+  ones_good (test {name = name} {field = f} {operator = o} {literal = literal} is tested) good = (
+    subst (λ (found : Option Tree). GoodTest found) tested
+        (test_good f o literal (field_good name f is good.0) good.1.1.0),
+    good.1.1.1,
+  )
 
-pub query_good : (tokens : List Token) (trees : List Tree) → IsAny tokens trees [] → AllGood tokens → GoodTree (any_of trees)
+pub query_good : (tokens : List Token) (trees : List Tree) → IsAny tokens trees [] → AllGood tokens
+    → GoodTree (any_of trees)
 query_good tokens trees any good = let (some, all, rest) = anys_good any good in any_good trees some all

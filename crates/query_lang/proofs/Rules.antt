@@ -38,11 +38,19 @@ all_many [] many = refl
 all_many (rule ∷ []) many = absurd (many refl)
 all_many (rule ∷ second ∷ rules) many = refl
 
-pub any_rule : (parts : Vec Rule Global) (items : List Rule) → length items ≢ 1 → parts.items ≡ items → tree_of (code.Any parts) ≡ any_of (map tree_of items)
-any_rule parts items many same = any_listed parts ∙ subst (λ (rules : List Rule). Any (listed_items rules) ≡ any_of (map tree_of items)) (sym same) (any_many items many)
+pub any_rule : (parts : Vec Rule Global) (items : List Rule) → length items ≢ 1 → parts.items ≡ items
+    → tree_of (code.Any parts) ≡ any_of (map tree_of items)
+any_rule parts items many same =
+    any_listed parts
+    ∙ subst (λ (rules : List Rule). Any (listed_items rules) ≡ any_of (map tree_of items)) (sym same)
+    (any_many items many)
 
-pub all_rule : (parts : Vec Rule Global) (items : List Rule) → length items ≢ 1 → parts.items ≡ items → tree_of (code.All parts) ≡ all_of (map tree_of items)
-all_rule parts items many same = all_listed parts ∙ subst (λ (rules : List Rule). All (listed_items rules) ≡ all_of (map tree_of items)) (sym same) (all_many items many)
+pub all_rule : (parts : Vec Rule Global) (items : List Rule) → length items ≢ 1 → parts.items ≡ items
+    → tree_of (code.All parts) ≡ all_of (map tree_of items)
+all_rule parts items many same =
+    all_listed parts
+    ∙ subst (λ (rules : List Rule). All (listed_items rules) ≡ all_of (map tree_of items)) (sym same)
+    (all_many items many)
 
 pub any_only : (items : List Rule) (rule : Rule) → items ≡ rule ∷ [] → tree_of rule ≡ any_of (map tree_of items)
 any_only items rule same = subst (λ (rules : List Rule). tree_of rule ≡ any_of (map tree_of rules)) (sym same) refl

@@ -12,7 +12,8 @@ content_none bytes = refl
 pub content_all : (bytes : List ℕ) → flat_map escape (take (length bytes) bytes) ≡ flat_map escape bytes
 content_all bytes = ap (flat_map escape) (take-length bytes)
 
-pub content_more : (bytes : List ℕ) (i : ℕ) → i < length bytes → flat_map escape (take (i + 1) bytes) ≡ flat_map escape (take i bytes) ++ escape (get_or bytes i 0)
+pub content_more : (bytes : List ℕ) (i : ℕ) → i < length bytes
+    → flat_map escape (take (i + 1) bytes) ≡ flat_map escape (take i bytes) ++ escape (get_or bytes i 0)
 content_more bytes i inside =
     ap (flat_map escape) (take_more bytes i 0 inside) ∙ flat_map-append escape (take i bytes) (get_or bytes i 0 ∷ [])
     ∙ ap (λ (last : List ℕ). flat_map escape (take i bytes) ++ last) (append-nil (escape (get_or bytes i 0)))

@@ -15,8 +15,10 @@ returns-in-Ok-None c pattern of =
 pub returns-in-Ok-Some : goal.returns-in-Ok-Some
 returns-in-Ok-Some c pattern of =
     let cut : is_boundary c.args.text.now c.in-Ok-Some.start ≡ true =
-    test_of_IsCharBoundary c.args.text.now c.in-Ok-Some.start (c.is_char_boundary.ensures.test.0 c.if-is_char_boundary.true) in
+    test_of_IsCharBoundary c.args.text.now c.in-Ok-Some.start
+    (c.is_char_boundary.ensures.test.0 c.if-is_char_boundary.true) in
     ap is_some (sym c.in-Ok-Some.field-0-is)
     ∙ states_find pattern c.args.states.now of c.args.text.now (λ k. (c.type_inv.text k).fits) c.as_bytes.result.now _
     (sym c.as_bytes.ensures.value) (sym c.last_start-last.ensures) c.in-Ok-Some.field-0 c.in-Ok-Some.ensures.span
-    (λ s some. ap (λ (s : ℕ × ℕ). is_boundary c.args.text.now s.0) (same_Some _ _ (sym some ∙ c.in-Ok-Some.field-0-is)) ∙ ap (is_boundary c.args.text.now) (sym c.in-Ok-Some.start-is) ∙ cut)
+    (λ s some. ap (λ (s : ℕ × ℕ). is_boundary c.args.text.now s.0) (same_Some _ _ (sym some ∙ c.in-Ok-Some.field-0-is))
+    ∙ ap (is_boundary c.args.text.now) (sym c.in-Ok-Some.start-is) ∙ cut)

@@ -8,4 +8,5 @@ use Rattle.pred_eval.proofs.pred.+collect.Given as goal
 abbrev pub invariant-append_all-loop-rule : goal.invariant-append_all-loop-rule
 invariant-append_all-loop-rule l =
     IsPrefix (texts_of l.fn.texts.items) (texts_of l.texts.items)
-    × (texts_of l.texts.items ++ searches_of (trees_in (drop l.rule-index l.rules.items)) ≡ texts_of l.fn.texts.items ++ searches_of (trees_in l.rules.items))
+    × (texts_of l.texts.items ++ searches_of (trees_in (drop l.rule-index l.rules.items))
+    ≡ texts_of l.fn.texts.items ++ searches_of (trees_in l.rules.items))

@@ -6,6 +6,7 @@ use Rattle.pred_eval.proofs.truth.+count.Given as goal
 
 abbrev pub invariant-count_patterns-loop-rule : goal.invariant-count_patterns-loop-rule
 invariant-count_patterns-loop-rule l = record {
-  counted : min (l.count + length (searches_of (trees_in (drop l.rule-index l.rules.items)))) greatest ≡ min (length (searches_of (trees_in l.rules.items))) greatest;
+  counted : min (l.count + length (searches_of (trees_in (drop l.rule-index l.rules.items)))) greatest
+      ≡ min (length (searches_of (trees_in l.rules.items))) greatest;
   small : l.count ≤ greatest;
 }

@@ -9,7 +9,8 @@ tokens-init c = at_front _ _ _ c.past_blanks-rest.ensures c.fresh-parser.ensures
 pub returns-in_err-rest : goal.returns-in_err-rest
 returns-in_err-rest c =
     let p = err_from_is_err_and c.from_residual.result c.from_residual.ensures.1 in
-    rw (p.1, p.2) (so_far_err _ _ _ _ _ _ c.tokens.invariant c.is_empty.ensures c.tokens-test.true refl _ c.in_err-rest.ensures)
+    rw (p.1, p.2)
+    (so_far_err _ _ _ _ _ _ c.tokens.invariant c.is_empty.ensures c.tokens-test.true refl _ c.in_err-rest.ensures)
 
 pub tokens-smaller : goal.tokens-smaller
 tokens-smaller c = following_shorter _ _ _ _ _ c.in_ok-rest.ensures

@@ -6,4 +6,5 @@ use Rattle.query_lang.proofs.scan.read_text.Goals as goal
 
 pub returns-in-Err-Utf8 : goal.returns-in-Err-Utf8
 returns-in-Err-Utf8 c = λ _. no_text c.args.bytes.now c.in-Err-Utf8.field-0-0
-    (subst (λ (fault : TextFault). IsNoText c.args.bytes.now fault) c.in-Err-Utf8.field-0-is c.in-Err-Utf8.ensures.fault)
+    (subst (λ (fault : TextFault). IsNoText c.args.bytes.now fault) c.in-Err-Utf8.field-0-is
+    c.in-Err-Utf8.ensures.fault)

@@ -5,4 +5,5 @@ use Rattle.pred_eval.proofs.pred.Pred.asked_host.Goals as goal
 
 pub returns-clause-needs : goal.returns-clause-needs
 returns-clause-needs c =
-    subst (λ asked. IfSome asked (NeedsHost c.args.self.now)) (sym (c.asked_host.ensures ∙ ap asked_host c.self.view_is)) (needs_host c.args.self.now)
+    subst (λ asked. IfSome asked (NeedsHost c.args.self.now))
+    (sym (c.asked_host.ensures ∙ ap asked_host c.self.view_is)) (needs_host c.args.self.now)
