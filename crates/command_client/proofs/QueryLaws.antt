@@ -14,7 +14,8 @@ use Rattle.command_client.specs.Queries.{QueriesAreRequests, asked_part, asking,
 few : (value : ℕ) → value < 2 ^ 64 → length (varint value) ≤ 10
 few value small = (varint_is value small).few
 
-part_length : (text : List ℕ) → length (spelled (query_values (asked_part text))) ≡ 1 + (length (varint (length text)) + length text)
+part_length : (text : List ℕ)
+    → length (spelled (query_values (asked_part text))) ≡ 1 + (length (varint (length text)) + length text)
 unfolding query_values
 part_length text = text_length 1 text (omega arith)
 
@@ -25,10 +26,13 @@ query_within text short =
     let one = few (length text) (omega arith) in
     let two = few (length (spelled (query_values part))) (omega (arith, inner, one, short)) in
     let outer = query_length part in
-    let whole : length (spelling (asking text)) ≡ 0 + (0 + (length (spelled (optional 5 query_content (Some part))) + 0)) = message_length (asking text) in
+    let whole : length (spelling (asking text))
+    ≡ 0 + (0 + (length (spelled (optional 5 query_content (Some part))) + 0)) =
+    message_length (asking text) in
     omega (arith, inner, one, two, outer, whole, short)
 
 pub queries_lem : QueriesAreRequests
 queries_lem text short =
-    ap frames_of (sym (append-nil (query_frame text))) ∙ frames_of_frame (spelling (asking text)) [] (query_within text short)
+    ap frames_of (sym (append-nil (query_frame text)))
+    ∙ frames_of_frame (spelling (asking text)) [] (query_within text short)
     ∙ ap (λ (bodies : List (List ℕ)). spelling (asking text) ∷ bodies) frames_of_nothing

@@ -34,7 +34,8 @@ pub some_left : (rest : List ℕ) (left : ℕ) → left ≡ length rest → (lef
 some_left rest left e positive nothing = positive (let none : length rest ≡ 0 = rw nothing refl in omega arith)
 
 -- after a run to its last turn, in which all notice lines were written, this was written of the replies
-fed_all : FeedsAreAnswered → (setup : Setup) (bytes : List ℕ) (old new : Reports) (run : List Entry) (Wrote : List ℕ → Type 0)
+fed_all : FeedsAreAnswered
+    → (setup : Setup) (bytes : List ℕ) (old new : Reports) (run : List Entry) (Wrote : List ℕ → Type 0)
     → RunsWhole setup (feed_script PIECE_LIMIT bytes) (run_report_of old old.err) (run_report_of new new.err) run
     → new.err.faults ≡ old.err.faults → Wrote (bytes_taken 0 run) → FeedsAll setup bytes old new Wrote
 fed_all answered setup bytes old new run Wrote whole quiet wrote =
@@ -53,30 +54,46 @@ fed_all answered setup bytes old new run Wrote whole quiet wrote =
     }
 
 -- a run that this fault cut off, which is not one of the links
-pub bytes_cut : {T : Type 0} (setup : Setup) (bytes : List ℕ) (old new : Reports) (run : List Entry) (ran : Result T RunFault) (fault : RunFault)
-    → ran ≡ Err fault → RunsScript setup (feed_script PIECE_LIMIT bytes) (run_report_of old old.err) (run_report_of new new.err) (Err fault) run
+pub bytes_cut : {T : Type 0} (setup : Setup) (bytes : List ℕ) (old new : Reports) (run : List Entry)
+    (ran : Result T RunFault) (fault : RunFault)
+    → ran ≡ Err fault
+    → RunsScript setup (feed_script PIECE_LIMIT bytes) (run_report_of old old.err) (run_report_of new new.err)
+    (Err fault) run
     → new.out ≡ old.out → ran ≢ Err cause.Links → (ran ≡ Err cause.Sink → Rose old.err.faults new.err.faults)
     → (ran ≢ Err cause.Sink → new.err.faults ≡ old.err.faults) → BytesEnd setup bytes old new (ending_of_fault fault)
 bytes_cut setup bytes old new run ran cause.Links is cut same works rose quiet = absurd (works is)
-bytes_cut setup bytes old new run ran cause.Sink is cut same works rose quiet = inl (record { run = run; ran = cut; no_reply = same }, rose is)
+bytes_cut setup bytes old new run ran cause.Sink is cut same works rose quiet =
+    inl (record { run = run; ran = cut; no_reply = same }, rose is)
 bytes_cut setup bytes old new run ran cause.Memory is cut same works rose quiet =
     inr (record { run = run; ran = cut; no_reply = same }, quiet (λ sink. cc))
 
-pub run_was_cut : {T : Type 0} (ran : Result T RunFault) (fault : RunFault) → ran ≡ Err fault → ran ≢ Err cause.Links → IsAfterRun (ending_of_fault fault)
+pub run_was_cut : {T : Type 0} (ran : Result T RunFault) (fault : RunFault) → ran ≡ Err fault → ran ≢ Err cause.Links
+    → IsAfterRun (ending_of_fault fault)
 run_was_cut ran cause.Links is works = works is
 run_was_cut ran cause.Sink is works = tt
 run_was_cut ran cause.Memory is works = tt
 
 -- after a whole run the replies were written, or a prefix of them
-pub bytes_ended : FeedsAreAnswered → (setup : Setup) (bytes : List ℕ) (old new : Reports) (run : List Entry) (ending : Ending)
+pub bytes_ended : FeedsAreAnswered
+    → (setup : Setup) (bytes : List ℕ) (old new : Reports) (run : List Entry) (ending : Ending)
     → RunsWhole setup (feed_script PIECE_LIMIT bytes) (run_report_of old old.err) (run_report_of new new.err) run
-    → new.err.faults ≡ old.err.faults → WritesReplies (bytes_taken 0 run) (partial bytes) old.out new.out ending → BytesEnd setup bytes old new ending
-bytes_ended answered setup bytes old new run Finished whole quiet writes =
-    (fed_all answered setup bytes old new run (λ replies. Got old.out.text replies new.out.text) whole quiet writes.1, writes.0)
-bytes_ended answered setup bytes old new run (BytesLeft count) whole quiet writes =
-    (fed_all answered setup bytes old new run (λ replies. Got old.out.text replies new.out.text) whole quiet writes.2, writes.0, writes.1)
+    → new.err.faults ≡ old.err.faults → WritesReplies (bytes_taken 0 run) (partial bytes) old.out new.out ending
+    → BytesEnd setup bytes old new ending
+bytes_ended answered setup bytes old new run Finished whole quiet writes = (
+  fed_all answered setup bytes old new run (λ replies. Got old.out.text replies new.out.text) whole quiet writes.1,
+  writes.0,
+)
+bytes_ended answered setup bytes old new run (BytesLeft count) whole quiet writes = (
+  fed_all answered setup bytes old new run (λ replies. Got old.out.text replies new.out.text) whole quiet writes.2,
+  writes.0,
+  writes.1,
+)
 bytes_ended answered setup bytes old new run WriteFailed whole quiet writes =
-    inr (fed_all answered setup bytes old new run (λ replies. GotPrefix old.out.text replies new.out.text) whole quiet writes.0, writes.1)
+    inr (
+      fed_all answered setup bytes old new run (λ replies. GotPrefix old.out.text replies new.out.text) whole quiet
+          writes.0,
+      writes.1,
+    )
 bytes_ended answered setup bytes old new run OutOfMemory whole quiet writes = absurd writes
 bytes_ended answered setup bytes old new run (ConfigRefused refusal) whole quiet writes = absurd writes
 bytes_ended answered setup bytes old new run (Unread unread) whole quiet writes = absurd writes

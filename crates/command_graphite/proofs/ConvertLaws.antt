@@ -36,21 +36,34 @@ some_text (line ∷ bad) h e = cc
 pub next_line : (bad : List BadLine) (i : ℕ) (line : BadLine) → i < length bad → line ≡ get_or bad i line
     → refused_text (take (i + 1) bad) ≡ refused_text (take i bad) ++ refused_line line
 next_line bad i line inside is =
-    let front : take (i + 1) bad ≡ take i bad ++ line ∷ [] = take_more bad i line inside ∙ ap (λ x. take i bad ++ x ∷ []) (sym is) in
-    ap refused_text front ∙ flat_map-append refused_line (take i bad) (line ∷ []) ∙ ap (λ more. refused_text (take i bad) ++ more) (append-nil (refused_line line))
+    let front : take (i + 1) bad ≡ take i bad ++ line ∷ [] =
+    take_more bad i line inside ∙ ap (λ x. take i bad ++ x ∷ []) (sym is) in
+    ap refused_text front ∙ flat_map-append refused_line (take i bad) (line ∷ [])
+    ∙ ap (λ more. refused_text (take i bad) ++ more) (append-nil (refused_line line))
 
 -- ---- once the text is read
 
-pub text_ends : FramesAreReadBack → (host_part : Option ℕ) (text frames lines : List ℕ) (out out' err err' : SinkReport) (status : Status)
+pub text_ends : FramesAreReadBack
+    → (host_part : Option ℕ) (text frames lines : List ℕ) (out out' err err' : SinkReport) (status : Status)
     → frames ≡ frames_in host_part text → lines ≡ refused_text (refused_lines host_part text)
     → Writes frames lines out out' err err' status → ConvertsText host_part text out out' err err' status
-text_ends law host_part text frames lines out out' err err' Done f l w =
-    (no_text (refused_lines host_part text) (sym l ∙ w.0), record { all = rw f at w.1; read_back = law host_part text }, w.2)
-text_ends law host_part text frames lines out out' err err' Lines f l w =
-    (some_text (refused_lines host_part text) (λ e. w.0 (l ∙ e)), record { all = rw f at w.1; read_back = law host_part text }, rw l at w.2)
+text_ends law host_part text frames lines out out' err err' Done f l w = (
+  no_text (refused_lines host_part text) (sym l ∙ w.0),
+  record { all = rw f at w.1; read_back = law host_part text },
+  w.2,
+)
+text_ends law host_part text frames lines out out' err err' Lines f l w = (
+  some_text (refused_lines host_part text) (λ e. w.0 (l ∙ e)),
+  record { all = rw f at w.1; read_back = law host_part text },
+  rw l at w.2,
+)
 text_ends law host_part text frames lines out out' err err' SinkFault f l (inl cut) = inl (rw f at cut.0, cut.1)
 text_ends law host_part text frames lines out out' err err' SinkFault f l (inr w) =
-    inr (some_text (refused_lines host_part text) (λ e. w.0 (l ∙ e)), record { all = rw f at w.1; read_back = law host_part text }, rw l at w.2)
+    inr (
+      some_text (refused_lines host_part text) (λ e. w.0 (l ∙ e)),
+      record { all = rw f at w.1; read_back = law host_part text },
+      rw l at w.2,
+    )
 text_ends law host_part text frames lines out out' err err' Usage f l w = w
 text_ends law host_part text frames lines out out' err err' Config f l w = w
 text_ends law host_part text frames lines out out' err err' ReadFault f l w = w
@@ -66,7 +79,8 @@ text_ends law host_part text frames lines out out' err err' BadReply f l w = w
 
 -- ---- the command
 
-pub converted_ends : (name : List ℕ) (host_part : Option ℕ) (old new : Reports) (text : List ℕ) (status : Status) → IsText (old.store.held name) text
+pub converted_ends : (name : List ℕ) (host_part : Option ℕ) (old new : Reports) (text : List ℕ) (status : Status)
+    → IsText (old.store.held name) text
     → ConvertsText host_part text old.out new.out old.err new.err status → ConvertEnds name host_part old new status
 converted_ends name host_part old new text Done is ends = (text, is, ends)
 converted_ends name host_part old new text Lines is ends = (text, is, ends)
@@ -84,8 +98,10 @@ converted_ends name host_part old new text Verdict is ends = absurd ends
 converted_ends name host_part old new text Unanswered is ends = absurd ends
 converted_ends name host_part old new text BadReply is ends = absurd ends
 
-pub converted_reads : (name : List ℕ) (host_part : Option ℕ) (text : List ℕ) (out out' err err' : SinkReport) (reads reads' : Option (List StoreRead)) (status : Status)
-    → ConvertsText host_part text out out' err err' status → ReadMore (good_read name ∷ []) reads reads' → ReadsOnce name reads reads' status
+pub converted_reads : (name : List ℕ) (host_part : Option ℕ) (text : List ℕ) (out out' err err' : SinkReport)
+    (reads reads' : Option (List StoreRead)) (status : Status)
+    → ConvertsText host_part text out out' err err' status → ReadMore (good_read name ∷ []) reads reads'
+    → ReadsOnce name reads reads' status
 converted_reads name host_part text out out' err err' reads reads' Done ends grew = grew
 converted_reads name host_part text out out' err err' reads reads' Lines ends grew = grew
 converted_reads name host_part text out out' err err' reads reads' SinkFault ends grew = grew
@@ -103,34 +119,42 @@ converted_reads name host_part text out out' err err' reads reads' Unanswered en
 converted_reads name host_part text out out' err err' reads reads' BadReply ends grew = grew
 
 -- the file was not read
-pub fault_ends : (name : List ℕ) (shown : Bor (List ℕ)) (host_part : Option ℕ) (old new : Reports) (fault : FileFault) → shown.now ≡ name
-    → IsFileFault (old.store.held name) FILE_LIMIT old.store.faults new.store.faults old.store.taken new.store.taken fault → new.out ≡ old.out
-    → Says (ending_of_file shown FILE_LIMIT fault) old.err new.err → ConvertEnds name host_part old new (status_of (ending_of_file shown FILE_LIMIT fault))
+pub fault_ends : (name : List ℕ) (shown : Bor (List ℕ)) (host_part : Option ℕ) (old new : Reports) (fault : FileFault)
+    → shown.now ≡ name
+    → IsFileFault (old.store.held name) FILE_LIMIT old.store.faults new.store.faults old.store.taken new.store.taken
+    fault
+    → new.out ≡ old.out
+    → Says (ending_of_file shown FILE_LIMIT fault) old.err new.err
+    → ConvertEnds name host_part old new (status_of (ending_of_file shown FILE_LIMIT fault))
 fault_ends name shown host_part old new file.Unread is cause same says = (cause, same, rw is at says)
 fault_ends name shown host_part old new file.TooLong is cause same says = (cause.0, cause.1, same, rw is at says)
 fault_ends name shown host_part old new file.Memory is cause same says = (same, says)
 
 pub fault_reads : (name : List ℕ) (shown : Bor (List ℕ)) (reads reads' : Option (List StoreRead)) (fault : FileFault)
-    → ReadMore (reads_of name (Err fault)) reads reads' → ReadsOnce name reads reads' (status_of (ending_of_file shown FILE_LIMIT fault))
+    → ReadMore (reads_of name (Err fault)) reads reads'
+    → ReadsOnce name reads reads' (status_of (ending_of_file shown FILE_LIMIT fault))
 fault_reads name shown reads reads' file.Unread grew = grew
 fault_reads name shown reads reads' file.TooLong grew = grew
 fault_reads name shown reads reads' file.Memory grew = inl grew
 
-pub fault_not_converted : (shown : Bor (List ℕ)) (fault : FileFault) → IsConverted (status_of (ending_of_file shown FILE_LIMIT fault)) → ⊥
+pub fault_not_converted : (shown : Bor (List ℕ)) (fault : FileFault)
+    → IsConverted (status_of (ending_of_file shown FILE_LIMIT fault)) → ⊥
 fault_not_converted shown file.Unread done = done
 fault_not_converted shown file.TooLong done = done
 fault_not_converted shown file.Memory done = done
 
 -- ---- completeness
 
-sink_rose : (host_part : Option ℕ) (text : List ℕ) (out out' err err' : SinkReport) → ConvertsText host_part text out out' err err' SinkFault
+sink_rose : (host_part : Option ℕ) (text : List ℕ) (out out' err err' : SinkReport)
+    → ConvertsText host_part text out out' err err' SinkFault
     → IsStill out.faults out'.faults → IsStill err.faults err'.faults → ⊥
 sink_rose host_part text out out' err err' (inl cut) out_still err_still =
     let rose : Rose out.faults out'.faults = cut.0.fault in omega (arith, rose, out_still.0, out_still.1)
 sink_rose host_part text out out' err err' (inr cut) out_still err_still =
     let rose : Rose err.faults err'.faults = cut.2.fault in omega (arith, rose, err_still.0, err_still.1)
 
-pub sink_fault : (host_part : Option ℕ) (text : List ℕ) (out out' err err' : SinkReport) → ConvertsText host_part text out out' err err' SinkFault
+pub sink_fault : (host_part : Option ℕ) (text : List ℕ) (out out' err err' : SinkReport)
+    → ConvertsText host_part text out out' err err' SinkFault
     → Rose out.faults out'.faults ⊎ Rose err.faults err'.faults
 sink_fault host_part text out out' err err' (inl cut) = inl cut.0.fault
 sink_fault host_part text out out' err err' (inr cut) = inr cut.2.fault
@@ -138,20 +162,28 @@ sink_fault host_part text out out' err err' (inr cut) = inr cut.2.fault
 pub no_link_fault : (host_part : Option ℕ) (text : List ℕ) (out out' err err' : SinkReport) (status : Status)
     → ConvertsText host_part text out out' err err' status → status ≡ LinkFault → ⊥
 no_link_fault host_part text out out' err err' status ends e =
-    let P : Status → Type 0 = λ s. ConvertsText host_part text out out' err err' s in let none : ⊥ = subst P e ends in none
+    let P : Status → Type 0 = λ s. ConvertsText host_part text out out' err err' s in
+    let none : ⊥ = subst P e ends in
+    none
 
 pub no_read_fault : (host_part : Option ℕ) (text : List ℕ) (out out' err err' : SinkReport) (status : Status)
     → ConvertsText host_part text out out' err err' status → status ≡ ReadFault → ⊥
 no_read_fault host_part text out out' err err' status ends e =
-    let P : Status → Type 0 = λ s. ConvertsText host_part text out out' err err' s in let none : ⊥ = subst P e ends in none
+    let P : Status → Type 0 = λ s. ConvertsText host_part text out out' err err' s in
+    let none : ⊥ = subst P e ends in
+    none
 
-pub convert_complete : (name : List ℕ) (host_part : Option ℕ) (old new : Reports) (status : Status) → ConvertEnds name host_part old new status
+pub convert_complete : (name : List ℕ) (host_part : Option ℕ) (old new : Reports) (status : Status)
+    → ConvertEnds name host_part old new status
     → ConvertCompletes name host_part old new status
 convert_complete name host_part old new Done ends text holds fits read_still put_still err_still =
-    let is = reported_of (old.store.held name) text _ holds ends.1 in (let P : List ℕ → Type 0 = λ t. refused_lines host_part t ≡ [] in subst P (sym is.0) ends.2.0)
+    let is = reported_of (old.store.held name) text _ holds ends.1 in
+    (let P : List ℕ → Type 0 = λ t. refused_lines host_part t ≡ [] in subst P (sym is.0) ends.2.0)
 convert_complete name host_part old new Lines ends text holds fits read_still put_still err_still =
-    let is = reported_of (old.store.held name) text _ holds ends.1 in (let P : List ℕ → Type 0 = λ t. refused_lines host_part t ≡ [] → ⊥ in subst P (sym is.0) ends.2.0)
-convert_complete name host_part old new SinkFault ends text holds fits read_still put_still err_still = absurd (sink_rose host_part ends.0 old.out new.out old.err new.err ends.2 put_still err_still)
+    let is = reported_of (old.store.held name) text _ holds ends.1 in
+    (let P : List ℕ → Type 0 = λ t. refused_lines host_part t ≡ [] → ⊥ in subst P (sym is.0) ends.2.0)
+convert_complete name host_part old new SinkFault ends text holds fits read_still put_still err_still =
+    absurd (sink_rose host_part ends.0 old.out new.out old.err new.err ends.2 put_still err_still)
 convert_complete name host_part old new Memory ends text holds fits read_still put_still err_still = tt
 convert_complete name host_part old new ReadFault ends text holds fits read_still put_still err_still =
     let rose : Rose old.store.faults new.store.faults = ends.0 in omega (arith, rose, read_still.0, read_still.1)

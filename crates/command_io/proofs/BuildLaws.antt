@@ -11,8 +11,10 @@ nothing_added : (texts : Option (List (List ℕ))) → option_map (λ texts. tex
 nothing_added None = refl
 nothing_added (Some texts) = ap Some (append-nil texts)
 
-pub refused_pattern : (texts : List (List ℕ)) (number : ℕ) (old new : PatternsReport) → number < length texts → Rose old.refusals new.refusals
-    → new.refused ≡ option_map (λ refused. refused ++ slice_index_or texts number [] ∷ []) old.refused → IsRefusedPattern texts number old new
+pub refused_pattern : (texts : List (List ℕ)) (number : ℕ) (old new : PatternsReport) → number < length texts
+    → Rose old.refusals new.refusals
+    → new.refused ≡ option_map (λ refused. refused ++ slice_index_or texts number [] ∷ []) old.refused
+    → IsRefusedPattern texts number old new
 refused_pattern texts number old new within rose reported = record {
   pattern = slice_index_or texts number [];
   numbered = slice_get-get_or texts number [] within;
@@ -21,7 +23,9 @@ refused_pattern texts number old new within rose reported = record {
 }
 
 -- a report of which nothing is counted or added
-pub same_report : (old new : PatternsReport) → new.refusals ≡ old.refusals → new.refused ≡ option_map (λ texts. texts ++ []) old.refused → new ≡ old
+pub same_report : (old new : PatternsReport) → new.refusals ≡ old.refusals
+    → new.refused ≡ option_map (λ texts. texts ++ []) old.refused → new ≡ old
 same_report old new counted reported =
     ap (λ (n : ℕ). record { refusals = n; refused = new.refused }) counted
-    ∙ ap (λ (texts : Option (List (List ℕ))). record { refusals = old.refusals; refused = texts }) (reported ∙ nothing_added old.refused)
+    ∙ ap (λ (texts : Option (List (List ℕ))). record { refusals = old.refusals; refused = texts })
+    (reported ∙ nothing_added old.refused)

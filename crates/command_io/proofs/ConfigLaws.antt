@@ -26,11 +26,14 @@ abbrev pub HoldsConfig : Content → Config → Type 0
 HoldsConfig content config = ForHeld content (λ text. (length text ≤ CONFIG_LIMIT) × ReadsAs text config)
 
 -- a fact of the configuration that was read, as one of its text
-pub for_config : (content : Content) (config : Config) (P : Config → Type 0) → HoldsConfig content config → P config → ForConfig content P
-for_config content config P held fact = λ bytes reported. let text = held bytes reported in (text.0, text.1, (text.2.0, (config, text.2.1, fact)))
+pub for_config : (content : Content) (config : Config) (P : Config → Type 0) → HoldsConfig content config → P config
+    → ForConfig content P
+for_config content config P held fact =
+    λ bytes reported. let text = held bytes reported in (text.0, text.1, (text.2.0, (config, text.2.1, fact)))
 
 -- a pattern of the plan that was refused is one of the configuration
-pub refuses_pattern : (content : Content) (config : Config) (number : ℕ) (old new : PatternsReport) → HoldsConfig content config
+pub refuses_pattern : (content : Content) (config : Config) (number : ℕ) (old new : PatternsReport)
+    → HoldsConfig content config
     → IsRefusedPattern (plan_patterns config.plan) number old new → RefusesPattern content number old new
 refuses_pattern content config number old new holds refused = record {
   pattern = refused.pattern;
@@ -40,10 +43,14 @@ refuses_pattern content config number old new holds refused = record {
 }
 
 -- a text that is a configuration is not refused where no refusal is counted
-pub config_not_refused : (content : Content) (text : List ℕ) (read : Config) (refusal : ConfigRefusal) (old new : PatternsReport) → IsHeld content text
+pub config_not_refused : (content : Content) (text : List ℕ) (read : Config) (refusal : ConfigRefusal)
+    (old new : PatternsReport)
+    → IsHeld content text
     → IsConfigOf text read → IsStill old.refusals new.refusals → RefusesConfig content old new refusal → ⊥
-config_not_refused content text read (Refused place why) old new holds reads still refuses = (reported_of content text _ holds refuses.0).1.unread read reads
-config_not_refused content text read (Pattern number) old new holds reads still refuses = omega (arith, refuses.rose, still.0, still.1)
+config_not_refused content text read (Refused place why) old new holds reads still refuses =
+    (reported_of content text _ holds refuses.0).1.unread read reads
+config_not_refused content text read (Pattern number) old new holds reads still refuses =
+    omega (arith, refuses.rose, still.0, still.1)
 
 -- ---- a text that was not read as a configuration
 
@@ -51,22 +58,29 @@ pub text_fault : (text : List ℕ) (fault : ConfigFault) → IsRefusedFor text f
     → ((place : ℕ) (why : ConfigWhy) → IsConfigFault text place why → IsRefusedAs place why (Err fault))
     → ((config : Config) → IsConfigOf text config → IsReadAs config (Err fault)) → IsTextFault text (fetch.Config fault)
 text_fault text (cause.Refused place why) refused only_refused only =
-    record { fault = refused; only = only_refused; unread = λ config is. let other : cause.Refused place why ≡ cause.Memory = only config is in cc }
+    record {
+      fault = refused;
+      only = only_refused;
+      unread = λ config is. let other : cause.Refused place why ≡ cause.Memory = only config is in cc;
+    }
 text_fault text cause.Memory refused only_refused only = tt
 
 -- a fault of the text is one of the file that has it
-pub file_of_text : (content : Content) (text : List ℕ) (faults faults' taken taken' : ℕ) (read : Result Config FetchFault)
+pub file_of_text : (content : Content) (text : List ℕ) (faults faults' taken taken' : ℕ)
+    (read : Result Config FetchFault)
     → ForHeld content (λ held. (held ≡ text) × (length text ≤ CONFIG_LIMIT)) → IfErr read (IsTextFault text)
     → IfErr read (IsFetchFault content faults faults' taken taken')
 file_of_text content text faults faults' taken taken' (Ok config) holds is = tt
 file_of_text content text faults faults' taken taken' (Err (fetch.File fault)) holds is = absurd is
-file_of_text content text faults faults' taken taken' (Err (fetch.Config (cause.Refused place why))) holds is = λ held reported.
+file_of_text content text faults faults' taken taken' (Err (fetch.Config (cause.Refused place why))) holds is =
+    λ held reported.
     let file = holds held reported in
     (file.0, file.1, (rw file.2.0 file.2.1, subst (λ (bytes : List ℕ). IsRefused bytes place why) (sym file.2.0) is))
 file_of_text content text faults faults' taken taken' (Err (fetch.Config cause.Memory)) holds is = tt
 
 -- its file was read
-pub text_reads : (name text : List ℕ) (read : Result Config FetchFault) → IfErr read (IsTextFault text) → fetch_reads name read ≡ good_read name ∷ []
+pub text_reads : (name text : List ℕ) (read : Result Config FetchFault) → IfErr read (IsTextFault text)
+    → fetch_reads name read ≡ good_read name ∷ []
 text_reads name text (Ok config) is = refl
 text_reads name text (Err (fetch.File fault)) is = absurd is
 text_reads name text (Err (fetch.Config fault)) is = refl

@@ -15,13 +15,16 @@ use Rattle.command_io.specs.Files.{IsFileFault}
 
 -- ---- the causes of faults
 
-pub file_fault_rose : (content : Content) (name : Bor (List ℕ)) (limit faults faults' taken taken' : ℕ) (fault : FileFault)
-    → IsFileFault content limit faults faults' taken taken' fault → status_of (ending_of_file name limit fault) ≡ ReadFault → Rose faults faults'
+pub file_fault_rose : (content : Content) (name : Bor (List ℕ)) (limit faults faults' taken taken' : ℕ)
+    (fault : FileFault)
+    → IsFileFault content limit faults faults' taken taken' fault
+    → status_of (ending_of_file name limit fault) ≡ ReadFault → Rose faults faults'
 file_fault_rose content name limit faults faults' taken taken' file.Unread cause e = cause
 file_fault_rose content name limit faults faults' taken taken' file.TooLong cause e = cc
 file_fault_rose content name limit faults faults' taken taken' file.Memory cause e = cc
 
-pub fetch_fault_rose : (content : Content) (name : Bor (List ℕ)) (faults faults' taken taken' : ℕ) (fault : FetchFault) → IsFetchFault content faults faults' taken taken' fault
+pub fetch_fault_rose : (content : Content) (name : Bor (List ℕ)) (faults faults' taken taken' : ℕ) (fault : FetchFault)
+    → IsFetchFault content faults faults' taken taken' fault
     → status_of (ending_of_fetch name fault) ≡ ReadFault → Rose faults faults'
 fetch_fault_rose content name faults faults' taken taken' (fetch.Config (Refused place why)) cause e = cc
 fetch_fault_rose content name faults faults' taken taken' (fetch.File file.Unread) cause e = cause
@@ -29,7 +32,8 @@ fetch_fault_rose content name faults faults' taken taken' (fetch.File file.TooLo
 fetch_fault_rose content name faults faults' taken taken' (fetch.File file.Memory) cause e = cc
 fetch_fault_rose content name faults faults' taken taken' (fetch.Config Memory) cause e = cc
 
-pub fetch_fault_took : (content : Content) (name : Bor (List ℕ)) (faults faults' taken taken' : ℕ) (fault : FetchFault) → IsFetchFault content faults faults' taken taken' fault
+pub fetch_fault_took : (content : Content) (name : Bor (List ℕ)) (faults faults' taken taken' : ℕ) (fault : FetchFault)
+    → IsFetchFault content faults faults' taken taken' fault
     → TookMore (ending_of_fetch name fault) taken taken'
 fetch_fault_took content name faults faults' taken taken' (fetch.Config (Refused place why)) cause = tt
 fetch_fault_took content name faults faults' taken taken' (fetch.File file.Unread) cause = tt
@@ -46,7 +50,8 @@ fetch_not_complete name (fetch.File file.TooLong) complete = complete
 fetch_not_complete name (fetch.File file.Memory) complete = complete
 fetch_not_complete name (fetch.Config Memory) complete = complete
 
-pub fetch_not_written : (name : Bor (List ℕ)) (fault : FetchFault) → status_of (ending_of_fetch name fault) ≡ SinkFault → ⊥
+pub fetch_not_written : (name : Bor (List ℕ)) (fault : FetchFault) → status_of (ending_of_fetch name fault) ≡ SinkFault
+    → ⊥
 fetch_not_written name (fetch.Config (Refused place why)) e = cc
 fetch_not_written name (fetch.File file.Unread) e = cc
 fetch_not_written name (fetch.File file.TooLong) e = cc

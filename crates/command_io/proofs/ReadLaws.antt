@@ -15,32 +15,44 @@ use Rattle.command_io.specs.Files.{LastFailed, ReadMore, bad_read, good_read, re
 use Rattle.command_io.proofs.Sinks.{appended_twice}
 
 -- one good read, of the only file
-pub read_alone : (C : ℕ → Type 0) (old new : Option (List StoreRead)) (name : List ℕ) (ending : Ending) → ReadMore (good_read name ∷ []) old new → C 1
+pub read_alone : (C : ℕ → Type 0) (old new : Option (List StoreRead)) (name : List ℕ) (ending : Ending)
+    → ReadMore (good_read name ∷ []) old new → C 1
     → HaveFailed ending (good_read name ∷ []) → ReadsFiles (name ∷ []) C old new ending
-read_alone C old new name ending grew counted failed = record { made = good_read name ∷ []; grew = grew; named = refl; counted = counted; failed = failed }
+read_alone C old new name ending grew counted failed =
+    record { made = good_read name ∷ []; grew = grew; named = refl; counted = counted; failed = failed }
 
 -- the reads of a configuration that there is not
 pub fetch_reads_once : (old new : Option (List StoreRead)) (name : List ℕ) (shown : Bor (List ℕ)) (fault : FetchFault)
-    → ReadMore (fetch_reads name (Err fault)) old new → ReadsFiles (name ∷ []) (IsReadOnce (ending_of_fetch shown fault)) old new (ending_of_fetch shown fault)
-fetch_reads_once old new name shown (fetch.Config (Refused place why)) grew = record { made = good_read name ∷ []; grew = grew; named = refl; counted = refl; failed = (refl, tt) }
-fetch_reads_once old new name shown (fetch.File file.Unread) grew = record { made = bad_read name ∷ []; grew = grew; named = refl; counted = refl; failed = refl }
-fetch_reads_once old new name shown (fetch.File file.TooLong) grew = record { made = good_read name ∷ []; grew = grew; named = refl; counted = refl; failed = (refl, tt) }
-fetch_reads_once old new name shown (fetch.File file.Memory) grew = record { made = []; grew = grew; named = refl; counted = tt; failed = tt }
-fetch_reads_once old new name shown (fetch.Config Memory) grew = record { made = good_read name ∷ []; grew = grew; named = refl; counted = tt; failed = (refl, tt) }
+    → ReadMore (fetch_reads name (Err fault)) old new
+    → ReadsFiles (name ∷ []) (IsReadOnce (ending_of_fetch shown fault)) old new (ending_of_fetch shown fault)
+fetch_reads_once old new name shown (fetch.Config (Refused place why)) grew =
+    record { made = good_read name ∷ []; grew = grew; named = refl; counted = refl; failed = (refl, tt) }
+fetch_reads_once old new name shown (fetch.File file.Unread) grew =
+    record { made = bad_read name ∷ []; grew = grew; named = refl; counted = refl; failed = refl }
+fetch_reads_once old new name shown (fetch.File file.TooLong) grew =
+    record { made = good_read name ∷ []; grew = grew; named = refl; counted = refl; failed = (refl, tt) }
+fetch_reads_once old new name shown (fetch.File file.Memory) grew =
+    record { made = []; grew = grew; named = refl; counted = tt; failed = tt }
+fetch_reads_once old new name shown (fetch.Config Memory) grew =
+    record { made = good_read name ∷ []; grew = grew; named = refl; counted = tt; failed = (refl, tt) }
 
 -- one good read, of the first of two files
-pub read_first : (C : ℕ → Type 0) (old new : Option (List StoreRead)) (name other : List ℕ) (ending : Ending) → ReadMore (good_read name ∷ []) old new → C 1
+pub read_first : (C : ℕ → Type 0) (old new : Option (List StoreRead)) (name other : List ℕ) (ending : Ending)
+    → ReadMore (good_read name ∷ []) old new → C 1
     → HaveFailed ending (good_read name ∷ []) → ReadsFiles (name ∷ (other ∷ [])) C old new ending
-read_first C old new name other ending grew counted failed = record { made = good_read name ∷ []; grew = grew; named = refl; counted = counted; failed = failed }
+read_first C old new name other ending grew counted failed =
+    record { made = good_read name ∷ []; grew = grew; named = refl; counted = counted; failed = failed }
 
 -- the names of reads that are the first of one file are the first of it and another
-first_of_more : {A : Type 0} (made : List StoreRead) (f : StoreRead → A) (a b : A) → map f made ≡ take (length made) (a ∷ []) → map f made ≡ take (length made) (a ∷ (b ∷ []))
+first_of_more : {A : Type 0} (made : List StoreRead) (f : StoreRead → A) (a b : A)
+    → map f made ≡ take (length made) (a ∷ []) → map f made ≡ take (length made) (a ∷ (b ∷ []))
 first_of_more [] f a b named = refl
 first_of_more (read ∷ []) f a b named = named
 first_of_more (read ∷ (next ∷ made)) f a b named = absurd cc
 
 -- what was read of the only file was read as the first of two
-pub reads_first : (C D : ℕ → Type 0) (old new : Option (List StoreRead)) (name other : List ℕ) (ending : Ending) → ((count : ℕ) → C count → D count)
+pub reads_first : (C D : ℕ → Type 0) (old new : Option (List StoreRead)) (name other : List ℕ) (ending : Ending)
+    → ((count : ℕ) → C count → D count)
     → ReadsFiles (name ∷ []) C old new ending → ReadsFiles (name ∷ (other ∷ [])) D old new ending
 reads_first C D old new name other ending more reads = record {
   made = reads.made;
@@ -54,7 +66,8 @@ last_failed_after : (name : List ℕ) (made : List StoreRead) → LastFailed mad
 last_failed_after name [] failed = absurd failed
 last_failed_after name (read ∷ made) failed = (refl, failed)
 
-failed_after : (name : List ℕ) (ending : Ending) (made : List StoreRead) → HaveFailed ending made → HaveFailed ending (good_read name ∷ made)
+failed_after : (name : List ℕ) (ending : Ending) (made : List StoreRead) → HaveFailed ending made
+    → HaveFailed ending (good_read name ∷ made)
 failed_after name Finished made failed = (refl, failed)
 failed_after name (ConfigRefused refusal) made failed = (refl, failed)
 failed_after name (Unread unread) made failed = last_failed_after name made failed
@@ -66,8 +79,10 @@ failed_after name (ScriptRefused line) made failed = (refl, failed)
 failed_after name OutOfMemory made failed = (refl, failed)
 
 -- the first file was read, and then the other one
-pub reads_both : (C D : ℕ → Type 0) (old mid new : Option (List StoreRead)) (name other : List ℕ) (ending : Ending) → ReadMore (good_read name ∷ []) old mid
-    → ((count : ℕ) → C count → D (suc count)) → ReadsFiles (other ∷ []) C mid new ending → ReadsFiles (name ∷ (other ∷ [])) D old new ending
+pub reads_both : (C D : ℕ → Type 0) (old mid new : Option (List StoreRead)) (name other : List ℕ) (ending : Ending)
+    → ReadMore (good_read name ∷ []) old mid
+    → ((count : ℕ) → C count → D (suc count)) → ReadsFiles (other ∷ []) C mid new ending
+    → ReadsFiles (name ∷ (other ∷ [])) D old new ending
 reads_both C D old mid new name other ending first more second = record {
   made = good_read name ∷ second.made;
   grew = second.grew ∙ (rw first (appended_twice old (good_read name ∷ []) second.made));

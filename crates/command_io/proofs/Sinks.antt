@@ -23,7 +23,8 @@ pub front_of_nothing : (old : Option (List ℕ)) (bytes : List ℕ) → GotPrefi
 front_of_nothing old bytes = (0, got_nothing old)
 
 pub appended_twice : {X : Type 0} (old : Option (List X)) (xs ys : List X)
-    → option_map (λ texts. texts ++ ys) (option_map (λ texts. texts ++ xs) old) ≡ option_map (λ texts. texts ++ (xs ++ ys)) old
+    → option_map (λ texts. texts ++ ys) (option_map (λ texts. texts ++ xs) old)
+    ≡ option_map (λ texts. texts ++ (xs ++ ys)) old
 appended_twice None xs ys = refl
 appended_twice (Some texts) xs ys = ap Some (append_assoc texts xs ys)
 
@@ -40,11 +41,15 @@ take-within n piece after =
       | inr long ↦ (length piece, take-append_seam piece after ∙ sym (take_all n piece long))
     ]
 
-pub front_within : (old mid new : Option (List ℕ)) (before piece after whole : List ℕ) → whole ≡ before ++ (piece ++ after)
+pub front_within : (old mid new : Option (List ℕ)) (before piece after whole : List ℕ)
+    → whole ≡ before ++ (piece ++ after)
     → Got old before mid → GotPrefix mid piece new → GotPrefix old whole new
 front_within old mid new before piece after whole whole_is got front =
-    let m = take-within front.0 piece after in
-    (length before + m.0, rw (whole_is, take-append-add before (piece ++ after) m.0, m.1, front.1, got) (appended_twice old before (take front.0 piece)))
+    let m = take-within front.0 piece after in (
+      length before + m.0,
+      rw (whole_is, take-append-add before (piece ++ after) m.0, m.1, front.1, got)
+          (appended_twice old before (take front.0 piece)),
+    )
 
 -- pieces up to one of them, that one, and those after it
 joined_at : (pieces : List (Bor (List ℕ))) (i : ℕ) (d : Bor (List ℕ)) → i < length pieces
@@ -52,9 +57,13 @@ joined_at : (pieces : List (Bor (List ℕ))) (i : ℕ) (d : Bor (List ℕ)) → 
 joined_at [] i d within = absurd (omega arith)
 joined_at (piece ∷ pieces) zero d within = refl
 joined_at (piece ∷ pieces) (suc i) d within =
-    rw (joined_at pieces i d (omega arith)) (sym (append_assoc piece.now (joined (take i pieces)) ((get_or pieces i d).now ++ joined (drop (suc i) pieces))))
+    rw (joined_at pieces i d (omega arith))
+    (sym (append_assoc piece.now (joined (take i pieces)) ((get_or pieces i d).now ++ joined (drop (suc i) pieces))))
 
-pub front_of_pieces : (old mid new : Option (List ℕ)) (pieces : List (Bor (List ℕ))) (i : ℕ) (d : Bor (List ℕ)) → i < length pieces
-    → Got old (joined (take i pieces)) mid → GotPrefix mid (get_or pieces i d).now new → GotPrefix old (joined pieces) new
+pub front_of_pieces : (old mid new : Option (List ℕ)) (pieces : List (Bor (List ℕ))) (i : ℕ) (d : Bor (List ℕ))
+    → i < length pieces
+    → Got old (joined (take i pieces)) mid → GotPrefix mid (get_or pieces i d).now new
+    → GotPrefix old (joined pieces) new
 front_of_pieces old mid new pieces i d within got front =
-    front_within old mid new (joined (take i pieces)) (get_or pieces i d).now (joined (drop (suc i) pieces)) (joined pieces) (joined_at pieces i d within) got front
+    front_within old mid new (joined (take i pieces)) (get_or pieces i d).now (joined (drop (suc i) pieces))
+    (joined pieces) (joined_at pieces i d within) got front

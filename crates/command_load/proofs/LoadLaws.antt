@@ -30,7 +30,8 @@ AfterRun out out' WriteFailed = Rose out.faults out'.faults
 AfterRun out out' OutOfMemory = Unit {0}
 AfterRun out out' _ = ⊥
 
-written_after : (summary : Summary) (out out' : SinkReport) (ending : Ending) → WritesSummary summary out out' ending → AfterRun out out' ending
+written_after : (summary : Summary) (out out' : SinkReport) (ending : Ending) → WritesSummary summary out out' ending
+    → AfterRun out out' ending
 written_after summary out out' Finished writes = writes.1
 written_after summary out out' (ConfigRefused refusal) writes = writes
 written_after summary out out' (Unread unread) writes = writes
@@ -41,14 +42,16 @@ written_after summary out out' LinksFailed writes = writes
 written_after summary out out' (ScriptRefused line) writes = writes
 written_after summary out out' OutOfMemory writes = tt
 
-pub ends_after_run : (setup : Setup) (count start : ℕ) (patterns patterns' : PatternsReport) (forks forks' : ℕ) (out out' : SinkReport) (ending : Ending)
+pub ends_after_run : (setup : Setup) (count start : ℕ) (patterns patterns' : PatternsReport) (forks forks' : ℕ)
+    (out out' : SinkReport) (ending : Ending)
     → RunEnds setup count start patterns patterns' forks forks' out out' ending → AfterRun out out' ending
 ends_after_run setup count start patterns patterns' forks forks' out out' ending ends = elim ends [
   | inl cut ↦ subst (λ e. AfterRun out out' e) (sym cut.0) tt
   | inr played ↦ written_after played.0 out out' ending played.2
 ]
 
-pub reads_after_run : (old new : Option (List StoreRead)) (name : List ℕ) (out out' : SinkReport) (ending : Ending) → AfterRun out out' ending
+pub reads_after_run : (old new : Option (List StoreRead)) (name : List ℕ) (out out' : SinkReport) (ending : Ending)
+    → AfterRun out out' ending
     → ReadMore (good_read name ∷ []) old new → ReadsFiles (name ∷ []) (IsReadOnce ending) old new ending
 reads_after_run old new name out out' Finished after grew = read_alone _ old new name _ grew refl (refl, tt)
 reads_after_run old new name out out' (ConfigRefused refusal) after grew = absurd after
@@ -60,7 +63,8 @@ reads_after_run old new name out out' LinksFailed after grew = absurd after
 reads_after_run old new name out out' (ScriptRefused line) after grew = absurd after
 reads_after_run old new name out out' OutOfMemory after grew = read_alone _ old new name _ grew tt (refl, tt)
 
-pub quiet_after_run : (out out' : SinkReport) (ending : Ending) → AfterRun out out' ending → IsComplete ending → out'.faults ≡ out.faults
+pub quiet_after_run : (out out' : SinkReport) (ending : Ending) → AfterRun out out' ending → IsComplete ending
+    → out'.faults ≡ out.faults
 quiet_after_run out out' Finished after complete = after
 quiet_after_run out out' (ConfigRefused refusal) after complete = absurd after
 quiet_after_run out out' (Unread unread) after complete = absurd after
@@ -71,7 +75,8 @@ quiet_after_run out out' LinksFailed after complete = absurd after
 quiet_after_run out out' (ScriptRefused line) after complete = absurd after
 quiet_after_run out out' OutOfMemory after complete = absurd complete
 
-not_read_after_run : (out out' : SinkReport) (ending : Ending) → AfterRun out out' ending → status_of ending ≡ ReadFault → ⊥
+not_read_after_run : (out out' : SinkReport) (ending : Ending) → AfterRun out out' ending → status_of ending ≡ ReadFault
+    → ⊥
 not_read_after_run out out' Finished after e = cc
 not_read_after_run out out' (ConfigRefused refusal) after e = after
 not_read_after_run out out' (Unread unread) after e = after
@@ -82,7 +87,8 @@ not_read_after_run out out' LinksFailed after e = after
 not_read_after_run out out' (ScriptRefused line) after e = after
 not_read_after_run out out' OutOfMemory after e = cc
 
-not_linked_after_run : (out out' : SinkReport) (ending : Ending) → AfterRun out out' ending → status_of ending ≡ LinkFault → ⊥
+not_linked_after_run : (out out' : SinkReport) (ending : Ending) → AfterRun out out' ending
+    → status_of ending ≡ LinkFault → ⊥
 not_linked_after_run out out' Finished after e = cc
 not_linked_after_run out out' (ConfigRefused refusal) after e = after
 not_linked_after_run out out' (Unread unread) after e = after
@@ -93,7 +99,8 @@ not_linked_after_run out out' LinksFailed after e = after
 not_linked_after_run out out' (ScriptRefused line) after e = after
 not_linked_after_run out out' OutOfMemory after e = cc
 
-rose_after_run : (out out' : SinkReport) (ending : Ending) → AfterRun out out' ending → status_of ending ≡ SinkFault → Rose out.faults out'.faults
+rose_after_run : (out out' : SinkReport) (ending : Ending) → AfterRun out out' ending → status_of ending ≡ SinkFault
+    → Rose out.faults out'.faults
 rose_after_run out out' Finished after e = cc
 rose_after_run out out' (ConfigRefused refusal) after e = absurd after
 rose_after_run out out' (Unread unread) after e = absurd after
@@ -104,7 +111,8 @@ rose_after_run out out' LinksFailed after e = absurd after
 rose_after_run out out' (ScriptRefused line) after e = absurd after
 rose_after_run out out' OutOfMemory after e = cc
 
-done_after_run : (out out' : SinkReport) (ending : Ending) → AfterRun out out' ending → IsStill out.faults out'.faults → IsDoneOrMemory (status_of ending)
+done_after_run : (out out' : SinkReport) (ending : Ending) → AfterRun out out' ending → IsStill out.faults out'.faults
+    → IsDoneOrMemory (status_of ending)
 done_after_run out out' Finished after still = tt
 done_after_run out out' (ConfigRefused refusal) after still = absurd after
 done_after_run out out' (Unread unread) after still = absurd after
@@ -118,37 +126,47 @@ done_after_run out out' OutOfMemory after still = tt
 -- ---- the command
 
 after : (setup : Setup) (count start : ℕ) (old new : Reporting) (ending : Ending)
-    → RunEnds setup count start old.patterns new.patterns old.forks new.forks old.out new.out ending → AfterRun old.out new.out ending
+    → RunEnds setup count start old.patterns new.patterns old.forks new.forks old.out new.out ending
+    → AfterRun old.out new.out ending
 after setup count start old new ending ends =
     ends_after_run setup count start old.patterns new.patterns old.forks new.forks old.out new.out ending ends
 
-pub load_read_rose : (config : List ℕ) (count start : ℕ) (old new : Reporting) (ending : Ending) → LoadEnds config count start old new ending
+pub load_read_rose : (config : List ℕ) (count start : ℕ) (old new : Reporting) (ending : Ending)
+    → LoadEnds config count start old new ending
     → status_of ending ≡ ReadFault → Rose old.store.faults new.store.faults
 load_read_rose config count start old new ending ends e = elim ends [
   | inl refused ↦ refused_rose config old.store new.store old.patterns new.patterns ending refused.0 e
   | inr ran ↦ absurd (not_read_after_run old.out new.out ending (after ran.0 count start old new ending ran.2) e)
 ]
 
-pub load_sink_rose : (config : List ℕ) (count start : ℕ) (old new : Reporting) (ending : Ending) → LoadEnds config count start old new ending
+pub load_sink_rose : (config : List ℕ) (count start : ℕ) (old new : Reporting) (ending : Ending)
+    → LoadEnds config count start old new ending
     → status_of ending ≡ SinkFault → Rose old.out.faults new.out.faults
 load_sink_rose config count start old new ending ends e = elim ends [
   | inl refused ↦ absurd (refused_not_written config old.store new.store old.patterns new.patterns ending refused.0 e)
   | inr ran ↦ rose_after_run old.out new.out ending (after ran.0 count start old new ending ran.2) e
 ]
 
-pub load_not_linked : (config : List ℕ) (count start : ℕ) (old new : Reporting) (ending : Ending) → LoadEnds config count start old new ending
+pub load_not_linked : (config : List ℕ) (count start : ℕ) (old new : Reporting) (ending : Ending)
+    → LoadEnds config count start old new ending
     → status_of ending ≡ LinkFault → ⊥
 load_not_linked config count start old new ending ends e = elim ends [
   | inl refused ↦ refused_not_linked config old.store new.store old.patterns new.patterns ending refused.0 e
   | inr ran ↦ not_linked_after_run old.out new.out ending (after ran.0 count start old new ending ran.2) e
 ]
 
-pub load_complete : (config : List ℕ) (count start : ℕ) (text : List ℕ) (read : Config) (old new : Reporting) (ending : Ending) → IsHeld (old.store.held config) text
-    → IsConfigOf text read → length text ≤ CONFIG_LIMIT → IsStill old.store.faults new.store.faults → IsStill old.out.faults new.out.faults
-    → IsStill old.patterns.refusals new.patterns.refusals → LoadEnds config count start old new ending → IsDoneOrMemory (status_of ending)
+pub load_complete : (config : List ℕ) (count start : ℕ) (text : List ℕ) (read : Config) (old new : Reporting)
+    (ending : Ending)
+    → IsHeld (old.store.held config) text
+    → IsConfigOf text read → length text ≤ CONFIG_LIMIT → IsStill old.store.faults new.store.faults
+    → IsStill old.out.faults new.out.faults
+    → IsStill old.patterns.refusals new.patterns.refusals → LoadEnds config count start old new ending
+    → IsDoneOrMemory (status_of ending)
 load_complete config count start text read old new ending holds is fits reads_still out_still still ends = elim ends [
   | inl refused ↦
-      let e = refused_for_memory config text read old.store new.store old.patterns new.patterns ending holds is fits reads_still still refused.0 in
+      let e =
+      refused_for_memory config text read old.store new.store old.patterns new.patterns ending holds is fits reads_still
+      still refused.0 in
       subst (λ other. IsDoneOrMemory (status_of other)) (sym e) tt
   | inr ran ↦ done_after_run old.out new.out ending (after ran.0 count start old new ending ran.2) out_still
 ]

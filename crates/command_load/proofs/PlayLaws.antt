@@ -59,19 +59,24 @@ scripted wanted links links' run begins is calls =
 -- ---- the run
 
 abbrev pub IsLive : Core → ℕ → Type 0
-IsLive core live = (arrivals : List Arrival) → Represents core arrivals → live ≡ length (live_events (state_by (config_of core) arrivals).log)
+IsLive core live =
+    (arrivals : List Arrival) → Represents core arrivals
+    → live ≡ length (live_events (state_by (config_of core) arrivals).log)
 
 abbrev summary_with : ℕ → ℕ → ℕ → ℕ → Summary
 summary_with events notices replies live = record { events = events; notices = notices; replies = replies; live = live }
 
-same_summary : (events notices notices' replies replies' live live' : ℕ) → notices ≡ notices' → replies ≡ replies' → live ≡ live'
+same_summary : (events notices notices' replies replies' live live' : ℕ) → notices ≡ notices' → replies ≡ replies'
+    → live ≡ live'
     → summary_with events notices replies live ≡ summary_with events notices' replies' live'
 same_summary events notices notices' replies replies' live live' a b c = rw a (rw b (rw c refl))
 
-finished : (setup : Setup) (count : ℕ) (patterns patterns' : PatternsReport) (forks forks' lines replies live : ℕ) (hub : Hub) (run : List Entry)
+finished : (setup : Setup) (count : ℕ) (patterns patterns' : PatternsReport) (forks forks' lines replies live : ℕ)
+    (hub : Hub) (run : List Entry)
     → (finishes : Finishes setup greatest (counted patterns forks 0) (counted patterns' forks' lines) hub run)
     → replies ≡ length (frames_of (bytes_taken 0 run)) → IsLive (core_of hub) live
-    → summary_with count lines replies live ≡ summary_of count (config_at setup finishes.secs) (steps_of finishes.turns) run
+    → summary_with count lines replies live
+    ≡ summary_of count (config_at setup finishes.secs) (steps_of finishes.turns) run
 finished setup count patterns patterns' forks forks' lines replies live hub run finishes replied lives =
     let config = config_at setup finishes.secs in
     let arrivals = (state_after config (steps_of finishes.turns)).arrivals in
@@ -80,34 +85,44 @@ finished setup count patterns patterns' forks forks' lines replies live hub run 
     let living = lives arrivals at.arrivals ∙ ap (λ c. length (live_events (state_by c arrivals).log)) at.config_is in
     same_summary count lines _ replies _ live _ noticed replied living
 
-pub is_played : (setup : Setup) (count start : ℕ) (patterns patterns' : PatternsReport) (forks forks' lines replies live : ℕ) (hub : Hub) (core : Core)
+pub is_played : (setup : Setup) (count start : ℕ) (patterns patterns' : PatternsReport)
+    (forks forks' lines replies live : ℕ) (hub : Hub) (core : Core)
     (links links' : ScriptedCalls) → links.log ≡ [] → links.script ≡ load_script count start
-    → AddsRun (script_report links) (script_report links') (RunsTo setup greatest (counted patterns forks 0) (counted patterns' forks' lines) (Ok hub))
+    → AddsRun (script_report links) (script_report links')
+    (RunsTo setup greatest (counted patterns forks 0) (counted patterns' forks' lines) (Ok hub))
     → replies ≡ length (frames_of (bytes_taken 0 links'.log)) → core ≡ core_of hub → IsLive core live
     → IsPlayed setup count start patterns patterns' forks forks' (summary_with count lines replies live)
-is_played setup count start patterns patterns' forks forks' lines replies live hub core links links' begins is adds replied of_hub lives = record {
-  run = adds.run;
-  hub = hub;
-  scripted = scripted (load_script count start) links links' adds.run begins is adds.grew;
-  finishes = adds.holds;
-  sums = finished setup count patterns patterns' forks forks' lines replies live hub adds.run adds.holds
-      (replied ∙ ap (λ entries. length (frames_of (bytes_taken 0 entries))) (grown_from_none links.log links'.log adds.run begins adds.grew.log))
-      (subst (λ c. IsLive c live) of_hub lives);
-}
+is_played setup count start patterns patterns' forks forks' lines replies live hub core links links' begins is adds
+    replied of_hub lives = record {
+      run = adds.run;
+      hub = hub;
+      scripted = scripted (load_script count start) links links' adds.run begins is adds.grew;
+      finishes = adds.holds;
+      sums = finished setup count patterns patterns' forks forks' lines replies live hub adds.run adds.holds
+          (replied
+          ∙ ap (λ entries. length (frames_of (bytes_taken 0 entries)))
+          (grown_from_none links.log links'.log adds.run begins adds.grew.log))
+          (subst (λ c. IsLive c live) of_hub lives);
+    }
 
-pub is_cut_off : (setup : Setup) (count start : ℕ) (patterns patterns' : PatternsReport) (forks forks' lines : ℕ) (fault : RunFault)
+pub is_cut_off : (setup : Setup) (count start : ℕ) (patterns patterns' : PatternsReport) (forks forks' lines : ℕ)
+    (fault : RunFault)
     (links links' : ScriptedCalls) → fault ≡ Memory → links.log ≡ [] → links.script ≡ load_script count start
-    → AddsRun (script_report links) (script_report links') (RunsTo setup greatest (counted patterns forks 0) (counted patterns' forks' lines) (Err fault))
+    → AddsRun (script_report links) (script_report links')
+    (RunsTo setup greatest (counted patterns forks 0) (counted patterns' forks' lines) (Err fault))
     → IsCutOff setup count start patterns patterns' forks forks'
 is_cut_off setup count start patterns patterns' forks forks' lines fault links links' memory begins is adds = record {
   run = adds.run;
   lines = lines;
   scripted = scripted (load_script count start) links links' adds.run begins is adds.grew;
-  ran = subst (λ f. RunsTo setup greatest (counted patterns forks 0) (counted patterns' forks' lines) (Err f) adds.run) memory adds.holds;
+  ran =
+      subst (λ f. RunsTo setup greatest (counted patterns forks 0) (counted patterns' forks' lines) (Err f) adds.run)
+      memory adds.holds;
 }
 
 -- nothing was done
-pub not_begun : (setup : Setup) (count start : ℕ) (patterns : PatternsReport) (forks : ℕ) → IsCutOff setup count start patterns patterns forks forks
+pub not_begun : (setup : Setup) (count start : ℕ) (patterns : PatternsReport) (forks : ℕ)
+    → IsCutOff setup count start patterns patterns forks forks
 not_begun setup count start patterns forks = record {
   run = [];
   lines = 0;

@@ -26,13 +26,17 @@ use Rattle.command_serve.specs.Serves.{RanOn, ServeEnds, ending_of_run}
 
 -- ---- after a run
 
-pub served : (config : List ℕ) (turns : ℕ) (setup : Setup) (old new : Reporting) (ran : Result Hub RunFault) → SetsUp (old.store.held config) setup → RanOn setup turns old new ran
+pub served : (config : List ℕ) (turns : ℕ) (setup : Setup) (old new : Reporting) (ran : Result Hub RunFault)
+    → SetsUp (old.store.held config) setup → RanOn setup turns old new ran
     → (ran ≡ Err Links → Rose old.links.faults new.links.faults) → (ran ≡ Err Sink → Rose old.out.faults new.out.faults)
     → (ran ≢ Err Links → new.links.faults ≡ old.links.faults) → (ran ≢ Err Sink → new.out.faults ≡ old.out.faults)
     → ServeEnds config turns old new (ending_of_run ran)
-served config turns setup old new (Ok hub) sets ran links_rose sink_rose links_quiet sink_quiet = (setup, sets, (hub, ran))
-served config turns setup old new (Err Links) sets ran links_rose sink_rose links_quiet sink_quiet = (setup, sets, ran, links_rose refl)
-served config turns setup old new (Err Sink) sets ran links_rose sink_rose links_quiet sink_quiet = (setup, sets, ran, sink_rose refl)
+served config turns setup old new (Ok hub) sets ran links_rose sink_rose links_quiet sink_quiet =
+    (setup, sets, (hub, ran))
+served config turns setup old new (Err Links) sets ran links_rose sink_rose links_quiet sink_quiet =
+    (setup, sets, ran, links_rose refl)
+served config turns setup old new (Err Sink) sets ran links_rose sink_rose links_quiet sink_quiet =
+    (setup, sets, ran, sink_rose refl)
 served config turns setup old new (Err Memory) sets ran links_rose sink_rose links_quiet sink_quiet =
     inr (setup, sets, ran, links_quiet (λ e. cc), sink_quiet (λ e. cc))
 
@@ -40,7 +44,8 @@ pub run_has_config : (ran : Result Hub RunFault) → HasNoConfig (ending_of_run 
 run_has_config (Ok hub) refused = refused
 run_has_config (Err fault) refused = cut_has_config fault refused
 
-pub served_reads : (old new : Option (List StoreRead)) (name : List ℕ) (ran : Result Hub RunFault) → ReadMore (good_read name ∷ []) old new
+pub served_reads : (old new : Option (List StoreRead)) (name : List ℕ) (ran : Result Hub RunFault)
+    → ReadMore (good_read name ∷ []) old new
     → ReadsFiles (name ∷ []) (IsReadOnce (ending_of_run ran)) old new (ending_of_run ran)
 served_reads old new name (Ok hub) grew = read_alone _ old new name _ grew refl (refl, tt)
 served_reads old new name (Err Links) grew = read_alone _ old new name _ grew refl (refl, tt)
@@ -62,7 +67,8 @@ run_refuses_nothing (Err fault) refused = cut_refuses_nothing fault refused
 
 -- ---- where there is no configuration
 
-pub not_served : (config : List ℕ) (turns : ℕ) (old new : Reporting) (ending : Ending) → RefusesSetup config old.store new.store old.patterns new.patterns ending
+pub not_served : (config : List ℕ) (turns : ℕ) (old new : Reporting) (ending : Ending)
+    → RefusesSetup config old.store new.store old.patterns new.patterns ending
     → IsIdle old new → ServeEnds config turns old new ending
 not_served config turns old new Finished refuses idle = absurd refuses
 not_served config turns old new (ConfigRefused refusal) refuses idle = (refuses, idle)
@@ -76,11 +82,13 @@ not_served config turns old new OutOfMemory refuses idle = inl (refuses, idle)
 
 -- ---- the causes of faults
 
-pub serve_read_rose : (config : List ℕ) (turns : ℕ) (old new : Reporting) (ending : Ending) → ServeEnds config turns old new ending
+pub serve_read_rose : (config : List ℕ) (turns : ℕ) (old new : Reporting) (ending : Ending)
+    → ServeEnds config turns old new ending
     → status_of ending ≡ ReadFault → Rose old.store.faults new.store.faults
 serve_read_rose config turns old new Finished ends e = cc
 serve_read_rose config turns old new (ConfigRefused refusal) ends e = cc
-serve_read_rose config turns old new (Unread unread) ends e = refused_rose config old.store new.store old.patterns new.patterns (Unread unread) ends.0 e
+serve_read_rose config turns old new (Unread unread) ends e =
+    refused_rose config old.store new.store old.patterns new.patterns (Unread unread) ends.0 e
 serve_read_rose config turns old new (OverLimit over limit) ends e = cc
 serve_read_rose config turns old new (BytesLeft count) ends e = cc
 serve_read_rose config turns old new WriteFailed ends e = cc
@@ -88,7 +96,8 @@ serve_read_rose config turns old new LinksFailed ends e = cc
 serve_read_rose config turns old new (ScriptRefused line) ends e = cc
 serve_read_rose config turns old new OutOfMemory ends e = cc
 
-pub serve_sink_rose : (config : List ℕ) (turns : ℕ) (old new : Reporting) (ending : Ending) → ServeEnds config turns old new ending
+pub serve_sink_rose : (config : List ℕ) (turns : ℕ) (old new : Reporting) (ending : Ending)
+    → ServeEnds config turns old new ending
     → status_of ending ≡ SinkFault → Rose old.out.faults new.out.faults
 serve_sink_rose config turns old new Finished ends e = cc
 serve_sink_rose config turns old new (ConfigRefused refusal) ends e = cc
@@ -100,7 +109,8 @@ serve_sink_rose config turns old new LinksFailed ends e = cc
 serve_sink_rose config turns old new (ScriptRefused line) ends e = cc
 serve_sink_rose config turns old new OutOfMemory ends e = cc
 
-pub serve_links_rose : (config : List ℕ) (turns : ℕ) (old new : Reporting) (ending : Ending) → ServeEnds config turns old new ending
+pub serve_links_rose : (config : List ℕ) (turns : ℕ) (old new : Reporting) (ending : Ending)
+    → ServeEnds config turns old new ending
     → status_of ending ≡ LinkFault → Rose old.links.faults new.links.faults
 serve_links_rose config turns old new Finished ends e = cc
 serve_links_rose config turns old new (ConfigRefused refusal) ends e = cc
@@ -115,27 +125,45 @@ serve_links_rose config turns old new OutOfMemory ends e = cc
 -- ---- completeness
 
 -- it can't have been refused
-not_refused : (config text : List ℕ) (read : Config) (old new : Reporting) (ending : Ending) → IsHeld (old.store.held config) text → IsConfigOf text read
-    → length text ≤ CONFIG_LIMIT → IsStill old.store.faults new.store.faults → IsStill old.patterns.refusals new.patterns.refusals
+not_refused : (config text : List ℕ) (read : Config) (old new : Reporting) (ending : Ending)
+    → IsHeld (old.store.held config) text → IsConfigOf text read
+    → length text ≤ CONFIG_LIMIT → IsStill old.store.faults new.store.faults
+    → IsStill old.patterns.refusals new.patterns.refusals
     → RefusesSetup config old.store new.store old.patterns new.patterns ending → ending ≡ OutOfMemory
 not_refused config text read old new ending holds is fits reads_still still refuses =
-    refused_for_memory config text read old.store new.store old.patterns new.patterns ending holds is fits reads_still still refuses
+    refused_for_memory config text read old.store new.store old.patterns new.patterns ending holds is fits reads_still
+    still refuses
 
-pub serve_complete : (config : List ℕ) (turns : ℕ) (text : List ℕ) (read : Config) (old new : Reporting) (ending : Ending) → IsHeld (old.store.held config) text
-    → IsConfigOf text read → length text ≤ CONFIG_LIMIT → IsStill old.store.faults new.store.faults → IsStill old.links.faults new.links.faults
-    → IsStill old.out.faults new.out.faults → IsStill old.patterns.refusals new.patterns.refusals → ServeEnds config turns old new ending
+pub serve_complete : (config : List ℕ) (turns : ℕ) (text : List ℕ) (read : Config) (old new : Reporting)
+    (ending : Ending)
+    → IsHeld (old.store.held config) text
+    → IsConfigOf text read → length text ≤ CONFIG_LIMIT → IsStill old.store.faults new.store.faults
+    → IsStill old.links.faults new.links.faults
+    → IsStill old.out.faults new.out.faults → IsStill old.patterns.refusals new.patterns.refusals
+    → ServeEnds config turns old new ending
     → IsDoneOrMemory (status_of ending)
 serve_complete config turns text read old new Finished holds is fits reads_still links_still out_still still ends = tt
-serve_complete config turns text read old new (ConfigRefused refusal) holds is fits reads_still links_still out_still still ends =
-    let e = not_refused config text read old new (ConfigRefused refusal) holds is fits reads_still still ends.0 in absurd cc
-serve_complete config turns text read old new (Unread unread) holds is fits reads_still links_still out_still still ends =
+serve_complete config turns text read old new (ConfigRefused refusal) holds is fits reads_still links_still out_still
+    still ends =
+    let e = not_refused config text read old new (ConfigRefused refusal) holds is fits reads_still still ends.0 in
+    absurd cc
+serve_complete config turns text read old new (Unread unread) holds is fits reads_still links_still out_still still
+    ends =
     let e = not_refused config text read old new (Unread unread) holds is fits reads_still still ends.0 in absurd cc
-serve_complete config turns text read old new (OverLimit over limit) holds is fits reads_still links_still out_still still ends =
-    let e = not_refused config text read old new (OverLimit over limit) holds is fits reads_still still ends.0 in absurd cc
-serve_complete config turns text read old new (BytesLeft count) holds is fits reads_still links_still out_still still ends =
+serve_complete config turns text read old new (OverLimit over limit) holds is fits reads_still links_still out_still
+    still ends =
+    let e = not_refused config text read old new (OverLimit over limit) holds is fits reads_still still ends.0 in
+    absurd cc
+serve_complete config turns text read old new (BytesLeft count) holds is fits reads_still links_still out_still still
+    ends =
     let e = not_refused config text read old new (BytesLeft count) holds is fits reads_still still ends.0 in absurd cc
-serve_complete config turns text read old new WriteFailed holds is fits reads_still links_still out_still still ends = omega (arith, ends.3, out_still.0, out_still.1)
-serve_complete config turns text read old new LinksFailed holds is fits reads_still links_still out_still still ends = omega (arith, ends.3, links_still.0, links_still.1)
-serve_complete config turns text read old new (ScriptRefused line) holds is fits reads_still links_still out_still still ends =
-    let e = not_refused config text read old new (ScriptRefused line) holds is fits reads_still still ends.0 in absurd cc
-serve_complete config turns text read old new OutOfMemory holds is fits reads_still links_still out_still still ends = tt
+serve_complete config turns text read old new WriteFailed holds is fits reads_still links_still out_still still ends =
+    omega (arith, ends.3, out_still.0, out_still.1)
+serve_complete config turns text read old new LinksFailed holds is fits reads_still links_still out_still still ends =
+    omega (arith, ends.3, links_still.0, links_still.1)
+serve_complete config turns text read old new (ScriptRefused line) holds is fits reads_still links_still out_still still
+    ends =
+    let e = not_refused config text read old new (ScriptRefused line) holds is fits reads_still still ends.0 in
+    absurd cc
+serve_complete config turns text read old new OutOfMemory holds is fits reads_still links_still out_still still ends =
+    tt

@@ -20,7 +20,9 @@ use Rattle.command_io.proofs.ConfigLaws.{config_not_refused}
 use Rattle.command_io.proofs.EndingLaws.{not_over}
 use Rattle.command_io.specs.Accepting.{RefusesSetup}
 
-pub refuses_fetch : (name : List ℕ) (shown : Bor (List ℕ)) (store store' : StoreReport) (patterns : PatternsReport) (fault : FetchFault) → shown.now ≡ name
+pub refuses_fetch : (name : List ℕ) (shown : Bor (List ℕ)) (store store' : StoreReport) (patterns : PatternsReport)
+    (fault : FetchFault)
+    → shown.now ≡ name
     → IsFetchFault (store.held name) store.faults store'.faults store.taken store'.taken fault
     → RefusesSetup name store store' patterns patterns (ending_of_fetch shown fault)
 refuses_fetch name shown store store' patterns (fetch.Config (Refused place why)) is cause = (cause, refl)
@@ -31,7 +33,8 @@ refuses_fetch name shown store store' patterns (fetch.Config Memory) is cause = 
 
 -- ---- how a command does not end that has no configuration
 
-pub refused_not_complete : (name : List ℕ) (store store' : StoreReport) (patterns patterns' : PatternsReport) (ending : Ending)
+pub refused_not_complete : (name : List ℕ) (store store' : StoreReport) (patterns patterns' : PatternsReport)
+    (ending : Ending)
     → RefusesSetup name store store' patterns patterns' ending → IsComplete ending → ⊥
 refused_not_complete name store store' patterns patterns' Finished refuses complete = refuses
 refused_not_complete name store store' patterns patterns' (ConfigRefused refusal) refuses complete = complete
@@ -43,7 +46,8 @@ refused_not_complete name store store' patterns patterns' LinksFailed refuses co
 refused_not_complete name store store' patterns patterns' (ScriptRefused line) refuses complete = complete
 refused_not_complete name store store' patterns patterns' OutOfMemory refuses complete = complete
 
-pub refused_not_written : (name : List ℕ) (store store' : StoreReport) (patterns patterns' : PatternsReport) (ending : Ending)
+pub refused_not_written : (name : List ℕ) (store store' : StoreReport) (patterns patterns' : PatternsReport)
+    (ending : Ending)
     → RefusesSetup name store store' patterns patterns' ending → status_of ending ≡ SinkFault → ⊥
 refused_not_written name store store' patterns patterns' Finished refuses e = cc
 refused_not_written name store store' patterns patterns' (ConfigRefused refusal) refuses e = cc
@@ -55,7 +59,8 @@ refused_not_written name store store' patterns patterns' LinksFailed refuses e =
 refused_not_written name store store' patterns patterns' (ScriptRefused line) refuses e = cc
 refused_not_written name store store' patterns patterns' OutOfMemory refuses e = cc
 
-pub refused_not_linked : (name : List ℕ) (store store' : StoreReport) (patterns patterns' : PatternsReport) (ending : Ending)
+pub refused_not_linked : (name : List ℕ) (store store' : StoreReport) (patterns patterns' : PatternsReport)
+    (ending : Ending)
     → RefusesSetup name store store' patterns patterns' ending → status_of ending ≡ LinkFault → ⊥
 refused_not_linked name store store' patterns patterns' Finished refuses e = cc
 refused_not_linked name store store' patterns patterns' (ConfigRefused refusal) refuses e = cc
@@ -70,7 +75,8 @@ refused_not_linked name store store' patterns patterns' OutOfMemory refuses e = 
 -- ---- the causes of the others
 
 pub refused_rose : (name : List ℕ) (store store' : StoreReport) (patterns patterns' : PatternsReport) (ending : Ending)
-    → RefusesSetup name store store' patterns patterns' ending → status_of ending ≡ ReadFault → Rose store.faults store'.faults
+    → RefusesSetup name store store' patterns patterns' ending → status_of ending ≡ ReadFault
+    → Rose store.faults store'.faults
 refused_rose name store store' patterns patterns' Finished refuses e = cc
 refused_rose name store store' patterns patterns' (ConfigRefused refusal) refuses e = cc
 refused_rose name store store' patterns patterns' (Unread unread) refuses e = refuses.0
@@ -82,18 +88,32 @@ refused_rose name store store' patterns patterns' (ScriptRefused line) refuses e
 refused_rose name store store' patterns patterns' OutOfMemory refuses e = cc
 
 -- a configuration within its limit is refused only for lack of memory, where no fault and no refusal is counted
-pub refused_for_memory : (name text : List ℕ) (read : Config) (store store' : StoreReport) (patterns patterns' : PatternsReport) (ending : Ending)
-    → IsHeld (store.held name) text → IsConfigOf text read → length text ≤ CONFIG_LIMIT → IsStill store.faults store'.faults
-    → IsStill patterns.refusals patterns'.refusals → RefusesSetup name store store' patterns patterns' ending → ending ≡ OutOfMemory
-refused_for_memory name text read store store' patterns patterns' Finished holds is fits reads_still still refuses = absurd refuses
-refused_for_memory name text read store store' patterns patterns' (ConfigRefused refusal) holds is fits reads_still still refuses =
+pub refused_for_memory : (name text : List ℕ) (read : Config) (store store' : StoreReport)
+    (patterns patterns' : PatternsReport) (ending : Ending)
+    → IsHeld (store.held name) text → IsConfigOf text read → length text ≤ CONFIG_LIMIT
+    → IsStill store.faults store'.faults
+    → IsStill patterns.refusals patterns'.refusals → RefusesSetup name store store' patterns patterns' ending
+    → ending ≡ OutOfMemory
+refused_for_memory name text read store store' patterns patterns' Finished holds is fits reads_still still refuses =
+    absurd refuses
+refused_for_memory name text read store store' patterns patterns' (ConfigRefused refusal) holds is fits reads_still
+    still refuses =
     absurd (config_not_refused (store.held name) text read refusal patterns patterns' holds is still refuses)
-refused_for_memory name text read store store' patterns patterns' (Unread unread) holds is fits reads_still still refuses =
+refused_for_memory name text read store store' patterns patterns' (Unread unread) holds is fits reads_still still
+    refuses =
     absurd (omega (arith, refuses.0, reads_still.0, reads_still.1))
-refused_for_memory name text read store store' patterns patterns' (OverLimit over limit) holds is fits reads_still still refuses =
+refused_for_memory name text read store store' patterns patterns' (OverLimit over limit) holds is fits reads_still still
+    refuses =
     absurd (not_over (store.held name) text CONFIG_LIMIT holds fits refuses.0)
-refused_for_memory name text read store store' patterns patterns' (BytesLeft count) holds is fits reads_still still refuses = absurd refuses
-refused_for_memory name text read store store' patterns patterns' WriteFailed holds is fits reads_still still refuses = absurd refuses
-refused_for_memory name text read store store' patterns patterns' LinksFailed holds is fits reads_still still refuses = absurd refuses
-refused_for_memory name text read store store' patterns patterns' (ScriptRefused line) holds is fits reads_still still refuses = absurd refuses
-refused_for_memory name text read store store' patterns patterns' OutOfMemory holds is fits reads_still still refuses = refl
+refused_for_memory name text read store store' patterns patterns' (BytesLeft count) holds is fits reads_still still
+    refuses =
+    absurd refuses
+refused_for_memory name text read store store' patterns patterns' WriteFailed holds is fits reads_still still refuses =
+    absurd refuses
+refused_for_memory name text read store store' patterns patterns' LinksFailed holds is fits reads_still still refuses =
+    absurd refuses
+refused_for_memory name text read store store' patterns patterns' (ScriptRefused line) holds is fits reads_still still
+    refuses =
+    absurd refuses
+refused_for_memory name text read store store' patterns patterns' OutOfMemory holds is fits reads_still still refuses =
+    refl

@@ -25,38 +25,53 @@ use Rattle.command_test.proofs.FileLaws.{tests_refused_since}
 
 -- ---- moments
 
-pub suite_since : (config : Config) (name : List ℕ) (old mid new : StoreReport) (run run' : RunReport) (ending : TestsEnding) → mid.faults ≡ old.faults
-    → old.taken ≤ mid.taken → mid.held ≡ old.held → SuiteEnds config name mid new run run' ending → SuiteEnds config name old new run run' ending
-suite_since config name old mid new run run' ending same rises held (inl refused) = inl (tests_refused_since name old mid new ending same rises held refused.0, refused.1)
+pub suite_since : (config : Config) (name : List ℕ) (old mid new : StoreReport) (run run' : RunReport)
+    (ending : TestsEnding)
+    → mid.faults ≡ old.faults
+    → old.taken ≤ mid.taken → mid.held ≡ old.held → SuiteEnds config name mid new run run' ending
+    → SuiteEnds config name old new run run' ending
+suite_since config name old mid new run run' ending same rises held (inl refused) =
+    inl (tests_refused_since name old mid new ending same rises held refused.0, refused.1)
 suite_since config name old mid new run run' ending same rises held (inr (given, holds, ends)) =
     inr (given, subst (λ (files : List ℕ → Content). HasTests (files name) given) held holds, ends)
 
 -- ---- statuses that come for one ending
 
-pub ends_rose : (config tests : List ℕ) (store store' : StoreReport) (old new : RunReport) (ending : TestsEnding) → TestsEnd config tests store store' old new ending
+pub ends_rose : (config tests : List ℕ) (store store' : StoreReport) (old new : RunReport) (ending : TestsEnding)
+    → TestsEnd config tests store store' old new ending
     → status_of ending ≡ ReadFault → Rose store.faults store'.faults
 ends_rose config tests store store' old new (Shared (Unread unread)) (inl refused) e = refused.0.0
-ends_rose config tests store store' old new (Shared (Unread unread)) (inr (read, has, reads, inl refused)) e = refused.0.0
-ends_rose config tests store store' old new (Shared (Unread unread)) (inr (read, has, reads, inr (given, holds, ends))) e = absurd ends
+ends_rose config tests store store' old new (Shared (Unread unread)) (inr (read, has, reads, inl refused)) e =
+    refused.0.0
+ends_rose config tests store store' old new (Shared (Unread unread)) (inr (read, has, reads, inr (given, holds, ends)))
+    e =
+    absurd ends
 ends_rose config tests store store' old new _ ends e = cc
 
-write_rose : (config : Config) (tests : List Test) (old new : RunReport) → StopsRun config tests stop.Write old new → Rose old.out.faults new.out.faults
+write_rose : (config : Config) (tests : List Test) (old new : RunReport) → StopsRun config tests stop.Write old new
+    → Rose old.out.faults new.out.faults
 write_rose config tests old new stops =
     subst (λ (n : ℕ). Rose n new.out.faults) stops.judges.lines.no_fault stops.stops.0.fails.fault
 
-pub ends_put_rose : (config tests : List ℕ) (store store' : StoreReport) (old new : RunReport) (ending : TestsEnding) → TestsEnd config tests store store' old new ending
+pub ends_put_rose : (config tests : List ℕ) (store store' : StoreReport) (old new : RunReport) (ending : TestsEnding)
+    → TestsEnd config tests store store' old new ending
     → status_of ending ≡ SinkFault → Rose old.out.faults new.out.faults
 ends_put_rose config tests store store' old new (Shared WriteFailed) (inl refused) e = absurd refused.0
-ends_put_rose config tests store store' old new (Shared WriteFailed) (inr (read, has, reads, inl refused)) e = absurd refused.0
-ends_put_rose config tests store store' old new (Shared WriteFailed) (inr (read, has, reads, inr (given, holds, ends))) e = write_rose read given old new ends
+ends_put_rose config tests store store' old new (Shared WriteFailed) (inr (read, has, reads, inl refused)) e =
+    absurd refused.0
+ends_put_rose config tests store store' old new (Shared WriteFailed) (inr (read, has, reads, inr (given, holds, ends)))
+    e =
+    write_rose read given old new ends
 ends_put_rose config tests store store' old new _ ends e = cc
 
 -- no link is called
-pub no_link : (config tests : List ℕ) (store store' : StoreReport) (old new : RunReport) (ending : TestsEnding) → TestsEnd config tests store store' old new ending
+pub no_link : (config tests : List ℕ) (store store' : StoreReport) (old new : RunReport) (ending : TestsEnding)
+    → TestsEnd config tests store store' old new ending
     → status_of ending ≡ LinkFault → ⊥
 no_link config tests store store' old new (Shared LinksFailed) (inl refused) e = refused.0
 no_link config tests store store' old new (Shared LinksFailed) (inr (read, has, reads, inl refused)) e = refused.0
-no_link config tests store store' old new (Shared LinksFailed) (inr (read, has, reads, inr (given, holds, ends))) e = ends
+no_link config tests store store' old new (Shared LinksFailed) (inr (read, has, reads, inr (given, holds, ends))) e =
+    ends
 no_link config tests store store' old new _ ends e = cc
 
 -- the arguments are those of the command
@@ -66,32 +81,48 @@ no_usage _ e = cc
 
 -- ---- what is certain without faults
 
-module _ (read : Config) (given : List Test) (text lines : List ℕ) (is : IsConfigOf text read) (are : AreTestsOf lines given)
-    (few : length text ≤ CONFIG_LIMIT) (short : length lines ≤ CONFIG_LIMIT) (store store' : StoreReport) (old new : RunReport)
-    (reads_still : IsStill store.faults store'.faults) (puts_still : IsStill old.out.faults new.out.faults) (still : IsStill old.patterns.refusals new.patterns.refusals) where
-  config_shown : (name : List ℕ) (ending : TestsEnding) → IsHeld (store.held name) text → RefusesConfig name store store' ending → HasShown (core_of read) given (status_of ending)
-  config_shown name (Shared (ConfigRefused (Refused place why))) holds refuses = absurd ((reported_of (store.held name) text _ holds refuses).1.unread read is)
-  config_shown name (Shared (Unread unread)) holds refuses = absurd (omega (arith, refuses.0, reads_still.0, reads_still.1))
-  config_shown name (Shared (OverLimit over limit)) holds refuses = absurd (not_over (store.held name) text CONFIG_LIMIT holds few refuses.0)
+module _ (read : Config) (given : List Test) (text lines : List ℕ) (is : IsConfigOf text read)
+    (are : AreTestsOf lines given)
+    (few : length text ≤ CONFIG_LIMIT) (short : length lines ≤ CONFIG_LIMIT) (store store' : StoreReport)
+    (old new : RunReport)
+    (reads_still : IsStill store.faults store'.faults) (puts_still : IsStill old.out.faults new.out.faults)
+    (still : IsStill old.patterns.refusals new.patterns.refusals) where
+  config_shown : (name : List ℕ) (ending : TestsEnding) → IsHeld (store.held name) text
+      → RefusesConfig name store store' ending → HasShown (core_of read) given (status_of ending)
+  config_shown name (Shared (ConfigRefused (Refused place why))) holds refuses =
+      absurd ((reported_of (store.held name) text _ holds refuses).1.unread read is)
+  config_shown name (Shared (Unread unread)) holds refuses =
+      absurd (omega (arith, refuses.0, reads_still.0, reads_still.1))
+  config_shown name (Shared (OverLimit over limit)) holds refuses =
+      absurd (not_over (store.held name) text CONFIG_LIMIT holds few refuses.0)
   config_shown name (Shared OutOfMemory) holds refuses = tt
   config_shown name _ holds refuses = absurd refuses
 
-  tests_shown : (name : List ℕ) (ending : TestsEnding) → IsHeld (store.held name) lines → RefusesTests name store store' ending → HasShown (core_of read) given (status_of ending)
-  tests_shown name (TestsRefused place why) holds refuses = absurd ((reported_of (store.held name) lines _ holds refuses).1.unread given are)
-  tests_shown name (Shared (Unread unread)) holds refuses = absurd (omega (arith, refuses.0, reads_still.0, reads_still.1))
-  tests_shown name (Shared (OverLimit over limit)) holds refuses = absurd (not_over (store.held name) lines CONFIG_LIMIT holds short refuses.0)
+  tests_shown : (name : List ℕ) (ending : TestsEnding) → IsHeld (store.held name) lines
+      → RefusesTests name store store' ending → HasShown (core_of read) given (status_of ending)
+  tests_shown name (TestsRefused place why) holds refuses =
+      absurd ((reported_of (store.held name) lines _ holds refuses).1.unread given are)
+  tests_shown name (Shared (Unread unread)) holds refuses =
+      absurd (omega (arith, refuses.0, reads_still.0, reads_still.1))
+  tests_shown name (Shared (OverLimit over limit)) holds refuses =
+      absurd (not_over (store.held name) lines CONFIG_LIMIT holds short refuses.0)
   tests_shown name (Shared OutOfMemory) holds refuses = tt
   tests_shown name _ holds refuses = absurd refuses
 
   pattern_shown : (number : ℕ) → StopsRun read given (stop.Pattern number) old new → ⊥
   pattern_shown number stops =
-      let rose : Rose old.patterns.refusals new.patterns.refusals = subst (λ (report : PatternsReport). Rose report.refusals new.patterns.refusals) stops.no_refusal stops.stops.0.rose in
+      let rose : Rose old.patterns.refusals new.patterns.refusals =
+      subst (λ (report : PatternsReport). Rose report.refusals new.patterns.refusals) stops.no_refusal
+      stops.stops.0.rose in
       omega (arith, rose, still.0, still.1)
 
   write_shown : StopsRun read given stop.Write old new → ⊥
-  write_shown stops = let rose : Rose old.out.faults new.out.faults = write_rose read given old new stops in omega (arith, rose, puts_still.0, puts_still.1)
+  write_shown stops =
+      let rose : Rose old.out.faults new.out.faults = write_rose read given old new stops in
+      omega (arith, rose, puts_still.0, puts_still.1)
 
-  run_shown : (ending : TestsEnding) → RunEnds read given old new ending → HasShown (core_of read) given (status_of ending)
+  run_shown : (ending : TestsEnding) → RunEnds read given old new ending
+      → HasShown (core_of read) given (status_of ending)
   run_shown (Shared Finished) ends = ends.1
   run_shown Differed ends = ends.1
   run_shown (Shared (ConfigRefused (Pattern number))) ends = absurd (pattern_shown number ends)
@@ -99,15 +130,27 @@ module _ (read : Config) (given : List Test) (text lines : List ℕ) (is : IsCon
   run_shown (Shared OutOfMemory) ends = tt
   run_shown _ ends = absurd ends
 
-  same_shown : (config tests : List ℕ) (read' : Config) (given' : List Test) (ending : TestsEnding) → IsHeld (store.held config) text → IsHeld (store.held tests) lines
-      → HasConfig (store.held config) read' → HasTests (store.held tests) given' → RunEnds read' given' old new ending → HasShown (core_of read) given (status_of ending)
+  same_shown : (config tests : List ℕ) (read' : Config) (given' : List Test) (ending : TestsEnding)
+      → IsHeld (store.held config) text → IsHeld (store.held tests) lines
+      → HasConfig (store.held config) read' → HasTests (store.held tests) given' → RunEnds read' given' old new ending
+      → HasShown (core_of read) given (status_of ending)
   same_shown config tests read' given' ending holds held has gives ends =
-      let same : read ≡ read' = (reported_of (store.held config) text (λ bytes. (length bytes ≤ CONFIG_LIMIT) × ReadsAs bytes read') holds has).1.alone read is in
-      let those : given ≡ given' = (reported_of (store.held tests) lines (λ bytes. (length bytes ≤ CONFIG_LIMIT) × ReadsAsTests bytes given') held gives).1.alone given are in
-      run_shown ending (subst (λ (c : Config). RunEnds c given old new ending) (sym same) (subst (λ (ts : List Test). RunEnds read' ts old new ending) (sym those) ends))
+      let same : read ≡ read' =
+      (reported_of (store.held config) text (λ bytes. (length bytes ≤ CONFIG_LIMIT) × ReadsAs bytes read') holds
+      has).1.alone
+      read is in
+      let those : given ≡ given' =
+      (reported_of (store.held tests) lines (λ bytes. (length bytes ≤ CONFIG_LIMIT) × ReadsAsTests bytes given') held
+      gives).1.alone
+      given are in
+      run_shown ending (subst (λ (c : Config). RunEnds c given old new ending) (sym same)
+      (subst (λ (ts : List Test). RunEnds read' ts old new ending) (sym those) ends))
 
-  pub ends_shown : (config tests : List ℕ) (ending : TestsEnding) → IsHeld (store.held config) text → IsHeld (store.held tests) lines
+  pub ends_shown : (config tests : List ℕ) (ending : TestsEnding) → IsHeld (store.held config) text
+      → IsHeld (store.held tests) lines
       → TestsEnd config tests store store' old new ending → HasShown (core_of read) given (status_of ending)
   ends_shown config tests ending holds held (inl refused) = config_shown config ending holds refused.0
-  ends_shown config tests ending holds held (inr (read', has, reads, inl refused)) = tests_shown tests ending held refused.0
-  ends_shown config tests ending holds held (inr (read', has, reads, inr (given', gives, ends))) = same_shown config tests read' given' ending holds held has gives ends
+  ends_shown config tests ending holds held (inr (read', has, reads, inl refused)) =
+      tests_shown tests ending held refused.0
+  ends_shown config tests ending holds held (inr (read', has, reads, inr (given', gives, ends))) =
+      same_shown config tests read' given' ending holds held has gives ends

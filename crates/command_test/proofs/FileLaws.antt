@@ -36,121 +36,158 @@ HasText content text = ForHeld content (λ held. (held ≡ text) × (length text
 for_text : (content : Content) (text : List ℕ) (P : List ℕ → Type 0) → HasText content text → P text
     → ForHeld content (λ held. (length held ≤ CONFIG_LIMIT) × P held)
 for_text content text P has fact = λ held reported.
-    let found = has held reported in
-    (found.0, found.1, subst (λ (bytes : List ℕ). (length bytes ≤ CONFIG_LIMIT) × P bytes) (sym found.2.0) (found.2.1, fact))
+    let found = has held reported in (
+      found.0,
+      found.1,
+      subst (λ (bytes : List ℕ). (length bytes ≤ CONFIG_LIMIT) × P bytes) (sym found.2.0) (found.2.1, fact),
+    )
 
-pub file_read : {T E : Type 0} (name : List ℕ) (old new : Option (List StoreRead)) (read : Result T E) → ReadMore (good_read name ∷ []) old new
+pub file_read : {T E : Type 0} (name : List ℕ) (old new : Option (List StoreRead)) (read : Result T E)
+    → ReadMore (good_read name ∷ []) old new
     → OnOk read (ReadMore (good_read name ∷ []) old new)
 file_read name old new (Ok text) grew = grew
 file_read name old new (Err fault) grew = tt
 
 -- ---- the configuration
 
-pub has_config : (content : Content) (text : List ℕ) → (holds : HoldsConfig content text) → HasConfig content holds.config
+pub has_config : (content : Content) (text : List ℕ) → (holds : HoldsConfig content text)
+    → HasConfig content holds.config
 has_config content text holds = for_text content text (λ held. ReadsAs held holds.config) holds.holds holds.is
 
 module _ (content : Content) (text : List ℕ) (has : HasText content text) where
-  pub config_of_file : (read : Result (List ℕ) FetchFault) → IfOk read (λ same. (same ≡ text) × IsReadConfig text) → IfOk read (HoldsConfig content)
-  config_of_file (Ok same) is = subst (λ (bytes : List ℕ). HoldsConfig content bytes) (sym is.0) (record { config = is.1.0; is = is.1.1; holds = has })
+  pub config_of_file : (read : Result (List ℕ) FetchFault) → IfOk read (λ same. (same ≡ text) × IsReadConfig text)
+      → IfOk read (HoldsConfig content)
+  config_of_file (Ok same) is =
+      subst (λ (bytes : List ℕ). HoldsConfig content bytes) (sym is.0)
+      (record { config = is.1.0; is = is.1.1; holds = has })
   config_of_file (Err fault) is = tt
 
-  pub no_config_of_file : (faults faults' taken taken' : ℕ) (read : Result (List ℕ) FetchFault) → IfErr read (IsTextFault text)
+  pub no_config_of_file : (faults faults' taken taken' : ℕ) (read : Result (List ℕ) FetchFault)
+      → IfErr read (IsTextFault text)
       → IfErr read (IsFetchFault content faults faults' taken taken')
   no_config_of_file faults faults' taken taken' (Ok same) is = tt
-  no_config_of_file faults faults' taken taken' (Err fault) is = file_of_text content text faults faults' taken taken' (Err fault) has is
+  no_config_of_file faults faults' taken taken' (Err fault) is =
+      file_of_text content text faults faults' taken taken' (Err fault) has is
 
 -- the file whose text is not a configuration was read
-pub config_read : (name text : List ℕ) (old new : Option (List StoreRead)) (read : Result (List ℕ) FetchFault) → IfErr read (IsTextFault text)
+pub config_read : (name text : List ℕ) (old new : Option (List StoreRead)) (read : Result (List ℕ) FetchFault)
+    → IfErr read (IsTextFault text)
     → ReadMore (good_read name ∷ []) old new → IfErr read (λ fault. ReadMore (fetch_reads name (Err fault)) old new)
 config_read name text old new (Ok same) is grew = tt
 config_read name text old new (Err (fetch.File fault)) is grew = absurd is
 config_read name text old new (Err (fetch.Config fault)) is grew = grew
 
-pub config_refused : (name : List ℕ) (shown : Bor (List ℕ)) (old new : StoreReport) (fault : FetchFault) → shown.now ≡ name
-    → IsFetchFault (old.held name) old.faults new.faults old.taken new.taken fault → RefusesConfig name old new (Shared (ending_of_fetch shown fault))
+pub config_refused : (name : List ℕ) (shown : Bor (List ℕ)) (old new : StoreReport) (fault : FetchFault)
+    → shown.now ≡ name
+    → IsFetchFault (old.held name) old.faults new.faults old.taken new.taken fault
+    → RefusesConfig name old new (Shared (ending_of_fetch shown fault))
 config_refused name shown old new (fetch.File file.Unread) is cause = (cause, is)
 config_refused name shown old new (fetch.File file.TooLong) is cause = (cause.0, cause.1, is, refl)
 config_refused name shown old new (fetch.File file.Memory) is cause = tt
 config_refused name shown old new (fetch.Config (config_fault.Refused place why)) is cause = cause
 config_refused name shown old new (fetch.Config config_fault.Memory) is cause = tt
 
-pub config_unread : (name : List ℕ) (shown : Bor (List ℕ)) (old new : Option (List StoreRead)) (fault : FetchFault) → ReadMore (fetch_reads name (Err fault)) old new
+pub config_unread : (name : List ℕ) (shown : Bor (List ℕ)) (old new : Option (List StoreRead)) (fault : FetchFault)
+    → ReadMore (fetch_reads name (Err fault)) old new
     → ReadsOnce [] name old new (Shared (ending_of_fetch shown fault))
 config_unread name shown old new (fetch.File file.Memory) grew = inl grew
 config_unread name shown old new (fetch.Config config_fault.Memory) grew = inr grew
 config_unread name shown old new _ grew = grew
 
-pub config_not_complete : (shown : Bor (List ℕ)) (fault : FetchFault) → IsComplete (Shared (ending_of_fetch shown fault)) → ⊥
+pub config_not_complete : (shown : Bor (List ℕ)) (fault : FetchFault)
+    → IsComplete (Shared (ending_of_fetch shown fault)) → ⊥
 config_not_complete shown (fetch.File file.Unread) complete = complete
 config_not_complete shown (fetch.Config config_fault.Memory) complete = complete
 config_not_complete shown _ complete = complete
 
 -- ---- the tests
 
-tests_refused : (name text : List ℕ) (old new : StoreReport) (ending : TestsEnding) → HasText (old.held name) text → RefusesTestsText text ending
+tests_refused : (name text : List ℕ) (old new : StoreReport) (ending : TestsEnding) → HasText (old.held name) text
+    → RefusesTestsText text ending
     → RefusesTests name old new ending
-tests_refused name text old new (TestsRefused place why) has refuses = for_text (old.held name) text (λ (bytes : List ℕ). AreRefused bytes place why) has refuses
+tests_refused name text old new (TestsRefused place why) has refuses =
+    for_text (old.held name) text (λ (bytes : List ℕ). AreRefused bytes place why) has refuses
 tests_refused name text old new (Shared OutOfMemory) has refuses = tt
 tests_refused name text old new _ has refuses = absurd refuses
 
-tests_read : (name text : List ℕ) (old new : Option (List StoreRead)) (ending : TestsEnding) → RefusesTestsText text ending → ReadMore (good_read name ∷ []) old new
+tests_read : (name text : List ℕ) (old new : Option (List StoreRead)) (ending : TestsEnding)
+    → RefusesTestsText text ending → ReadMore (good_read name ∷ []) old new
     → ReadsOnce [] name old new ending
 tests_read name text old new (Shared (Unread unread)) refuses grew = absurd refuses
 tests_read name text old new (Shared OutOfMemory) refuses grew = inr grew
 tests_read name text old new _ refuses grew = grew
 
 module _ (name text : List ℕ) (old new : StoreReport) (has : HasText (old.held name) text) where
-  pub tests_of_file : (read : Result (List Test) TestsEnding) → IfOk read (ReadsAsTests text) → IfOk read (HasTests (old.held name))
+  pub tests_of_file : (read : Result (List Test) TestsEnding) → IfOk read (ReadsAsTests text)
+      → IfOk read (HasTests (old.held name))
   tests_of_file (Ok tests) reads = for_text (old.held name) text (λ held. ReadsAsTests held tests) has reads
   tests_of_file (Err ending) reads = tt
 
-  pub no_tests_of_file : (read : Result (List Test) TestsEnding) → IfErr read (RefusesTestsText text) → IfErr read (RefusesTests name old new)
+  pub no_tests_of_file : (read : Result (List Test) TestsEnding) → IfErr read (RefusesTestsText text)
+      → IfErr read (RefusesTests name old new)
   no_tests_of_file (Ok tests) refuses = tt
   no_tests_of_file (Err ending) refuses = tests_refused name text old new ending has refuses
 
 -- the file whose text is not tests was read
-pub no_tests_read : (name text : List ℕ) (old new : Option (List StoreRead)) (read : Result (List Test) TestsEnding) → IfErr read (RefusesTestsText text)
+pub no_tests_read : (name text : List ℕ) (old new : Option (List StoreRead)) (read : Result (List Test) TestsEnding)
+    → IfErr read (RefusesTestsText text)
     → ReadMore (good_read name ∷ []) old new → IfErr read (ReadsOnce [] name old new)
 no_tests_read name text old new (Ok tests) refuses grew = tt
 no_tests_read name text old new (Err ending) refuses grew = tests_read name text old new ending refuses grew
 
-pub tests_file_refused : (name : List ℕ) (shown : Bor (List ℕ)) (old new : StoreReport) (fault : FileFault) → shown.now ≡ name
-    → IsFileFault (old.held name) CONFIG_LIMIT old.faults new.faults old.taken new.taken fault → RefusesTests name old new (Shared (ending_of_file shown CONFIG_LIMIT fault))
+pub tests_file_refused : (name : List ℕ) (shown : Bor (List ℕ)) (old new : StoreReport) (fault : FileFault)
+    → shown.now ≡ name
+    → IsFileFault (old.held name) CONFIG_LIMIT old.faults new.faults old.taken new.taken fault
+    → RefusesTests name old new (Shared (ending_of_file shown CONFIG_LIMIT fault))
 tests_file_refused name shown old new file.Unread is cause = (cause, is)
 tests_file_refused name shown old new file.TooLong is cause = (cause.0, cause.1, is, refl)
 tests_file_refused name shown old new file.Memory is cause = tt
 
-pub tests_unread : (name : List ℕ) (shown : Bor (List ℕ)) (old new : Option (List StoreRead)) (fault : FileFault) → ReadMore (reads_of name (Err fault)) old new
+pub tests_unread : (name : List ℕ) (shown : Bor (List ℕ)) (old new : Option (List StoreRead)) (fault : FileFault)
+    → ReadMore (reads_of name (Err fault)) old new
     → ReadsOnce [] name old new (Shared (ending_of_file shown CONFIG_LIMIT fault))
 tests_unread name shown old new file.Memory grew = inl grew
 tests_unread name shown old new _ grew = grew
 
 -- what was counted since a later moment was counted since an earlier one
-pub tests_refused_since : (name : List ℕ) (old mid new : StoreReport) (ending : TestsEnding) → mid.faults ≡ old.faults → old.taken ≤ mid.taken → mid.held ≡ old.held
+pub tests_refused_since : (name : List ℕ) (old mid new : StoreReport) (ending : TestsEnding) → mid.faults ≡ old.faults
+    → old.taken ≤ mid.taken → mid.held ≡ old.held
     → RefusesTests name mid new ending → RefusesTests name old new ending
 tests_refused_since name old mid new (TestsRefused place why) same rises held refuses =
-    subst (λ (files : List ℕ → Content). ForHeld (files name) (λ text. (length text ≤ CONFIG_LIMIT) × AreRefused text place why)) held refuses
-tests_refused_since name old mid new (Shared (Unread unread)) same rises held refuses = (rw same at refuses.0, refuses.1)
-tests_refused_since name old mid new (Shared (OverLimit over limit)) same rises held refuses =
-    (subst (λ (files : List ℕ → Content). IsOverLimit (files name) CONFIG_LIMIT) held refuses.0, λ small. omega (arith, refuses.1 small), refuses.2, refuses.3)
+    subst
+    (λ (files : List ℕ → Content).
+    ForHeld (files name) (λ text. (length text ≤ CONFIG_LIMIT) × AreRefused text place why))
+    held refuses
+tests_refused_since name old mid new (Shared (Unread unread)) same rises held refuses =
+    (rw same at refuses.0, refuses.1)
+tests_refused_since name old mid new (Shared (OverLimit over limit)) same rises held refuses = (
+  subst (λ (files : List ℕ → Content). IsOverLimit (files name) CONFIG_LIMIT) held refuses.0,
+  λ small. omega (arith, refuses.1 small),
+  refuses.2,
+  refuses.3,
+)
 tests_refused_since name old mid new (Shared OutOfMemory) same rises held refuses = tt
 tests_refused_since name old mid new _ same rises held refuses = absurd refuses
 
-pub tests_not_complete : (name : List ℕ) (old new : StoreReport) (ending : TestsEnding) → RefusesTests name old new ending → IsComplete ending → ⊥
+pub tests_not_complete : (name : List ℕ) (old new : StoreReport) (ending : TestsEnding)
+    → RefusesTests name old new ending → IsComplete ending → ⊥
 tests_not_complete name old new (Shared Finished) refuses complete = refuses
 tests_not_complete name old new Differed refuses complete = refuses
 tests_not_complete name old new _ refuses complete = complete
 
 -- ---- tests that were run
 
-pub tests_run : (name : List ℕ) (reads reads' : Option (List StoreRead)) (config : Config) (tests : List Test) (old new : RunReport) (ending : TestsEnding)
-    → RunEnds config tests old new ending → ReadMore (good_read name ∷ []) reads reads' → ReadsOnce [] name reads reads' ending
+pub tests_run : (name : List ℕ) (reads reads' : Option (List StoreRead)) (config : Config) (tests : List Test)
+    (old new : RunReport) (ending : TestsEnding)
+    → RunEnds config tests old new ending → ReadMore (good_read name ∷ []) reads reads'
+    → ReadsOnce [] name reads reads' ending
 tests_run name reads reads' config tests old new (Shared (Unread unread)) ends grew = absurd ends
 tests_run name reads reads' config tests old new (Shared OutOfMemory) ends grew = inr grew
 tests_run name reads reads' config tests old new _ ends grew = grew
 
 -- where tests were run there were tests
-pub run_has_tests : (config : Config) (tests : List Test) (old new : RunReport) (ending : TestsEnding) → RunEnds config tests old new ending → HasNoTests ending → ⊥
+pub run_has_tests : (config : Config) (tests : List Test) (old new : RunReport) (ending : TestsEnding)
+    → RunEnds config tests old new ending → HasNoTests ending → ⊥
 run_has_tests config tests old new (Shared (ConfigRefused (Refused place why))) ends none = ends
 run_has_tests config tests old new (Shared (Unread unread)) ends none = ends
 run_has_tests config tests old new (Shared (OverLimit over limit)) ends none = ends
@@ -159,13 +196,19 @@ run_has_tests config tests old new _ ends none = none
 
 -- ---- what was read of both
 
-read_twice : (old mid new : Option (List StoreRead)) (first second : List StoreRead) → ReadMore first old mid → ReadMore second mid new
+read_twice : (old mid new : Option (List StoreRead)) (first second : List StoreRead) → ReadMore first old mid
+    → ReadMore second mid new
     → ReadMore (first ++ second) old new
 read_twice old mid new first second one two = two ∙ (rw one (appended_twice old first second))
 
-pub both_read : (config tests : List ℕ) (old mid new : Option (List StoreRead)) (ending : TestsEnding) → ReadMore (good_read config ∷ []) old mid
+pub both_read : (config tests : List ℕ) (old mid new : Option (List StoreRead)) (ending : TestsEnding)
+    → ReadMore (good_read config ∷ []) old mid
     → ReadsOnce [] tests mid new ending → ReadsOnce (good_read config ∷ []) tests old new ending
-both_read config tests old mid new (Shared (Unread unread)) first grew = read_twice old mid new (good_read config ∷ []) (bad_read tests ∷ []) first grew
-both_read config tests old mid new (Shared OutOfMemory) first (inl none) = inl (read_twice old mid new (good_read config ∷ []) [] first none)
-both_read config tests old mid new (Shared OutOfMemory) first (inr one) = inr (read_twice old mid new (good_read config ∷ []) (good_read tests ∷ []) first one)
-both_read config tests old mid new _ first grew = read_twice old mid new (good_read config ∷ []) (good_read tests ∷ []) first grew
+both_read config tests old mid new (Shared (Unread unread)) first grew =
+    read_twice old mid new (good_read config ∷ []) (bad_read tests ∷ []) first grew
+both_read config tests old mid new (Shared OutOfMemory) first (inl none) =
+    inl (read_twice old mid new (good_read config ∷ []) [] first none)
+both_read config tests old mid new (Shared OutOfMemory) first (inr one) =
+    inr (read_twice old mid new (good_read config ∷ []) (good_read tests ∷ []) first one)
+both_read config tests old mid new _ first grew =
+    read_twice old mid new (good_read config ∷ []) (good_read tests ∷ []) first grew

@@ -20,30 +20,41 @@ use Rattle.file_run.specs.Files.{IsAfterRun, IsReadTwice, OtherReads, ReadsBoth,
 
 -- ---- the other file alone
 
-pub other_refused : (name : List ℕ) (shown : Bor (List ℕ)) (old new : StoreReport) (fault : FileFault) → shown.now ≡ name
-    → IsFileFault (old.held name) FILE_LIMIT old.faults new.faults old.taken new.taken fault → RefusesFile name old new (ending_of_file shown FILE_LIMIT fault)
+pub other_refused : (name : List ℕ) (shown : Bor (List ℕ)) (old new : StoreReport) (fault : FileFault)
+    → shown.now ≡ name
+    → IsFileFault (old.held name) FILE_LIMIT old.faults new.faults old.taken new.taken fault
+    → RefusesFile name old new (ending_of_file shown FILE_LIMIT fault)
 other_refused name shown old new file.Unread is cause = (cause, is)
 other_refused name shown old new file.TooLong is cause = (cause.0, cause.1, is, refl)
 other_refused name shown old new file.Memory is cause = tt
 
-pub other_unread : (old new : Option (List StoreRead)) (name : List ℕ) (shown : Bor (List ℕ)) (fault : FileFault) → ReadMore (reads_of_fault name fault) old new
+pub other_unread : (old new : Option (List StoreRead)) (name : List ℕ) (shown : Bor (List ℕ)) (fault : FileFault)
+    → ReadMore (reads_of_fault name fault) old new
     → OtherReads name old new (ending_of_file shown FILE_LIMIT fault)
-other_unread old new name shown file.Unread grew = record { made = bad_read name ∷ []; grew = grew; named = refl; counted = refl; failed = refl }
-other_unread old new name shown file.TooLong grew = record { made = good_read name ∷ []; grew = grew; named = refl; counted = refl; failed = (refl, tt) }
-other_unread old new name shown file.Memory grew = record { made = []; grew = grew; named = refl; counted = tt; failed = tt }
+other_unread old new name shown file.Unread grew =
+    record { made = bad_read name ∷ []; grew = grew; named = refl; counted = refl; failed = refl }
+other_unread old new name shown file.TooLong grew =
+    record { made = good_read name ∷ []; grew = grew; named = refl; counted = refl; failed = (refl, tt) }
+other_unread old new name shown file.Memory grew =
+    record { made = []; grew = grew; named = refl; counted = tt; failed = tt }
 
 -- it was read, and the server was run
-pub other_read : (old new : Option (List StoreRead)) (name : List ℕ) (ending : Ending) → IsAfterRun ending → ReadMore (good_read name ∷ []) old new
+pub other_read : (old new : Option (List StoreRead)) (name : List ℕ) (ending : Ending) → IsAfterRun ending
+    → ReadMore (good_read name ∷ []) old new
     → OtherReads name old new ending
-other_read old new name Finished after grew = record { made = good_read name ∷ []; grew = grew; named = refl; counted = refl; failed = (refl, tt) }
+other_read old new name Finished after grew =
+    record { made = good_read name ∷ []; grew = grew; named = refl; counted = refl; failed = (refl, tt) }
 other_read old new name (ConfigRefused refusal) after grew = absurd after
 other_read old new name (Unread unread) after grew = absurd after
 other_read old new name (OverLimit over limit) after grew = absurd after
-other_read old new name (BytesLeft count) after grew = record { made = good_read name ∷ []; grew = grew; named = refl; counted = refl; failed = (refl, tt) }
-other_read old new name WriteFailed after grew = record { made = good_read name ∷ []; grew = grew; named = refl; counted = refl; failed = (refl, tt) }
+other_read old new name (BytesLeft count) after grew =
+    record { made = good_read name ∷ []; grew = grew; named = refl; counted = refl; failed = (refl, tt) }
+other_read old new name WriteFailed after grew =
+    record { made = good_read name ∷ []; grew = grew; named = refl; counted = refl; failed = (refl, tt) }
 other_read old new name LinksFailed after grew = absurd after
 other_read old new name (ScriptRefused line) after grew = absurd after
-other_read old new name OutOfMemory after grew = record { made = good_read name ∷ []; grew = grew; named = refl; counted = tt; failed = (refl, tt) }
+other_read old new name OutOfMemory after grew =
+    record { made = good_read name ∷ []; grew = grew; named = refl; counted = tt; failed = (refl, tt) }
 
 pub run_not_refused : (ending : Ending) → IsAfterRun ending → IsRefusal (status_of ending) → ⊥
 run_not_refused Finished after refusal = refusal
@@ -58,7 +69,8 @@ run_not_refused OutOfMemory after refusal = refusal
 
 -- ---- the file was refused
 
-pub file_not_complete : (name : List ℕ) (old new : StoreReport) (ending : Ending) → RefusesFile name old new ending → IsComplete ending → ⊥
+pub file_not_complete : (name : List ℕ) (old new : StoreReport) (ending : Ending) → RefusesFile name old new ending
+    → IsComplete ending → ⊥
 file_not_complete name old new Finished refuses complete = refuses
 file_not_complete name old new (ConfigRefused refusal) refuses complete = complete
 file_not_complete name old new (Unread unread) refuses complete = complete
@@ -70,20 +82,26 @@ file_not_complete name old new (ScriptRefused line) refuses complete = complete
 file_not_complete name old new OutOfMemory refuses complete = complete
 
 -- what was counted since a later moment was counted since an earlier one
-pub file_refused_since : (name : List ℕ) (old mid new : StoreReport) (ending : Ending) → mid.faults ≡ old.faults → old.taken ≤ mid.taken
+pub file_refused_since : (name : List ℕ) (old mid new : StoreReport) (ending : Ending) → mid.faults ≡ old.faults
+    → old.taken ≤ mid.taken
     → mid.held ≡ old.held → RefusesFile name mid new ending → RefusesFile name old new ending
 file_refused_since name old mid new Finished same rises held refuses = absurd refuses
 file_refused_since name old mid new (ConfigRefused refusal) same rises held refuses = absurd refuses
 file_refused_since name old mid new (Unread unread) same rises held refuses = (rw same at refuses.0, refuses.1)
-file_refused_since name old mid new (OverLimit over limit) same rises held refuses =
-    (subst (λ (files : List ℕ → Content). IsOverLimit (files name) FILE_LIMIT) held refuses.0, λ small. omega (arith, refuses.1 small), refuses.2, refuses.3)
+file_refused_since name old mid new (OverLimit over limit) same rises held refuses = (
+  subst (λ (files : List ℕ → Content). IsOverLimit (files name) FILE_LIMIT) held refuses.0,
+  λ small. omega (arith, refuses.1 small),
+  refuses.2,
+  refuses.3,
+)
 file_refused_since name old mid new (BytesLeft count) same rises held refuses = absurd refuses
 file_refused_since name old mid new WriteFailed same rises held refuses = absurd refuses
 file_refused_since name old mid new LinksFailed same rises held refuses = absurd refuses
 file_refused_since name old mid new (ScriptRefused line) same rises held refuses = absurd refuses
 file_refused_since name old mid new OutOfMemory same rises held refuses = tt
 
-pub file_rose : (name : List ℕ) (old new : StoreReport) (ending : Ending) → RefusesFile name old new ending → status_of ending ≡ ReadFault
+pub file_rose : (name : List ℕ) (old new : StoreReport) (ending : Ending) → RefusesFile name old new ending
+    → status_of ending ≡ ReadFault
     → Rose old.faults new.faults
 file_rose name old new Finished refuses e = cc
 file_rose name old new (ConfigRefused refusal) refuses e = cc
@@ -96,12 +114,15 @@ file_rose name old new (ScriptRefused line) refuses e = cc
 file_rose name old new OutOfMemory refuses e = cc
 
 -- a file within its limit is refused only for lack of memory, where no fault is counted
-pub file_refused_for_memory : (name bytes : List ℕ) (old new : StoreReport) (ending : Ending) → IsHeld (old.held name) bytes
+pub file_refused_for_memory : (name bytes : List ℕ) (old new : StoreReport) (ending : Ending)
+    → IsHeld (old.held name) bytes
     → length bytes ≤ FILE_LIMIT → IsStill old.faults new.faults → RefusesFile name old new ending → ending ≡ OutOfMemory
 file_refused_for_memory name bytes old new Finished holds fits still refuses = absurd refuses
 file_refused_for_memory name bytes old new (ConfigRefused refusal) holds fits still refuses = absurd refuses
-file_refused_for_memory name bytes old new (Unread unread) holds fits still refuses = absurd (omega (arith, refuses.0, still.0, still.1))
-file_refused_for_memory name bytes old new (OverLimit over limit) holds fits still refuses = absurd (not_over (old.held name) bytes FILE_LIMIT holds fits refuses.0)
+file_refused_for_memory name bytes old new (Unread unread) holds fits still refuses =
+    absurd (omega (arith, refuses.0, still.0, still.1))
+file_refused_for_memory name bytes old new (OverLimit over limit) holds fits still refuses =
+    absurd (not_over (old.held name) bytes FILE_LIMIT holds fits refuses.0)
 file_refused_for_memory name bytes old new (BytesLeft count) holds fits still refuses = absurd refuses
 file_refused_for_memory name bytes old new WriteFailed holds fits still refuses = absurd refuses
 file_refused_for_memory name bytes old new LinksFailed holds fits still refuses = absurd refuses
@@ -122,7 +143,9 @@ counted_after (ScriptRefused line) count counted = ap suc counted
 counted_after OutOfMemory count counted = tt
 
 -- the configuration was read, and then the other file
-pub both_read : (old mid new : Option (List StoreRead)) (config other : List ℕ) (ending : Ending) → ReadMore (good_read config ∷ []) old mid
+pub both_read : (old mid new : Option (List StoreRead)) (config other : List ℕ) (ending : Ending)
+    → ReadMore (good_read config ∷ []) old mid
     → OtherReads other mid new ending → ReadsBoth config other old new ending
 both_read old mid new config other ending first second =
-    reads_both (IsReadOnce ending) (IsReadTwice ending) old mid new config other ending first (counted_after ending) second
+    reads_both (IsReadOnce ending) (IsReadTwice ending) old mid new config other ending first (counted_after ending)
+    second

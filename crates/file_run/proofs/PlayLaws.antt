@@ -13,7 +13,8 @@ use Rattle.ports.specs.declared.script.Script.{Script}
 use Rattle.file_run.specs.Runs.{RunsScript, most_turns}
 
 -- all calls are those of the run
-run_of_all : (before after : LinksReport) (old new : List Entry) (P : List Entry → Type 0) → before.log ≡ Some old → after.log ≡ Some new → old ≡ []
+run_of_all : (before after : LinksReport) (old new : List Entry) (P : List Entry → Type 0) → before.log ≡ Some old
+    → after.log ≡ Some new → old ≡ []
     → AddsRun before after P → P new
 run_of_all before after old new P old_is new_is begins adds =
     let same : new ≡ adds.run = (let grew = rw (old_is, new_is, begins) at adds.grew.log in cc) in
@@ -26,14 +27,20 @@ scripted : (script : Script) (log : List Entry) → Plays (Some script) (Some lo
 scripted script log plays = plays script refl log refl
 
 -- a run over links that play a script, which were not called before
-pub ran_script : (setup : Setup) (before after : ScriptedCalls) (old new : RunReport) (result : Result Hub RunFault) → before.log ≡ []
+pub ran_script : (setup : Setup) (before after : ScriptedCalls) (old new : RunReport) (result : Result Hub RunFault)
+    → before.log ≡ []
     → AddsRun (script_report before) (script_report after) (RunsTo setup most_turns old new result)
     → RunsScript setup before.script old new result after.log
 ran_script setup before after old new result begins adds = record {
-  scripted = scripted before.script after.log (rw adds.grew.script at (adds.grew.plays (plays_at_first before.script before.log begins)));
-  ran = run_of_all (script_report before) (script_report after) before.log after.log (RunsTo setup most_turns old new result) refl refl begins adds;
+  scripted =
+      scripted before.script after.log
+      (rw adds.grew.script at (adds.grew.plays (plays_at_first before.script before.log begins)));
+  ran =
+      run_of_all (script_report before) (script_report after) before.log after.log
+      (RunsTo setup most_turns old new result) refl refl begins adds;
 }
 
 -- and of the same script
-pub same_script : (before after : ScriptedCalls) (P : List Entry → Type 0) → AddsRun (script_report before) (script_report after) P → after.script ≡ before.script
+pub same_script : (before after : ScriptedCalls) (P : List Entry → Type 0)
+    → AddsRun (script_report before) (script_report after) P → after.script ≡ before.script
 same_script before after P adds = let same = adds.grew.script in cc

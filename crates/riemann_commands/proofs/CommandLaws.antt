@@ -42,7 +42,8 @@ named words (Send address file turns) is usage = usage.7 address.now file.now tu
 named words (Query address text turns) is usage = usage.8 address.now text.now turns is
 
 -- the command that converts has an end of its own
-pub not_usage_converting : (file : List ℕ) (host_part : Option ℕ) (old new : Reports) (status : Status) → Converts file host_part old new status → status ≡ Usage → ⊥
+pub not_usage_converting : (file : List ℕ) (host_part : Option ℕ) (old new : Reports) (status : Status)
+    → Converts file host_part old new status → status ≡ Usage → ⊥
 not_usage_converting file host_part old new status promise e =
     let P : Status → Type 0 = λ s. ConvertEnds file host_part old new s in let ends = subst P e promise.ends in ends.2
 
@@ -51,11 +52,15 @@ pub host_part_within : (words : List (List ℕ)) (file : List ℕ) (host_part : 
     → ForSome host_part (λ part. (1 ≤ part) × (part ≤ 64))
 host_part_within words file host_part (inl none) part e = let no : None ≡ Some part = sym none.1 ∙ e in cc
 host_part_within words file host_part (inr (number, first, are, is, some)) part e =
-    let least = is.least in let most = is.most in let both : Some first ≡ Some part = sym some ∙ e in let same : first ≡ part = cc in
+    let least = is.least in
+    let most = is.most in
+    let both : Some first ≡ Some part = sym some ∙ e in
+    let same : first ≡ part = cc in
     (omega arith, omega arith)
 
 -- the arguments name one file, and one part of its paths or none
-pub same_converting : (words : List (List ℕ)) (file file' : List ℕ) (part part' : Option ℕ) → IsGraphite words file part → IsGraphite words file' part'
+pub same_converting : (words : List (List ℕ)) (file file' : List ℕ) (part part' : Option ℕ) → IsGraphite words file part
+    → IsGraphite words file' part'
     → (file ≡ file') × (part ≡ part')
 same_converting words file file' part part' (inl (are, none)) (inl (are', none')) =
     let both : graphite_words file ≡ graphite_words file' = sym are ∙ are' in (cc, none ∙ sym none')
@@ -63,17 +68,21 @@ same_converting words file file' part part' (inl (are, none)) (inr (number', fir
     let both : graphite_words file ≡ graphite_host_words file' number' = sym are ∙ are' in cc
 same_converting words file file' part part' (inr (number, first, are, is, some)) (inl (are', none')) =
     let both : graphite_host_words file number ≡ graphite_words file' = sym are ∙ are' in cc
-same_converting words file file' part part' (inr (number, first, are, is, some)) (inr (number', first', are', is', some')) =
+same_converting words file file' part part' (inr (number, first, are, is, some))
+    (inr (number', first', are', is', some')) =
     let both : graphite_host_words file number ≡ graphite_host_words file' number' = sym are ∙ are' in
     let named : number ≡ number' = cc in
     let digits : Some first ≡ Some first' = sym is.digits ∙ (ap number_of named ∙ is'.digits) in
     (cc, some ∙ (digits ∙ sym some'))
 
-pub converts_named : (words : List (List ℕ)) (file file' : List ℕ) (part part' : Option ℕ) (old new : Reports) (status : Status) → IsGraphite words file part
+pub converts_named : (words : List (List ℕ)) (file file' : List ℕ) (part part' : Option ℕ) (old new : Reports)
+    (status : Status)
+    → IsGraphite words file part
     → Converts file part old new status → IsGraphite words file' part' → Converts file' part' old new status
 converts_named words file file' part part' old new status is promise is' =
     let same = same_converting words file file' part part' is is' in
-    subst (λ (f : List ℕ). Converts f part' old new status) same.0 (subst (λ (p : Option ℕ). Converts file p old new status) same.1 promise)
+    subst (λ (f : List ℕ). Converts f part' old new status) same.0
+    (subst (λ (p : Option ℕ). Converts file p old new status) same.1 promise)
 
 -- the arguments name one address, one file and one number of turns
 record SameWords (first first' second second' : List ℕ) (turns turns' : ℕ) : Type 0 where
@@ -81,10 +90,12 @@ record SameWords (first first' second second' : List ℕ) (turns turns' : ℕ) :
   pub two : second ≡ second'
   pub three : turns ≡ turns'
 
-same_sending : (words : List (List ℕ)) (address address' file file' : List ℕ) (turns turns' : ℕ) → IsSend words address file turns → IsSend words address' file' turns'
+same_sending : (words : List (List ℕ)) (address address' file file' : List ℕ) (turns turns' : ℕ)
+    → IsSend words address file turns → IsSend words address' file' turns'
     → SameWords address address' file file' turns turns'
 same_sending words address address' file file' turns turns' (inl (are, most)) (inl (are', most')) =
-    let both : send_words address file ≡ send_words address' file' = sym are ∙ are' in record { one = cc; two = cc; three = most ∙ sym most' }
+    let both : send_words address file ≡ send_words address' file' = sym are ∙ are' in
+    record { one = cc; two = cc; three = most ∙ sym most' }
 same_sending words address address' file file' turns turns' (inl (are, most)) (inr (number', are', is')) =
     let both : send_words address file ≡ send_turns_words address' file' number' = sym are ∙ are' in absurd cc
 same_sending words address address' file file' turns turns' (inr (number, are, is)) (inl (are', most')) =
@@ -95,30 +106,39 @@ same_sending words address address' file file' turns turns' (inr (number, are, i
     let digits : Some turns ≡ Some turns' = sym is ∙ (ap number_of named ∙ is') in
     record { one = cc; two = cc; three = cc }
 
-pub sends_named : (words : List (List ℕ)) (address address' file file' : List ℕ) (turns turns' : ℕ) (old new : Reports) (status : Status) → IsSend words address file turns
-    → Sends address file turns old new status → IsSend words address' file' turns' → Sends address' file' turns' old new status
+pub sends_named : (words : List (List ℕ)) (address address' file file' : List ℕ) (turns turns' : ℕ) (old new : Reports)
+    (status : Status)
+    → IsSend words address file turns
+    → Sends address file turns old new status → IsSend words address' file' turns'
+    → Sends address' file' turns' old new status
 sends_named words address address' file file' turns turns' old new status is promise is' =
     let same = same_sending words address address' file file' turns turns' is is' in
     subst (λ (a : List ℕ). Sends a file' turns' old new status) same.one
     (subst (λ (f : List ℕ). Sends address f turns' old new status) same.two
     (subst (λ (n : ℕ). Sends address file n old new status) same.three promise))
 
-same_asking : (words : List (List ℕ)) (address address' text text' : List ℕ) (turns turns' : ℕ) → IsQuery words address text turns → IsQuery words address' text' turns'
+same_asking : (words : List (List ℕ)) (address address' text text' : List ℕ) (turns turns' : ℕ)
+    → IsQuery words address text turns → IsQuery words address' text' turns'
     → SameWords address address' text text' turns turns'
 same_asking words address address' text text' turns turns' (short, inl (are, most)) (short', inl (are', most')) =
-    let both : query_words address text ≡ query_words address' text' = sym are ∙ are' in record { one = cc; two = cc; three = most ∙ sym most' }
+    let both : query_words address text ≡ query_words address' text' = sym are ∙ are' in
+    record { one = cc; two = cc; three = most ∙ sym most' }
 same_asking words address address' text text' turns turns' (short, inl (are, most)) (short', inr (number', are', is')) =
     let both : query_words address text ≡ query_turns_words address' text' number' = sym are ∙ are' in absurd cc
 same_asking words address address' text text' turns turns' (short, inr (number, are, is)) (short', inl (are', most')) =
     let both : query_turns_words address text number ≡ query_words address' text' = sym are ∙ are' in absurd cc
-same_asking words address address' text text' turns turns' (short, inr (number, are, is)) (short', inr (number', are', is')) =
+same_asking words address address' text text' turns turns' (short, inr (number, are, is))
+    (short', inr (number', are', is')) =
     let both : query_turns_words address text number ≡ query_turns_words address' text' number' = sym are ∙ are' in
     let named : number ≡ number' = cc in
     let digits : Some turns ≡ Some turns' = sym is ∙ (ap number_of named ∙ is') in
     record { one = cc; two = cc; three = cc }
 
-pub asks_named : (words : List (List ℕ)) (address address' text text' : List ℕ) (turns turns' : ℕ) (old new : Reports) (status : Status) → IsQuery words address text turns
-    → Asks address text turns old new status → IsQuery words address' text' turns' → Asks address' text' turns' old new status
+pub asks_named : (words : List (List ℕ)) (address address' text text' : List ℕ) (turns turns' : ℕ) (old new : Reports)
+    (status : Status)
+    → IsQuery words address text turns
+    → Asks address text turns old new status → IsQuery words address' text' turns'
+    → Asks address' text' turns' old new status
 asks_named words address address' text text' turns turns' old new status is promise is' =
     let same = same_asking words address address' text text' turns turns' is is' in
     subst (λ (a : List ℕ). Asks a text' turns' old new status) same.one

@@ -17,5 +17,6 @@ first_in : (id : ℕ) (list : List ℕ) → first_of list ≡ Some id → 0 < ti
 first_in id [] first = absurd (cc)
 first_in id (other ∷ list) first = let same : other ≡ id = cc in grind (arith, nat_tests)
 
-pub first_listed : (id number : ℕ) (lists : List (List ℕ)) → first_of (list_at lists number) ≡ Some id → IsListed id lists
+pub first_listed : (id number : ℕ) (lists : List (List ℕ)) → first_of (list_at lists number) ≡ Some id
+    → IsListed id lists
 first_listed id number lists first = listed_at id number lists (first_in id (list_at lists number) first)

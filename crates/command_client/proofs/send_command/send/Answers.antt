@@ -14,21 +14,28 @@ returns-clause-promise g c = λ patterns forks. record {
   works = c.send_file-ending.ensures.links_quiet;
   idle = (refl, refl);
   complete = λ frames holds fits read_still links_still out_still.
-      rw c.report_ending.ensures.status (file_shown c.args.address.now c.args.file.now c.args.turns (g.S.Store.report c.args.store.now) (g.S.Store.report c.send_file-ending.new.store) (g.L.Links.report c.args.links.now)
-      (g.L.Links.report c.send_file-ending.new.links) (g.O.Sink.report c.args.out.now) (g.O.Sink.report c.send_file-ending.new.out) c.send_file-ending.result c.send_file-ending.ensures.ends
+      rw c.report_ending.ensures.status
+      (file_shown c.args.address.now c.args.file.now c.args.turns (g.S.Store.report c.args.store.now)
+      (g.S.Store.report c.send_file-ending.new.store) (g.L.Links.report c.args.links.now)
+      (g.L.Links.report c.send_file-ending.new.links) (g.O.Sink.report c.args.out.now)
+      (g.O.Sink.report c.send_file-ending.new.out) c.send_file-ending.result c.send_file-ending.ensures.ends
       c.send_file-ending.ensures.link_fault frames holds fits read_still links_still out_still);
 }
 
 pub returns-clause-link_fault : goal.returns-clause-link_fault
-returns-clause-link_fault g c = λ e. c.send_file-ending.ensures.link_fault (is_links_failed c.send_file-ending.result (rw c.report_ending.ensures.status at e))
+returns-clause-link_fault g c =
+    λ e. c.send_file-ending.ensures.link_fault
+    (is_links_failed c.send_file-ending.result (rw c.report_ending.ensures.status at e))
 
 pub returns-clause-read_fault : goal.returns-clause-read_fault
 returns-clause-read_fault g c = λ e. c.send_file-ending.ensures.read_fault (rw c.report_ending.ensures.status at e)
 
 pub returns-clause-sink_fault : goal.returns-clause-sink_fault
 returns-clause-sink_fault g c = λ e.
-    file_put_rose c.args.address.now c.args.file.now c.args.turns (g.S.Store.report c.args.store.now) (g.S.Store.report c.send_file-ending.new.store) (g.L.Links.report c.args.links.now)
-    (g.L.Links.report c.send_file-ending.new.links) (g.O.Sink.report c.args.out.now) (g.O.Sink.report c.send_file-ending.new.out) c.send_file-ending.result c.send_file-ending.ensures.ends
+    file_put_rose c.args.address.now c.args.file.now c.args.turns (g.S.Store.report c.args.store.now)
+    (g.S.Store.report c.send_file-ending.new.store) (g.L.Links.report c.args.links.now)
+    (g.L.Links.report c.send_file-ending.new.links) (g.O.Sink.report c.args.out.now)
+    (g.O.Sink.report c.send_file-ending.new.out) c.send_file-ending.result c.send_file-ending.ensures.ends
     (is_write_failed c.send_file-ending.result (rw c.report_ending.ensures.status at e))
 
 pub returns-clause-not_usage : goal.returns-clause-not_usage

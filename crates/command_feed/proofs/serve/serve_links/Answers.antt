@@ -14,10 +14,12 @@ returns-in-Ok-clause-ends g c = λ bytes store store' given played counted.
 pub returns-clause-ends : goal.returns-clause-ends
 returns-clause-ends g c = λ bytes store store' given played counted.
     rw c.ending_of_fault.ensures (bytes_cut c.args.setup bytes _ _ _ (Err c.in-Err.fault) c.in-Err.fault refl
-    (rw played at c.in-Err.ensures.cut) refl c.in-Err.ensures.links_work c.in-Err.ensures.sink_fault c.in-Err.ensures.sink_quiet)
+    (rw played at c.in-Err.ensures.cut) refl c.in-Err.ensures.links_work c.in-Err.ensures.sink_fault
+    c.in-Err.ensures.sink_quiet)
 
 pub returns-clause-quiet : goal.returns-clause-quiet
-returns-clause-quiet g c = λ complete. absurd (cut_not_complete c.in-Err.fault (rw c.ending_of_fault.ensures at complete))
+returns-clause-quiet g c =
+    λ complete. absurd (cut_not_complete c.in-Err.fault (rw c.ending_of_fault.ensures at complete))
 
 pub returns-clause-after : goal.returns-clause-after
 returns-clause-after g c =

@@ -11,4 +11,5 @@ returns-in-Ok-clause-config c = record {
 
 pub returns-in-Err-clause-fault : goal.returns-in-Err-clause-fault
 returns-in-Err-clause-fault c =
-    text_fault c.args.text.now c.in-Err.fault c.in-Err.ensures.refused c.in-Err.ensures.only_refused c.in-Err.ensures.only
+    text_fault c.args.text.now c.in-Err.fault c.in-Err.ensures.refused c.in-Err.ensures.only_refused
+    c.in-Err.ensures.only

@@ -25,7 +25,9 @@ returns-clause-promise g c = λ links.
       unasked = c.load_config-ending.ensures.unasked;
       quiet = c.load_config-ending.ensures.quiet;
       complete = λ text read holds is fits reads_still out_still still.
-          rw c.report.ensures.status (load_complete config c.args.count c.args.start text read old new ending holds is fits reads_still out_still still ends);
+          rw c.report.ensures.status
+          (load_complete config c.args.count c.args.start text read old new ending holds is fits reads_still out_still
+          still ends);
     }
 
 pub returns-clause-read_fault : goal.returns-clause-read_fault
@@ -33,7 +35,8 @@ returns-clause-read_fault g c =
     let old = reports (g.S.Store.report c.args.store.now) (record { log = None; script = None; faults = 0 })
     (g.O.Sink.report c.args.out.now) (g.E.Sink.report c.args.err.now)
     (g.P.Patterns.report c.args.patterns.now) c.args.steps.now.forks in
-    let new = reports (g.S.Store.report c.load_config-ending.new.store) (record { log = None; script = None; faults = 0 })
+    let new =
+    reports (g.S.Store.report c.load_config-ending.new.store) (record { log = None; script = None; faults = 0 })
     (g.O.Sink.report c.load_config-ending.new.out) (g.E.Sink.report c.report.new.err)
     (g.P.Patterns.report c.load_config-ending.new.patterns) c.load_config-ending.new.steps.forks in
     let config = c.args.config.now in
@@ -46,7 +49,8 @@ returns-clause-sink_fault g c =
     let old = reports (g.S.Store.report c.args.store.now) (record { log = None; script = None; faults = 0 })
     (g.O.Sink.report c.args.out.now) (g.E.Sink.report c.args.err.now)
     (g.P.Patterns.report c.args.patterns.now) c.args.steps.now.forks in
-    let new = reports (g.S.Store.report c.load_config-ending.new.store) (record { log = None; script = None; faults = 0 })
+    let new =
+    reports (g.S.Store.report c.load_config-ending.new.store) (record { log = None; script = None; faults = 0 })
     (g.O.Sink.report c.load_config-ending.new.out) (g.E.Sink.report c.report.new.err)
     (g.P.Patterns.report c.load_config-ending.new.patterns) c.load_config-ending.new.steps.forks in
     let config = c.args.config.now in
@@ -59,7 +63,8 @@ returns-clause-links_work g c =
     let old = reports (g.S.Store.report c.args.store.now) (record { log = None; script = None; faults = 0 })
     (g.O.Sink.report c.args.out.now) (g.E.Sink.report c.args.err.now)
     (g.P.Patterns.report c.args.patterns.now) c.args.steps.now.forks in
-    let new = reports (g.S.Store.report c.load_config-ending.new.store) (record { log = None; script = None; faults = 0 })
+    let new =
+    reports (g.S.Store.report c.load_config-ending.new.store) (record { log = None; script = None; faults = 0 })
     (g.O.Sink.report c.load_config-ending.new.out) (g.E.Sink.report c.report.new.err)
     (g.P.Patterns.report c.load_config-ending.new.patterns) c.load_config-ending.new.steps.forks in
     let config = c.args.config.now in

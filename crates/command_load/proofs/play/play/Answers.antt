@@ -9,6 +9,7 @@ returns-in_err-links-clause-cut_off g c =
 
 pub returns-clause-played : goal.returns-clause-played
 returns-clause-played g c =
-    is_played c.args.setup c.args.count c.args.start _ _ _ _ c.run.new.sink.puts c.replies.result c.live.result c.in_ok-hub.hub c.core.result.now
+    is_played c.args.setup c.args.count c.args.start _ _ _ _ c.run.new.sink.puts c.replies.result c.live.result
+    c.in_ok-hub.hub c.core.result.now
     c.in_ok-links.links c.run.new.links c.in_ok-links.ensures.log c.in_ok-links.ensures.script c.in_ok-hub.ensures.runs
     c.replies.ensures c.core.ensures c.live.ensures

@@ -15,7 +15,8 @@ returns-clause-ends g c = λ store store' given err err'.
     c.in-Err.ensures.cut c.in-Err.ensures.links_work c.in-Err.ensures.sink_fault c.in-Err.ensures.sink_quiet)
 
 pub returns-clause-quiet : goal.returns-clause-quiet
-returns-clause-quiet g c = λ complete. absurd (cut_not_complete c.in-Err.fault (rw c.ending_of_fault.ensures at complete))
+returns-clause-quiet g c =
+    λ complete. absurd (cut_not_complete c.in-Err.fault (rw c.ending_of_fault.ensures at complete))
 
 pub returns-clause-after : goal.returns-clause-after
 returns-clause-after g c =

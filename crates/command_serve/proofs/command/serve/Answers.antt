@@ -9,7 +9,8 @@ returns-clause-promise g c =
     (g.E.Sink.report c.args.err.now) (g.P.Patterns.report c.args.patterns.now) c.args.steps.now.forks in
     let new = reports (g.S.Store.report c.serve_links-ending.new.store)
     (g.L.Links.report c.serve_links-ending.new.links) (g.O.Sink.report c.serve_links-ending.new.out)
-    (g.E.Sink.report c.report.new.err) (g.P.Patterns.report c.serve_links-ending.new.patterns) c.serve_links-ending.new.steps.forks in
+    (g.E.Sink.report c.report.new.err) (g.P.Patterns.report c.serve_links-ending.new.patterns)
+    c.serve_links-ending.new.steps.forks in
     let config = c.args.config.now in
     let turns = c.args.turns in
     let ending = c.serve_links-ending.result in
@@ -23,7 +24,9 @@ returns-clause-promise g c =
       unasked = c.serve_links-ending.ensures.unasked;
       quiet = c.serve_links-ending.ensures.quiet;
       complete = λ text read holds is fits reads_still links_still out_still still.
-          rw c.report.ensures.status (serve_complete config turns text read old new ending holds is fits reads_still links_still out_still still ends);
+          rw c.report.ensures.status
+          (serve_complete config turns text read old new ending holds is fits reads_still links_still out_still still
+          ends);
     }
 
 pub returns-clause-read_fault : goal.returns-clause-read_fault
@@ -33,7 +36,8 @@ returns-clause-read_fault g c =
     (g.E.Sink.report c.args.err.now) (g.P.Patterns.report c.args.patterns.now) c.args.steps.now.forks in
     let new = reports (g.S.Store.report c.serve_links-ending.new.store)
     (g.L.Links.report c.serve_links-ending.new.links) (g.O.Sink.report c.serve_links-ending.new.out)
-    (g.E.Sink.report c.report.new.err) (g.P.Patterns.report c.serve_links-ending.new.patterns) c.serve_links-ending.new.steps.forks in
+    (g.E.Sink.report c.report.new.err) (g.P.Patterns.report c.serve_links-ending.new.patterns)
+    c.serve_links-ending.new.steps.forks in
     let config = c.args.config.now in
     let turns = c.args.turns in
     let ending = c.serve_links-ending.result in
@@ -47,7 +51,8 @@ returns-clause-sink_fault g c =
     (g.E.Sink.report c.args.err.now) (g.P.Patterns.report c.args.patterns.now) c.args.steps.now.forks in
     let new = reports (g.S.Store.report c.serve_links-ending.new.store)
     (g.L.Links.report c.serve_links-ending.new.links) (g.O.Sink.report c.serve_links-ending.new.out)
-    (g.E.Sink.report c.report.new.err) (g.P.Patterns.report c.serve_links-ending.new.patterns) c.serve_links-ending.new.steps.forks in
+    (g.E.Sink.report c.report.new.err) (g.P.Patterns.report c.serve_links-ending.new.patterns)
+    c.serve_links-ending.new.steps.forks in
     let config = c.args.config.now in
     let turns = c.args.turns in
     let ending = c.serve_links-ending.result in
@@ -61,7 +66,8 @@ returns-clause-link_fault g c =
     (g.E.Sink.report c.args.err.now) (g.P.Patterns.report c.args.patterns.now) c.args.steps.now.forks in
     let new = reports (g.S.Store.report c.serve_links-ending.new.store)
     (g.L.Links.report c.serve_links-ending.new.links) (g.O.Sink.report c.serve_links-ending.new.out)
-    (g.E.Sink.report c.report.new.err) (g.P.Patterns.report c.serve_links-ending.new.patterns) c.serve_links-ending.new.steps.forks in
+    (g.E.Sink.report c.report.new.err) (g.P.Patterns.report c.serve_links-ending.new.patterns)
+    c.serve_links-ending.new.steps.forks in
     let config = c.args.config.now in
     let turns = c.args.turns in
     let ending = c.serve_links-ending.result in

@@ -11,7 +11,9 @@ returns-in-Ok-clause-ends g c = λ err err'.
     (g.L.Links.report c.run.new.links) (g.O.Sink.report c.run.new.sink)
     err' (g.P.Patterns.report c.run.new.patterns) c.run.new.steps.forks in
     rw c.ending_of_run.ensures (served c.args.config.now c.args.turns c.in-Ok.setup old new c.run.result
-    c.in-Ok.ensures.setup (rw c.in-Ok.ensures.same at c.run.ensures.runs) c.run.ensures.links_fault c.run.ensures.sink_fault c.run.ensures.links_quiet c.run.ensures.sink_quiet)
+    c.in-Ok.ensures.setup (rw c.in-Ok.ensures.same at c.run.ensures.runs) c.run.ensures.links_fault
+    c.run.ensures.sink_fault c.run.ensures.links_quiet c.run.ensures.sink_quiet)
 
 pub returns-in-Ok-clause-unasked : goal.returns-in-Ok-clause-unasked
-returns-in-Ok-clause-unasked g c = λ refused. absurd (run_has_config c.run.result (rw c.ending_of_run.ensures at refused))
+returns-in-Ok-clause-unasked g c =
+    λ refused. absurd (run_has_config c.run.result (rw c.ending_of_run.ensures at refused))

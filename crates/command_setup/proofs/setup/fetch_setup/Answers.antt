@@ -4,7 +4,8 @@ use Rattle.command_setup.proofs.setup.fetch_setup.Goals as goal
 
 pub returns-in-Err-clause-fault : goal.returns-in-Err-clause-fault
 returns-in-Err-clause-fault g c =
-    rw c.ending.ensures (refuses_fetch c.args.name.now c.as_str.result (g.S.Store.report c.args.store.now) (g.S.Store.report c.fetch_config.new.store)
+    rw c.ending.ensures (refuses_fetch c.args.name.now c.as_str.result (g.S.Store.report c.args.store.now)
+    (g.S.Store.report c.fetch_config.new.store)
     (g.P.Patterns.report c.args.patterns.now) c.in-Err.fault c.as_str.ensures c.in-Err.ensures.fault)
 
 pub returns-in-Err-clause-reads : goal.returns-in-Err-clause-reads

@@ -13,17 +13,21 @@ returns-in-Ok-clause-ends g c =
     inr (
       holds.config,
       has_config _ c.in-Ok.text holds,
-      both_read c.args.config.now c.args.tests.now _ _ _ c.run_text.result c.in-Ok.ensures.read c.run_text.ensures.reads,
-      suite_since holds.config c.args.tests.now (g.S.Store.report c.args.store.now) (g.S.Store.report c.fetch_config.new.store) (g.S.Store.report c.run_text.new.store) _ _ c.run_text.result
+      both_read c.args.config.now c.args.tests.now _ _ _ c.run_text.result c.in-Ok.ensures.read
+          c.run_text.ensures.reads,
+      suite_since holds.config c.args.tests.now (g.S.Store.report c.args.store.now)
+          (g.S.Store.report c.fetch_config.new.store) (g.S.Store.report c.run_text.new.store) _ _ c.run_text.result
           c.in-Ok.ensures.quiet c.in-Ok.ensures.taken c.in-Ok.ensures.held (ends holds.is.reads),
     )
 
 pub returns-in-Err-clause-ends : goal.returns-in-Err-clause-ends
 returns-in-Err-clause-ends g c = rw c.ending.ensures (inl (
-  config_refused c.args.config.now c.as_str.result (g.S.Store.report c.args.store.now) (g.S.Store.report c.fetch_config.new.store) c.in-Err.fault c.as_str.ensures c.in-Err.ensures.fault,
+  config_refused c.args.config.now c.as_str.result (g.S.Store.report c.args.store.now)
+      (g.S.Store.report c.fetch_config.new.store) c.in-Err.fault c.as_str.ensures c.in-Err.ensures.fault,
   refl,
   config_unread c.args.config.now c.as_str.result _ _ c.in-Err.fault c.in-Err.ensures.reads,
 ))
 
 pub returns-in-Err-clause-quiet : goal.returns-in-Err-clause-quiet
-returns-in-Err-clause-quiet g c = rw c.ending.ensures (λ complete. absurd (config_not_complete c.as_str.result c.in-Err.fault complete))
+returns-in-Err-clause-quiet g c =
+    rw c.ending.ensures (λ complete. absurd (config_not_complete c.as_str.result c.in-Err.fault complete))

@@ -12,5 +12,6 @@ pub returns-in-Err-Refused-clause-refused : goal.returns-in-Err-Refused-clause-r
 returns-in-Err-Refused-clause-refused c = record {
   fault = rw c.in-Err-Refused.field-0-is at c.in-Err-Refused.ensures.refused;
   only = rw c.in-Err-Refused.field-0-is at c.in-Err-Refused.ensures.only_refused;
-  unread = λ others are. let wanting = c.in-Err-Refused.ensures.only others are in cc (wanting, c.in-Err-Refused.field-0-is);
+  unread =
+      λ others are. let wanting = c.in-Err-Refused.ensures.only others are in cc (wanting, c.in-Err-Refused.field-0-is);
 }

@@ -79,7 +79,9 @@ returns-in-Load g c =
 
 pub returns-in-Graphite : goal.returns-in-Graphite
 returns-in-Graphite g c =
-    let promise = c.graphite.ensures.promise (g.L.Links.report c.args.links.now) (g.P.Patterns.report c.args.patterns.now) c.args.steps.now.forks in
+    let promise =
+    c.graphite.ensures.promise (g.L.Links.report c.args.links.now) (g.P.Patterns.report c.args.patterns.now)
+    c.args.steps.now.forks in
     rw c.in-Graphite.is (record {
       promise = promise;
       not_usage = not_usage_converting _ _ _ _ _ promise;
@@ -113,7 +115,9 @@ returns-in-Send g c =
     rw c.in-Send.is (record {
       promise = promise;
       not_usage = c.send.ensures.not_usage;
-      untouched = λ refused. (c.send.ensures.untouched (refusal_or_memory c.send.result refused), c.send.ensures.uncalled refused);
+      untouched =
+          λ refused.
+          (c.send.ensures.untouched (refusal_or_memory c.send.result refused), c.send.ensures.uncalled refused);
       memory = λ e. c.send.ensures.untouched (out_of_memory c.send.result e);
       no_line = c.send.ensures.no_line;
       done = λ e. c.send.ensures.no_line (done_has_no_line c.send.result e);
@@ -124,11 +128,15 @@ returns-in-Send g c =
 
 pub returns-in-Query : goal.returns-in-Query
 returns-in-Query g c =
-    let promise = c.query.ensures.promise (g.S.Store.report c.args.store.now) (g.P.Patterns.report c.args.patterns.now) c.args.steps.now.forks in
+    let promise =
+    c.query.ensures.promise (g.S.Store.report c.args.store.now) (g.P.Patterns.report c.args.patterns.now)
+    c.args.steps.now.forks in
     rw c.in-Query.is (record {
       promise = promise;
       not_usage = c.query.ensures.not_usage;
-      untouched = λ refused. (c.query.ensures.untouched (refusal_or_memory c.query.result refused), c.query.ensures.uncalled refused);
+      untouched =
+          λ refused.
+          (c.query.ensures.untouched (refusal_or_memory c.query.result refused), c.query.ensures.uncalled refused);
       memory = λ e. c.query.ensures.untouched (out_of_memory c.query.result e);
       no_line = c.query.ensures.no_line;
       done = λ e. c.query.ensures.no_line (done_has_no_line c.query.result e);
