@@ -16,11 +16,14 @@ then-and Less p = refl
 then-and Equal p = refl
 then-and Greater p = refl
 
-is-at : (host service : Option (List ℕ)) (event : Event) → is_at host service event ≡ same (host, service) (key_of event)
+is-at : (host service : Option (List ℕ)) (event : Event)
+    → is_at host service event ≡ same (host, service) (key_of event)
 is-at host service event =
-    sym (then-and (text_cmp event.host host) (text_cmp event.service service)) ∙ (eq_by_cmp_equiv key_total).symm (key_of event) (host, service)
+    sym (then-and (text_cmp event.host host) (text_cmp event.service service))
+    ∙ (eq_by_cmp_equiv key_total).symm (key_of event) (host, service)
 
-pub find-at : (host service : Option (List ℕ)) (es : List Event) → event_at host service es ≡ find_key (host, service) es
+pub find-at : (host service : Option (List ℕ)) (es : List Event)
+    → event_at host service es ≡ find_key (host, service) es
 find-at host service [] = refl
 find-at host service (e ∷ es) =
     ap (λ b. cond b (Some e) (event_at host service es)) (is-at host service e)

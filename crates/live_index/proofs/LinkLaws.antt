@@ -25,7 +25,8 @@ exact-text (Some t) None h = absurd (cc)
 exact-text (Some t) (Some u) h = ap Some (exact_bytes t u (sym (present-cmp t u) ∙ h))
 
 pub key_total : IsTotalOrder key_cmp
-key_total = then_total (on_total (λ (key : IndexKey). key.0) text_total) (on_total (λ (key : IndexKey). key.1) text_total)
+key_total =
+    then_total (on_total (λ (key : IndexKey). key.0) text_total) (on_total (λ (key : IndexKey). key.1) text_total)
 
 pub exact-key : CmpEqualImpliesEq key_cmp
 exact-key = exact_pairs text_cmp text_cmp exact-text exact-text
@@ -67,8 +68,10 @@ pub one_key : (F : Numbering) (T : Slots) → Found F T → (k q : IndexKey) (n 
 one_key F T found k q n h g = let e : Some k ≡ Some q = sym (found k n h) ∙ found q n g in cc
 
 -- ---- the event of the key k, which has the number n, is removed
-module _ (F F' : Numbering) (T T' : Slots) (k : IndexKey) (n : ℕ) (at : F k ≡ Some n) (found : Found F T) (placed : Placed F T)
-    (keys : (q : IndexKey) → F' q ≡ cond (same k q) None (F q)) (gone : T' n ≡ None) (others : (m : ℕ) → m ≢ n → T' m ≡ T m) where
+module _ (F F' : Numbering) (T T' : Slots) (k : IndexKey) (n : ℕ) (at : F k ≡ Some n) (found : Found F T)
+    (placed : Placed F T)
+    (keys : (q : IndexKey) → F' q ≡ cond (same k q) None (F q)) (gone : T' n ≡ None)
+    (others : (m : ℕ) → m ≢ n → T' m ≡ T m) where
   -- another key keeps its number, which is another one
   end-other : (q : IndexKey) (m : ℕ) → same k q ≡ false → F q ≡ Some m → m ≢ n
   end-other q m apart h is =
@@ -100,7 +103,8 @@ module _ (F F' : Numbering) (T T' : Slots) (k : IndexKey) (n : ℕ) (at : F k �
       before = placed m e (sym (others m apart_from) ∙ h)
 
       placed_by : (b : Bool) → same k (key_of e) ≡ b → F' (key_of e) ≡ Some m
-      placed_by true is = absurd (apart_from (let e' : Some m ≡ Some n = sym before ∙ ap F (sym (same-is k (key_of e) is)) ∙ at in cc))
+      placed_by true is =
+          absurd (apart_from (let e' : Some m ≡ Some n = sym before ∙ ap F (sym (same-is k (key_of e) is)) ∙ at in cc))
       placed_by false apart = end-kept (key_of e) apart ∙ before
 
   pub end-puts : (q : IndexKey) → in_slot T' (F' q) ≡ cond (same k q) None (in_slot T (F q))
@@ -113,14 +117,19 @@ module _ (F F' : Numbering) (T T' : Slots) (k : IndexKey) (n : ℕ) (at : F k �
       puts_by : (b : Bool) → same k q ≡ b → in_slot T' (F' q) ≡ cond (same k q) None (in_slot T (F q))
       puts_by true is = ap (in_slot T') (end-gone q is) ∙ sym (ap (λ b. cond b None (in_slot T (F q))) is)
       puts_by false apart =
-          ap (in_slot T') (end-kept q apart) ∙ kept_by (F q) refl apart ∙ sym (ap (λ b. cond b None (in_slot T (F q))) apart)
+          ap (in_slot T') (end-kept q apart) ∙ kept_by (F q) refl apart
+          ∙ sym (ap (λ b. cond b None (in_slot T (F q))) apart)
 
 -- ---- an event is put under the number n, which has none, where its key has none
-module _ (F F' : Numbering) (T T' : Slots) (event : Event) (n : ℕ) (none : F (key_of event) ≡ None) (vacant : T n ≡ None) (found : Found F T) (placed : Placed F T)
-    (keys : (q : IndexKey) → F' q ≡ cond (same (key_of event) q) (Some n) (F q)) (put : T' n ≡ Some event) (others : (m : ℕ) → m ≢ n → T' m ≡ T m) where
+module _ (F F' : Numbering) (T T' : Slots) (event : Event) (n : ℕ) (none : F (key_of event) ≡ None)
+    (vacant : T n ≡ None) (found : Found F T) (placed : Placed F T)
+    (keys : (q : IndexKey) → F' q ≡ cond (same (key_of event) q) (Some n) (F q)) (put : T' n ≡ Some event)
+    (others : (m : ℕ) → m ≢ n → T' m ≡ T m) where
   put-other : (q : IndexKey) (m : ℕ) → F q ≡ Some m → m ≢ n
   put-other q m h is =
-      absurd (let no : None ≡ Some q = sym (ap (option_map key_of) vacant) ∙ ap (λ m. option_map key_of (T m)) (sym is) ∙ found q m h in cc)
+      absurd (let no : None ≡ Some q =
+      sym (ap (option_map key_of) vacant) ∙ ap (λ m. option_map key_of (T m)) (sym is) ∙ found q m h in
+      cc)
 
   put-kept : (q : IndexKey) → same (key_of event) q ≡ false → F' q ≡ F q
   put-kept q apart = keys q ∙ ap (λ b. cond b (Some n) (F q)) apart
@@ -135,7 +144,8 @@ module _ (F F' : Numbering) (T T' : Slots) (event : Event) (n : ℕ) (none : F (
       found_by true is =
           let m_is : Some n ≡ Some m = sym (put-new q is) ∙ h in
           let number : n ≡ m = cc in
-          ap (λ m. option_map key_of (T' m)) (sym number) ∙ ap (option_map key_of) put ∙ ap Some (same-is (key_of event) q is)
+          ap (λ m. option_map key_of (T' m)) (sym number) ∙ ap (option_map key_of) put
+          ∙ ap Some (same-is (key_of event) q is)
       found_by false apart =
           let before : F q ≡ Some m = sym (put-kept q apart) ∙ h in
           ap (option_map key_of) (others m (put-other q m before)) ∙ found q m before
@@ -153,8 +163,10 @@ module _ (F F' : Numbering) (T T' : Slots) (event : Event) (n : ℕ) (none : F (
           let number : m ≡ n = eqb-true m n is in
           let event_is : Some event ≡ Some e = sym put ∙ ap T' (sym number) ∙ h in
           let same_event : event ≡ e = cc in
-          put-new (key_of e) (ap (λ e. same (key_of event) (key_of e)) (sym same_event) ∙ same-self (key_of event)) ∙ ap Some (sym number)
-      number_by false apart = placed_by (same (key_of event) (key_of e)) refl (placed m e (sym (others m (eqb-false m n apart)) ∙ h))
+          put-new (key_of e) (ap (λ e. same (key_of event) (key_of e)) (sym same_event) ∙ same-self (key_of event))
+          ∙ ap Some (sym number)
+      number_by false apart =
+          placed_by (same (key_of event) (key_of e)) refl (placed m e (sym (others m (eqb-false m n apart)) ∙ h))
 
   pub put-puts : (q : IndexKey) → in_slot T' (F' q) ≡ cond (same (key_of event) q) (Some event) (in_slot T (F q))
   put-puts q = puts_by (same (key_of event) q) refl
@@ -163,20 +175,24 @@ module _ (F F' : Numbering) (T T' : Slots) (event : Event) (n : ℕ) (none : F (
       kept_by None h = refl
       kept_by (Some m) h = others m (put-other q m h)
 
-      puts_by : (b : Bool) → same (key_of event) q ≡ b → in_slot T' (F' q) ≡ cond (same (key_of event) q) (Some event) (in_slot T (F q))
+      puts_by : (b : Bool) → same (key_of event) q ≡ b
+          → in_slot T' (F' q) ≡ cond (same (key_of event) q) (Some event) (in_slot T (F q))
       puts_by true is = ap (in_slot T') (put-new q is) ∙ put ∙ sym (ap (λ b. cond b (Some event) (in_slot T (F q))) is)
       puts_by false apart =
-          ap (in_slot T') (put-kept q apart) ∙ kept_by (F q) refl ∙ sym (ap (λ b. cond b (Some event) (in_slot T (F q))) apart)
+          ap (in_slot T') (put-kept q apart) ∙ kept_by (F q) refl
+          ∙ sym (ap (λ b. cond b (Some event) (in_slot T (F q))) apart)
 
 -- ---- an event is put under the number n of its key
-module _ (F : Numbering) (T T' : Slots) (event : Event) (n : ℕ) (at : F (key_of event) ≡ Some n) (found : Found F T) (placed : Placed F T) (put : T' n ≡ Some event) (others : (m : ℕ) → m ≢ n → T' m ≡ T m) where
+module _ (F : Numbering) (T T' : Slots) (event : Event) (n : ℕ) (at : F (key_of event) ≡ Some n) (found : Found F T)
+    (placed : Placed F T) (put : T' n ≡ Some event) (others : (m : ℕ) → m ≢ n → T' m ≡ T m) where
   pub replace-found : Found F T'
   replace-found q m h = found_by (eqb m n) refl
     where
       found_by : (b : Bool) → eqb m n ≡ b → option_map key_of (T' m) ≡ Some q
       found_by true is =
           let number : m ≡ n = eqb-true m n is in
-          ap (λ m. option_map key_of (T' m)) number ∙ ap (option_map key_of) put ∙ ap Some (one_key F T found (key_of event) q n at (h ∙ ap Some number))
+          ap (λ m. option_map key_of (T' m)) number ∙ ap (option_map key_of) put
+          ∙ ap Some (one_key F T found (key_of event) q n at (h ∙ ap Some number))
       found_by false apart = ap (option_map key_of) (others m (eqb-false m n apart)) ∙ found q m h
 
   pub replace-placed : Placed F T'
@@ -198,9 +214,12 @@ module _ (F : Numbering) (T T' : Slots) (event : Event) (n : ℕ) (at : F (key_o
       kept_by (Some m) h apart =
           others m (λ is.
           let key_is : key_of event ≡ q = one_key F T found (key_of event) q n at (h ∙ ap Some is) in
-          let no : same (key_of event) q ≡ true = ap (same (key_of event)) (sym key_is) ∙ same-self (key_of event) in absurd (true≢false (sym no ∙ apart)))
+          let no : same (key_of event) q ≡ true = ap (same (key_of event)) (sym key_is) ∙ same-self (key_of event) in
+          absurd (true≢false (sym no ∙ apart)))
 
-      puts_by : (b : Bool) → same (key_of event) q ≡ b → in_slot T' (F q) ≡ cond (same (key_of event) q) (Some event) (in_slot T (F q))
+      puts_by : (b : Bool) → same (key_of event) q ≡ b
+          → in_slot T' (F q) ≡ cond (same (key_of event) q) (Some event) (in_slot T (F q))
       puts_by true is =
-          ap (in_slot T') (ap F (sym (same-is (key_of event) q is)) ∙ at) ∙ put ∙ sym (ap (λ b. cond b (Some event) (in_slot T (F q))) is)
+          ap (in_slot T') (ap F (sym (same-is (key_of event) q is)) ∙ at) ∙ put
+          ∙ sym (ap (λ b. cond b (Some event) (in_slot T (F q))) is)
       puts_by false apart = kept_by (F q) refl apart ∙ sym (ap (λ b. cond b (Some event) (in_slot T (F q))) apart)

@@ -30,7 +30,8 @@ NoneOver = AllByRecursion (λ event. is_over event ≡ false)
 elsewhere-first : (event : Event) (es : List Event) → IsFirst event es → elsewhere event es ≡ es
 elsewhere-first event [] first = refl
 elsewhere-first event (e ∷ es) first =
-    ap (λ b. cond (not b) (e ∷ elsewhere event es) (elsewhere event es)) ((eq_by_cmp_equiv index_key_total).symm e event ∙ ap is_eq first.0)
+    ap (λ b. cond (not b) (e ∷ elsewhere event es) (elsewhere event es))
+    ((eq_by_cmp_equiv index_key_total).symm e event ∙ ap is_eq first.0)
     ∙ ap (λ rest. e ∷ rest) (elsewhere-first event es first.1)
 
 placed-first : (event : Event) (es : List Event) → IsFirst event es → placed event es ≡ event ∷ es
@@ -47,14 +48,19 @@ log-live (e ∷ es) rising current =
     ∙ ap (placed e) (elsewhere-first e es rising.0)
     ∙ placed-first e es rising.0
 
-also-current : (slot : Option Event) (es : List Event) → ((event : Event) → slot ≡ Some event → is_over event ≡ false) → NoneOver es → NoneOver (also slot es)
+also-current : (slot : Option Event) (es : List Event) → ((event : Event) → slot ≡ Some event → is_over event ≡ false)
+    → NoneOver es → NoneOver (also slot es)
 also-current None es current rest = rest
 also-current (Some event) es current rest = (current event refl, rest)
 
-current_at : (table : List (Option Event)) (ns : List ℕ) → ((number : ℕ) (event : Event) → value_at table number ≡ Some event → is_over event ≡ false) → NoneOver (events_at table ns)
+current_at : (table : List (Option Event)) (ns : List ℕ)
+    → ((number : ℕ) (event : Event) → value_at table number ≡ Some event → is_over event ≡ false)
+    → NoneOver (events_at table ns)
 current_at table [] current = tt
-current_at table (n ∷ ns) current = also-current (value_at table n) (events_at table ns) (current n) (current_at table ns current)
+current_at table (n ∷ ns) current =
+    also-current (value_at table n) (events_at table ns) (current n) (current_at table ns current)
 
 -- no event of an index is over
-pub none_over : (numbers : Numbers) (table : List (Option Event)) → IsLinked numbers table → NoneOver (events_in numbers table)
+pub none_over : (numbers : Numbers) (table : List (Option Event)) → IsLinked numbers table
+    → NoneOver (events_in numbers table)
 none_over numbers table linked = current_at table (values_of numbers) linked.current

@@ -29,27 +29,32 @@ values-keyed : (es : List Event) → values_of (keyed es) ≡ es
 values-keyed [] = refl
 values-keyed (e ∷ es) = ap (λ r. e ∷ r) (values-keyed es)
 
-all-keyed : (a : Event) (es : List Event) → AllByRecursion (λ b. index_key_cmp a b ≡ Less) es → AllByRecursion (λ k. key_cmp (key_of a) k ≡ Less) (keys_of (keyed es))
+all-keyed : (a : Event) (es : List Event) → AllByRecursion (λ b. index_key_cmp a b ≡ Less) es
+    → AllByRecursion (λ k. key_cmp (key_of a) k ≡ Less) (keys_of (keyed es))
 unfolding index_key_cmp
 all-keyed a [] k = tt
 all-keyed a (e ∷ es) k = (k.0, all-keyed a es k.1)
 
-pub rising-keyed : (es : List Event) → IsStrictlySortedBy index_key_cmp es → IsStrictlySortedBy key_cmp (keys_of (keyed es))
+pub rising-keyed : (es : List Event) → IsStrictlySortedBy index_key_cmp es
+    → IsStrictlySortedBy key_cmp (keys_of (keyed es))
 unfolding IsStrictlySortedBy
 rising-keyed [] k = tt
 rising-keyed (e ∷ es) k = (all-keyed e es k.0, rising-keyed es k.1)
 
-all-events : (a : Event) (es : List Event) → AllByRecursion (λ k. key_cmp (key_of a) k ≡ Less) (keys_of (keyed es)) → AllByRecursion (λ b. index_key_cmp a b ≡ Less) es
+all-events : (a : Event) (es : List Event) → AllByRecursion (λ k. key_cmp (key_of a) k ≡ Less) (keys_of (keyed es))
+    → AllByRecursion (λ b. index_key_cmp a b ≡ Less) es
 unfolding index_key_cmp
 all-events a [] k = tt
 all-events a (e ∷ es) k = (k.0, all-events a es k.1)
 
-pub rising-events : (es : List Event) → IsStrictlySortedBy key_cmp (keys_of (keyed es)) → IsStrictlySortedBy index_key_cmp es
+pub rising-events : (es : List Event) → IsStrictlySortedBy key_cmp (keys_of (keyed es))
+    → IsStrictlySortedBy index_key_cmp es
 unfolding IsStrictlySortedBy
 rising-events [] k = tt
 rising-events (e ∷ es) k = (all-events e es k.0, rising-events es k.1)
 
-pub same_events : (es fs : List Event) → IsStrictlySortedBy index_key_cmp es → IsStrictlySortedBy index_key_cmp fs → ((q : IndexKey) → find_key q es ≡ find_key q fs) → es ≡ fs
+pub same_events : (es fs : List Event) → IsStrictlySortedBy index_key_cmp es → IsStrictlySortedBy index_key_cmp fs
+    → ((q : IndexKey) → find_key q es ≡ find_key q fs) → es ≡ fs
 same_events es fs s t h =
     sym (values-keyed es)
     ∙ ap values_of (same_pairs key_total exact-key (keyed es) (keyed fs) (rising-keyed es s) (rising-keyed fs t) h)
@@ -60,26 +65,34 @@ same_events es fs s t h =
 abbrev pub HasKey : List (Option Event) → IndexKey × ℕ → Type 0
 HasKey table entry = option_map key_of (value_at table entry.1) ≡ Some entry.0
 
-all-have : (table : List (Option Event)) (rest : Numbers) → IsRising rest → ((k : IndexKey) (n : ℕ) → number_at k rest ≡ Some n → option_map key_of (value_at table n) ≡ Some k)
+all-have : (table : List (Option Event)) (rest : Numbers) → IsRising rest
+    → ((k : IndexKey) (n : ℕ) → number_at k rest ≡ Some n → option_map key_of (value_at table n) ≡ Some k)
     → AllByRecursion (HasKey table) rest
 all-have table [] rising found = tt
 all-have table (e ∷ rest) rising found = (
   found e.0 e.1 (at_head key_total e rest),
-  all-have table rest (sorted_tail key_cmp e.0 (keys_of rest) rising) (λ k n h. found k n (still_found key_total k n e rest rising h)),
+  all-have table rest (sorted_tail key_cmp e.0 (keys_of rest) rising)
+      (λ k n h. found k n (still_found key_total k n e rest rising h)),
 )
 
-pub all_found : (numbers : Numbers) (table : List (Option Event)) → IsLinked numbers table → AllByRecursion (HasKey table) numbers
+pub all_found : (numbers : Numbers) (table : List (Option Event)) → IsLinked numbers table
+    → AllByRecursion (HasKey table) numbers
 all_found numbers table linked = all-have table numbers linked.rising linked.found
 
-keys-also : (slot : Option Event) (k : IndexKey) (es : List Event) → option_map key_of slot ≡ Some k → keys_of (keyed (also slot es)) ≡ k ∷ keys_of (keyed es)
+keys-also : (slot : Option Event) (k : IndexKey) (es : List Event) → option_map key_of slot ≡ Some k
+    → keys_of (keyed (also slot es)) ≡ k ∷ keys_of (keyed es)
 keys-also None k es h = absurd (cc)
 keys-also (Some e) k es h = let is : key_of e ≡ k = cc in ap (λ k. k ∷ keys_of (keyed es)) is
 
-keys-in : (table : List (Option Event)) (rest : Numbers) → AllByRecursion (HasKey table) rest → keys_of (keyed (events_in rest table)) ≡ keys_of rest
+keys-in : (table : List (Option Event)) (rest : Numbers) → AllByRecursion (HasKey table) rest
+    → keys_of (keyed (events_in rest table)) ≡ keys_of rest
 keys-in table [] h = refl
-keys-in table (e ∷ rest) h = keys-also (value_at table e.1) e.0 (events_in rest table) h.0 ∙ ap (λ ks. e.0 ∷ ks) (keys-in table rest h.1)
+keys-in table (e ∷ rest) h =
+    keys-also (value_at table e.1) e.0 (events_in rest table) h.0 ∙ ap (λ ks. e.0 ∷ ks) (keys-in table rest h.1)
 
-find-also : (slot : Option Event) (k q : IndexKey) (n : ℕ) (table : List (Option Event)) (es : List Event) (r : Option ℕ) → value_at table n ≡ slot → option_map key_of slot ≡ Some k → find_key q es ≡ slot_at table r
+find-also : (slot : Option Event) (k q : IndexKey) (n : ℕ) (table : List (Option Event)) (es : List Event)
+    (r : Option ℕ)
+    → value_at table n ≡ slot → option_map key_of slot ≡ Some k → find_key q es ≡ slot_at table r
     → find_key q (also slot es) ≡ slot_at table (cond (is_at (key_cmp q) k) (Some n) r)
 find-also None k q n table es r at h ih = absurd (cc)
 find-also (Some e) k q n table es r at h ih =
@@ -90,27 +103,36 @@ find-also (Some e) k q n table es r at h ih =
     find_by true = sym at
     find_by false = ih
 
-find-in : (q : IndexKey) (table : List (Option Event)) (rest : Numbers) → AllByRecursion (HasKey table) rest → find_key q (events_in rest table) ≡ slot_at table (number_at q rest)
+find-in : (q : IndexKey) (table : List (Option Event)) (rest : Numbers) → AllByRecursion (HasKey table) rest
+    → find_key q (events_in rest table) ≡ slot_at table (number_at q rest)
 find-in q table [] h = refl
 find-in q table (e ∷ rest) h =
-    find-also (value_at table e.1) e.0 q e.1 table (events_in rest table) (number_at q rest) refl h.0 (find-in q table rest h.1)
+    find-also (value_at table e.1) e.0 q e.1 table (events_in rest table) (number_at q rest) refl h.0
+    (find-in q table rest h.1)
 
-pub find-events : (numbers : Numbers) (table : List (Option Event)) → IsLinked numbers table → (q : IndexKey) → find_key q (events_in numbers table) ≡ event_of q numbers table
+pub find-events : (numbers : Numbers) (table : List (Option Event)) → IsLinked numbers table → (q : IndexKey)
+    → find_key q (events_in numbers table) ≡ event_of q numbers table
 find-events numbers table linked q = find-in q table numbers (all_found numbers table linked)
 
-pub events-rise : (numbers : Numbers) (table : List (Option Event)) → IsLinked numbers table → IsStrictlySortedBy index_key_cmp (events_in numbers table)
+pub events-rise : (numbers : Numbers) (table : List (Option Event)) → IsLinked numbers table
+    → IsStrictlySortedBy index_key_cmp (events_in numbers table)
 events-rise numbers table linked =
-    rising-events (events_in numbers table) (subst (IsStrictlySortedBy key_cmp) (sym (keys-in table numbers (all_found numbers table linked))) linked.rising)
+    rising-events (events_in numbers table)
+    (subst (IsStrictlySortedBy key_cmp) (sym (keys-in table numbers (all_found numbers table linked))) linked.rising)
 
-length-also : (slot : Option Event) (k : IndexKey) (es : List Event) → option_map key_of slot ≡ Some k → length (also slot es) ≡ suc (length es)
+length-also : (slot : Option Event) (k : IndexKey) (es : List Event) → option_map key_of slot ≡ Some k
+    → length (also slot es) ≡ suc (length es)
 length-also None k es h = absurd (cc)
 length-also (Some e) k es h = refl
 
-length-in : (table : List (Option Event)) (rest : Numbers) → AllByRecursion (HasKey table) rest → length (events_in rest table) ≡ length rest
+length-in : (table : List (Option Event)) (rest : Numbers) → AllByRecursion (HasKey table) rest
+    → length (events_in rest table) ≡ length rest
 length-in table [] h = refl
-length-in table (e ∷ rest) h = length-also (value_at table e.1) e.0 (events_in rest table) h.0 ∙ ap suc (length-in table rest h.1)
+length-in table (e ∷ rest) h =
+    length-also (value_at table e.1) e.0 (events_in rest table) h.0 ∙ ap suc (length-in table rest h.1)
 
-pub length-events : (numbers : Numbers) (table : List (Option Event)) → IsLinked numbers table → length (events_in numbers table) ≡ length numbers
+pub length-events : (numbers : Numbers) (table : List (Option Event)) → IsLinked numbers table
+    → length (events_in numbers table) ≡ length numbers
 length-events numbers table linked = length-in table numbers (all_found numbers table linked)
 
 pub length-values : (numbers : Numbers) → length (values_of numbers) ≡ length numbers

@@ -7,7 +7,9 @@ use Rattle.live_index.proofs.slots.find_at.Given as goal
 abbrev pub invariant-loop-number : goal.invariant-loop-number
 invariant-loop-number g l = record {
   same : l.pred ≡ l.fn.pred;
-  found : events_lent l.found.items ≡ events_lent l.fn.found.items ++ filter (holds l.fn.pred) (events_at l.events.values (take l.number-index l.numbers));
+  found : events_lent l.found.items
+      ≡ events_lent l.fn.found.items
+      ++ filter (holds l.fn.pred) (events_at l.events.values (take l.number-index l.numbers));
   forks : l.steps.forks ≡ l.fn.steps.forks;
   entries : l.steps.entries ≡ l.fn.steps.entries + l.number-index;
   began : l.steps.began ≡ l.fn.steps.began;

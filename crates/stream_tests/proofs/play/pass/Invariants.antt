@@ -9,7 +9,8 @@ invariant-seconds g l = record {
   config : config_of l.core ≡ config_of l.fn.core;
   fewer : l.left ≤ l.count;
   now : now_of l.core + l.left ≡ now_of l.fn.core + l.count;
-  played : (arrivals : List Arrival) → Played l.fn.core arrivals l.fn.notices → Played l.core (arrivals ++ replicate (l.count - l.left) Elapsed) l.notices;
+  played : (arrivals : List Arrival) → Played l.fn.core arrivals l.fn.notices
+      → Played l.core (arrivals ++ replicate (l.count - l.left) Elapsed) l.notices;
 }
 
 abbrev pub decreases-seconds : goal.decreases-seconds

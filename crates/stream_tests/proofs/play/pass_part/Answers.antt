@@ -12,5 +12,10 @@ returns-clause-played g c =
     let notices = c.args.notices.now in
     let part = c.now.result + c.args.count - now_of core in
     let same : part ≡ c.args.count = omega (arith, c.now.ensures.value) in
-    subst (λ (n : ℕ). OnOk c.advance.result ((arrivals : List Arrival) → Played core arrivals notices → Played c.advance.new.self (arrivals ++ replicate n Elapsed) c.advance.new.out)) same
-    (played_more (replicate part Elapsed) core c.advance.new.self notices c.advance.new.out c.args.steps.now c.advance.new.steps c.advance.result c.advance.ensures.receives)
+    subst
+    (λ (n : ℕ). OnOk c.advance.result
+    ((arrivals : List Arrival) → Played core arrivals notices
+    → Played c.advance.new.self (arrivals ++ replicate n Elapsed) c.advance.new.out))
+    same
+    (played_more (replicate part Elapsed) core c.advance.new.self notices c.advance.new.out c.args.steps.now
+    c.advance.new.steps c.advance.result c.advance.ensures.receives)

@@ -10,4 +10,5 @@ abbrev pub invariant-loop-entry : goal.invariant-loop-entry
 invariant-loop-entry g l =
     (config_of l.core ≡ record { plan = l.fn.plan; expiry = l.fn.expiry; start = 0 })
     × (now_of l.core + seconds_in (drop l.entry-index l.entries) ≡ seconds_in l.entries)
-    × ((arrivals : List Arrival) × Played l.core arrivals l.notices × (arrivals ++ arrivals_in (drop l.entry-index l.entries) ≡ arrivals_in l.entries))
+    × ((arrivals : List Arrival) × Played l.core arrivals l.notices
+    × (arrivals ++ arrivals_in (drop l.entry-index l.entries) ≡ arrivals_in l.entries))

@@ -6,7 +6,8 @@ use Rattle.event_core.proofs.Receiving.{receives-all, receives-nothing, receives
 use Rattle.event_core.proofs.arrivals.Core.post_from.Goals as goal
 
 pub returns-then-self-clause-receives : goal.returns-then-self-clause-receives
-returns-then-self-clause-receives g c = receives-nothing (Post c.args.event.now ∷ []) c.args.self.now c.args.out.now c.args.steps.now _ c.if-self.true
+returns-then-self-clause-receives g c =
+    receives-nothing (Post c.args.event.now ∷ []) c.args.self.now c.args.out.now c.args.steps.now _ c.if-self.true
 
 pub returns-in_err-item-clause-receives : goal.returns-in_err-item-clause-receives
 returns-in_err-item-clause-receives g c =
@@ -14,7 +15,8 @@ returns-in_err-item-clause-receives g c =
     let p = err_from_is_err_and c.from_residual.result c.from_residual.ensures.1 in
     rw p.1 (receives-part (Post c.args.event.now ∷ []) old c.args.out.now c.args.steps.now
     (record { streams = c.item.new.self; clock = old.clock; poisoned = true }) c.item.new.out c.item.new.steps
-    (ap (λ plan. record { plan = plan; expiry = old.clock.expiry; start = old.clock.start }) c.item.ensures.plan) c.item.ensures.prefix
+    (ap (λ plan. record { plan = plan; expiry = old.clock.expiry; start = old.clock.start }) c.item.ensures.plan)
+    c.item.ensures.prefix
     (λ arrivals is. c.item.ensures.visited (state_by (config_of old) arrivals) is.holds (sym is.now))
     (λ arrivals is. c.item.ensures.began (state_by (config_of old) arrivals) is.holds (sym is.now)) p.0 refl)
 
@@ -23,8 +25,10 @@ returns-clause-receives g c =
     let old = c.args.self.now in
     receives-all (Post c.args.event.now ∷ []) old c.args.out.now c.args.steps.now
     (record { streams = c.item.new.self; clock = old.clock; poisoned = false }) c.item.new.out c.item.new.steps
-    (ap (λ plan. record { plan = plan; expiry = old.clock.expiry; start = old.clock.start }) c.in_ok-item.ensures.plan) c.in_ok-item.ensures.prefix
+    (ap (λ plan. record { plan = plan; expiry = old.clock.expiry; start = old.clock.start }) c.in_ok-item.ensures.plan)
+    c.in_ok-item.ensures.prefix
     (λ arrivals is. c.in_ok-item.ensures.visited (state_by (config_of old) arrivals) is.holds (sym is.now))
-    (λ arrivals is. c.in_ok-item.ensures.began (state_by (config_of old) arrivals) is.holds (sym is.now)) c.if-self.false refl
+    (λ arrivals is. c.in_ok-item.ensures.began (state_by (config_of old) arrivals) is.holds (sym is.now))
+    c.if-self.false refl
     (λ arrivals is. c.in_ok-item.ensures.moved (state_by (config_of old) arrivals) is.holds (sym is.now))
     (λ arrivals is. is.now)

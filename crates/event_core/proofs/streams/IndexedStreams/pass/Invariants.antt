@@ -8,10 +8,16 @@ use Rattle.event_core.proofs.streams.IndexedStreams.pass.Given as goal
 abbrev pub invariant-loop-now : goal.invariant-loop-now
 invariant-loop-now g l =
     (plan_of l.self ≡ plan_of l.fn.self)
-    × ((state : CoreState) → Holds l.fn.self state → moment_of state.history ≡ l.clock.moment → begun state.history ≡ l.clock.start
-    → Moved (plan_of l.fn.self) l.self state (state_from (plan_of l.fn.self) l.clock.expiry (replicate (l.now - l.clock.moment) Elapsed) state)
+    × ((state : CoreState) → Holds l.fn.self state → moment_of state.history ≡ l.clock.moment
+    → begun state.history ≡ l.clock.start
+    → Moved (plan_of l.fn.self) l.self state
+    (state_from (plan_of l.fn.self) l.clock.expiry (replicate (l.now - l.clock.moment) Elapsed) state)
     l.fn.out l.fn.steps.forks l.out l.steps.forks)
     × ((more : List Notice) × (l.out ≡ l.fn.out ++ more))
-    × ((state : CoreState) → Holds l.fn.self state → moment_of state.history ≡ l.clock.moment → begun state.history ≡ l.clock.start
-    → Visited (plan_of l.fn.self) state (state_from (plan_of l.fn.self) l.clock.expiry (replicate (l.now - l.clock.moment) Elapsed) state) l.fn.steps.entries l.steps.entries)
-    × ((state : CoreState) → Holds l.fn.self state → moment_of state.history ≡ l.clock.moment → begun state.history ≡ l.clock.start → l.steps.began ≡ l.fn.steps.began)
+    × ((state : CoreState) → Holds l.fn.self state → moment_of state.history ≡ l.clock.moment
+    → begun state.history ≡ l.clock.start
+    → Visited (plan_of l.fn.self) state
+    (state_from (plan_of l.fn.self) l.clock.expiry (replicate (l.now - l.clock.moment) Elapsed) state)
+    l.fn.steps.entries l.steps.entries)
+    × ((state : CoreState) → Holds l.fn.self state → moment_of state.history ≡ l.clock.moment
+    → begun state.history ≡ l.clock.start → l.steps.began ≡ l.fn.steps.began)

@@ -11,10 +11,13 @@ abbrev pub invariant-loop-event : goal.invariant-loop-event
 invariant-loop-event g l =
     (plan_of l.self ≡ plan_of l.fn.self)
     × ((state : CoreState) → Holds l.fn.self state → moment_of state.history ≡ l.now
-    → Moved (plan_of l.fn.self) l.self state (streamed (plan_of l.fn.self) (map (λ event. expired_copy l.keep event l.now) l.yielded) state)
+    → Moved (plan_of l.fn.self) l.self state
+    (streamed (plan_of l.fn.self) (map (λ event. expired_copy l.keep event l.now) l.yielded) state)
     l.fn.out l.fn.steps.forks l.out l.steps.forks)
     × ((more : List Notice) × (l.out ≡ l.fn.out ++ more))
     × ((state : CoreState) → Holds l.fn.self state → moment_of state.history ≡ l.now
-    → Visited (plan_of l.fn.self) state (streamed (plan_of l.fn.self) (map (λ event. expired_copy l.keep event l.now) l.yielded) state) l.fn.steps.entries l.steps.entries)
+    → Visited (plan_of l.fn.self) state
+    (streamed (plan_of l.fn.self) (map (λ event. expired_copy l.keep event l.now) l.yielded) state) l.fn.steps.entries
+    l.steps.entries)
     × (l.yielded ++ into_iter_items l.event-iterator ≡ l.fn.expired)
     × ((state : CoreState) → Holds l.fn.self state → moment_of state.history ≡ l.now → l.steps.began ≡ l.fn.steps.began)

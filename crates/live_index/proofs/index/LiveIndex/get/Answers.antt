@@ -17,8 +17,11 @@ returns g c =
       record {
         same = tt;
         event = c.get.ensures.event
-            ∙ sym (find-at host service (events_in numbers table) ∙ find-events numbers table (c.self.invariant c.if-self.false).linked (host, service))
-            ∙ ap (event_at host service) (not_poisoned c.self.inside.poisoned numbers table c.if-self.false ∙ ap (λ index. index.events) c.self.view_is);
+            ∙ sym (find-at host service (events_in numbers table)
+            ∙ find-events numbers table (c.self.invariant c.if-self.false).linked (host, service))
+            ∙ ap (event_at host service)
+            (not_poisoned c.self.inside.poisoned numbers table c.if-self.false
+            ∙ ap (λ index. index.events) c.self.view_is);
         forks = c.get.ensures.forks;
         found = c.get.ensures.found;
         absent = c.get.ensures.absent;

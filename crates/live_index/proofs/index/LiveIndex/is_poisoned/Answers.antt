@@ -14,7 +14,9 @@ returns-clause-represents c = λ sound.
       log_of (events_in numbers table),
       record {
         sound = sound;
-        live = sym (not_poisoned c.self.inside.poisoned numbers table is_sound ∙ ap (λ index. index.events) c.self.view_is)
-            ∙ sym (log-live (events_in numbers table) (events-rise numbers table linked) (none_over numbers table linked));
+        live =
+            sym (not_poisoned c.self.inside.poisoned numbers table is_sound ∙ ap (λ index. index.events) c.self.view_is)
+            ∙ sym
+            (log-live (events_in numbers table) (events-rise numbers table linked) (none_over numbers table linked));
       },
     )

@@ -9,7 +9,10 @@ write-requires c = c.self.invariant c.if-self.false
 pub returns-clause-ok : goal.returns-clause-ok
 returns-clause-ok c = λ log before. record {
   sound = refl;
-  live = puts-represent c.args.event.now c.self.inside.slots.numbers c.write.new.self.numbers c.self.inside.slots.events.values c.write.new.self.events.values
+  live =
+      puts-represent c.args.event.now c.self.inside.slots.numbers c.write.new.self.numbers
+      c.self.inside.slots.events.values c.write.new.self.events.values
       (c.self.invariant c.if-self.false).linked c.in_ok-write.ensures.stored.linked c.in_ok-write.ensures.puts log
-      (not_poisoned c.self.inside.poisoned c.self.inside.slots.numbers c.self.inside.slots.events.values c.if-self.false ∙ ap (λ index. index.events) c.self.view_is ∙ before.live);
+      (not_poisoned c.self.inside.poisoned c.self.inside.slots.numbers c.self.inside.slots.events.values c.if-self.false
+      ∙ ap (λ index. index.events) c.self.view_is ∙ before.live);
 }

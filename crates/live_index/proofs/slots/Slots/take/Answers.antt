@@ -8,41 +8,61 @@ use Rattle.live_index.proofs.StoredLaws.{some-counted}
 use Rattle.live_index.proofs.slots.Slots.take.Goals as goal
 
 pub returns-then-not-contains-clause-taken : goal.returns-then-not-contains-clause-taken
-returns-then-not-contains-clause-taken c = absent_slot c.args.self.now.events.values c.args.number c.contains.result c.contains.ensures c.if-not-contains.true
+returns-then-not-contains-clause-taken c =
+    absent_slot c.args.self.now.events.values c.args.number c.contains.result c.contains.ensures c.if-not-contains.true
 
 pub returns-then-not-contains-clause-slots : goal.returns-then-not-contains-clause-slots
 returns-then-not-contains-clause-slots c =
-    absent_slots c.args.self.now.events.values c.args.number (absent_slot c.args.self.now.events.values c.args.number c.contains.result c.contains.ensures c.if-not-contains.true)
+    absent_slots c.args.self.now.events.values c.args.number
+    (absent_slot c.args.self.now.events.values c.args.number c.contains.result c.contains.ensures
+    c.if-not-contains.true)
 
 pub returns-clause-linked : goal.returns-clause-linked
 returns-clause-linked c =
     let sets = subst (λ (k : IndexKey). Sets c.args.self.now.numbers c.remove.new.self k None)
-    (key-is c.remove-event.result (option_copied c.as_ref.result) (option_copied c.as_ref-2.result) c.as_ref.ensures.value c.as_ref-2.ensures.value) c.remove.ensures.removed in
-    end-linked c.args.self.now.numbers c.remove.new.self c.args.self.now.events.values c.remove-event.new.self.values (key_of c.remove-event.result) c.args.number c.requires.linked
-    (c.requires.linked.placed c.args.number c.remove-event.result c.remove-event.ensures.value) c.remove.ensures.rising sets c.remove-event.ensures.removed
+    (key-is c.remove-event.result (option_copied c.as_ref.result) (option_copied c.as_ref-2.result)
+    c.as_ref.ensures.value c.as_ref-2.ensures.value)
+    c.remove.ensures.removed in
+    end-linked c.args.self.now.numbers c.remove.new.self c.args.self.now.events.values c.remove-event.new.self.values
+    (key_of c.remove-event.result) c.args.number c.requires.linked
+    (c.requires.linked.placed c.args.number c.remove-event.result c.remove-event.ensures.value) c.remove.ensures.rising
+    sets c.remove-event.ensures.removed
 
 pub overflow_sub-self : goal.overflow_sub-self
 overflow_sub-self c =
     let sets = subst (λ (k : IndexKey). Sets c.args.self.now.numbers c.remove.new.self k None)
-    (key-is c.remove-event.result (option_copied c.as_ref.result) (option_copied c.as_ref-2.result) c.as_ref.ensures.value c.as_ref-2.ensures.value) c.remove.ensures.removed in
-    some-counted c.args.self.now.numbers c.remove.new.self (key_of c.remove-event.result) c.args.number c.args.self.now.count c.requires.linked.rising c.requires.counted
-    (c.requires.linked.placed c.args.number c.remove-event.result c.remove-event.ensures.value) c.remove.ensures.rising sets
+    (key-is c.remove-event.result (option_copied c.as_ref.result) (option_copied c.as_ref-2.result)
+    c.as_ref.ensures.value c.as_ref-2.ensures.value)
+    c.remove.ensures.removed in
+    some-counted c.args.self.now.numbers c.remove.new.self (key_of c.remove-event.result) c.args.number
+    c.args.self.now.count c.requires.linked.rising c.requires.counted
+    (c.requires.linked.placed c.args.number c.remove-event.result c.remove-event.ensures.value) c.remove.ensures.rising
+    sets
 
 pub returns-clause-counted : goal.returns-clause-counted
 returns-clause-counted c =
     let sets = subst (λ (k : IndexKey). Sets c.args.self.now.numbers c.remove.new.self k None)
-    (key-is c.remove-event.result (option_copied c.as_ref.result) (option_copied c.as_ref-2.result) c.as_ref.ensures.value c.as_ref-2.ensures.value) c.remove.ensures.removed in
+    (key-is c.remove-event.result (option_copied c.as_ref.result) (option_copied c.as_ref-2.result)
+    c.as_ref.ensures.value c.as_ref-2.ensures.value)
+    c.remove.ensures.removed in
     let less : length c.args.self.now.numbers ≡ suc (length c.remove.new.self) =
-    one_less c.args.self.now.numbers c.remove.new.self (key_of c.remove-event.result) c.args.number c.requires.linked.rising c.remove.ensures.rising
+    one_less c.args.self.now.numbers c.remove.new.self (key_of c.remove-event.result) c.args.number
+    c.requires.linked.rising c.remove.ensures.rising
     (c.requires.linked.placed c.args.number c.remove-event.result c.remove-event.ensures.value) sets in
     omega (arith, less, c.requires.counted)
 
 pub returns-clause-slots : goal.returns-clause-slots
-returns-clause-slots c = changed_slots c.args.self.now.events.values c.remove-event.new.self.values c.args.number c.remove-event.ensures.removed
+returns-clause-slots c =
+    changed_slots c.args.self.now.events.values c.remove-event.new.self.values c.args.number
+    c.remove-event.ensures.removed
 
 pub returns-clause-puts : goal.returns-clause-puts
 returns-clause-puts c =
     let sets = subst (λ (k : IndexKey). Sets c.args.self.now.numbers c.remove.new.self k None)
-    (key-is c.remove-event.result (option_copied c.as_ref.result) (option_copied c.as_ref-2.result) c.as_ref.ensures.value c.as_ref-2.ensures.value) c.remove.ensures.removed in
-    end-put c.args.self.now.numbers c.remove.new.self c.args.self.now.events.values c.remove-event.new.self.values (key_of c.remove-event.result) c.args.number c.requires.linked
-    (c.requires.linked.placed c.args.number c.remove-event.result c.remove-event.ensures.value) sets c.remove-event.ensures.removed
+    (key-is c.remove-event.result (option_copied c.as_ref.result) (option_copied c.as_ref-2.result)
+    c.as_ref.ensures.value c.as_ref-2.ensures.value)
+    c.remove.ensures.removed in
+    end-put c.args.self.now.numbers c.remove.new.self c.args.self.now.events.values c.remove-event.new.self.values
+    (key_of c.remove-event.result) c.args.number c.requires.linked
+    (c.requires.linked.placed c.args.number c.remove-event.result c.remove-event.ensures.value) sets
+    c.remove-event.ensures.removed

@@ -9,7 +9,9 @@ loop-number-init c = record {
   linked = c.requires.linked;
   counted = c.requires.counted;
   due = refl;
-  taking = taking-start c.args.self.now.numbers c.args.self.now.events.values c.new-events.result.keys c.new-events.ensures.empty c.requires.linked;
+  taking =
+      taking-start c.args.self.now.numbers c.args.self.now.events.values c.new-events.result.keys
+      c.new-events.ensures.empty c.requires.linked;
 }
 
 pub loop-number-preserved : goal.loop-number-preserved
@@ -18,11 +20,16 @@ loop-number-preserved c =
     let numbers = c.args.numbers.now in
     let i = c.loop-number.number-index in
     let after = c.take_into.new.self in
-    let next : IsTaking (take i numbers ++ get_or numbers i 0 ∷ []) slots.numbers slots.events.values after.numbers after.events.values c.take_into.new.events.keys =
+    let next : IsTaking (take i numbers ++ get_or numbers i 0 ∷ []) slots.numbers slots.events.values after.numbers
+    after.events.values c.take_into.new.events.keys =
     c.in_ok-take_into.ensures.step (take i numbers) slots.numbers slots.events.values c.loop-number.invariant.taking in
     record {
       linked = c.in_ok-take_into.ensures.linked;
       counted = c.in_ok-take_into.ensures.counted;
       due = c.take_into.ensures.due ∙ c.loop-number.invariant.due;
-      taking = subst (λ ids. IsTaking ids slots.numbers slots.events.values after.numbers after.events.values c.take_into.new.events.keys) (sym (take_more numbers i 0 c.loop-number-test.true)) next;
+      taking =
+          subst
+          (λ ids.
+          IsTaking ids slots.numbers slots.events.values after.numbers after.events.values c.take_into.new.events.keys)
+          (sym (take_more numbers i 0 c.loop-number-test.true)) next;
     }

@@ -7,5 +7,6 @@ invariant-loop-number l = record {
   linked : IsLinked l.self.numbers l.self.events.values;
   counted : l.self.count ≡ length l.self.numbers;
   due : l.self.due ≡ l.fn.self.due;
-  taking : IsTaking (take l.number-index l.numbers) l.fn.self.numbers l.fn.self.events.values l.self.numbers l.self.events.values l.events.keys;
+  taking : IsTaking (take l.number-index l.numbers) l.fn.self.numbers l.fn.self.events.values l.self.numbers
+      l.self.events.values l.events.keys;
 }

@@ -8,14 +8,26 @@ use Rattle.live_index.proofs.slots.Slots.take_into.Goals as goal
 
 pub returns-clause-step : goal.returns-clause-step
 returns-clause-step c = λ gone numbers table taking.
-    taking-some gone c.args.number numbers c.args.self.now.numbers c.take.new.self.numbers table c.args.self.now.events.values c.take.new.self.events.values
-    c.args.events.now.keys c.replace.new.self.keys taking c.in-Some.event (sym c.take.ensures.taken ∙ c.in-Some.is) c.take.ensures.linked c.take.ensures.slots c.in-Some.ensures.puts
-    c.replace.ensures.ordered (λ q. replaced-at q c.in-Some.event c.args.events.now.keys c.replace.new.self.keys taking.taken.rising c.in_ok-replace.ensures.keys)
+    taking-some gone c.args.number numbers c.args.self.now.numbers c.take.new.self.numbers table
+    c.args.self.now.events.values c.take.new.self.events.values
+    c.args.events.now.keys c.replace.new.self.keys taking c.in-Some.event (sym c.take.ensures.taken ∙ c.in-Some.is)
+    c.take.ensures.linked c.take.ensures.slots c.in-Some.ensures.puts
+    c.replace.ensures.ordered
+    (λ q. replaced-at q c.in-Some.event c.args.events.now.keys c.replace.new.self.keys taking.taken.rising
+    c.in_ok-replace.ensures.keys)
 
 pub returns-in_default-clause-step : goal.returns-in_default-clause-step
 returns-in_default-clause-step c = λ gone numbers table taking.
     let same = c.take.ensures.same c.in_default.is in
-    let next = taking-none gone c.args.number numbers c.args.self.now.numbers c.args.self.now.numbers table c.args.self.now.events.values c.args.self.now.events.values c.args.events.now.keys c.args.events.now.keys
+    let next =
+    taking-none gone c.args.number numbers c.args.self.now.numbers c.args.self.now.numbers table
+    c.args.self.now.events.values c.args.self.now.events.values c.args.events.now.keys c.args.events.now.keys
     taking (sym c.take.ensures.taken ∙ c.in_default.is) in
-    subst (λ (ns : Numbers). IsTaking (gone ++ c.args.number ∷ []) numbers table ns c.take.new.self.events.values c.args.events.now.keys) (sym same.0)
-    (subst (λ (tab : List (Option Event)). IsTaking (gone ++ c.args.number ∷ []) numbers table c.args.self.now.numbers tab c.args.events.now.keys) (sym same.1) next)
+    subst
+    (λ (ns : Numbers).
+    IsTaking (gone ++ c.args.number ∷ []) numbers table ns c.take.new.self.events.values c.args.events.now.keys)
+    (sym same.0)
+    (subst
+    (λ (tab : List (Option Event)).
+    IsTaking (gone ++ c.args.number ∷ []) numbers table c.args.self.now.numbers tab c.args.events.now.keys)
+    (sym same.1) next)
