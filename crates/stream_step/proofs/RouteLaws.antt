@@ -8,12 +8,16 @@ use Rattle.ev_types.specs.declared.item.Item.{Item}
 use Rattle.ev_types.specs.declared.item.Item.TheVariants.{One, Many}
 use Rattle.ev_types.specs.declared.value.Value.{Value}
 use Rattle.pred_eval.specs.Truth.{holds}
-use Rattle.stream_plan.specs.Tree.{KindTree, Index, Notice, Sdo, Where, With, Default, Tag, By, Smap}
+use Rattle.stream_plan.specs.Tree.{KindTree, Index, Notice, Sdo, Where, With, Default, Tag, By, Changed, Runs, Throttle, Rollup, Batch, Stable, FixedEvent, MovingEvent, FixedTime, MovingTime, Coalesce, Smap}
 use Rattle.stream_meaning.specs.declared.entry.Entry.{Entry}
 use Rattle.stream_meaning.specs.declared.entry.Entry.TheVariants.{Tick, Item as In}
 use Rattle.stream_meaning.specs.History.{History, since, ◌▸◌}
 use Rattle.stream_meaning.specs.Emission.{Branch as MeantBranch, Children as children, Otherwise as otherwise, Fork, Emission, to, to_children, one_of, emissions}
 use Rattle.stream_meaning.specs.Images.{folded}
+use Rattle.stream_meaning.specs.Runs.{changed_items, runs_items, stable_items}
+use Rattle.stream_meaning.specs.Rates.{throttle_items, batch_items, rollup_items}
+use Rattle.stream_meaning.specs.Windows.{fixed_event_items, moving_event_items, fixed_time_items, moving_time_items}
+use Rattle.stream_meaning.specs.Coalesce.{coalesce_items}
 use Rattle.stream_step.specs.Step.{branch_numbered, emission_meant, emissions_meant}
 use Rattle.stream_step.specs.declared.passed.Branch.TheVariants.{Children, Otherwise}
 use Rattle.stream_step.specs.declared.passed.Passed.{Passed}
@@ -79,11 +83,21 @@ no_fork (Tag tags) (h ▸ Tick) other = refl
 no_fork (Tag tags) (h ▸ In (One event)) other = refl
 no_fork (Tag tags) (h ▸ In (Many es)) other = refl
 no_fork (By fields) h other = cc
+no_fork (Changed field init) h other = children_no_fork (changed_items field init h)
+no_fork (Runs count field) h other = children_no_fork (runs_items count field h)
+no_fork (Throttle count secs) h other = children_no_fork (throttle_items count secs h)
+no_fork (Rollup count secs) h other = children_no_fork (rollup_items count secs h)
+no_fork (Batch count secs) h other = children_no_fork (batch_items count secs h)
+no_fork (Stable secs field) h other = children_no_fork (stable_items secs field h)
+no_fork (FixedEvent count) h other = children_no_fork (fixed_event_items count h)
+no_fork (MovingEvent count) h other = children_no_fork (moving_event_items count h)
+no_fork (FixedTime secs) h other = children_no_fork (fixed_time_items secs h)
+no_fork (MovingTime secs) h other = children_no_fork (moving_time_items secs h)
+no_fork (Coalesce secs) h other = children_no_fork (coalesce_items secs h)
 no_fork (Smap fold) (since start) other = refl
 no_fork (Smap fold) (h ▸ Tick) other = refl
 no_fork (Smap fold) (h ▸ In (One event)) other = refl
 no_fork (Smap fold) (h ▸ In (Many es)) other = folded_no_fork (folded fold es)
-no_fork kind h other = children_no_fork _
 
 -- what goes to a fork comes from a `by`
 pub keyed_is_by : (kind : KindTree) (key : List Value) (item : Item) (h : History) → to (Fork key) item ≡ emissions kind h → is_by kind ≡ true
