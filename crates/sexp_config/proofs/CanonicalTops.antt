@@ -14,6 +14,7 @@ use Rattle.stream_plan.specs.declared.kinds.TheConstants.{MAX_SECS}
 use Rattle.stream_plan.specs.Tree.{StreamTrees}
 use Rattle.config_terms.specs.declared.binding.Bound.{Bound}
 use Rattle.config_terms.specs.declared.binding.Bound.TheVariants as bound
+use Rattle.config_terms.specs.declared.binding.Binding.{Binding}
 use Rattle.config_terms.specs.Arguments.{Env}
 use Rattle.config_terms.specs.Grammar.{a_text, a_number, a_keyword}
 use Rattle.config_terms.specs.Terms.{IsRanged, a_ranged, a_field}
@@ -35,7 +36,7 @@ value_good env e _ _ the_index w = tt
 names_good : (env : Env) → GoodEnv env → (forms : BareTrees) (inner : Env) → AreNames env forms inner → AreWritable forms → GoodEnv inner
 names_good env e _ _ no_names w = e
 names_good env e _ inner (more_names {name = name} {v = v} {value = value} {forms = forms} is others) w =
-    let binding = record { name = name; value = value } in
+    let binding : Binding = record { name = name; value = value } in
     names_good (env ++ binding ∷ []) (all_both GoodBinding env (binding ∷ []) e (value_good env e v value is w.1.0, tt)) forms inner others w.1.1
 
 -- ---- the server

@@ -43,7 +43,7 @@ few_brackets : (text : List ℕ) (forms : FormTrees) → IsForms text forms → 
 few_brackets text forms read = omega (arith, spelled forms, tokens_few text, ap length read.read.spelled, read.short)
 
 brackets_add : (row others : BareTrees) → brackets (and_then row others) ≡ brackets row + brackets others
-brackets_add no_trees others = refl
+brackets_add no_trees others = omega arith
 brackets_add (and_trees form row) others = omega (arith, brackets_add row others)
 
 -- ---- rules
@@ -91,7 +91,7 @@ kind_few env _ _ _ is = omega arith
 
 joined_add : (streams others : StreamTrees) → length (plan_patterns (with_streams streams others)) ≡ length (plan_patterns streams) + length (plan_patterns others)
 unfolding stream_patterns plan_patterns
-joined_add none others = refl
+joined_add none others = omega arith
 joined_add (also one streams) others =
     omega (arith, joined_add streams others, length-append (stream_patterns one) (plan_patterns (with_streams streams others)), length-append (stream_patterns one) (plan_patterns streams))
 
