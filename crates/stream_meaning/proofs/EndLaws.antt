@@ -14,12 +14,13 @@ use Rattle.ev_types.specs.declared.value.Value.{Value}
 use Rattle.ev_types.specs.Key.{same_key, event_key}
 use Rattle.ev_types.proofs.Values.{same_key_decides}
 use Rattle.index_log.proofs.OfKeyLaws.{both_true}
-use Rattle.stream_meaning.specs.History.{History, since, ◌▸◌, Entry, Tick, In, moment_of, is_at}
+use Rattle.stream_meaning.specs.History.{History, since, ◌▸◌, Entry, Tick, In, moment_of, is_at, TicksAlone}
 use Rattle.stream_meaning.specs.Came.{timed_events}
 use Rattle.stream_meaning.specs.Ends.{last_moment, idle_after, ends_next, times_ended, KeyFork, same_fork, fork_of, forks_that_came}
-use Rattle.stream_meaning.specs.EndLaws.{has_key, at_of, moments_of_key, IsLast, LastMomentsAreLast, CameBefore, EndsFollowSilence, is_event_of, EndsAreApart, of_fork, NewForksHaveTicks, ForksComeByNumber, EndedForksReceiveTicks}
+use Rattle.stream_meaning.specs.EndLaws.{has_key, at_of, moments_of_key, IsLast, LastMomentsAreLast, CameBefore, EndsFollowSilence, is_event_of, EndsAreApart, ForksComeByNumber, EndedForksReceiveTicks}
 use Rattle.stream_meaning.specs.KeyOrderLaws.{lengthened}
-use Rattle.stream_meaning.proofs.ForkLaws.{event_step}
+use Rattle.stream_meaning.specs.Laws.{of_fork, UnseenForksHaveTicks}
+use Rattle.stream_meaning.proofs.ForkLaws.{fork_events, event_step}
 use Rattle.stream_meaning.proofs.KeptEvents.{all-append, all-weaker}
 
 -- ---- tests
@@ -179,7 +180,8 @@ without_fork true fork new forks e f = (f, differs (same_fork new fork) refl)
     differs false g = refl
     differs true g = absurd (true≢false (sym e ∙ ap (λ (k : KeyFork). list_any (λ other. same_fork other k) forks) (fork_is new fork g) ∙ f))
 
-pub new_forks_have_ticks : NewForksHaveTicks
+new_forks_have_ticks : (idle : Option ℕ) (fields : List Field) (fork : KeyFork) (h : History) → list_any (λ other. same_fork other fork) (forks_that_came idle fields h) ≡ false →
+    TicksAlone (of_fork idle fields fork h)
 new_forks_have_ticks idle fields fork (since start) e = tt
 new_forks_have_ticks idle fields fork (h ▸ Tick) e = new_forks_have_ticks idle fields fork h e
 new_forks_have_ticks idle fields fork (h ▸ In (One event)) e =
@@ -188,6 +190,9 @@ new_forks_have_ticks idle fields fork (h ▸ In (One event)) e =
     let parts = without_fork (list_any (λ other. same_fork other new) forks) fork new forks refl e in
     event_step (same_fork new fork) event (of_fork idle fields fork h) parts.1 (new_forks_have_ticks idle fields fork h parts.0)
 new_forks_have_ticks idle fields fork (h ▸ In (Many es)) e = new_forks_have_ticks idle fields fork h e
+
+pub unseen_forks_have_ticks : UnseenForksHaveTicks
+unseen_forks_have_ticks idle fields fork h e = subst TicksAlone (sym (fork_events idle fields fork h)) (new_forks_have_ticks idle fields fork h e)
 
 pub ended_forks_receive_ticks : EndedForksReceiveTicks
 ended_forks_receive_ticks idle fields fork h (Many es) less = refl

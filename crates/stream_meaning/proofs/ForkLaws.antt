@@ -1,5 +1,5 @@
 -- What the forks of a `by` receive.
-use Rattle.std.proofs.Common.{◌≡◌, Bool, true, false, ◌||◌, cond, List, [], ◌∷◌, ◌++◌, refl, sym, ap, ◌∙◌}
+use Rattle.std.proofs.Common.{◌≡◌, ℕ, Bool, true, false, ◌||◌, cond, List, [], ◌∷◌, ◌++◌, Option, refl, sym, ap, ◌∙◌}
 use mathlib.Core.Bool.{true≢false}
 use Rattle.std.proofs.lemmas.List.Folds.{list_any-append}
 use Rattle.ev_types.specs.declared.event.Event.{Event}
@@ -10,14 +10,15 @@ use Rattle.ev_types.specs.declared.value.Value.{Value}
 use Rattle.ev_types.specs.Key.{same_key, event_key}
 use Rattle.ev_types.proofs.Values.{same_key_decides}
 use Rattle.stream_meaning.specs.History.{History, since, ◌▸◌, Tick, In, TicksAlone}
+use Rattle.stream_meaning.specs.Ends.{KeyFork, same_fork, fork_of}
 use Rattle.stream_meaning.specs.Branches.{with_key, fork_keys, fork_history}
-use Rattle.stream_meaning.specs.Laws.{of_key, is_among}
+use Rattle.stream_meaning.specs.Laws.{of_fork, is_among}
 
-pub fork_events : (fields : List Field) (key : List Value) (h : History) → fork_history fields key h ≡ of_key fields key h
-fork_events fields key (since start) = refl
-fork_events fields key (h ▸ Tick) = ap (λ g. g ▸ Tick) (fork_events fields key h)
-fork_events fields key (h ▸ In (One event)) = ap (λ g. cond (same_key (event_key event fields) key) (g ▸ In (One event)) g) (fork_events fields key h)
-fork_events fields key (h ▸ In (Many es)) = fork_events fields key h
+pub fork_events : (idle : Option ℕ) (fields : List Field) (fork : KeyFork) (h : History) → fork_history idle fields fork h ≡ of_fork idle fields fork h
+fork_events idle fields fork (since start) = refl
+fork_events idle fields fork (h ▸ Tick) = ap (λ g. g ▸ Tick) (fork_events idle fields fork h)
+fork_events idle fields fork (h ▸ In (One event)) = ap (λ g. cond (same_fork (fork_of idle fields event h) fork) (g ▸ In (One event)) g) (fork_events idle fields fork h)
+fork_events idle fields fork (h ▸ In (Many es)) = fork_events idle fields fork h
 
 or_false : (s t : Bool) → s || t ≡ false → (s ≡ false) × (t ≡ false)
 or_false true t e = absurd (true≢false e)
@@ -42,14 +43,6 @@ not_among-before key new keys f = without_step (is_among new keys) key new keys 
 pub event_step : (t : Bool) (event : Event) (h : History) → t ≡ false → TicksAlone h → TicksAlone (cond t (h ▸ In (One event)) h)
 event_step true event h e alone = absurd (true≢false e)
 event_step false event h e alone = alone
-
-pub unseen_fork : (fields : List Field) (key : List Value) (h : History) → is_among key (fork_keys fields h) ≡ false → TicksAlone (fork_history fields key h)
-unseen_fork fields key (since start) e = tt
-unseen_fork fields key (h ▸ Tick) e = unseen_fork fields key h e
-unseen_fork fields key (h ▸ In (One event)) e =
-    let parts = not_among-before key (event_key event fields) (fork_keys fields h) e in
-    event_step (same_key (event_key event fields) key) event (fork_history fields key h) parts.1 (unseen_fork fields key h parts.0)
-unseen_fork fields key (h ▸ In (Many es)) e = unseen_fork fields key h e
 
 -- ---- keys are apart
 

@@ -239,7 +239,7 @@ module _ (P : Event → Type 0) (kept : IsKept P) where
   all-emissions (With sets) (h ▸ In (One event)) leaves k = (leaves event k.1, tt)
   all-emissions (Default sets) (h ▸ In (One event)) leaves k = (leaves event k.1, tt)
   all-emissions (Tag tags) (h ▸ In (One event)) leaves k = (all-tags tags event k.1, tt)
-  all-emissions (By fields) (h ▸ In (One event)) leaves k = (k.1, tt)
+  all-emissions (By fields idle) (h ▸ In (One event)) leaves k = (k.1, tt)
   all-emissions (Changed field init) (h ▸ In (One event)) leaves k = each-if _ (event ∷ []) (k.1, tt)
   all-emissions (Runs n field) (h ▸ In (One event)) leaves k = each-if _ (event ∷ []) (k.1, tt)
   all-emissions (Throttle n secs) (h ▸ In (One event)) leaves k = each-if _ (event ∷ []) (k.1, tt)
@@ -306,7 +306,7 @@ module _ (P : Event → Type 0) (kept : IsKept P) where
   all-at_item : (kind : KindTree) (h : History) (item : Item) → ItemAll P item → EffectsAll P (at_item kind (h ▸ In item))
   all-at_item Index h (One event) k = (k, tt)
   all-at_item (Notice name) h item k = (k, tt)
-  all-at_item (By fields) h (One event) k = (tt, tt)
+  all-at_item (By fields idle) h (One event) k = (tt, tt)
   all-at_item kind h (One event) k = tt
   all-at_item kind h (Many es) k = tt
 
@@ -321,7 +321,7 @@ module _ (P : Event → Type 0) (kept : IsKept P) where
   all-marked : (branch : Branch) (effects : List Effect) → EffectsAll P effects → EffectsAll P (marked branch effects)
   all-marked Children effects k = k
   all-marked Otherwise effects k = k
-  all-marked (Fork key) effects k = all-due effects k
+  all-marked (Fork fork) effects k = all-due effects k
 
   -- below a branch, whatever it has received
   abbrev BelowAll : (History → List Effect) → Type 0
@@ -330,7 +330,7 @@ module _ (P : Event → Type 0) (kept : IsKept P) where
   all-below : (children otherwise : History → List Effect) → BelowAll children → BelowAll otherwise → (branch : Branch) → BelowAll (branch_effects children otherwise branch)
   all-below children otherwise p q Children = p
   all-below children otherwise p q Otherwise = q
-  all-below children otherwise p q (Fork key) = p
+  all-below children otherwise p q (Fork fork) = p
 
   all-at_tick : (x : Entry) (effects_in : BranchEffects) (received : Branch → History) (below : List Branch) → ((branch : Branch) → BelowAll (effects_in branch)) → ((branch : Branch) → HistoryAll P (received branch)) →
       EffectsAll P (at_tick x effects_in received below)

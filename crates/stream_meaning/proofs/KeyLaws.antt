@@ -1,5 +1,5 @@
 -- What one `by` on host and service does for each key.
-use Rattle.std.proofs.Common.{◌≡◌, ℕ, Bool, true, false, not, ◌||◌, ◌&&◌, cond, List, [], ◌∷◌, ◌++◌, map, refl, sym, ap, ◌∙◌, subst}
+use Rattle.std.proofs.Common.{◌≡◌, ℕ, ◌+◌, ◌==◌, Bool, true, false, not, ◌||◌, ◌&&◌, cond, List, [], ◌∷◌, ◌++◌, map, Option, Some, refl, sym, ap, ◌∙◌, subst}
 use mathlib.Core.Bool.{true≢false}
 use Rattle.std.specs.List.{AllByRecursion, IsDistinct, filter, flat_map, list_any, list_all}
 use Rattle.std.proofs.lemmas.List.{append-nil}
@@ -18,19 +18,22 @@ use Rattle.ev_types.specs.Field.{text_value, field_value}
 use Rattle.ev_types.specs.Value.{same_value}
 use Rattle.ev_types.specs.Key.{same_key, event_key}
 use Rattle.ev_types.specs.Set.{fits, with_fitting, with_set, has_text, with_tag}
-use Rattle.ev_types.proofs.Values.{same_key_decides}
 use Rattle.index_log.specs.OfKey.{are_index_fields, event_has}
 use Rattle.index_log.proofs.OfKeyLaws.{both_true, same_values}
 use Rattle.stream_plan.specs.Tree.{KindTree, Index, With, Default, By, StreamTree, StreamTrees, stream, none, also}
-use Rattle.stream_meaning.specs.History.{History, since, ◌▸◌, Tick, In}
+use Rattle.stream_meaning.specs.History.{History, since, ◌▸◌, Tick, In, moment_of, is_at}
+use Rattle.stream_meaning.specs.Ends.{last_moment, idle_after, end_of, ends_next, times_ended, KeyFork, same_fork, key_of_fork, fork_at, fork_of, live_forks, live_keys}
 use Rattle.stream_meaning.specs.Images.{with_sets, with_default, with_defaults, with_metric}
 use Rattle.stream_meaning.specs.Emission.{Fork}
-use Rattle.stream_meaning.specs.Branches.{child_history, fork_keys, fork_history}
+use Rattle.stream_meaning.specs.Branches.{child_history, fork_history}
 use Rattle.stream_meaning.specs.Outputs.{outputs_among, outputs_at, outputs_of}
 use Rattle.stream_meaning.specs.Keys.{item_has, output_has, same_index_field, sets_one, kind_keeps, stream_keeps, plan_keeps}
 use Rattle.stream_meaning.specs.KeyLaws.{one_by, keeps_keys, outputs_for, ActsByForks, KeysActByForks, KeysHaveTheirOutputs, HasOneKey, OutputsHaveOneKey}
-use Rattle.stream_meaning.specs.Laws.{below, of_key, is_among}
-use Rattle.stream_meaning.proofs.ForkLaws.{keys_apart, fork_events, unseen_fork}
+use Rattle.stream_meaning.specs.Laws.{below, of_key, of_fork, is_among}
+use Rattle.stream_meaning.proofs.ForkLaws.{fork_events}
+use Rattle.stream_meaning.proofs.MetLaws.{and_false}
+use Rattle.stream_meaning.proofs.EndLaws.{key_is, key_same, the_fork, fork_is, unseen_forks_have_ticks}
+use Rattle.stream_meaning.proofs.LiveLaws.{live_keys_are_apart, live_forks_are_the_latest, not_come}
 use Rattle.stream_meaning.proofs.KeptEvents.{all-append, all-weaker, ItemAll, HistoryAll, OutputAll, Leaves, StreamLeaves, PlanLeaves, IsKept, outputs_kept}
 use Rattle.stream_meaning.proofs.OutputLaws.{outputs_said}
 use Rattle.stream_meaning.proofs.TickLaws.{plan_quiet}
@@ -47,12 +50,6 @@ neither false t e = (refl, e)
 
 both : (s t : Bool) → s ≡ true → t ≡ true → s && t ≡ true
 both s t e f = ap (λ r. r && t) e ∙ f
-
-key_is : (a b : List Value) → same_key a b ≡ true → a ≡ b
-key_is a b e = (same_key_decides a b).0 e
-
-key_same : (a b : List Value) → a ≡ b → same_key a b ≡ true
-key_same a b e = (same_key_decides a b).1 e
 
 -- ---- filters
 
@@ -234,49 +231,139 @@ module _ (fields : List Field) (within : are_index_fields fields ≡ true) where
       step false e ih = ih
   key_twice key (h ▸ In (Many es)) = key_twice key h
 
-  fork_all : (key : List Value) (h : History) → HistoryAll (Of key) (fork_history fields key h)
-  fork_all key h = subst (HistoryAll (Of key)) (sym (fork_events fields key h)) (key_history key h)
+  -- ---- the forks of a key
 
-  fork_twice : (key : List Value) (h : History) → fork_history fields key (of_key fields key h) ≡ fork_history fields key h
-  fork_twice key h = fork_events fields key (of_key fields key h) ∙ key_twice key h ∙ sym (fork_events fields key h)
+  fork_kept : (idle : Option ℕ) (fork : KeyFork) (h : History) → HistoryAll (Of fork.key) (of_fork idle fields fork h)
+  fork_kept idle fork (since start) = tt
+  fork_kept idle fork (h ▸ Tick) = fork_kept idle fork h
+  fork_kept idle fork (h ▸ In (One event)) = step (same_fork (fork_of idle fields event h) fork) refl (fork_kept idle fork h)
+    where
+      step : (t : Bool) → same_fork (fork_of idle fields event h) fork ≡ t → HistoryAll (Of fork.key) (of_fork idle fields fork h) →
+          HistoryAll (Of fork.key) (cond t (of_fork idle fields fork h ▸ In (One event)) (of_fork idle fields fork h))
+      step true e k = (k, ap key_of_fork (fork_is (fork_of idle fields event h) fork e))
+      step false e k = k
+  fork_kept idle fork (h ▸ In (Many es)) = fork_kept idle fork h
 
-  module _ (children otherwise : StreamTrees) (children_keep : plan_keeps fields children ≡ true) (otherwise_keep : plan_keeps fields otherwise ≡ true) where
+  fork_all : (idle : Option ℕ) (fork : KeyFork) (h : History) → HistoryAll (Of fork.key) (fork_history idle fields fork h)
+  fork_all idle fork h = subst (HistoryAll (Of fork.key)) (sym (fork_events idle fields fork h)) (fork_kept idle fork h)
+
+  -- without the events of other keys a key has its last event, and its ends, where it had them
+  moment_same : (key : List Value) (h : History) → moment_of (of_key fields key h) ≡ moment_of h
+  moment_same key (since start) = refl
+  moment_same key (h ▸ Tick) = ap (λ m. m + 1) (moment_same key h)
+  moment_same key (h ▸ In (One event)) = step (event_has fields key event) (moment_same key h)
+    where
+      step : (t : Bool) → moment_of (of_key fields key h) ≡ moment_of h → moment_of (cond t (of_key fields key h ▸ In (One event)) (of_key fields key h)) ≡ moment_of h
+      step true same = same
+      step false same = same
+  moment_same key (h ▸ In (Many es)) = moment_same key h
+
+  last_same : (key : List Value) (h : History) → last_moment fields key (of_key fields key h) ≡ last_moment fields key h
+  last_same key (since start) = refl
+  last_same key (h ▸ Tick) = last_same key h
+  last_same key (h ▸ In (One event)) = step (event_has fields key event) refl (last_same key h) (moment_same key h)
+    where
+      step : (t : Bool) → event_has fields key event ≡ t → last_moment fields key (of_key fields key h) ≡ last_moment fields key h → moment_of (of_key fields key h) ≡ moment_of h →
+          last_moment fields key (cond t (of_key fields key h ▸ In (One event)) (of_key fields key h)) ≡ cond t (Some (moment_of h)) (last_moment fields key h)
+      step true e same now = ap (λ t. cond t (Some (moment_of (of_key fields key h))) (last_moment fields key (of_key fields key h))) e ∙ ap (λ (m : ℕ). Some m) now
+      step false e same now = same
+  last_same key (h ▸ In (Many es)) = last_same key h
+
+  times_same : (idle : Option ℕ) (key : List Value) (h : History) → times_ended idle fields key (of_key fields key h) ≡ times_ended idle fields key h
+  times_same idle key (since start) = refl
+  times_same idle key (h ▸ Tick) =
+      let ends : ends_next idle fields key (of_key fields key h) ≡ ends_next idle fields key h =
+      ap (λ (m : ℕ). is_at (m + 1) (end_of idle fields key (of_key fields key h))) (moment_same key h) ∙ ap (λ last. is_at (moment_of h + 1) (idle_after idle last)) (last_same key h) in
+      ap (λ t. cond t (times_ended idle fields key (of_key fields key h) + 1) (times_ended idle fields key (of_key fields key h))) ends
+      ∙ ap (λ (n : ℕ). cond (ends_next idle fields key h) (n + 1) n) (times_same idle key h)
+  times_same idle key (h ▸ In (One event)) = step (event_has fields key event) (times_same idle key h)
+    where
+      step : (t : Bool) → times_ended idle fields key (of_key fields key h) ≡ times_ended idle fields key h →
+          times_ended idle fields key (cond t (of_key fields key h ▸ In (One event)) (of_key fields key h)) ≡ times_ended idle fields key h
+      step true same = same
+      step false same = same
+  times_same idle key (h ▸ In (Many es)) = times_same idle key h
+
+  -- an event of another key goes to no fork of this one
+  other_key : (idle : Option ℕ) (event : Event) (h : History) (fork : KeyFork) → event_has fields fork.key event ≡ false → same_fork (fork_of idle fields event h) fork ≡ false
+  other_key idle event h fork e =
+      ap (λ t. (fork_of idle fields event h).number == fork.number && t) e ∙ and_false ((fork_of idle fields event h).number == fork.number)
+
+  -- an event of the key goes to the same fork of it
+  same_target : (idle : Option ℕ) (event : Event) (key : List Value) (h : History) → event_has fields key event ≡ true → fork_of idle fields event (of_key fields key h) ≡ fork_of idle fields event h
+  same_target idle event key h e =
+      let is = key_is (event_key event fields) key e in
+      ap (λ (number : ℕ). the_fork (event_key event fields) number)
+      (ap (λ (k : List Value). times_ended idle fields k (of_key fields key h)) is ∙ times_same idle key h ∙ sym (ap (λ (k : List Value). times_ended idle fields k h) is))
+
+  events_same : (idle : Option ℕ) (fork : KeyFork) (h : History) → of_fork idle fields fork (of_key fields fork.key h) ≡ of_fork idle fields fork h
+  events_same idle fork (since start) = refl
+  events_same idle fork (h ▸ Tick) = ap (λ g. g ▸ Tick) (events_same idle fork h)
+  events_same idle fork (h ▸ In (One event)) = step (event_has fields fork.key event) refl (events_same idle fork h)
+    where
+      rest : History
+      rest = of_key fields fork.key h
+
+      step : (t : Bool) → event_has fields fork.key event ≡ t → of_fork idle fields fork (of_key fields fork.key h) ≡ of_fork idle fields fork h →
+          of_fork idle fields fork (cond t (of_key fields fork.key h ▸ In (One event)) (of_key fields fork.key h))
+          ≡ cond (same_fork (fork_of idle fields event h) fork) (of_fork idle fields fork h ▸ In (One event)) (of_fork idle fields fork h)
+      step true e same =
+          ap (λ (k : KeyFork). cond (same_fork k fork) (of_fork idle fields fork (of_key fields fork.key h) ▸ In (One event)) (of_fork idle fields fork (of_key fields fork.key h)))
+          (same_target idle event fork.key h e)
+          ∙ ap (λ g. cond (same_fork (fork_of idle fields event h) fork) (g ▸ In (One event)) g) same
+      step false e same = same ∙ sym (ap (λ t. cond t (of_fork idle fields fork h ▸ In (One event)) (of_fork idle fields fork h)) (other_key idle event h fork e))
+  events_same idle fork (h ▸ In (Many es)) = events_same idle fork h
+
+  fork_twice : (idle : Option ℕ) (key : List Value) (h : History) →
+      fork_history idle fields (fork_at idle fields key (of_key fields key h)) (of_key fields key h) ≡ fork_history idle fields (fork_at idle fields key h) h
+  fork_twice idle key h =
+      let fork = fork_at idle fields key h in
+      ap (λ (number : ℕ). fork_history idle fields (the_fork key number) (of_key fields key h)) (times_same idle key h)
+      ∙ fork_events idle fields fork (of_key fields key h) ∙ events_same idle fork h ∙ sym (fork_events idle fields fork h)
+
+  module _ (idle : Option ℕ) (children otherwise : StreamTrees) (children_keep : plan_keeps fields children ≡ true) (otherwise_keep : plan_keeps fields otherwise ≡ true) where
     abbrev plan : StreamTrees
-    plan = one_by fields children otherwise
+    plan = one_by idle fields children otherwise
 
     -- ---- the outputs at one entry
 
-    at_tick-forks : (h : History) → outputs_at plan (h ▸ Tick) ≡ flat_map (λ branch. outputs_at (below children otherwise branch) (child_history (By fields) branch h ▸ Tick)) (map Fork (fork_keys fields h))
-    at_tick-forks h = outputs_said (By fields) children otherwise h Tick ∙ append-nil _
+    at_tick-forks : (h : History) →
+        outputs_at plan (h ▸ Tick) ≡ flat_map (λ branch. outputs_at (below children otherwise branch) (child_history (By fields idle) branch h ▸ Tick)) (map Fork (live_forks idle fields h))
+    at_tick-forks h = outputs_said (By fields idle) children otherwise h Tick ∙ append-nil _
 
-    at_event : (h : History) (event : Event) → outputs_at plan (h ▸ In (One event)) ≡ outputs_at children (fork_history fields (event_key event fields) h ▸ In (One event))
-    at_event h event = outputs_said (By fields) children otherwise h (In (One event)) ∙ append-nil _
+    at_event : (h : History) (event : Event) → outputs_at plan (h ▸ In (One event)) ≡ outputs_at children (fork_history idle fields (fork_of idle fields event h) h ▸ In (One event))
+    at_event h event = outputs_said (By fields idle) children otherwise h (In (One event)) ∙ append-nil _
 
     at_vector : (h : History) (es : List Event) → outputs_at plan (h ▸ In (Many es)) ≡ []
-    at_vector h es = outputs_said (By fields) children otherwise h (In (Many es))
+    at_vector h es = outputs_said (By fields idle) children otherwise h (In (Many es))
 
-    -- what the fork of a key gives at a tick
-    abbrev ticking : History → List Value → List Output
-    ticking h key = outputs_at children (fork_history fields key h ▸ Tick)
+    -- what a fork gives at a tick
+    abbrev ticking : History → KeyFork → List Output
+    ticking h fork = outputs_at children (fork_history idle fields fork h ▸ Tick)
 
-    ticking_all : (h : History) (key : List Value) → AllByRecursion (OutputAll (Of key)) (ticking h key)
-    ticking_all h key = outputs_kept (Of key) (is_kept key) children (plan_leaves key children children_keep) (fork_history fields key h ▸ Tick) (fork_all key h)
+    -- the fork to which the next event of a key goes
+    abbrev now_of : History → List Value → KeyFork
+    now_of h key = fork_at idle fields key h
+
+    ticking_all : (h : History) (fork : KeyFork) → AllByRecursion (OutputAll (Of fork.key)) (ticking h fork)
+    ticking_all h fork = outputs_kept (Of fork.key) (is_kept fork.key) children (plan_leaves fork.key children children_keep) (fork_history idle fields fork h ▸ Tick) (fork_all idle fork h)
 
     event_all : (h : History) (event : Event) → AllByRecursion (OutputAll (Of (event_key event fields))) (outputs_at plan (h ▸ In (One event)))
     event_all h event =
         let key = event_key event fields in
+        let fork = fork_of idle fields event h in
         subst (AllByRecursion (OutputAll (Of key))) (sym (at_event h event))
-        (outputs_kept (Of key) (is_kept key) children (plan_leaves key children children_keep) (fork_history fields key h ▸ In (One event)) (fork_all key h, refl))
+        (outputs_kept (Of key) (is_kept key) children (plan_leaves key children children_keep) (fork_history idle fields fork h ▸ In (One event)) (fork_all idle fork h, refl))
 
-    of_forks : (h : History) (key : List Value) (keys : List (List Value)) → IsDistinct same_key keys →
-        filter (output_has fields key) (flat_map (λ branch. outputs_at (below children otherwise branch) (child_history (By fields) branch h ▸ Tick)) (map Fork keys))
-        ≡ cond (is_among key keys) (ticking h key) []
+    of_forks : (h : History) (key : List Value) (forks : List KeyFork) → IsDistinct same_key (map key_of_fork forks) → AllByRecursion (λ fork. fork.number ≡ times_ended idle fields fork.key h) forks →
+        filter (output_has fields key) (flat_map (λ branch. outputs_at (below children otherwise branch) (child_history (By fields idle) branch h ▸ Tick)) (map Fork forks))
+        ≡ cond (is_among key (map key_of_fork forks)) (ticking h (now_of h key)) []
     unfolding IsDistinct
-    of_forks h key [] apart = refl
-    of_forks h key (first ∷ keys) apart =
+    of_forks h key [] apart latest = refl
+    of_forks h key (first ∷ forks) apart latest =
         filter-append (output_has fields key) (ticking h first) _
-        ∙ ap (λ l. filter (output_has fields key) (ticking h first) ++ l) (of_forks h key keys apart.1)
-        ∙ step (same_key first key) refl
+        ∙ ap (λ l. filter (output_has fields key) (ticking h first) ++ l) (of_forks h key forks apart.1 latest.1)
+        ∙ step (same_key first.key key) refl
       where
         absent : (first : List Value) (keys : List (List Value)) → key ≡ first → AllByRecursion (λ other. same_key first other ≡ false) keys → is_among key keys ≡ false
         absent first [] e k = refl
@@ -286,41 +373,49 @@ module _ (fields : List Field) (within : are_index_fields fields ≡ true) where
             turned false f = refl
             turned true f = absurd (true≢false (sym (key_same first next (sym e ∙ sym (key_is next key f))) ∙ k.0))
 
-        step : (t : Bool) → same_key first key ≡ t → filter (output_has fields key) (ticking h first) ++ cond (is_among key keys) (ticking h key) [] ≡ cond (t || is_among key keys) (ticking h key) []
+        is_now : first.key ≡ key → first ≡ now_of h key
+        is_now same =
+            ap (λ (number : ℕ). the_fork first.key number) latest.0 ∙ ap (λ (k : List Value). fork_at idle fields k h) same
+
+        step : (t : Bool) → same_key first.key key ≡ t →
+            filter (output_has fields key) (ticking h first) ++ cond (is_among key (map key_of_fork forks)) (ticking h (now_of h key)) []
+            ≡ cond (t || is_among key (map key_of_fork forks)) (ticking h (now_of h key)) []
         step true e =
-            let same = key_is first key e in
-            ap (λ l. filter (output_has fields key) (ticking h first) ++ l) (ap (λ t. cond t (ticking h key) []) (absent first keys (sym same) apart.0))
+            let same = key_is first.key key e in
+            ap (λ l. filter (output_has fields key) (ticking h first) ++ l) (ap (λ t. cond t (ticking h (now_of h key)) []) (absent first.key (map key_of_fork forks) (sym same) apart.0))
             ∙ append-nil _
-            ∙ ap (λ k. filter (output_has fields key) (ticking h k)) same
-            ∙ outputs_all key (ticking h key) (ticking_all h key)
-        step false e = ap (λ l. l ++ cond (is_among key keys) (ticking h key) []) (outputs_none first key (ticking h first) e (ticking_all h first))
+            ∙ ap (λ k. filter (output_has fields key) (ticking h k)) (is_now same)
+            ∙ outputs_all key (ticking h (now_of h key)) (ticking_all h (now_of h key))
+        step false e = ap (λ l. l ++ cond (is_among key (map key_of_fork forks)) (ticking h (now_of h key)) []) (outputs_none first.key key (ticking h first) e (ticking_all h first))
 
-    -- a fork that no event has come to gives nothing
-    unseen : (h : History) (key : List Value) → is_among key (fork_keys fields h) ≡ false → ticking h key ≡ []
-    unseen h key e = ap outputs_among (plan_quiet children (fork_history fields key h ▸ Tick) (unseen_fork fields key h e))
+    -- a key without a live fork gives nothing
+    unseen : (h : History) (key : List Value) → is_among key (live_keys idle fields h) ≡ false → ticking h (now_of h key) ≡ []
+    unseen h key e = ap outputs_among (plan_quiet children (fork_history idle fields (now_of h key) h ▸ Tick) (unseen_forks_have_ticks idle fields (now_of h key) h (not_come idle fields key h e)))
 
-    pub acts_at_tick : (h : History) (key : List Value) → outputs_for fields key plan (h ▸ Tick) ≡ ticking h key
+    pub acts_at_tick : (h : History) (key : List Value) → outputs_for fields key plan (h ▸ Tick) ≡ ticking h (now_of h key)
     acts_at_tick h key =
-        ap (filter (output_has fields key)) (at_tick-forks h) ∙ of_forks h key (fork_keys fields h) (keys_apart fields h) ∙ step (is_among key (fork_keys fields h)) refl
+        ap (filter (output_has fields key)) (at_tick-forks h) ∙ of_forks h key (live_forks idle fields h) (live_keys_are_apart idle fields h) (live_forks_are_the_latest idle fields h)
+        ∙ step (is_among key (live_keys idle fields h)) refl
       where
-        step : (t : Bool) → is_among key (fork_keys fields h) ≡ t → cond t (ticking h key) [] ≡ ticking h key
+        step : (t : Bool) → is_among key (live_keys idle fields h) ≡ t → cond t (ticking h (now_of h key)) [] ≡ ticking h (now_of h key)
         step true e = refl
         step false e = sym (unseen h key e)
 
     pub acts_at_own : (h : History) (key : List Value) (event : Event) → event_has fields key event ≡ true →
-        outputs_for fields key plan (h ▸ In (One event)) ≡ outputs_at children (fork_history fields key h ▸ In (One event))
+        outputs_for fields key plan (h ▸ In (One event)) ≡ outputs_at children (fork_history idle fields (now_of h key) h ▸ In (One event))
     acts_at_own h key event e =
         let same = key_is (event_key event fields) key e in
         outputs_all key (outputs_at plan (h ▸ In (One event))) (subst (λ (k : List Value). AllByRecursion (OutputAll (Of k)) (outputs_at plan (h ▸ In (One event)))) same (event_all h event))
-        ∙ at_event h event ∙ ap (λ (k : List Value). outputs_at children (fork_history fields k h ▸ In (One event))) same
+        ∙ at_event h event ∙ ap (λ (k : List Value). outputs_at children (fork_history idle fields (now_of h k) h ▸ In (One event))) same
 
     pub acts_at_other : (h : History) (key : List Value) (event : Event) → event_has fields key event ≡ false → outputs_for fields key plan (h ▸ In (One event)) ≡ []
     acts_at_other h key event e = outputs_none (event_key event fields) key (outputs_at plan (h ▸ In (One event))) e (event_all h event)
 
-    other_fork : (h : History) (key : List Value) (event : Event) → event_has fields key event ≡ false → fork_history fields key (h ▸ In (One event)) ≡ fork_history fields key h
-    other_fork h key event e = ap (λ t. cond t (fork_history fields key h ▸ In (One event)) (fork_history fields key h)) e
+    other_fork : (h : History) (key : List Value) (event : Event) → event_has fields key event ≡ false → fork_history idle fields (now_of h key) (h ▸ In (One event)) ≡ fork_history idle fields (now_of h key) h
+    other_fork h key event e =
+        ap (λ t. cond t (fork_history idle fields (now_of h key) h ▸ In (One event)) (fork_history idle fields (now_of h key) h)) (other_key idle event h (now_of h key) e)
 
-    pub acts_by_forks : (key : List Value) (h : History) → ActsByForks fields key children otherwise h
+    pub acts_by_forks : (key : List Value) (h : History) → ActsByForks idle fields key children otherwise h
     acts_by_forks key h = record {
       tick = acts_at_tick h key;
       own_event = acts_at_own h key;
@@ -335,13 +430,13 @@ module _ (fields : List Field) (within : are_index_fields fields ≡ true) where
 
     pub own_tick : (h : History) (key : List Value) → outputs_for fields key plan (h ▸ Tick) ≡ outputs_at plan (of_key fields key h ▸ Tick)
     own_tick h key =
-        acts_at_tick h key ∙ sym (ap (λ g. outputs_at children (g ▸ Tick)) (fork_twice key h)) ∙ sym (acts_at_tick (of_key fields key h) key)
+        acts_at_tick h key ∙ sym (ap (λ g. outputs_at children (g ▸ Tick)) (fork_twice idle key h)) ∙ sym (acts_at_tick (of_key fields key h) key)
         ∙ outputs_all key (outputs_at plan (of_key fields key h ▸ Tick)) (plan_all key (of_key fields key h ▸ Tick) (key_history key h))
 
     pub own_event : (h : History) (key : List Value) (event : Event) → event_has fields key event ≡ true →
         outputs_for fields key plan (h ▸ In (One event)) ≡ outputs_at plan (of_key fields key h ▸ In (One event))
     own_event h key event e =
-        acts_at_own h key event e ∙ sym (ap (λ g. outputs_at children (g ▸ In (One event))) (fork_twice key h)) ∙ sym (acts_at_own (of_key fields key h) key event e)
+        acts_at_own h key event e ∙ sym (ap (λ g. outputs_at children (g ▸ In (One event))) (fork_twice idle key h)) ∙ sym (acts_at_own (of_key fields key h) key event e)
         ∙ outputs_all key (outputs_at plan (of_key fields key h ▸ In (One event))) (plan_all key (of_key fields key h ▸ In (One event)) (key_history key h, key_is (event_key event fields) key e))
 
     pub own_outputs : (key : List Value) (h : History) → filter (output_has fields key) (outputs_of plan h) ≡ outputs_of plan (of_key fields key h)
@@ -369,15 +464,15 @@ module _ (fields : List Field) (within : are_index_fields fields ≡ true) where
     all_one : (key : List Value) (os : List Output) → AllByRecursion (OutputAll (Of key)) os → AllByRecursion (HasOneKey fields) os
     all_one key os k = all-weaker (OutputAll (Of key)) (HasOneKey fields) (one_key key) os k
 
-    one_of_forks : (h : History) (keys : List (List Value)) →
-        AllByRecursion (HasOneKey fields) (flat_map (λ branch. outputs_at (below children otherwise branch) (child_history (By fields) branch h ▸ Tick)) (map Fork keys))
+    one_of_forks : (h : History) (forks : List KeyFork) →
+        AllByRecursion (HasOneKey fields) (flat_map (λ branch. outputs_at (below children otherwise branch) (child_history (By fields idle) branch h ▸ Tick)) (map Fork forks))
     one_of_forks h [] = tt
-    one_of_forks h (key ∷ keys) = all-append (HasOneKey fields) (ticking h key) _ (all_one key (ticking h key) (ticking_all h key)) (one_of_forks h keys)
+    one_of_forks h (fork ∷ forks) = all-append (HasOneKey fields) (ticking h fork) _ (all_one fork.key (ticking h fork) (ticking_all h fork)) (one_of_forks h forks)
 
     pub have_one : (h : History) → AllByRecursion (HasOneKey fields) (outputs_of plan h)
     have_one (since start) = tt
     have_one (h ▸ Tick) =
-        all-append (HasOneKey fields) (outputs_of plan h) (outputs_at plan (h ▸ Tick)) (have_one h) (subst (AllByRecursion (HasOneKey fields)) (sym (at_tick-forks h)) (one_of_forks h (fork_keys fields h)))
+        all-append (HasOneKey fields) (outputs_of plan h) (outputs_at plan (h ▸ Tick)) (have_one h) (subst (AllByRecursion (HasOneKey fields)) (sym (at_tick-forks h)) (one_of_forks h (live_forks idle fields h)))
     have_one (h ▸ In (One event)) =
         all-append (HasOneKey fields) (outputs_of plan h) (outputs_at plan (h ▸ In (One event))) (have_one h) (all_one (event_key event fields) (outputs_at plan (h ▸ In (One event))) (event_all h event))
     have_one (h ▸ In (Many es)) =
@@ -398,16 +493,16 @@ kept_parts fields children otherwise e =
     record { within = parts.0; children_keep = below.0; otherwise_keep = below.1 }
 
 pub keys_act_by_forks : KeysActByForks
-keys_act_by_forks fields key children otherwise h own =
+keys_act_by_forks idle fields key children otherwise h own =
     let parts = kept_parts fields children otherwise own in
-    acts_by_forks fields parts.within children otherwise parts.children_keep parts.otherwise_keep key h
+    acts_by_forks fields parts.within idle children otherwise parts.children_keep parts.otherwise_keep key h
 
 pub keys_have_outputs : KeysHaveTheirOutputs
-keys_have_outputs fields key children otherwise h own =
+keys_have_outputs idle fields key children otherwise h own =
     let parts = kept_parts fields children otherwise own in
-    own_outputs fields parts.within children otherwise parts.children_keep parts.otherwise_keep key h
+    own_outputs fields parts.within idle children otherwise parts.children_keep parts.otherwise_keep key h
 
 pub outputs_have_one : OutputsHaveOneKey
-outputs_have_one fields children otherwise h own =
+outputs_have_one idle fields children otherwise h own =
     let parts = kept_parts fields children otherwise own in
-    have_one fields parts.within children otherwise parts.children_keep parts.otherwise_keep h
+    have_one fields parts.within idle children otherwise parts.children_keep parts.otherwise_keep h

@@ -15,11 +15,11 @@ use Rattle.ev_types.specs.declared.item.Item.TheVariants.{One, Many}
 use Rattle.ev_types.specs.declared.value.Value.{Value}
 use Rattle.ev_types.specs.Key.{same_key, event_key}
 use Rattle.stream_meaning.specs.History.{History, since, ◌▸◌, Tick, In, moment_of, is_at}
-use Rattle.stream_meaning.specs.Ends.{last_moment, idle_after, ends_next, times_ended, KeyFork, same_fork, key_of_fork, fork_of, with_fork, forks_that_came, is_live, live_forks, live_keys}
+use Rattle.stream_meaning.specs.Ends.{last_moment, idle_after, ends_next, times_ended, KeyFork, same_fork, key_of_fork, fork_at, fork_of, with_fork, forks_that_came, is_live, live_forks, live_keys}
 use Rattle.stream_meaning.specs.Branches.{with_key, fork_keys}
-use Rattle.stream_meaning.specs.EndLaws.{of_fork, first_fork, NothingEndsWithoutIdle, LiveKeysAreApart, LiveForksAreTheLatest, CameWithin, LiveKeysAreRecent}
+use Rattle.stream_meaning.specs.EndLaws.{first_fork, NothingEndsWithoutIdle, LiveKeysAreApart, LiveForksAreTheLatest, CameWithin, LiveKeysAreRecent}
 use Rattle.stream_meaning.specs.EndSteps.{LiveForksFollowEntries, LiveKeysFollowEntries}
-use Rattle.stream_meaning.specs.Laws.{of_key, is_among}
+use Rattle.stream_meaning.specs.Laws.{of_key, of_fork, is_among}
 use Rattle.stream_meaning.proofs.WindowLaws.{ne-test}
 use Rattle.stream_meaning.proofs.MetLaws.{and_true, and_false}
 use Rattle.stream_meaning.proofs.ForkLaws.{distinct_step}
@@ -61,7 +61,7 @@ live_step : (t : Bool) (n e : ℕ) → n ≤ e → (n == cond t (e + 1) e) ≡ (
 live_step true n e come = ne-test n (e + 1) (omega arith) ∙ sym (and_false (n == e))
 live_step false n e come = sym (and_true (n == e))
 
-live_at_tick : (idle : Option ℕ) (fields : List Field) (h : History) → live_forks idle fields (h ▸ Tick) ≡ filter (λ fork. not (ends_next idle fields fork.key h)) (live_forks idle fields h)
+pub live_at_tick : (idle : Option ℕ) (fields : List Field) (h : History) → live_forks idle fields (h ▸ Tick) ≡ filter (λ fork. not (ends_next idle fields fork.key h)) (live_forks idle fields h)
 live_at_tick idle fields h =
     let stays = λ (fork : KeyFork). not (ends_next idle fields fork.key h) in
     let came = forks_that_came idle fields h in
@@ -70,18 +70,20 @@ live_at_tick idle fields h =
     (λ fork. live_step (ends_next idle fields fork.key h) fork.number (times_ended idle fields fork.key h)) came (forks_have_come idle fields h))
     ∙ filter_twice (is_live idle fields h) stays came
 
+-- a live fork is among some forks exactly if it is among those of them that are live
+kept_live : (live : KeyFork → Bool) (fork : KeyFork) (forks : List KeyFork) → live fork ≡ true →
+    list_any (λ other. same_fork other fork) (filter live forks) ≡ list_any (λ other. same_fork other fork) forks
+kept_live live fork forks e = any-filter_same (λ other. same_fork other fork) live true (λ other same. ap live (fork_is other fork same) ∙ e) forks
+
 with_live : (live : KeyFork → Bool) (fork : KeyFork) (forks : List KeyFork) → live fork ≡ true → filter live (with_fork fork forks) ≡ with_fork fork (filter live forks)
 with_live live fork forks e = step (list_any (λ other. same_fork other fork) forks) refl
   where
-    kept : list_any (λ other. same_fork other fork) (filter live forks) ≡ list_any (λ other. same_fork other fork) forks
-    kept = any-filter_same (λ other. same_fork other fork) live true (λ other same. ap live (fork_is other fork same) ∙ e) forks
-
     step : (t : Bool) → list_any (λ other. same_fork other fork) forks ≡ t → filter live (cond t forks (forks ++ fork ∷ [])) ≡ with_fork fork (filter live forks)
-    step true among = sym (ap (λ t. cond t (filter live forks) (filter live forks ++ fork ∷ [])) (kept ∙ among))
+    step true among = sym (ap (λ t. cond t (filter live forks) (filter live forks ++ fork ∷ [])) (kept_live live fork forks e ∙ among))
     step false among =
         filter-append live forks (fork ∷ [])
         ∙ ap (λ t. filter live forks ++ cond t (fork ∷ []) []) e
-        ∙ sym (ap (λ t. cond t (filter live forks) (filter live forks ++ fork ∷ [])) (kept ∙ among))
+        ∙ sym (ap (λ t. cond t (filter live forks) (filter live forks ++ fork ∷ [])) (kept_live live fork forks e ∙ among))
 
 live_at_event : (idle : Option ℕ) (fields : List Field) (h : History) (event : Event) → live_forks idle fields (h ▸ In (One event)) ≡ with_fork (fork_of idle fields event h) (live_forks idle fields h)
 live_at_event idle fields h event =
@@ -116,6 +118,15 @@ module _ (number : List Value → ℕ) (fork : KeyFork) (own : fork.number ≡ n
   by_keys (other ∷ forks) all =
       ap (λ t. t || list_any (λ other. same_fork other fork) forks) (one_key other all.0 (same_key other.key fork.key) refl)
       ∙ ap (λ t. same_key other.key fork.key || t) (by_keys forks all.1)
+
+-- a key without a live fork has sent no event to the fork to which its next one goes
+pub not_come : (idle : Option ℕ) (fields : List Field) (key : List Value) (h : History) → is_among key (live_keys idle fields h) ≡ false →
+    list_any (λ other. same_fork other (fork_at idle fields key h)) (forks_that_came idle fields h) ≡ false
+not_come idle fields key h e =
+    let fork = fork_at idle fields key h in
+    let times = times_ended idle fields key h in
+    sym (kept_live (is_live idle fields h) fork (forks_that_came idle fields h) (eq-eqb times times refl))
+    ∙ by_keys (λ k. times_ended idle fields k h) fork refl (live_forks idle fields h) (live_forks_are_the_latest idle fields h) ∙ e
 
 pub keys_at_tick : (idle : Option ℕ) (fields : List Field) (h : History) → live_keys idle fields (h ▸ Tick) ≡ filter (λ key. not (ends_next idle fields key h)) (live_keys idle fields h)
 keys_at_tick idle fields h =

@@ -22,7 +22,7 @@ outputs_among-due (first ∷ more) = refl
 outputs_among-marked : (branch : Branch) (effects : List Effect) → outputs_among (marked branch effects) ≡ outputs_among effects
 outputs_among-marked Children effects = refl
 outputs_among-marked Otherwise effects = refl
-outputs_among-marked (Fork key) effects = outputs_among-due effects
+outputs_among-marked (Fork fork) effects = outputs_among-due effects
 
 emits-no_output : (es : List Emission) → outputs_among (emits_if_any es) ≡ []
 emits-no_output [] = refl
@@ -40,7 +40,7 @@ module _ (children otherwise : StreamTrees) where
   effects_in-outputs : (branch : Branch) (h : History) → outputs_among (effects_in branch h) ≡ outputs_at (below children otherwise branch) h
   effects_in-outputs Children h = refl
   effects_in-outputs Otherwise h = refl
-  effects_in-outputs (Fork key) h = refl
+  effects_in-outputs (Fork fork) h = refl
 
   at_tick-outputs : (x : Entry) (received : Branch → History) (bs : List Branch) → outputs_among (at_tick x effects_in received bs) ≡ outputs_at_tick x (below children otherwise) received bs
   at_tick-outputs (In item) received bs = refl

@@ -1,19 +1,21 @@
 -- The deadline of a plan is the first and the least, and a plan without faults has its numbers in their ranges.
-use Rattle.std.proofs.Common.{◌≡◌, ℕ, zero, suc, ◌+◌, ◌<◌, ◌≤◌, ◌⊎◌, inl, inr, min, Bool, true, false, ◌&&◌, nat_le, List, [], ◌∷◌, ◌++◌, map, Option, Some, None, refl, sym, ap, subst, ◌∙◌, arith}
+use Rattle.std.proofs.Common.{◌≡◌, ℕ, zero, suc, ◌+◌, ◌<◌, ◌≤◌, ◌⊎◌, inl, inr, min, Bool, true, false, ◌&&◌, cond, nat_le, List, [], ◌∷◌, ◌++◌, map, Option, Some, None, refl, sym, ap, subst, ◌∙◌, arith}
 use mathlib.Core.Bool.{true≢false}
-use Rattle.std.specs.Prelude.{IfSome}
+use Rattle.std.specs.Prelude.{IfSome, Contains}
 use Rattle.std.specs.List.{AllByRecursion, flat_map}
 use Rattle.std.proofs.lemmas.Bool.Decides.{nat_tests}
-use Rattle.std.proofs.lemmas.List.Elements.{All-nil, All-cons, All-append, All-weaker, Contains-append_left, Contains-append_right, Contains-push}
+use Rattle.std.proofs.Math.ListN.{get_or-map}
+use Rattle.std.proofs.lemmas.List.{length-map}
+use Rattle.std.proofs.lemmas.List.Elements.{All-nil, All-cons, All-append, All-map, All-weaker, Contains-append_left, Contains-append_right, Contains-push}
 use Rattle.stream_plan.specs.Faults.{preorder_at, preorder_in, count_of}
 use Rattle.stream_plan.specs.Kinds.{passes_on, is_in_range, is_count, is_secs}
 use Rattle.stream_plan.specs.Sound.{IsInRange}
-use Rattle.stream_plan.specs.Tree.{KindTree, Rollup, Batch, Coalesce, StreamTree, StreamTrees, stream, none, also}
+use Rattle.stream_plan.specs.Tree.{KindTree, By, Rollup, Batch, Coalesce, StreamTree, StreamTrees, stream, none, also}
 use Rattle.stream_plan.proofs.SoundLaws.{faultless_is_sound}
 use Rattle.stream_meaning.specs.History.{History, moment_of, is_at}
 use Rattle.stream_meaning.specs.Emission.{Branch, Children, Otherwise, Fork}
 use Rattle.stream_meaning.specs.Branches.{child_history, branches}
-use Rattle.stream_meaning.specs.Deadlines.{next_deadline, earlier, earliest, deadline_of, stream_deadline, plan_deadline}
+use Rattle.stream_meaning.specs.Deadlines.{next_deadline, branch_end, until, earlier, earliest, deadline_of, stream_deadline, plan_deadline}
 use Rattle.stream_meaning.specs.DeadlineLaws.{HasRange, waited}
 use Rattle.stream_meaning.specs.DueLaws.{HasStreamRanges, HasRanges, IsPlanStill, PlanDeadlinesAreFirst, deadlines_of, stream_deadlines, plan_deadlines, IsEarliest, PlanDeadlinesAreEarliest, FaultlessPlansHaveRanges, FaultlessPlansMeetDeadlines}
 use Rattle.stream_meaning.proofs.StayLaws.{moment-waited}
@@ -73,17 +75,57 @@ AreEarliest lists deadline = (h : History) → IsEarliest (lists h) (deadline h)
 branch_earliest : (cs os : History → List (Option ℕ)) (c o : History → Option ℕ) → AreEarliest cs c → AreEarliest os o → (branch : Branch) → AreEarliest (deadlines_of cs os branch) (deadline_of c o branch)
 branch_earliest cs os c o p q Children = p
 branch_earliest cs os c o p q Otherwise = q
-branch_earliest cs os c o p q (Fork key) = p
+branch_earliest cs os c o p q (Fork fork) = p
+
+map_all : (xs : List (Option ℕ)) → map (until None) xs ≡ xs
+map_all [] = refl
+map_all (first ∷ xs) = ap (λ l. first ∷ l) (map_all xs)
+
+contains_map : (f : Option ℕ → Option ℕ) (xs : List (Option ℕ)) (x : Option ℕ) → Contains xs x → Contains (map f xs) (f x)
+contains_map f xs x there = (there.0, subst (λ (n : ℕ). there.0 < n) (sym (length-map xs f)) there.1, get_or-map f xs there.0 x ∙ ap f there.2)
+
+until_from : (end moment : ℕ) (deadline : Option ℕ) → IsFrom moment deadline → IsFrom moment (until (Some end) deadline)
+until_from end moment None from = tt
+until_from end moment (Some other) from = step (nat_le other end)
+  where
+    step : (t : Bool) → IsFrom moment (cond t (Some other) None)
+    step true = from
+    step false = tt
+
+until_after : (end moment : ℕ) (deadline : Option ℕ) → nat_le moment end ≡ false → IsFrom moment deadline → until (Some end) deadline ≡ None
+until_after end moment None late from = refl
+until_after end moment (Some other) late from = ap (λ t. cond t (Some other) None) (past other from)
+  where
+    past : (other : ℕ) → moment ≤ other → nat_le other end ≡ false
+    past other from = grind (arith, nat_tests)
+
+-- of deadlines up to an end the earliest is that of all, if that is not after it
+earliest_until : (end : Option ℕ) (xs : List (Option ℕ)) (first : Option ℕ) → IsEarliest xs first → IsEarliest (map (until end) xs) (until end first)
+earliest_until None xs first is = subst (λ (l : List (Option ℕ)). IsEarliest l first) (sym (map_all xs)) is
+earliest_until (Some end) xs None is =
+    All-map (λ (d : Option ℕ). d ≡ None) (until (Some end)) xs (All-weaker (λ (d : Option ℕ). d ≡ None) (λ (d : Option ℕ). until (Some end) d ≡ None) (λ d none. ap (until (Some end)) none) xs is)
+earliest_until (Some end) xs (Some moment) is = step (nat_le moment end) refl
+  where
+    step : (t : Bool) → nat_le moment end ≡ t → IsEarliest (map (until (Some end)) xs) (cond t (Some moment) None)
+    step true e = (
+      subst (Contains (map (until (Some end)) xs)) (ap (λ t. cond t (Some moment) None) e) (contains_map (until (Some end)) xs (Some moment) is.0),
+      All-map (IsFrom moment) (until (Some end)) xs (All-weaker (IsFrom moment) (λ (d : Option ℕ). IsFrom moment (until (Some end) d)) (until_from end moment) xs is.1),
+    )
+    step false e =
+        All-map (λ (d : Option ℕ). d ≡ None) (until (Some end)) xs (All-weaker (IsFrom moment) (λ (d : Option ℕ). until (Some end) d ≡ None) (λ d. until_after end moment d e) xs is.1)
 
 mutual
   stream_earliest : (s : StreamTree) (h : History) → IsEarliest (stream_deadlines s h) (stream_deadline s h)
   stream_earliest (stream kind children otherwise) h =
-      let lists = λ (branch : Branch). deadlines_of (plan_deadlines children) (plan_deadlines otherwise) branch (child_history kind branch h) in
-      let deadline = λ (branch : Branch). deadline_of (plan_deadline children) (plan_deadline otherwise) branch (child_history kind branch h) in
+      let all = λ (branch : Branch). deadlines_of (plan_deadlines children) (plan_deadlines otherwise) branch (child_history kind branch h) in
+      let least = λ (branch : Branch). deadline_of (plan_deadline children) (plan_deadline otherwise) branch (child_history kind branch h) in
+      let lists = λ (branch : Branch). map (until (branch_end kind branch h)) (all branch) in
+      let deadline = λ (branch : Branch). until (branch_end kind branch h) (least branch) in
       earliest_append (next_deadline kind h ∷ []) (flat_map lists (branches kind h)) (next_deadline kind h) (earliest (map deadline (branches kind h)))
       (own_earliest (next_deadline kind h))
       (branches_earliest lists deadline
-      (λ branch. branch_earliest (plan_deadlines children) (plan_deadlines otherwise) (plan_deadline children) (plan_deadline otherwise) (λ g. plan_earliest children g) (λ g. plan_earliest otherwise g) branch (child_history kind branch h))
+      (λ branch. earliest_until (branch_end kind branch h) (all branch) (least branch)
+      (branch_earliest (plan_deadlines children) (plan_deadlines otherwise) (plan_deadline children) (plan_deadline otherwise) (λ g. plan_earliest children g) (λ g. plan_earliest otherwise g) branch (child_history kind branch h)))
       (branches kind h))
 
   pub plan_earliest : (plan : StreamTrees) (h : History) → IsEarliest (plan_deadlines plan h) (plan_deadline plan h)
@@ -107,6 +149,8 @@ positive n most e = let parts = and_both (nat_le 1 n) (nat_le n most) e in above
     above is = grind (arith, nat_tests)
 
 kind_range : (kind : KindTree) → is_in_range kind ≡ true → HasRange kind
+kind_range (By fields None) e = tt
+kind_range (By fields (Some secs)) e = positive secs _ e
 kind_range (Rollup n secs) e = let parts = and_both (is_count n) (is_secs secs) e in (positive n _ parts.0, positive secs _ parts.1)
 kind_range (Batch n secs) e = let parts = and_both (is_count n) (is_secs secs) e in positive secs _ parts.1
 kind_range (Coalesce secs) e = positive secs _ e

@@ -30,13 +30,13 @@ rooted-due (first ∷ more) p = p
 rooted-marked : (branch : Branch) (effects : List Effect) → IsRooted effects → IsRooted (marked branch effects)
 rooted-marked Children effects p = p
 rooted-marked Otherwise effects p = p
-rooted-marked (Fork key) effects p = rooted-due effects p
+rooted-marked (Fork fork) effects p = rooted-due effects p
 
 pub any-marked : (branch : Branch) (effects : List Effect) → has_effects (marked branch effects) ≡ has_effects effects
 any-marked Children effects = refl
 any-marked Otherwise effects = refl
-any-marked (Fork key) [] = refl
-any-marked (Fork key) (first ∷ more) = refl
+any-marked (Fork fork) [] = refl
+any-marked (Fork fork) (first ∷ more) = refl
 
 -- below a stream, each tick is rooted
 abbrev IsRootedBelow : (History → List Effect) → Type 0
@@ -45,7 +45,7 @@ IsRootedBelow below = (h : History) → IsRooted (below (h ▸ Tick))
 effects_in-rooted : (children otherwise : History → List Effect) → IsRootedBelow children → IsRootedBelow otherwise → (branch : Branch) → IsRootedBelow (branch_effects children otherwise branch)
 effects_in-rooted children otherwise p q Children = p
 effects_in-rooted children otherwise p q Otherwise = q
-effects_in-rooted children otherwise p q (Fork key) = p
+effects_in-rooted children otherwise p q (Fork fork) = p
 
 at_tick-rooted : (effects_in : BranchEffects) → ((branch : Branch) → IsRootedBelow (effects_in branch)) → (received : Branch → History) (bs : List Branch) → IsRooted (at_tick Tick effects_in received bs)
 at_tick-rooted effects_in p received [] = refl

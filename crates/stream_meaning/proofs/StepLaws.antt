@@ -45,7 +45,7 @@ all_map P f (x ∷ xs) all = (all.0, all_map P f xs all.1)
 
 -- ---- live keys have come
 
-live_recent : (secs : ℕ) (fields : List Field) (h : History) → 0 < secs → AllByRecursion (λ key. is_recent secs (last_moment fields key h) (moment_of h) ≡ true) (live_keys (Some secs) fields h)
+pub live_recent : (secs : ℕ) (fields : List Field) (h : History) → 0 < secs → AllByRecursion (λ key. is_recent secs (last_moment fields key h) (moment_of h) ≡ true) (live_keys (Some secs) fields h)
 live_recent secs fields h pos =
     all_among (λ key. is_recent secs (last_moment fields key h) (moment_of h) ≡ true) (live_keys (Some secs) fields h)
     (λ key among. sym (live_is_recent secs fields key h pos) ∙ among)

@@ -1,6 +1,6 @@
 -- Where nothing has come but ticks, there are no effects.
-use Rattle.std.proofs.Common.{◌≡◌, ℕ, zero, suc, ◌+◌, ◌-◌, ◌%◌, Bool, true, false, cond, List, [], ◌∷◌, ◌++◌, length, drop, nat_lt, ◌==◌, refl, sym, ap, ◌∙◌, subst, arith}
-use Rattle.std.specs.List.{flat_map}
+use Rattle.std.proofs.Common.{◌≡◌, ℕ, zero, suc, ◌+◌, ◌-◌, ◌%◌, Bool, true, false, cond, List, [], ◌∷◌, ◌++◌, length, drop, Option, nat_lt, ◌==◌, refl, sym, ap, ◌∙◌, subst, arith}
+use Rattle.std.specs.List.{filter, flat_map}
 use Rattle.std.proofs.Math.Seq.{drop-nil}
 use Rattle.std.proofs.lemmas.Bool.Decides.{nat_tests}
 use Rattle.ev_types.specs.declared.field.Field.{Field}
@@ -8,11 +8,12 @@ use Rattle.ev_types.specs.declared.item.Item.{Item}
 use Rattle.stream_plan.specs.Tree.{KindTree, Index, Rollup, Batch, Stable, Coalesce, StreamTree, StreamTrees, stream, none, also}
 use Rattle.stream_meaning.specs.History.{History, since, ◌▸◌, Tick, In, begun, moment_of, window_of, TicksAlone}
 use Rattle.stream_meaning.specs.Came.{events_in, timed_events, each, vector, last_of}
+use Rattle.stream_meaning.specs.Ends.{forks_that_came, is_live, live_forks}
 use Rattle.stream_meaning.specs.Runs.{run, run_began}
 use Rattle.stream_meaning.specs.Rates.{events_now, rolls_into, allowed, one_if}
 use Rattle.stream_meaning.specs.Coalesce.{coalesced}
 use Rattle.stream_meaning.specs.Emission.{Branch, Children, Otherwise, Fork, emissions, to_children}
-use Rattle.stream_meaning.specs.Branches.{after_emissions, child_history, branches, fork_keys}
+use Rattle.stream_meaning.specs.Branches.{after_emissions, child_history, branches}
 use Rattle.stream_meaning.specs.Outputs.{Effect, emits_if_any, marked, branch_effects, at_tick, at_emissions, stream_effects, plan_effects}
 
 pub events_in-ticks : (secs window : ℕ) (h : History) → TicksAlone h → events_in secs window h ≡ []
@@ -84,15 +85,18 @@ ticks_handed_on kind branch (h ▸ Tick) alone =
     ap (λ es. after_emissions branch es (child_history kind branch h ▸ Tick)) (ticks_emit kind (h ▸ Tick) alone) ∙ ap (λ g. g ▸ Tick) (ticks_handed_on kind branch h alone)
 ticks_handed_on kind branch (h ▸ In item) alone = absurd alone
 
-pub ticks_make_no_fork : (fields : List Field) (h : History) → TicksAlone h → fork_keys fields h ≡ []
-ticks_make_no_fork fields (since start) alone = refl
-ticks_make_no_fork fields (h ▸ Tick) alone = ticks_make_no_fork fields h alone
-ticks_make_no_fork fields (h ▸ In item) alone = absurd alone
+none_came : (idle : Option ℕ) (fields : List Field) (h : History) → TicksAlone h → forks_that_came idle fields h ≡ []
+none_came idle fields (since start) alone = refl
+none_came idle fields (h ▸ Tick) alone = none_came idle fields h alone
+none_came idle fields (h ▸ In item) alone = absurd alone
+
+pub ticks_make_no_fork : (idle : Option ℕ) (fields : List Field) (h : History) → TicksAlone h → live_forks idle fields h ≡ []
+ticks_make_no_fork idle fields h alone = ap (filter (is_live idle fields h)) (none_came idle fields h alone)
 
 marked-nothing : (branch : Branch) → marked branch [] ≡ []
 marked-nothing Children = refl
 marked-nothing Otherwise = refl
-marked-nothing (Fork key) = refl
+marked-nothing (Fork fork) = refl
 
 flat-nothing : (f : Branch → List Effect) → ((branch : Branch) → f branch ≡ []) → (bs : List Branch) → flat_map f bs ≡ []
 flat-nothing f e [] = refl
@@ -105,7 +109,7 @@ IsQuiet below = (h : History) → TicksAlone h → below h ≡ []
 effects_in-quiet : (children otherwise : History → List Effect) → IsQuiet children → IsQuiet otherwise → (branch : Branch) → IsQuiet (branch_effects children otherwise branch)
 effects_in-quiet children otherwise p q Children = p
 effects_in-quiet children otherwise p q Otherwise = q
-effects_in-quiet children otherwise p q (Fork key) = p
+effects_in-quiet children otherwise p q (Fork fork) = p
 
 mutual
   pub stream_quiet : (s : StreamTree) (h : History) → TicksAlone h → stream_effects s h ≡ []

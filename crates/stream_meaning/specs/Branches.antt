@@ -1,5 +1,5 @@
 -- What the children of a stream receive.
-use Rattle.std.specs.Prelude.{Bool, true, false, if◌then◌else◌, List, [], ◌∷◌, ◌++◌, map}
+use Rattle.std.specs.Prelude.{ℕ, Bool, true, false, if◌then◌else◌, List, [], ◌∷◌, ◌++◌, map, Option}
 use Rattle.std.specs.List.{list_any}
 use Rattle.ev_types.specs.declared.field.Field.{Field}
 use Rattle.ev_types.specs.declared.item.Item.TheVariants.{One, Many}
@@ -7,12 +7,13 @@ use Rattle.ev_types.specs.declared.value.Value.{Value}
 use Rattle.ev_types.specs.Key.{same_key, event_key}
 use Rattle.stream_plan.specs.Tree.{KindTree, By}
 use Rattle.stream_meaning.specs.History.{History, since, ◌▸◌, Entry, Tick, In}
+use Rattle.stream_meaning.specs.Ends.{KeyFork, same_fork, live_forks}
 use Rattle.stream_meaning.specs.Emission.{Branch, Children, Otherwise, Fork, Emission, emissions}
 
 abbrev pub same_branch : Branch → Branch → Bool
 same_branch Children Children = true
 same_branch Otherwise Otherwise = true
-same_branch (Fork a) (Fork b) = same_key a b
+same_branch (Fork a) (Fork b) = same_fork a b
 same_branch _ _ = false
 
 -- a branch's history once those of these emissions that go to it have come
@@ -41,11 +42,11 @@ fork_keys fields (h ▸ Tick) = fork_keys fields h
 fork_keys fields (h ▸ In (One event)) = with_key (event_key event fields) (fork_keys fields h)
 fork_keys fields (h ▸ In (Many es)) = fork_keys fields h
 
--- what the fork of a key has received
-abbrev pub fork_history : List Field → List Value → History → History
-fork_history fields key = child_history (By fields) (Fork key)
+-- what a fork has received
+abbrev pub fork_history : Option ℕ → List Field → KeyFork → History → History
+fork_history idle fields fork = child_history (By fields idle) (Fork fork)
 
--- the branches of a stream, in their order: of a `by` a fork for each key
+-- the branches of a stream, in their order: of a `by` the forks that are live
 abbrev pub branches : KindTree → History → List Branch
-branches (By fields) h = map Fork (fork_keys fields h)
+branches (By fields idle) h = map Fork (live_forks idle fields h)
 branches _ h = Children ∷ (Otherwise ∷ [])

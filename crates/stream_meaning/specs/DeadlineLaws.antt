@@ -1,6 +1,6 @@
 -- What a deadline says: when a stream passes something on if only ticks follow.
 use Rattle.std.specs.Prelude.{◌≡◌, ℕ, zero, suc, ◌+◌, ◌<◌, Bool, true, false, List, [], ◌∷◌, IfSome}
-use Rattle.stream_plan.specs.Tree.{KindTree, Rollup, Batch, Coalesce}
+use Rattle.stream_plan.specs.Tree.{KindTree, By, Rollup, Batch, Coalesce}
 use Rattle.stream_meaning.specs.History.{History, ◌▸◌, Tick, moment_of, is_at}
 use Rattle.stream_meaning.specs.Emission.{Emission, emissions}
 use Rattle.stream_meaning.specs.Deadlines.{next_deadline}
@@ -12,6 +12,7 @@ waited (suc n) h = waited n h ▸ Tick
 
 -- the numbers that count here are not 0, as those of a checked plan are not
 abbrev pub HasRange : KindTree → Type 0
+HasRange (By fields idle) = IfSome idle (λ secs. 0 < secs)
 HasRange (Rollup n secs) = (0 < n) × (0 < secs)
 HasRange (Batch n secs) = 0 < secs
 HasRange (Coalesce secs) = 0 < secs

@@ -1,9 +1,10 @@
 -- When a stream passes something on next if only ticks follow.
-use Rattle.std.specs.Prelude.{ℕ, suc, true, false, ◌&&◌, ◌+◌, ◌*◌, ◌%◌, min, Bool, not, ◌==◌, nat_lt, if◌then◌else◌, List, [], ◌∷◌, map, length, Option, Some, None}
-use Rattle.stream_plan.specs.Tree.{KindTree, Rollup, Batch, Stable, Coalesce, StreamTree, StreamTrees, stream, none, also}
+use Rattle.std.specs.Prelude.{ℕ, suc, true, false, ◌&&◌, ◌+◌, ◌*◌, ◌%◌, min, Bool, not, ◌==◌, nat_le, nat_lt, if◌then◌else◌, List, [], ◌∷◌, map, length, Option, Some, None}
+use Rattle.stream_plan.specs.Tree.{KindTree, By, Rollup, Batch, Stable, Coalesce, StreamTree, StreamTrees, stream, none, also}
 use Rattle.ev_types.specs.declared.event.Event.{Event}
 use Rattle.stream_meaning.specs.History.{History, begun, moment_of, window_of}
 use Rattle.stream_meaning.specs.Came.{timed_events}
+use Rattle.stream_meaning.specs.Ends.{end_of}
 use Rattle.stream_meaning.specs.Runs.{run, run_began}
 use Rattle.stream_meaning.specs.Rates.{events_now, rolls_into}
 use Rattle.stream_meaning.specs.Coalesce.{coalesced}
@@ -42,13 +43,24 @@ earliest (first ∷ more) = earlier first (earliest more)
 abbrev pub deadline_of : (History → Option ℕ) → (History → Option ℕ) → Branch → History → Option ℕ
 deadline_of children otherwise Children = children
 deadline_of children otherwise Otherwise = otherwise
-deadline_of children otherwise (Fork key) = children
+deadline_of children otherwise (Fork fork) = children
 
--- the least deadline of a stream and of all below it
+-- the moment at which a branch ends if no more items come to it: that at which the key of a fork does
+abbrev pub branch_end : KindTree → Branch → History → Option ℕ
+branch_end (By fields idle) (Fork fork) h = end_of idle fields fork.key h
+branch_end kind branch h = None
+
+-- a deadline that is not after this end, where there is one
+abbrev pub until : Option ℕ → Option ℕ → Option ℕ
+until None deadline = deadline
+until (Some end) None = None
+until (Some end) (Some deadline) = if nat_le deadline end then Some deadline else None
+
+-- the least deadline of a stream and of all below it, of each fork up to its end
 abbrev mutual
   pub stream_deadline : StreamTree → History → Option ℕ
   stream_deadline (stream kind children otherwise) h =
-      earlier (next_deadline kind h) (earliest (map (λ branch. deadline_of (plan_deadline children) (plan_deadline otherwise) branch (child_history kind branch h)) (branches kind h)))
+      earlier (next_deadline kind h) (earliest (map (λ branch. until (branch_end kind branch h) (deadline_of (plan_deadline children) (plan_deadline otherwise) branch (child_history kind branch h))) (branches kind h)))
 
   pub plan_deadline : StreamTrees → History → Option ℕ
   plan_deadline none h = None

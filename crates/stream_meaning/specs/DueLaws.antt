@@ -1,5 +1,5 @@
 -- What the deadline of a whole plan says, and which forks are due.
-use Rattle.std.specs.Prelude.{◌≡◌, ℕ, ◌+◌, ◌<◌, ◌≤◌, Bool, true, false, List, [], ◌∷◌, ◌++◌, Option, Some, None, IfSome, All, Contains}
+use Rattle.std.specs.Prelude.{◌≡◌, ℕ, ◌+◌, ◌<◌, ◌≤◌, Bool, true, false, List, [], ◌∷◌, ◌++◌, map, Option, Some, None, IfSome, All, Contains}
 use Rattle.std.specs.List.{list_any, flat_map}
 use Rattle.stream_plan.specs.Faults.{first_fault}
 use Rattle.stream_plan.specs.Tree.{StreamTree, StreamTrees, stream, none, also}
@@ -7,7 +7,7 @@ use Rattle.stream_meaning.specs.History.{History, ◌▸◌, Tick, moment_of, is
 use Rattle.stream_meaning.specs.Emission.{Branch, Children, Otherwise, Fork}
 use Rattle.stream_meaning.specs.Branches.{child_history, branches}
 use Rattle.stream_meaning.specs.Outputs.{Effect, Emits, Due, Given, Put, plan_effects}
-use Rattle.stream_meaning.specs.Deadlines.{next_deadline, plan_deadline}
+use Rattle.stream_meaning.specs.Deadlines.{next_deadline, branch_end, until, plan_deadline}
 use Rattle.stream_meaning.specs.DeadlineLaws.{HasRange, waited}
 
 abbrev pub is_emission : Effect → Bool
@@ -60,14 +60,14 @@ PlanDeadlinesAreFirst = (plan : StreamTrees) (h : History) (n : ℕ) → HasRang
 abbrev pub deadlines_of : (History → List (Option ℕ)) → (History → List (Option ℕ)) → Branch → History → List (Option ℕ)
 deadlines_of children otherwise Children = children
 deadlines_of children otherwise Otherwise = otherwise
-deadlines_of children otherwise (Fork key) = children
+deadlines_of children otherwise (Fork fork) = children
 
--- the deadline of each stream of a plan, of those in forks for each fork
+-- the deadline of each stream of a plan, of those in forks for each fork up to its end
 abbrev mutual
   pub stream_deadlines : StreamTree → History → List (Option ℕ)
   stream_deadlines (stream kind children otherwise) h =
       next_deadline kind h
-      ∷ flat_map (λ branch. deadlines_of (plan_deadlines children) (plan_deadlines otherwise) branch (child_history kind branch h)) (branches kind h)
+      ∷ flat_map (λ branch. map (until (branch_end kind branch h)) (deadlines_of (plan_deadlines children) (plan_deadlines otherwise) branch (child_history kind branch h))) (branches kind h)
 
   pub plan_deadlines : StreamTrees → History → List (Option ℕ)
   plan_deadlines none h = []

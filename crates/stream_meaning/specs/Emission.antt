@@ -1,27 +1,26 @@
 -- What a stream passes on at the last entry of its history, and to which of its children.
-use Rattle.std.specs.Prelude.{if◌then◌else◌, List, [], ◌∷◌, map, Option, Some, None}
+use Rattle.std.specs.Prelude.{ℕ, if◌then◌else◌, List, [], ◌∷◌, map, Option, Some, None}
 use Rattle.ev_types.specs.declared.event.Event.{Event}
 use Rattle.ev_types.specs.declared.field.Field.{Field}
 use Rattle.ev_types.specs.declared.item.Item.{Item}
 use Rattle.ev_types.specs.declared.item.Item.TheVariants.{One, Many}
 use Rattle.ev_types.specs.declared.settings.Fold.{Fold}
-use Rattle.ev_types.specs.declared.value.Value.{Value}
-use Rattle.ev_types.specs.Key.{event_key}
 use Rattle.pred_eval.specs.Tree.{Tree}
 use Rattle.pred_eval.specs.Truth.{holds}
 use Rattle.stream_plan.specs.Tree.{KindTree, Index, Notice, Sdo, Where, With, Default, Tag, By, Changed, Runs, Throttle, Rollup, Batch, Stable, FixedEvent, MovingEvent, FixedTime, MovingTime, Coalesce, Smap}
 use Rattle.stream_meaning.specs.History.{History, since, ◌▸◌, Entry, Tick, In}
+use Rattle.stream_meaning.specs.Ends.{KeyFork, fork_of}
 use Rattle.stream_meaning.specs.Images.{with_sets, with_defaults, with_tags, folded}
 use Rattle.stream_meaning.specs.Runs.{changed_items, runs_items, stable_items}
 use Rattle.stream_meaning.specs.Rates.{throttle_items, batch_items, rollup_items}
 use Rattle.stream_meaning.specs.Windows.{fixed_event_items, moving_event_items, fixed_time_items, moving_time_items}
 use Rattle.stream_meaning.specs.Coalesce.{coalesce_items}
 
--- a branch below a stream: its children, those of `else`, or the fork of a key
+-- a branch below a stream: its children, those of `else`, or a fork
 pub data Branch : Type 0 where
   Children : Branch
   Otherwise : Branch
-  Fork : List Value → Branch
+  Fork : KeyFork → Branch
 
 pub record Emission : Type 0 where
   pub branch : Branch
@@ -49,10 +48,12 @@ routed rule Tick = []
 routed rule (In (One event)) = to (if holds rule event then Children else Otherwise) (One event)
 routed rule (In (Many es)) = []
 
-abbrev pub forked : List Field → Entry → List Emission
-forked fields Tick = []
-forked fields (In (One event)) = to (Fork (event_key event fields)) (One event)
-forked fields (In (Many es)) = []
+-- each event to the fork of its key
+abbrev pub forked : Option ℕ → List Field → History → List Emission
+forked idle fields (since start) = []
+forked idle fields (h ▸ Tick) = []
+forked idle fields (h ▸ In (One event)) = to (Fork (fork_of idle fields event h)) (One event)
+forked idle fields (h ▸ In (Many es)) = []
 
 abbrev pub one_of : Option Event → List Emission
 one_of None = []
@@ -77,7 +78,7 @@ emissions (Where rule) h = at_entry (routed rule) h
 emissions (With sets) h = at_entry (image_of (with_sets sets)) h
 emissions (Default sets) h = at_entry (image_of (with_defaults sets)) h
 emissions (Tag tags) h = at_entry (image_of (with_tags tags)) h
-emissions (By fields) h = at_entry (forked fields) h
+emissions (By fields idle) h = forked idle fields h
 emissions (Changed field init) h = to_children (changed_items field init h)
 emissions (Runs n field) h = to_children (runs_items n field h)
 emissions (Throttle n secs) h = to_children (throttle_items n secs h)

@@ -1,11 +1,14 @@
 -- Small histories, and the forks of hosts in them that end after five seconds without an event.
 use Rattle.std.specs.Prelude.{◌≡◌, ℕ, Bool, true, false, codes, List, [], ◌∷◌, Option, Some, None}
 use Prim.Native.String.{String}
-use Rattle.ev_types.specs.declared.field.Field.TheVariants.{Host}
+use Rattle.ev_types.specs.declared.field.Field.TheVariants.{Host, State}
 use Rattle.ev_types.specs.declared.value.Value.TheVariants.{Text}
+use Rattle.stream_plan.specs.Tree.{KindTree, By, Changed, Throttle, Rollup, Batch, Stable, FixedEvent, Coalesce, StreamTrees}
 use Rattle.stream_meaning.specs.History.{since}
 use Rattle.stream_meaning.specs.Ends.{KeyFork, end_of, ends_next, times_ended, live_forks}
-use Rattle.stream_meaning.specs.Small.{Step, Wait, Comes, followed, a, b}
+use Rattle.stream_meaning.specs.Outputs.{due_forks}
+use Rattle.stream_meaning.specs.Deadlines.{plan_deadline}
+use Rattle.stream_meaning.specs.Small.{Step, Wait, Comes, followed, above, alone, noticing, Gives, of_one, of_many, a, b}
 
 -- the fork of a host that had ended this often
 abbrev pub fork : String → ℕ → KeyFork
@@ -55,3 +58,37 @@ pub record TwoKeysExample : Type 0 where
 pub record LiveOrderExample : Type 0 where
   pub kept : Leaves (Some 5) (Comes (a 100) ∷ Comes (b 100) ∷ Wait 1 ∷ Comes (a 101) ∷ []) (fork "a" 0 ∷ fork "b" 0 ∷ [])
   pub last : Leaves (Some 5) (Comes (a 100) ∷ Wait 1 ∷ Comes (b 101) ∷ Wait 4 ∷ Comes (a 105) ∷ []) (fork "b" 0 ∷ fork "a" 1 ∷ [])
+
+-- a stream of this kind for each host, until this many seconds have passed without an event of the host
+abbrev pub idle_by : ℕ → KindTree → StreamTrees
+idle_by secs kind = alone (above (By (Host ∷ []) (Some secs)) (noticing kind))
+
+-- a new fork has forgotten what the one before it held; one that goes on has not
+pub record NewForkExample : Type 0 where
+  pub new : Gives (idle_by 5 (Changed State None)) 100 (Comes (a 100) ∷ Wait 4 ∷ Comes (a 104) ∷ Wait 5 ∷ Comes (a 109) ∷ []) (of_one 100 (a 100) ∷ of_one 109 (a 109) ∷ [])
+  pub same : Gives (idle_by 5 (Changed State None)) 100 (Comes (a 100) ∷ Wait 4 ∷ Comes (a 104) ∷ Wait 4 ∷ Comes (a 108) ∷ []) (of_one 100 (a 100) ∷ [])
+  pub counted : Gives (idle_by 5 (FixedEvent 2)) 100 (Comes (a 100) ∷ Wait 5 ∷ Comes (a 105) ∷ Comes (a 105) ∷ []) (of_many 105 (a 105 ∷ a 105 ∷ []) ∷ [])
+
+-- windows of a new fork are those of the whole history, not of its first event
+abbrev pub NewForkWindowExample : Type 0
+NewForkWindowExample = Gives (idle_by 3 (Throttle 1 10)) 100 (Wait 6 ∷ Comes (a 106) ∷ Wait 3 ∷ Comes (a 109) ∷ Comes (a 109) ∷ Wait 1 ∷ Comes (a 110) ∷ [])
+    (of_one 106 (a 106) ∷ of_one 109 (a 109) ∷ of_one 110 (a 110) ∷ [])
+
+-- what is owed at the second of the end is given, and what is owed one second later is not
+pub record LastTickExample : Type 0 where
+  pub batch : Gives (idle_by 7 (Batch 10 8)) 100 (Wait 1 ∷ Comes (a 101) ∷ Wait 20 ∷ []) (of_many 108 (a 101 ∷ []) ∷ [])
+  pub no_batch : Gives (idle_by 6 (Batch 10 8)) 100 (Wait 1 ∷ Comes (a 101) ∷ Wait 20 ∷ []) []
+  pub rollup : Gives (idle_by 8 (Rollup 1 10)) 100 (Wait 2 ∷ Comes (a 102) ∷ Comes (a 102) ∷ Wait 20 ∷ []) (of_many 102 (a 102 ∷ []) ∷ of_many 110 (a 102 ∷ []) ∷ [])
+  pub no_rollup : Gives (idle_by 7 (Rollup 1 10)) 100 (Wait 2 ∷ Comes (a 102) ∷ Comes (a 102) ∷ Wait 20 ∷ []) (of_many 102 (a 102 ∷ []) ∷ [])
+  pub stable : Gives (idle_by 5 (Stable 5 State)) 100 (Wait 1 ∷ Comes (a 101) ∷ Wait 20 ∷ []) (of_one 106 (a 101) ∷ [])
+  pub no_stable : Gives (idle_by 4 (Stable 5 State)) 100 (Wait 1 ∷ Comes (a 101) ∷ Wait 20 ∷ []) []
+  pub coalesce : Gives (idle_by 4 (Coalesce 5)) 100 (Wait 1 ∷ Comes (a 101) ∷ Wait 20 ∷ []) (of_many 105 (a 101 ∷ []) ∷ [])
+  pub no_coalesce : Gives (idle_by 3 (Coalesce 5)) 100 (Wait 1 ∷ Comes (a 101) ∷ Wait 20 ∷ []) []
+
+-- the deadline of a fork counts up to its end, and a fork that has ended is not due
+pub record LastDeadlineExample : Type 0 where
+  pub within : plan_deadline (idle_by 7 (Batch 10 8)) (followed (since 100) (Wait 1 ∷ Comes (a 101) ∷ [])) ≡ Some 108
+  pub after : plan_deadline (idle_by 6 (Batch 10 8)) (followed (since 100) (Wait 1 ∷ Comes (a 101) ∷ [])) ≡ None
+  pub other : plan_deadline (idle_by 6 (Batch 10 8)) (followed (since 100) (Wait 1 ∷ Comes (a 101) ∷ Wait 1 ∷ Comes (b 102) ∷ [])) ≡ Some 108
+  pub due : due_forks (idle_by 7 (Batch 10 8)) (followed (since 100) (Wait 1 ∷ Comes (a 101) ∷ Wait 7 ∷ [])) ≡ 1
+  pub ended : due_forks (idle_by 6 (Batch 10 8)) (followed (since 100) (Wait 1 ∷ Comes (a 101) ∷ Wait 7 ∷ [])) ≡ 0

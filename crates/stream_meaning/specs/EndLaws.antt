@@ -1,17 +1,17 @@
 -- Laws of the ends of keys, and of the forks that are live.
-use Rattle.std.specs.Prelude.{◌≡◌, ◌↔◌, ℕ, ◌+◌, ◌<◌, Bool, false, IsTrue, IsFalse, if◌then◌else◌, List, [], ◌∷◌, ◌++◌, map, filter, Option, Some, None, Contains}
+use Rattle.std.specs.Prelude.{◌≡◌, ◌↔◌, ℕ, ◌+◌, ◌<◌, Bool, false, IsTrue, IsFalse, List, [], ◌∷◌, ◌++◌, map, filter, Option, Some, None, Contains}
 use Rattle.std.specs.List.{list_any, AllByRecursion, IsDistinct}
 use Rattle.ev_types.specs.declared.field.Field.{Field}
 use Rattle.ev_types.specs.declared.item.Item.{Item}
 use Rattle.ev_types.specs.declared.item.Item.TheVariants.{One, Many}
 use Rattle.ev_types.specs.declared.value.Value.{Value}
 use Rattle.ev_types.specs.Key.{same_key, event_key}
-use Rattle.stream_meaning.specs.History.{History, since, ◌▸◌, Entry, Tick, In, moment_of, TicksAlone}
+use Rattle.stream_meaning.specs.History.{History, ◌▸◌, Entry, Tick, In, moment_of}
 use Rattle.stream_meaning.specs.Came.{Timed, timed_events}
-use Rattle.stream_meaning.specs.Ends.{last_moment, ends_next, times_ended, KeyFork, same_fork, fork_of, forks_that_came, live_forks, live_keys}
+use Rattle.stream_meaning.specs.Ends.{last_moment, ends_next, times_ended, KeyFork, same_fork, forks_that_came, live_forks, live_keys}
 use Rattle.stream_meaning.specs.Branches.{fork_keys}
 use Rattle.stream_meaning.specs.KeyOrderLaws.{lengthened}
-use Rattle.stream_meaning.specs.Laws.{of_key}
+use Rattle.stream_meaning.specs.Laws.{of_key, of_fork}
 
 -- ---- the last event
 
@@ -61,18 +61,6 @@ EndsAreApart = (idle : Option ℕ) (fields : List Field) (key : List Value) (h :
     IsTrue (ends_next idle fields key (lengthened (h ▸ Tick) more)) → IsTrue (list_any (is_event_of fields key) more)
 
 -- ---- what a fork receives
-
--- a history without the events of other forks
-abbrev pub of_fork : Option ℕ → List Field → KeyFork → History → History
-of_fork idle fields fork (since start) = since start
-of_fork idle fields fork (h ▸ Tick) = of_fork idle fields fork h ▸ Tick
-of_fork idle fields fork (h ▸ In (One event)) = if same_fork (fork_of idle fields event h) fork then of_fork idle fields fork h ▸ In (One event) else of_fork idle fields fork h
-of_fork idle fields fork (h ▸ In (Many es)) = of_fork idle fields fork h
-
--- a fork has ticks alone until its first event comes
-abbrev pub NewForksHaveTicks : Type 0
-NewForksHaveTicks = (idle : Option ℕ) (fields : List Field) (fork : KeyFork) (h : History) → IsFalse (list_any (λ other. same_fork other fork) (forks_that_came idle fields h)) →
-    TicksAlone (of_fork idle fields fork h)
 
 -- a key has no fork with a number that it has not come to
 abbrev pub ForksComeByNumber : Type 0

@@ -47,9 +47,13 @@ same_fork a b = a.number == b.number && same_key a.key b.key
 abbrev pub key_of_fork : KeyFork → List Value
 key_of_fork fork = fork.key
 
+-- the fork to which the next event of a key goes
+abbrev pub fork_at : Option ℕ → List Field → List Value → History → KeyFork
+fork_at idle fields key h = record { key = key; number = times_ended idle fields key h }
+
 -- the fork to which an event goes
 abbrev pub fork_of : Option ℕ → List Field → Event → History → KeyFork
-fork_of idle fields event h = record { key = event_key event fields; number = times_ended idle fields (event_key event fields) h }
+fork_of idle fields event h = fork_at idle fields (event_key event fields) h
 
 -- the forks, and one more if it is not among them
 abbrev pub with_fork : KeyFork → List KeyFork → List KeyFork

@@ -95,7 +95,7 @@ CoalesceExample =
 
 -- each fork has all ticks, also those before its first event, and each key has one
 abbrev pub ForksExample : Type 0
-ForksExample = Gives (alone (above (By (Host ∷ [])) (noticing (Coalesce 10)))) 100 (Wait 1 ∷ Comes (a 101) ∷ Wait 6 ∷ Comes (b 107) ∷ Wait 1 ∷ Comes (a 108) ∷ Wait 2 ∷ [])
+ForksExample = Gives (alone (above (By (Host ∷ []) None) (noticing (Coalesce 10)))) 100 (Wait 1 ∷ Comes (a 101) ∷ Wait 6 ∷ Comes (b 107) ∷ Wait 1 ∷ Comes (a 108) ∷ Wait 2 ∷ [])
     (of_many 110 (a 108 ∷ []) ∷ of_many 110 (b 107 ∷ []) ∷ [])
 
 abbrev pub SumExample : Type 0
@@ -131,7 +131,7 @@ abbrev pub VectorExample : Type 0
 VectorExample = notices_among (outputs_of (noticing (Runs 1 State)) (since 0 ▸ In (Many (ok 1 ∷ [])) ▸ In (One (ok 2)))) ≡ of_one 0 (ok 2) ∷ []
 
 abbrev pub forks_of_hosts : StreamTrees
-forks_of_hosts = alone (above (By (Host ∷ [])) (noticing (Coalesce 10)))
+forks_of_hosts = alone (above (By (Host ∷ []) None) (noticing (Coalesce 10)))
 
 -- both forks are due at the tick at which they pass something on, and none at the one before
 abbrev pub DueExample : Type 0

@@ -1,5 +1,5 @@
 -- Small plans that fork by one field or two, and forks in forks.
-use Rattle.std.specs.Prelude.{◌≡◌, ℕ, codes, [], ◌∷◌, Some}
+use Rattle.std.specs.Prelude.{◌≡◌, ℕ, codes, [], ◌∷◌, Some, None}
 use Prim.Native.String.{String}
 use Rattle.ev_types.specs.declared.event.Event.{Event}
 use Rattle.ev_types.specs.declared.field.Field.TheVariants.{Host, State}
@@ -14,22 +14,22 @@ of_both host state time = record (bare time) { host = Some (codes host); state =
 
 -- forks are in the order in which their keys first appeared
 abbrev pub ForkOrderExample : Type 0
-ForkOrderExample = Gives (alone (above (By (Host ∷ [])) (noticing (Coalesce 10)))) 100 (Wait 1 ∷ Comes (b 101) ∷ Comes (a 101) ∷ Wait 9 ∷ [])
+ForkOrderExample = Gives (alone (above (By (Host ∷ []) None) (noticing (Coalesce 10)))) 100 (Wait 1 ∷ Comes (b 101) ∷ Comes (a 101) ∷ Wait 9 ∷ [])
     (of_many 110 (b 101 ∷ []) ∷ of_many 110 (a 101 ∷ []) ∷ [])
 
 -- a key of two fields is both values
 abbrev pub TwoFieldsExample : Type 0
-TwoFieldsExample = Gives (alone (above (By (Host ∷ State ∷ [])) (noticing (FixedEvent 2)))) 0
+TwoFieldsExample = Gives (alone (above (By (Host ∷ State ∷ []) None) (noticing (FixedEvent 2)))) 0
     (Comes (of_both "a" "ok" 1) ∷ Comes (of_both "a" "bad" 2) ∷ Comes (of_both "b" "ok" 3) ∷ Comes (of_both "a" "ok" 4) ∷ [])
     (of_many 0 (of_both "a" "ok" 1 ∷ of_both "a" "ok" 4 ∷ []) ∷ [])
 
 -- and not what they give together
 abbrev pub ApartFieldsExample : Type 0
-ApartFieldsExample = Gives (alone (above (By (Host ∷ State ∷ [])) (noticing (FixedEvent 2)))) 0 (Comes (of_both "ab" "c" 1) ∷ Comes (of_both "a" "bc" 2) ∷ []) []
+ApartFieldsExample = Gives (alone (above (By (Host ∷ State ∷ []) None) (noticing (FixedEvent 2)))) 0 (Comes (of_both "ab" "c" 1) ∷ Comes (of_both "a" "bc" 2) ∷ []) []
 
 -- a fork for each host, and in it one for each state
 abbrev pub nested : KindTree → StreamTrees
-nested kind = alone (above (By (Host ∷ [])) (alone (above (By (State ∷ [])) (noticing kind))))
+nested kind = alone (above (By (Host ∷ []) None) (alone (above (By (State ∷ []) None) (noticing kind))))
 
 -- two forks of hosts, and three of states in them
 abbrev pub NestedDueExample : Type 0

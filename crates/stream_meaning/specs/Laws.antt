@@ -1,5 +1,5 @@
 -- Laws of what streams mean.
-use Rattle.std.specs.Prelude.{◌≡◌, ℕ, ◌+◌, ◌-◌, ◌%◌, ◌<◌, ◌==◌, Bool, false, if◌then◌else◌, List, [], ◌∷◌, ◌++◌}
+use Rattle.std.specs.Prelude.{◌≡◌, ℕ, ◌+◌, ◌-◌, ◌%◌, ◌<◌, ◌==◌, Bool, if◌then◌else◌, IsFalse, List, [], ◌∷◌, ◌++◌, Option}
 use Rattle.std.specs.List.{flat_map, list_any, IsDistinct}
 use Rattle.ev_types.specs.declared.field.Field.{Field}
 use Rattle.ev_types.specs.declared.item.Item.{Item}
@@ -9,6 +9,7 @@ use Rattle.ev_types.specs.declared.value.Value.{Value}
 use Rattle.ev_types.specs.Key.{same_key, event_key}
 use Rattle.stream_plan.specs.Tree.{KindTree, StreamTree, StreamTrees, stream, none, also}
 use Rattle.stream_meaning.specs.History.{History, since, ◌▸◌, Entry, Tick, In, begun, moment_of, window_of, TicksAlone}
+use Rattle.stream_meaning.specs.Ends.{KeyFork, same_fork, fork_of, forks_that_came, live_forks}
 use Rattle.stream_meaning.specs.Emission.{Branch, Children, Otherwise, Fork, Emission, emissions}
 use Rattle.stream_meaning.specs.Branches.{ticked, child_history, branches, fork_keys, fork_history}
 use Rattle.stream_meaning.specs.Outputs.{at_item, received_more, outputs_among, plan_effects, outputs_at, outputs_of}
@@ -20,7 +21,7 @@ abbrev pub TicksReachBranches : Type 0
 TicksReachBranches = (kind : KindTree) (branch : Branch) (h : History) → TicksAlone h → child_history kind branch h ≡ h
 
 abbrev pub TicksMakeNoFork : Type 0
-TicksMakeNoFork = (fields : List Field) (h : History) → TicksAlone h → fork_keys fields h ≡ []
+TicksMakeNoFork = (idle : Option ℕ) (fields : List Field) (h : History) → TicksAlone h → live_forks idle fields h ≡ []
 
 abbrev pub TicksAreQuiet : Type 0
 TicksAreQuiet = (plan : StreamTrees) (h : History) → TicksAlone h → plan_effects plan h ≡ []
@@ -29,7 +30,7 @@ TicksAreQuiet = (plan : StreamTrees) (h : History) → TicksAlone h → plan_eff
 abbrev pub below : StreamTrees → StreamTrees → Branch → StreamTrees
 below children otherwise Children = children
 below children otherwise Otherwise = otherwise
-below children otherwise (Fork key) = children
+below children otherwise (Fork fork) = children
 
 -- the outputs of a stream itself: an index writes an event, a notice gives an item
 abbrev pub own_outputs : KindTree → History → List Output
@@ -68,8 +69,15 @@ of_key fields key (h ▸ Tick) = of_key fields key h ▸ Tick
 of_key fields key (h ▸ In (One event)) = if same_key (event_key event fields) key then of_key fields key h ▸ In (One event) else of_key fields key h
 of_key fields key (h ▸ In (Many es)) = of_key fields key h
 
+-- a history without the events of other forks
+abbrev pub of_fork : Option ℕ → List Field → KeyFork → History → History
+of_fork idle fields fork (since start) = since start
+of_fork idle fields fork (h ▸ Tick) = of_fork idle fields fork h ▸ Tick
+of_fork idle fields fork (h ▸ In (One event)) = if same_fork (fork_of idle fields event h) fork then of_fork idle fields fork h ▸ In (One event) else of_fork idle fields fork h
+of_fork idle fields fork (h ▸ In (Many es)) = of_fork idle fields fork h
+
 abbrev pub ForksHaveTheirEvents : Type 0
-ForksHaveTheirEvents = (fields : List Field) (key : List Value) (h : History) → fork_history fields key h ≡ of_key fields key h
+ForksHaveTheirEvents = (idle : Option ℕ) (fields : List Field) (fork : KeyFork) (h : History) → fork_history idle fields fork h ≡ of_fork idle fields fork h
 
 -- no key comes twice
 abbrev pub ForkKeysAreApart : Type 0
@@ -78,8 +86,10 @@ ForkKeysAreApart = (fields : List Field) (h : History) → IsDistinct same_key (
 abbrev pub is_among : List Value → List (List Value) → Bool
 is_among key = list_any (λ other. same_key other key)
 
+-- a fork has ticks alone until its first event comes
 abbrev pub UnseenForksHaveTicks : Type 0
-UnseenForksHaveTicks = (fields : List Field) (key : List Value) (h : History) → is_among key (fork_keys fields h) ≡ false → TicksAlone (fork_history fields key h)
+UnseenForksHaveTicks = (idle : Option ℕ) (fields : List Field) (fork : KeyFork) (h : History) → IsFalse (list_any (λ other. same_fork other fork) (forks_that_came idle fields h)) →
+    TicksAlone (fork_history idle fields fork h)
 
 -- how many ticks have come
 abbrev pub tick_count : History → ℕ

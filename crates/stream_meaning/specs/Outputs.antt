@@ -23,7 +23,7 @@ pub data Effect : Type 0 where
 abbrev pub at_item : KindTree → History → List Effect
 at_item Index (h ▸ In (One event)) = Put (write event) ∷ []
 at_item (Notice name) (h ▸ In item) = Put (notice (record { name = name; moment = moment_of h; item = item })) ∷ []
-at_item (By fields) (h ▸ In (One event)) = Given ∷ []
+at_item (By fields idle) (h ▸ In (One event)) = Given ∷ []
 at_item kind h = []
 
 abbrev pub emits_if_any : List Emission → List Effect
@@ -44,13 +44,13 @@ due_if_any (first ∷ more) = Due ∷ (first ∷ more)
 abbrev pub marked : Branch → List Effect → List Effect
 marked Children effects = effects
 marked Otherwise effects = effects
-marked (Fork key) effects = due_if_any effects
+marked (Fork fork) effects = due_if_any effects
 
 -- the effects below a branch at the last entry of its history
 abbrev pub BranchEffects : Type 0
 BranchEffects = Branch → History → List Effect
 
--- a tick goes to each branch, which has received this so far
+-- a tick goes to each branch that was there before it, which has received this so far
 abbrev pub at_tick : Entry → BranchEffects → (Branch → History) → List Branch → List Effect
 at_tick Tick effects_in received below = flat_map (λ branch. marked branch (effects_in branch (received branch ▸ Tick))) below
 at_tick (In item) effects_in received below = []
@@ -69,7 +69,7 @@ at_emissions effects_in received (emission ∷ more) =
 abbrev pub branch_effects : (History → List Effect) → (History → List Effect) → BranchEffects
 branch_effects children otherwise Children = children
 branch_effects children otherwise Otherwise = otherwise
-branch_effects children otherwise (Fork key) = children
+branch_effects children otherwise (Fork fork) = children
 
 -- the effects of a stream and of all below it at the last entry: first its own, then those of the tick, then those of
 -- its emissions

@@ -5,12 +5,15 @@ ghost use Rattle.stream_meaning.specs.EndExamples.{
   SecondEndExample,
   TwoKeysExample,
   LiveOrderExample,
+  NewForkExample,
+  NewForkWindowExample,
+  LastTickExample,
+  LastDeadlineExample,
 };
 ghost use Rattle.stream_meaning.specs.EndLaws.{
   LastMomentsAreLast,
   EndsFollowSilence,
   EndsAreApart,
-  NewForksHaveTicks,
   ForksComeByNumber,
   EndedForksReceiveTicks,
   NothingEndsWithoutIdle,
@@ -25,7 +28,7 @@ ghost use Rattle.stream_meaning.specs.EndSteps.{
   FreshKeysGoByMoments,
 };
 
-/// Which forks end, and when, in small histories, as the definitions compute it.
+/// Which forks end in small histories, and what small plans above them say, as the definitions compute it.
 pub fn end_examples_are_computed()
     ensures end_of_key { EndOfKeyExample }
     ensures end_of_fork { EndOfForkExample }
@@ -33,6 +36,10 @@ pub fn end_examples_are_computed()
     ensures second_end { SecondEndExample }
     ensures two_keys { TwoKeysExample }
     ensures live_order { LiveOrderExample }
+    ensures new_fork { NewForkExample }
+    ensures new_fork_window { NewForkWindowExample }
+    ensures last_tick { LastTickExample }
+    ensures last_deadline { LastDeadlineExample }
 {}
 
 /// A key ends at a tick exactly if its last event came `idle` seconds before, so an event of it comes between two of its
@@ -43,9 +50,8 @@ pub fn keys_end_after_silence()
     ensures apart { EndsAreApart }
 {}
 
-/// A fork has ticks alone before its first event and after its key has ended. The forks of a key come by their numbers.
+/// A fork has ticks alone once its key has ended. The forks of a key come by their numbers.
 pub fn forks_end_with_their_keys()
-    ensures new { NewForksHaveTicks }
     ensures numbers { ForksComeByNumber }
     ensures ended { EndedForksReceiveTicks }
 {}

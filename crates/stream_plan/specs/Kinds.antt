@@ -1,10 +1,10 @@
 -- What a stream of a kind takes, what it passes on, which streams may follow it, and the ranges of its numbers.
-use Rattle.std.specs.Prelude.{ℕ, Bool, true, false, ◌&&◌, nat_le}
+use Rattle.std.specs.Prelude.{ℕ, Bool, true, false, ◌&&◌, nat_le, Option, Some, None}
 use Rattle.ev_types.specs.Set.{all_fit}
 use Rattle.stream_plan.specs.declared.kinds.TheConstants.{MAX_COUNT, MAX_SECS}
 use Rattle.stream_plan.specs.declared.kinds.Flow.{Flow}
 use Rattle.stream_plan.specs.declared.kinds.Flow.TheVariants.{Nothing, Event, Vector}
-use Rattle.stream_plan.specs.Tree.{KindTree, Index, Notice, Sdo, Where, With, Default, Runs, Throttle, Rollup, Batch, Stable, FixedEvent, MovingEvent, FixedTime, MovingTime, Coalesce, Smap}
+use Rattle.stream_plan.specs.Tree.{KindTree, Index, Notice, Sdo, Where, With, Default, By, Runs, Throttle, Rollup, Batch, Stable, FixedEvent, MovingEvent, FixedTime, MovingTime, Coalesce, Smap}
 
 -- ---- what is taken and what is passed on
 
@@ -63,10 +63,15 @@ is_count count = nat_le 1 count && nat_le count MAX_COUNT
 abbrev pub is_secs : ℕ → Bool
 is_secs secs = nat_le 1 secs && nat_le secs MAX_SECS
 
+abbrev pub is_idle : Option ℕ → Bool
+is_idle None = true
+is_idle (Some secs) = is_secs secs
+
 -- the numbers and the sets of the kind are in their ranges
 abbrev pub is_in_range : KindTree → Bool
 is_in_range (With sets) = all_fit sets
 is_in_range (Default sets) = all_fit sets
+is_in_range (By fields idle) = is_idle idle
 is_in_range (Runs count field) = is_count count
 is_in_range (Throttle count secs) = is_count count && is_secs secs
 is_in_range (Rollup count secs) = is_count count && is_secs secs

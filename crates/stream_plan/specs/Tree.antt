@@ -1,5 +1,5 @@
 -- A plan as a plain tree, apart from where it lies in memory. Plans are compared by their trees.
-use Rattle.std.specs.Prelude.{ℕ, List, [], ◌∷◌, Option}
+use Rattle.std.specs.Prelude.{ℕ, List, [], ◌∷◌, Option, None}
 use Rattle.ev_types.specs.declared.field.Field.{Field}
 use Rattle.ev_types.specs.declared.settings.Fold.{Fold}
 use Rattle.ev_types.specs.declared.settings.Set.{Set}
@@ -18,7 +18,8 @@ pub data KindTree : Type 0 where
   With : List Set → KindTree
   Default : List Set → KindTree
   Tag : List (List ℕ) → KindTree
-  By : List Field → KindTree
+  -- the fields, and after how many seconds without an event a fork ends, if one does
+  By : List Field → Option ℕ → KindTree
   Changed : Field → Option Value → KindTree
   Runs : ℕ → Field → KindTree
   Throttle : ℕ → ℕ → KindTree
@@ -48,7 +49,7 @@ kind_tree (code.Where rule) = Where (tree_of rule)
 kind_tree (code.With sets) = With sets
 kind_tree (code.Default sets) = Default sets
 kind_tree (code.Tag tags) = Tag tags
-kind_tree (code.By fields) = By fields
+kind_tree (code.By fields) = By fields None
 kind_tree (code.Changed field init) = Changed field init
 kind_tree (code.Runs count field) = Runs count field
 kind_tree (code.Throttle count secs) = Throttle count secs

@@ -1,8 +1,5 @@
-use Rattle.stream_meaning.proofs.EndLaws.{new_forks_have_ticks, forks_come_by_number, ended_forks_receive_ticks}
+use Rattle.stream_meaning.proofs.EndLaws.{forks_come_by_number, ended_forks_receive_ticks}
 use Rattle.stream_meaning.proofs.ends.forks_end_with_their_keys.Goals as goal
-
-pub returns-clause-new : goal.returns-clause-new
-returns-clause-new c = new_forks_have_ticks
 
 pub returns-clause-numbers : goal.returns-clause-numbers
 returns-clause-numbers c = forks_come_by_number
