@@ -1,5 +1,5 @@
 -- What one `by` on host and service does for each key.
-use Rattle.std.proofs.Common.{◌≡◌, ℕ, ◌+◌, ◌==◌, Bool, true, false, not, ◌||◌, ◌&&◌, cond, List, [], ◌∷◌, ◌++◌, map, Option, Some, refl, sym, ap, ◌∙◌, subst}
+use Rattle.std.proofs.Common.{◌≡◌, ℕ, Bool, true, false, not, ◌||◌, ◌&&◌, cond, List, [], ◌∷◌, ◌++◌, map, Option, refl, sym, ap, ◌∙◌, subst}
 use mathlib.Core.Bool.{true≢false}
 use Rattle.std.specs.List.{AllByRecursion, IsDistinct, filter, flat_map, list_any, list_all}
 use Rattle.std.proofs.lemmas.List.{append-nil}
@@ -21,8 +21,8 @@ use Rattle.ev_types.specs.Set.{fits, with_fitting, with_set, has_text, with_tag}
 use Rattle.index_log.specs.OfKey.{are_index_fields, event_has}
 use Rattle.index_log.proofs.OfKeyLaws.{both_true, same_values}
 use Rattle.stream_plan.specs.Tree.{KindTree, Index, With, Default, By, StreamTree, StreamTrees, stream, none, also}
-use Rattle.stream_meaning.specs.History.{History, since, ◌▸◌, Tick, In, moment_of, is_at}
-use Rattle.stream_meaning.specs.Ends.{last_moment, idle_after, end_of, ends_next, times_ended, KeyFork, same_fork, key_of_fork, fork_at, fork_of, live_forks, live_keys}
+use Rattle.stream_meaning.specs.History.{History, since, ◌▸◌, Tick, In}
+use Rattle.stream_meaning.specs.Ends.{times_ended, KeyFork, same_fork, key_of_fork, fork_at, fork_of, live_forks, live_keys}
 use Rattle.stream_meaning.specs.Images.{with_sets, with_default, with_defaults, with_metric}
 use Rattle.stream_meaning.specs.Emission.{Fork}
 use Rattle.stream_meaning.specs.Branches.{child_history, fork_history}
@@ -31,7 +31,7 @@ use Rattle.stream_meaning.specs.Keys.{item_has, output_has, same_index_field, se
 use Rattle.stream_meaning.specs.KeyLaws.{one_by, keeps_keys, outputs_for, ActsByForks, KeysActByForks, KeysHaveTheirOutputs, HasOneKey, OutputsHaveOneKey}
 use Rattle.stream_meaning.specs.Laws.{below, of_key, of_fork, is_among}
 use Rattle.stream_meaning.proofs.ForkLaws.{fork_events}
-use Rattle.stream_meaning.proofs.MetLaws.{and_false}
+use Rattle.stream_meaning.proofs.KeyEndLaws.{other_key, times_same, history_same}
 use Rattle.stream_meaning.proofs.EndLaws.{key_is, key_same, the_fork, fork_is, unseen_forks_have_ticks}
 use Rattle.stream_meaning.proofs.LiveLaws.{live_keys_are_apart, live_forks_are_the_latest, not_come}
 use Rattle.stream_meaning.proofs.KeptEvents.{all-append, all-weaker, ItemAll, HistoryAll, OutputAll, Leaves, StreamLeaves, PlanLeaves, IsKept, outputs_kept}
@@ -247,79 +247,12 @@ module _ (fields : List Field) (within : are_index_fields fields ≡ true) where
   fork_all : (idle : Option ℕ) (fork : KeyFork) (h : History) → HistoryAll (Of fork.key) (fork_history idle fields fork h)
   fork_all idle fork h = subst (HistoryAll (Of fork.key)) (sym (fork_events idle fields fork h)) (fork_kept idle fork h)
 
-  -- without the events of other keys a key has its last event, and its ends, where it had them
-  moment_same : (key : List Value) (h : History) → moment_of (of_key fields key h) ≡ moment_of h
-  moment_same key (since start) = refl
-  moment_same key (h ▸ Tick) = ap (λ m. m + 1) (moment_same key h)
-  moment_same key (h ▸ In (One event)) = step (event_has fields key event) (moment_same key h)
-    where
-      step : (t : Bool) → moment_of (of_key fields key h) ≡ moment_of h → moment_of (cond t (of_key fields key h ▸ In (One event)) (of_key fields key h)) ≡ moment_of h
-      step true same = same
-      step false same = same
-  moment_same key (h ▸ In (Many es)) = moment_same key h
-
-  last_same : (key : List Value) (h : History) → last_moment fields key (of_key fields key h) ≡ last_moment fields key h
-  last_same key (since start) = refl
-  last_same key (h ▸ Tick) = last_same key h
-  last_same key (h ▸ In (One event)) = step (event_has fields key event) refl (last_same key h) (moment_same key h)
-    where
-      step : (t : Bool) → event_has fields key event ≡ t → last_moment fields key (of_key fields key h) ≡ last_moment fields key h → moment_of (of_key fields key h) ≡ moment_of h →
-          last_moment fields key (cond t (of_key fields key h ▸ In (One event)) (of_key fields key h)) ≡ cond t (Some (moment_of h)) (last_moment fields key h)
-      step true e same now = ap (λ t. cond t (Some (moment_of (of_key fields key h))) (last_moment fields key (of_key fields key h))) e ∙ ap (λ (m : ℕ). Some m) now
-      step false e same now = same
-  last_same key (h ▸ In (Many es)) = last_same key h
-
-  times_same : (idle : Option ℕ) (key : List Value) (h : History) → times_ended idle fields key (of_key fields key h) ≡ times_ended idle fields key h
-  times_same idle key (since start) = refl
-  times_same idle key (h ▸ Tick) =
-      let ends : ends_next idle fields key (of_key fields key h) ≡ ends_next idle fields key h =
-      ap (λ (m : ℕ). is_at (m + 1) (end_of idle fields key (of_key fields key h))) (moment_same key h) ∙ ap (λ last. is_at (moment_of h + 1) (idle_after idle last)) (last_same key h) in
-      ap (λ t. cond t (times_ended idle fields key (of_key fields key h) + 1) (times_ended idle fields key (of_key fields key h))) ends
-      ∙ ap (λ (n : ℕ). cond (ends_next idle fields key h) (n + 1) n) (times_same idle key h)
-  times_same idle key (h ▸ In (One event)) = step (event_has fields key event) (times_same idle key h)
-    where
-      step : (t : Bool) → times_ended idle fields key (of_key fields key h) ≡ times_ended idle fields key h →
-          times_ended idle fields key (cond t (of_key fields key h ▸ In (One event)) (of_key fields key h)) ≡ times_ended idle fields key h
-      step true same = same
-      step false same = same
-  times_same idle key (h ▸ In (Many es)) = times_same idle key h
-
-  -- an event of another key goes to no fork of this one
-  other_key : (idle : Option ℕ) (event : Event) (h : History) (fork : KeyFork) → event_has fields fork.key event ≡ false → same_fork (fork_of idle fields event h) fork ≡ false
-  other_key idle event h fork e =
-      ap (λ t. (fork_of idle fields event h).number == fork.number && t) e ∙ and_false ((fork_of idle fields event h).number == fork.number)
-
-  -- an event of the key goes to the same fork of it
-  same_target : (idle : Option ℕ) (event : Event) (key : List Value) (h : History) → event_has fields key event ≡ true → fork_of idle fields event (of_key fields key h) ≡ fork_of idle fields event h
-  same_target idle event key h e =
-      let is = key_is (event_key event fields) key e in
-      ap (λ (number : ℕ). the_fork (event_key event fields) number)
-      (ap (λ (k : List Value). times_ended idle fields k (of_key fields key h)) is ∙ times_same idle key h ∙ sym (ap (λ (k : List Value). times_ended idle fields k h) is))
-
-  events_same : (idle : Option ℕ) (fork : KeyFork) (h : History) → of_fork idle fields fork (of_key fields fork.key h) ≡ of_fork idle fields fork h
-  events_same idle fork (since start) = refl
-  events_same idle fork (h ▸ Tick) = ap (λ g. g ▸ Tick) (events_same idle fork h)
-  events_same idle fork (h ▸ In (One event)) = step (event_has fields fork.key event) refl (events_same idle fork h)
-    where
-      rest : History
-      rest = of_key fields fork.key h
-
-      step : (t : Bool) → event_has fields fork.key event ≡ t → of_fork idle fields fork (of_key fields fork.key h) ≡ of_fork idle fields fork h →
-          of_fork idle fields fork (cond t (of_key fields fork.key h ▸ In (One event)) (of_key fields fork.key h))
-          ≡ cond (same_fork (fork_of idle fields event h) fork) (of_fork idle fields fork h ▸ In (One event)) (of_fork idle fields fork h)
-      step true e same =
-          ap (λ (k : KeyFork). cond (same_fork k fork) (of_fork idle fields fork (of_key fields fork.key h) ▸ In (One event)) (of_fork idle fields fork (of_key fields fork.key h)))
-          (same_target idle event fork.key h e)
-          ∙ ap (λ g. cond (same_fork (fork_of idle fields event h) fork) (g ▸ In (One event)) g) same
-      step false e same = same ∙ sym (ap (λ t. cond t (of_fork idle fields fork h ▸ In (One event)) (of_fork idle fields fork h)) (other_key idle event h fork e))
-  events_same idle fork (h ▸ In (Many es)) = events_same idle fork h
-
   fork_twice : (idle : Option ℕ) (key : List Value) (h : History) →
       fork_history idle fields (fork_at idle fields key (of_key fields key h)) (of_key fields key h) ≡ fork_history idle fields (fork_at idle fields key h) h
   fork_twice idle key h =
       let fork = fork_at idle fields key h in
-      ap (λ (number : ℕ). fork_history idle fields (the_fork key number) (of_key fields key h)) (times_same idle key h)
-      ∙ fork_events idle fields fork (of_key fields key h) ∙ events_same idle fork h ∙ sym (fork_events idle fields fork h)
+      ap (λ (number : ℕ). fork_history idle fields (the_fork key number) (of_key fields key h)) (times_same idle fields fields key fork (λ event e. e) h)
+      ∙ history_same idle fields fields key fork (λ event e. e) h
 
   module _ (idle : Option ℕ) (children otherwise : StreamTrees) (children_keep : plan_keeps fields children ≡ true) (otherwise_keep : plan_keeps fields otherwise ≡ true) where
     abbrev plan : StreamTrees
@@ -413,7 +346,7 @@ module _ (fields : List Field) (within : are_index_fields fields ≡ true) where
 
     other_fork : (h : History) (key : List Value) (event : Event) → event_has fields key event ≡ false → fork_history idle fields (now_of h key) (h ▸ In (One event)) ≡ fork_history idle fields (now_of h key) h
     other_fork h key event e =
-        ap (λ t. cond t (fork_history idle fields (now_of h key) h ▸ In (One event)) (fork_history idle fields (now_of h key) h)) (other_key idle event h (now_of h key) e)
+        ap (λ t. cond t (fork_history idle fields (now_of h key) h ▸ In (One event)) (fork_history idle fields (now_of h key) h)) (other_key idle fields event h (now_of h key) e)
 
     pub acts_by_forks : (key : List Value) (h : History) → ActsByForks idle fields key children otherwise h
     acts_by_forks key h = record {

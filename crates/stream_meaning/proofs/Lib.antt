@@ -16,6 +16,7 @@ pub mod KeyOrderLaws
 pub mod PlanFirstLaws
 pub mod FoldLaws
 pub mod KeptEvents
+pub mod KeyEndLaws
 pub mod KeyLaws
 pub mod EndLaws
 pub mod LiveLaws

@@ -46,7 +46,7 @@ pub filter_same : {A : Type 0} (p q : A → Bool) (xs : List A) → AllByRecursi
 filter_same p q [] same = refl
 filter_same p q (x ∷ xs) same = ap (λ t. cond t (x ∷ filter p xs) (filter p xs)) same.0 ∙ ap (λ l. cond (q x) (x ∷ l) l) (filter_same p q xs same.1)
 
-filter_twice : {A : Type 0} (p q : A → Bool) (xs : List A) → filter (λ x. p x && q x) xs ≡ filter q (filter p xs)
+pub filter_twice : {A : Type 0} (p q : A → Bool) (xs : List A) → filter (λ x. p x && q x) xs ≡ filter q (filter p xs)
 filter_twice p q [] = refl
 filter_twice p q (x ∷ xs) = step (p x) (filter_twice p q xs)
   where
@@ -75,7 +75,7 @@ kept_live : (live : KeyFork → Bool) (fork : KeyFork) (forks : List KeyFork) �
     list_any (λ other. same_fork other fork) (filter live forks) ≡ list_any (λ other. same_fork other fork) forks
 kept_live live fork forks e = any-filter_same (λ other. same_fork other fork) live true (λ other same. ap live (fork_is other fork same) ∙ e) forks
 
-with_live : (live : KeyFork → Bool) (fork : KeyFork) (forks : List KeyFork) → live fork ≡ true → filter live (with_fork fork forks) ≡ with_fork fork (filter live forks)
+pub with_live : (live : KeyFork → Bool) (fork : KeyFork) (forks : List KeyFork) → live fork ≡ true → filter live (with_fork fork forks) ≡ with_fork fork (filter live forks)
 with_live live fork forks e = step (list_any (λ other. same_fork other fork) forks) refl
   where
     step : (t : Bool) → list_any (λ other. same_fork other fork) forks ≡ t → filter live (cond t forks (forks ++ fork ∷ [])) ≡ with_fork fork (filter live forks)
@@ -85,7 +85,7 @@ with_live live fork forks e = step (list_any (λ other. same_fork other fork) fo
         ∙ ap (λ t. filter live forks ++ cond t (fork ∷ []) []) e
         ∙ sym (ap (λ t. cond t (filter live forks) (filter live forks ++ fork ∷ [])) (kept_live live fork forks e ∙ among))
 
-live_at_event : (idle : Option ℕ) (fields : List Field) (h : History) (event : Event) → live_forks idle fields (h ▸ In (One event)) ≡ with_fork (fork_of idle fields event h) (live_forks idle fields h)
+pub live_at_event : (idle : Option ℕ) (fields : List Field) (h : History) (event : Event) → live_forks idle fields (h ▸ In (One event)) ≡ with_fork (fork_of idle fields event h) (live_forks idle fields h)
 live_at_event idle fields h event =
     let times = times_ended idle fields (event_key event fields) h in
     with_live (is_live idle fields h) (fork_of idle fields event h) (forks_that_came idle fields h) (eq-eqb times times refl)
