@@ -244,7 +244,7 @@ module _ (fields : List Field) (within : are_index_fields fields ≡ true) where
           in_one : (branch : Branch) → GivesOne fields (in_branch branch)
           in_one Children = c
           in_one Otherwise = o
-          in_one (Fork key) = c
+          in_one (Fork fork) = c
 
           emitted_one : (h : History) (event : Event) (es : List Emission) → PassesOne fields event es → AllByRecursion (HasOneKey fields) (emitted h es)
           emitted_one h event es (inl is) = subst (λ (l : List Emission). AllByRecursion (HasOneKey fields) (emitted h l)) (sym is) tt
@@ -367,9 +367,9 @@ module _ (fields : List Field) (within : are_index_fields fields ≡ true) where
 
   mutual
     stream_gives_one : (s : StreamTree) → stream_apart fields s ≡ true → GivesOne fields (also s none)
-    stream_gives_one (stream (By others) children otherwise) e =
+    stream_gives_one (stream (By others idle) children otherwise) e =
         let parts = by_parts others children otherwise e in
-        by_gives_one fields others within parts.split children otherwise parts.keep
+        by_gives_one idle fields others within parts.split children otherwise parts.keep
     stream_gives_one (stream kind children otherwise) e =
         let parts = plain_parts kind children otherwise e in
         plain_gives_one kind parts.acts children otherwise (plan_gives_one children parts.children_apart) (plan_gives_one otherwise parts.otherwise_apart)
@@ -382,9 +382,9 @@ module _ (fields : List Field) (within : are_index_fields fields ≡ true) where
 
   mutual
     stream_splits : (key : List Value) (s : StreamTree) → stream_apart fields s ≡ true → Splits fields key (also s none)
-    stream_splits key (stream (By others) children otherwise) e =
+    stream_splits key (stream (By others idle) children otherwise) e =
         let parts = by_parts others children otherwise e in
-        by_splits fields others within parts.split children otherwise parts.keep key
+        by_splits idle fields others within parts.split children otherwise parts.keep key
     stream_splits key (stream kind children otherwise) e =
         let parts = plain_parts kind children otherwise e in
         plain_splits kind parts.acts children otherwise key (plan_splits key children parts.children_apart) (plan_splits key otherwise parts.otherwise_apart)

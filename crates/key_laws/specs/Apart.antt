@@ -25,7 +25,7 @@ has_all fields others = list_all (λ field. list_any (same_index_field field) ot
 
 -- the stream is a `by` that has all the fields: what comes to one of its forks is of one key
 abbrev pub splits : List Field → KindTree → Bool
-splits fields (By others) = has_all fields others
+splits fields (By others idle) = has_all fields others
 splits fields _ = false
 
 -- a stream of this kind keeps nothing: what it does with an event depends on this event alone

@@ -1,5 +1,5 @@
 -- Small plans whose keys are apart, and such as mix them.
-use Rattle.std.specs.Prelude.{◌≡◌, ℕ, codes, true, false, List, [], ◌∷◌, filter, length, Option, Some}
+use Rattle.std.specs.Prelude.{◌≡◌, ℕ, codes, true, false, List, [], ◌∷◌, filter, length, Option, Some, None}
 use Rattle.ev_types.specs.declared.field.Field.{Field}
 use Rattle.ev_types.specs.declared.field.Field.TheVariants.{Host, Service, State}
 use Rattle.ev_types.specs.declared.settings.Expiry.{Expiry}
@@ -15,7 +15,7 @@ use Rattle.key_laws.specs.Apart.{keys_apart}
 use Rattle.key_laws.specs.Laws.{arrivals_of}
 
 abbrev pub by_on : List Field → StreamTrees → StreamTrees
-by_on fields below = alone (above (By fields) below)
+by_on fields below = alone (above (By fields None) below)
 
 -- every event into the index, and a notice of it
 abbrev pub indexed : StreamTrees
@@ -54,7 +54,7 @@ pub record TestExamples : Type 0 where
   pub forgets_host : keys_apart (Host ∷ []) (by_on (Host ∷ []) indexed) forgetting_host ≡ false
   pub forgets_host_of_services : keys_apart (Service ∷ []) (by_on (Service ∷ []) indexed) forgetting_host ≡ true
   pub kept_above : keys_apart (Host ∷ []) (alone (changing (by_on (Host ∷ []) indexed))) (every 10) ≡ false
-  pub kept_beside : keys_apart (Host ∷ []) (also (above (By (Host ∷ [])) throttled) throttled) (every 10) ≡ false
+  pub kept_beside : keys_apart (Host ∷ []) (also (above (By (Host ∷ []) None) throttled) throttled) (every 10) ≡ false
 
 -- how many notices have the host, and how many there are over the arrivals of the host alone
 pub record Counts (plan : StreamTrees) (expiry : Option Expiry) (start : ℕ) (arrivals : List Arrival) (host : Value) (among own : ℕ) : Type 0 where
@@ -71,4 +71,4 @@ ForgottenHostMixes = Counts (by_on (Host ∷ []) indexed) forgetting_host 100 (P
 
 -- an event of host "a" keeps one of host "b" from passing a stream beside the `by`
 abbrev pub SharedStreamMixes : Type 0
-SharedStreamMixes = Counts (also (above (By (Host ∷ [])) throttled) throttled) (every 10) 100 (Post (a 100) ∷ Post (b 100) ∷ []) (Text (codes "b")) 1 2
+SharedStreamMixes = Counts (also (above (By (Host ∷ []) None) throttled) throttled) (every 10) 100 (Post (a 100) ∷ Post (b 100) ∷ []) (Text (codes "b")) 1 2

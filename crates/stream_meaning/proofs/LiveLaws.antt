@@ -6,7 +6,7 @@ use Rattle.std.specs.List.{AllByRecursion, IsDistinct, filter, list_any}
 use Rattle.std.proofs.lemmas.Bool.{eq-eqb, eqb-true}
 use Rattle.std.proofs.lemmas.Bool.Decides.{nat_tests}
 use Rattle.std.proofs.lemmas.List.{map-append}
-use Rattle.std.proofs.lemmas.List.Elements.{filter-append, filter_passes, recursion_from_All}
+use Rattle.std.proofs.lemmas.List.Elements.{filter-append, filter_agree, filter_passes, recursion_from_All}
 use Rattle.std.proofs.lemmas.List.Folds.{list_any-append, list_any_at}
 use Rattle.std.proofs.lemmas.Map.Views.{any-filter_same}
 use Rattle.ev_types.specs.declared.event.Event.{Event}
@@ -54,6 +54,13 @@ filter_twice p q (x ∷ xs) = step (p x) (filter_twice p q xs)
         cond (t && q x) (x ∷ filter (λ x. p x && q x) xs) (filter (λ x. p x && q x) xs) ≡ filter q (cond t (x ∷ filter p xs) (filter p xs))
     step true e = ap (λ l. cond (q x) (x ∷ l) l) e
     step false e = e
+
+and_flip : (s t : Bool) → s && t ≡ t && s
+and_flip true t = sym (and_true t)
+and_flip false t = sym (and_false t)
+
+pub filter_flip : {A : Type 0} (p q : A → Bool) (xs : List A) → filter p (filter q xs) ≡ filter q (filter p xs)
+filter_flip p q xs = sym (filter_twice q p xs) ∙ filter_agree (λ x. q x && p x) (λ x. p x && q x) (λ x. and_flip (q x) (p x)) xs ∙ filter_twice p q xs
 
 -- ---- what an entry does to the live forks
 
