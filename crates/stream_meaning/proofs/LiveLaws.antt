@@ -263,16 +263,16 @@ live_keys_are_recent secs fields key h pos =
 
 -- ---- without `idle`
 
-never_ended : (fields : List Field) (key : List Value) (h : History) → times_ended None fields key h ≡ 0
+pub never_ended : (fields : List Field) (key : List Value) (h : History) → times_ended None fields key h ≡ 0
 never_ended fields key (since start) = refl
 never_ended fields key (h ▸ Tick) = never_ended fields key h
 never_ended fields key (h ▸ In item) = never_ended fields key h
 
-first_among : (key : List Value) (keys : List (List Value)) → list_any (λ other. same_fork other (first_fork key)) (map first_fork keys) ≡ is_among key keys
+pub first_among : (key : List Value) (keys : List (List Value)) → list_any (λ other. same_fork other (first_fork key)) (map first_fork keys) ≡ is_among key keys
 first_among key [] = refl
 first_among key (other ∷ keys) = ap (λ t. same_key other key || t) (first_among key keys)
 
-came_first : (fields : List Field) (h : History) → forks_that_came None fields h ≡ map first_fork (fork_keys fields h)
+pub came_first : (fields : List Field) (h : History) → forks_that_came None fields h ≡ map first_fork (fork_keys fields h)
 came_first fields (since start) = refl
 came_first fields (h ▸ Tick) = came_first fields h
 came_first fields (h ▸ In (One event)) =
@@ -289,7 +289,7 @@ all_pass p [] f = refl
 all_pass p (key ∷ keys) f =
     ap (λ t. cond t (first_fork key ∷ filter p (map first_fork keys)) (filter p (map first_fork keys))) (f key) ∙ ap (λ l. first_fork key ∷ l) (all_pass p keys f)
 
-live_first : (fields : List Field) (h : History) → live_forks None fields h ≡ map first_fork (fork_keys fields h)
+pub live_first : (fields : List Field) (h : History) → live_forks None fields h ≡ map first_fork (fork_keys fields h)
 live_first fields h =
     ap (filter (is_live None fields h)) (came_first fields h)
     ∙ all_pass (is_live None fields h) (fork_keys fields h) (λ key. ap (λ (n : ℕ). 0 == n) (never_ended fields key h))

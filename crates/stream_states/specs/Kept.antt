@@ -29,7 +29,7 @@ keeps (Where rule) = false
 keeps (With sets) = false
 keeps (Default sets) = false
 keeps (Tag tags) = false
-keeps (By fields) = false
+keeps (By fields idle) = false
 keeps (Smap fold) = false
 keeps _ = true
 

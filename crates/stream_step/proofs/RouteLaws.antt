@@ -12,6 +12,7 @@ use Rattle.stream_plan.specs.Tree.{KindTree, Index, Notice, Sdo, Where, With, De
 use Rattle.stream_meaning.specs.declared.entry.Entry.{Entry}
 use Rattle.stream_meaning.specs.declared.entry.Entry.TheVariants.{Tick, Item as In}
 use Rattle.stream_meaning.specs.History.{History, since, ◌▸◌}
+use Rattle.stream_meaning.specs.Ends.{KeyFork}
 use Rattle.stream_meaning.specs.Emission.{Branch as MeantBranch, Children as children, Otherwise as otherwise, Fork, Emission, to, to_children, one_of, emissions}
 use Rattle.stream_meaning.specs.Images.{folded}
 use Rattle.stream_meaning.specs.Runs.{changed_items, runs_items, stable_items}
@@ -24,7 +25,7 @@ use Rattle.stream_step.specs.declared.passed.Passed.{Passed}
 use Rattle.stream_step.specs.declared.passed.Passed.TheVariants.{Nothing, Same, Made, Keyed}
 
 abbrev pub is_by : KindTree → Bool
-is_by (By fields) = true
+is_by (By fields idle) = true
 is_by kind = false
 
 abbrev pub is_keyed : Passed → Bool
@@ -32,7 +33,7 @@ is_keyed (Keyed key) = true
 is_keyed passed = false
 
 abbrev is_fork : MeantBranch → Bool
-is_fork (Fork key) = true
+is_fork (Fork fork) = true
 is_fork branch = false
 
 -- some emission goes to a fork
@@ -82,7 +83,7 @@ no_fork (Tag tags) (since start) other = refl
 no_fork (Tag tags) (h ▸ Tick) other = refl
 no_fork (Tag tags) (h ▸ In (One event)) other = refl
 no_fork (Tag tags) (h ▸ In (Many es)) other = refl
-no_fork (By fields) h other = cc
+no_fork (By fields idle) h other = cc
 no_fork (Changed field init) h other = children_no_fork (changed_items field init h)
 no_fork (Runs count field) h other = children_no_fork (runs_items count field h)
 no_fork (Throttle count secs) h other = children_no_fork (throttle_items count secs h)
@@ -100,8 +101,8 @@ no_fork (Smap fold) (h ▸ In (One event)) other = refl
 no_fork (Smap fold) (h ▸ In (Many es)) other = folded_no_fork (folded fold es)
 
 -- what goes to a fork comes from a `by`
-pub keyed_is_by : (kind : KindTree) (key : List Value) (item : Item) (h : History) → to (Fork key) item ≡ emissions kind h → is_by kind ≡ true
-keyed_is_by kind key item h passes = by_test (is_by kind) refl
+pub keyed_is_by : (kind : KindTree) (fork : KeyFork) (item : Item) (h : History) → to (Fork fork) item ≡ emissions kind h → is_by kind ≡ true
+keyed_is_by kind fork item h passes = by_test (is_by kind) refl
   where
     by_test : (test : Bool) → is_by kind ≡ test → is_by kind ≡ true
     by_test true is = is
@@ -117,9 +118,9 @@ same_no_fork (Made es) x other = made_no_fork es
 same_no_fork (Keyed key) x other = cc
 
 -- where a `by` passes on to no fork it passes nothing on
-pub by_passes_nothing : (fields : List Field) (passed : Passed) (h : History) (x : Entry) → is_keyed passed ≡ false → emissions_meant passed x ≡ emissions (By fields) (h ▸ x) →
-    emissions (By fields) (h ▸ x) ≡ []
-by_passes_nothing fields passed h Tick other passes = refl
-by_passes_nothing fields passed h (In (One event)) other passes =
+pub by_passes_nothing : (fields : List Field) (idle : Option ℕ) (passed : Passed) (h : History) (x : Entry) → is_keyed passed ≡ false →
+    emissions_meant passed x ≡ emissions (By fields idle) (h ▸ x) → emissions (By fields idle) (h ▸ x) ≡ []
+by_passes_nothing fields idle passed h Tick other passes = refl
+by_passes_nothing fields idle passed h (In (One event)) other passes =
     absurd (let no : false ≡ true = sym (same_no_fork passed (In (One event)) other) ∙ ap some_fork passes in cc)
-by_passes_nothing fields passed h (In (Many es)) other passes = refl
+by_passes_nothing fields idle passed h (In (Many es)) other passes = refl

@@ -1,5 +1,5 @@
 -- What one stream does at an entry, and what it keeps between entries.
-use Rattle.std.specs.Prelude.{◌≡◌, ℕ, zero, suc, Bool, true, false, List, [], ◌++◌, length, map}
+use Rattle.std.specs.Prelude.{◌≡◌, ℕ, zero, suc, Bool, true, false, List, [], ◌++◌, length, map, None}
 use Rattle.ev_types.specs.declared.item.Emission.{Emission as CodeEmission}
 use Rattle.ev_types.specs.declared.item.Output.{Output}
 use Rattle.pred_eval.specs.Truth.{searches}
@@ -8,6 +8,7 @@ use Rattle.stream_plan.specs.Tree.{KindTree, Where, By}
 use Rattle.stream_meaning.specs.declared.entry.Entry.{Entry}
 use Rattle.stream_meaning.specs.declared.entry.Entry.TheVariants.{Tick, Item as In}
 use Rattle.stream_meaning.specs.History.{History, ◌▸◌}
+use Rattle.stream_meaning.specs.EndLaws.{first_fork}
 use Rattle.stream_meaning.specs.Emission.{Branch as MeantBranch, Children as children, Otherwise as otherwise, Fork as fork, Emission, to, emissions}
 use Rattle.stream_meaning.specs.Laws.{own_outputs}
 use Rattle.stream_states.specs.Kept.{keeps, KeptRepresents}
@@ -37,11 +38,12 @@ abbrev pub passed_same : MeantBranch → Entry → List Emission
 passed_same branch Tick = []
 passed_same branch (In item) = to branch item
 
+-- no key ends, so a key has its first fork alone
 abbrev pub emissions_meant : Passed → Entry → List Emission
 emissions_meant Nothing x = []
 emissions_meant (Same branch) x = passed_same (branch_meant branch) x
 emissions_meant (Made es) x = map emission_meant es
-emissions_meant (Keyed key) x = passed_same (fork key) x
+emissions_meant (Keyed key) x = passed_same (fork (first_fork key)) x
 
 -- ---- what is kept
 
@@ -54,12 +56,12 @@ pub record AreAt (own : List (List ℕ)) (first count : ℕ) (texts : List (List
   pub among : texts ≡ before ++ (own ++ after)
 
 -- A `where` keeps the numbers of its regular expressions among those of the whole plan, and a `by` the number from which
--- on its children have theirs. The other kinds that keep nothing of what came need no number.
+-- on its children have theirs; its forks do not end. The other kinds that keep nothing of what came need no number.
 abbrev pub HasNumbers : List (List ℕ) → KindTree → State → Type 0
 HasNumbers texts (Where rule) (Rule first count) = AreAt (searches rule) first count texts
 HasNumbers texts (Where rule) state = ⊥
-HasNumbers texts (By fields) (Forks first) = Unit {0}
-HasNumbers texts (By fields) state = ⊥
+HasNumbers texts (By fields idle) (Forks first) = idle ≡ None
+HasNumbers texts (By fields idle) state = ⊥
 HasNumbers texts kind state = keeps kind ≡ false
 
 -- the state holds something of what came

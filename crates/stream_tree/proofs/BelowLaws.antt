@@ -29,7 +29,7 @@ use Rattle.stream_step.specs.declared.passed.Branch.TheVariants as code
 use Rattle.stream_step.specs.Step.{branch_meant, branch_numbered, emission_meant}
 use Rattle.stream_tree.specs.declared.forest.Forest.{Forest}
 use Rattle.stream_tree.specs.declared.forest.Node.{Node}
-use Rattle.stream_tree.specs.Forest.{Meaning, nodes_of, Below, below_of, forked_by, CanFork, ForksRepresent, BelowRepresents, ForestRepresents}
+use Rattle.stream_tree.specs.Forest.{Meaning, nodes_of, Below, below_of, forked_by, key_fork, CanFork, ForksRepresent, BelowRepresents, ForestRepresents}
 use Rattle.stream_tree.specs.Forks.{FoundAt, IsFound}
 use Rattle.stream_tree.specs.Running.{ComesAt, Stops, ForestRuns, ForestStops, kind_of, children_of, otherwise_of, Received, BelowIs, effects_below, branches_by, FitsBranch, FitAll, with_branch, with_branches, UnseenHaveTicks, extended, entering, ForkComes, ForkRuns, ForkStops, AllCome, DueRuns, DueStops, TickRuns, TickStops, BranchRuns, BranchStops, AllAreAt, EmissionsRun, EmissionsStop}
 use Rattle.stream_tree.specs.Tree.{Performs, PerformsPart}
@@ -77,13 +77,13 @@ module _ (texts : List (List ℕ)) (plan : StreamTrees) (first : ℕ) (Means Bes
   otherwise_put None keys received x children otherwise forks otherwise' fits represents now = record { children = represents.children; otherwise = now; is_table = represents.is_table; no_forks = represents.no_forks }
   otherwise_put (Some fields) keys received x children otherwise forks otherwise' fits represents now = absurd fits
 
-  forks_represent : (shape : Option (List Field)) (keys : List (List Value)) (received : Received) (key : List Value) (below : Below) → FitsBranch shape (Fork key) →
-      BelowRepresents texts plan first Means Beside shape keys received below → CanFork texts plan first × ForksRepresent Means (plan_deadline plan) keys (λ k. received (Fork k)) below.forks
+  forks_represent : (shape : Option (List Field)) (keys : List (List Value)) (received : Received) (key : List Value) (below : Below) → FitsBranch shape (key_fork key) →
+      BelowRepresents texts plan first Means Beside shape keys received below → CanFork texts plan first × ForksRepresent Means (plan_deadline plan) keys (λ k. received (key_fork k)) below.forks
   forks_represent None keys received key below fits represents = absurd fits
   forks_represent (Some fields) keys received key below fits represents = (represents.can_fork, represents.forks)
 
-  forks_put : (shape : Option (List Field)) (keys keys' : List (List Value)) (received received' : Received) (key : List Value) (children otherwise : List Node) (forks forks' : ForkTable Forest) → FitsBranch shape (Fork key) →
-      BelowRepresents texts plan first Means Beside shape keys received (record { children = children; otherwise = otherwise; forks = forks }) → ForksRepresent Means (plan_deadline plan) keys' (λ k. received' (Fork k)) forks' →
+  forks_put : (shape : Option (List Field)) (keys keys' : List (List Value)) (received received' : Received) (key : List Value) (children otherwise : List Node) (forks forks' : ForkTable Forest) → FitsBranch shape (key_fork key) →
+      BelowRepresents texts plan first Means Beside shape keys received (record { children = children; otherwise = otherwise; forks = forks }) → ForksRepresent Means (plan_deadline plan) keys' (λ k. received' (key_fork k)) forks' →
       BelowRepresents texts plan first Means Beside shape keys' received' (record { children = children; otherwise = otherwise; forks = forks' })
   forks_put None keys keys' received received' key children otherwise forks forks' fits represents now = absurd fits
   forks_put (Some fields) keys keys' received received' key children otherwise forks forks' fits represents now =
@@ -143,22 +143,22 @@ module _ (start moment : ℕ) where
   module _ (s : Stream) (streams : List Stream) (is : streams ≡ (out-Stream s).children.items) (first : ℕ) (key : List Value) (x : Entry) (children otherwise : Forest) (forks found : ForkTable Forest) (number : ℕ)
       (finds : IsFound (list_trees streams) first start key forks found number) where
     -- the fork of the key is found
-    fork_found : (texts : List (List ℕ)) (keys : List (List Value)) (received : Received) → FitsBranch (forked_by (kind_of (opened s))) (Fork key) →
-        BelowIs texts (opened s) first keys received (below_of children otherwise forks) → UnseenHaveTicks (forked_by (kind_of (opened s))) keys received → ComesAt start moment (received (Fork key)) x →
-        FoundAt texts (children_of (opened s)) key keys (λ k. received (Fork k)) found number
+    fork_found : (texts : List (List ℕ)) (keys : List (List Value)) (received : Received) → FitsBranch (forked_by (kind_of (opened s))) (key_fork key) →
+        BelowIs texts (opened s) first keys received (below_of children otherwise forks) → UnseenHaveTicks (forked_by (kind_of (opened s))) keys received → ComesAt start moment (received (key_fork key)) x →
+        FoundAt texts (children_of (opened s)) key keys (λ k. received (key_fork k)) found number
     fork_found texts keys received fits represents unseen comes =
         let plan = children_of (opened s) in
         let trees : list_trees streams ≡ children_of (opened s) = ap list_trees is ∙ sym (children_of-opened s) in
         let here = forks_represent texts plan first (ForestRepresents texts plan) (ForestRepresents texts (otherwise_of (opened s))) (forked_by (kind_of (opened s))) keys received key (below_of children otherwise forks) fits represents in
-        subst (λ (trees : StreamTrees). IsFound trees first start key forks found number) trees finds texts keys (λ k. received (Fork k)) here.0 here.1 (unseen_fits (forked_by (kind_of (opened s))) keys received key fits unseen) comes.begins
+        subst (λ (trees : StreamTrees). IsFound trees first start key forks found number) trees finds texts keys (λ k. received (key_fork k)) here.0 here.1 (unseen_fits (forked_by (kind_of (opened s))) keys received key fits unseen) comes.begins
 
-    holds_there : (texts : List (List ℕ)) (keys : List (List Value)) (received : Received) → FoundAt texts (children_of (opened s)) key keys (λ k. received (Fork k)) found number →
-        ComesAt start moment (received (Fork key)) x → ForkComes start moment texts (children_of (opened s)) number found (received (Fork key)) x
+    holds_there : (texts : List (List ℕ)) (keys : List (List Value)) (received : Received) → FoundAt texts (children_of (opened s)) key keys (λ k. received (key_fork k)) found number →
+        ComesAt start moment (received (key_fork key)) x → ForkComes start moment texts (children_of (opened s)) number found (received (key_fork key)) x
     holds_there texts keys received at comes = record {
       is_table = at.forks_represent.is_table;
       within = let even = even_keys found (with_key key keys) at.forks_represent.is_table at.forks_represent.keys_are in omega (arith, even, at.within);
       fork = λ other.
-          subst (λ (k : List Value). ForestRepresents texts (children_of (opened s)) (nodes_of (get_or (fork_list found) number other)) (received (Fork k))) at.at_key
+          subst (λ (k : List Value). ForestRepresents texts (children_of (opened s)) (nodes_of (get_or (fork_list found) number other)) (received (key_fork k))) at.at_key
           (at.forks_represent.each number other at.within);
       comes = comes;
     }
@@ -318,7 +318,7 @@ module _ {G : Type 0} (patterns : List Regex) (start moment : ℕ) where
       × Performs a t b u (at_tick Tick (branch_effects (plan_effects plan) (plan_effects beside)) received (branches_by shape keys))
   due_case texts plan beside first None keys received a b t u children otherwise forks forks' forked from represents comes runs = absurd (cc)
   due_case texts plan beside first (Some fields) keys received a b t u children otherwise forks forks' forked from represents comes runs =
-      let ran = runs texts keys (λ key. received (Fork key)) from represents.can_fork.in_range represents.forks (λ key. comes (Fork key)) in (
+      let ran = runs texts keys (λ key. received (key_fork key)) from represents.can_fork.in_range represents.forks (λ key. comes (key_fork key)) in (
         record { can_fork = represents.can_fork; forks = ran.0; no_children = represents.no_children; no_otherwise = represents.no_otherwise },
         subst (λ (hs : List Effect). Performs a t b u hs) (sym (forks_tick (plan_effects plan) (plan_effects beside) received keys)) ran.1,
       )
@@ -340,7 +340,7 @@ module _ {G : Type 0} (patterns : List Regex) (start moment : ℕ) where
   due_stops_case texts plan beside first None keys received a b t u below forked from represents comes stops = absurd (cc)
   due_stops_case texts plan beside first (Some fields) keys received a b t u below forked from represents comes stops =
       subst (λ (hs : List Effect). Stops a t b u Tick hs) (sym (forks_tick (plan_effects plan) (plan_effects beside) received keys))
-      (stops texts keys (λ key. received (Fork key)) from represents.can_fork.in_range represents.forks (λ key. comes (Fork key)))
+      (stops texts keys (λ key. received (key_fork key)) from represents.can_fork.in_range represents.forks (λ key. comes (key_fork key)))
 
   pub due_stops : (s : Stream) (x : Entry) (a b : List Output) (t u : StepCount G) (children otherwise : Forest) (forks : ForkTable Forest) →
       is_some (forked_by (kind_tree (out-Stream s).kind)) ≡ true → x ≡ Tick → DueStops patterns start moment a t b u (children_of (opened s)) forks →
@@ -361,21 +361,21 @@ module _ {G : Type 0} (patterns : List Regex) (start moment : ℕ) where
   module _ (s : Stream) (streams : List Stream) (is : streams ≡ (out-Stream s).children.items) (first : ℕ) (key : List Value) (x : Entry) (children otherwise : Forest) (forks found : ForkTable Forest) (number : ℕ)
       (finds : IsFound (list_trees streams) first start key forks found number) where
     pub key_run : (a b : List Output) (t u : StepCount G) (forks' : ForkTable Forest) → ForkRuns patterns start moment a t b u x (children_of (opened s)) number found forks' →
-        BranchRuns patterns start moment a t b u x (opened s) first (Fork key) (below_of children otherwise forks) (below_of children otherwise forks')
+        BranchRuns patterns start moment a t b u x (opened s) first (key_fork key) (below_of children otherwise forks) (below_of children otherwise forks')
     key_run a b t u forks' runs texts keys received from fits represents unseen comes =
         let plan = children_of (opened s) in
         let at = fork_found start moment s streams is first key x children otherwise forks found number finds texts keys received fits represents unseen comes in
-        let ran = runs texts (received (Fork key)) from (holds_there start moment s streams is first key x children otherwise forks found number finds texts keys received at comes) in (
-          forks_put texts plan first (ForestRepresents texts plan) (ForestRepresents texts (otherwise_of (opened s))) (forked_by (kind_of (opened s))) keys (with_key key keys) received (extended (Fork key) x received) key
+        let ran = runs texts (received (key_fork key)) from (holds_there start moment s streams is first key x children otherwise forks found number finds texts keys received at comes) in (
+          forks_put texts plan first (ForestRepresents texts plan) (ForestRepresents texts (otherwise_of (opened s))) (forked_by (kind_of (opened s))) keys (with_key key keys) received (extended (key_fork key) x received) key
               (nodes_of children) (nodes_of otherwise) forks forks' fits represents (fork_goes_on texts plan x key keys received found forks' number at ran.0),
           ran.1,
         )
 
     pub key_stops : (a b : List Output) (t u : StepCount G) → ForkStops patterns start moment a t b u x (children_of (opened s)) number found →
-        BranchStops patterns start moment a t b u x (opened s) first (Fork key) (below_of children otherwise forks)
+        BranchStops patterns start moment a t b u x (opened s) first (key_fork key) (below_of children otherwise forks)
     key_stops a b t u stops texts keys received from fits represents unseen comes =
         let at = fork_found start moment s streams is first key x children otherwise forks found number finds texts keys received fits represents unseen comes in
-        stops texts (received (Fork key)) from (holds_there start moment s streams is first key x children otherwise forks found number finds texts keys received at comes)
+        stops texts (received (key_fork key)) from (holds_there start moment s streams is first key x children otherwise forks found number finds texts keys received at comes)
 
   -- the fork was not found
   pub key_missed : (s : StreamTree) (x : Entry) (first : ℕ) (branch : Branch) (a : List Output) (t : StepCount G) (below : Below) → BranchStops patterns start moment a t a t x s first branch below

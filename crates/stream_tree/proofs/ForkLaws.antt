@@ -1,5 +1,5 @@
 -- The forks of a `by`: the fork of a key, and an item that comes to it.
-use Rattle.std.proofs.Common.{◌≡◌, ◌≢◌, ℕ, zero, suc, ◌+◌, ◌<◌, ◌≤◌, ◌⊎◌, inl, inr, Bool, true, false, ◌||◌, cond, eqb, List, [], ◌∷◌, ◌++◌, length, get_or, position, Option, Some, None, IsSome, refl, sym, ap, ◌∙◌, subst, arith, length-append}
+use Rattle.std.proofs.Common.{◌≡◌, ◌≢◌, ℕ, zero, suc, ◌+◌, ◌<◌, ◌≤◌, ◌⊎◌, inl, inr, Bool, true, false, ◌||◌, ◌&&◌, ◌==◌, cond, eqb, List, [], ◌∷◌, ◌++◌, length, get_or, position, Option, Some, None, IsSome, refl, sym, ap, ◌∙◌, subst, arith, length-append}
 use mathlib.Core.Bool.{true≢false}
 use Rattle.std.specs.List.{All, AllByRecursion, IsDistinct, list_any}
 use Rattle.std.specs.Map.{keys_of}
@@ -23,16 +23,19 @@ use Rattle.stream_plan.specs.Tree.{StreamTrees}
 use Rattle.stream_meaning.specs.Branches.{same_branch, with_key}
 use Rattle.stream_meaning.specs.declared.entry.Entry.{Entry}
 use Rattle.stream_meaning.specs.Deadlines.{plan_deadline}
+use Rattle.stream_meaning.specs.Ends.{same_fork}
+use Rattle.stream_meaning.specs.EndLaws.{first_fork}
 use Rattle.stream_meaning.specs.Emission.{Branch, Children, Otherwise, Fork}
 use Rattle.stream_meaning.specs.History.{History, ◌▸◌, begun, TicksAlone}
 use Rattle.stream_meaning.specs.Laws.{is_among}
 use Rattle.tick_schedule.specs.Queue.{Sets, moment_at}
 use Rattle.stream_tree.specs.declared.forest.Forest.{Forest}
-use Rattle.stream_tree.specs.Forest.{Meaning, nodes_of, AreInRange, CanFork, ForksRepresent, ForestRepresents}
+use Rattle.stream_tree.specs.Forest.{key_fork, Meaning, nodes_of, AreInRange, CanFork, ForksRepresent, ForestRepresents}
 use Rattle.stream_tree.specs.Forks.{FoundAt, IsFound}
 use Rattle.stream_tree.specs.Fresh.{ForestIsFresh}
 use Rattle.stream_tree.specs.Running.{Received, FitsBranch, with_branch, UnseenHaveTicks, extended, ForkRan}
 use Rattle.stream_meaning.proofs.ForkLaws.{not_among-before}
+use Rattle.stream_meaning.proofs.MetLaws.{and_false}
 use Rattle.stream_tree.proofs.DueLaws.{even_keys, ticks_due}
 
 -- ---- keys
@@ -180,8 +183,8 @@ found_new streams first start next key forks forks' fork number absent fresh num
 -- ---- an item comes to the fork of a key
 
 pub fork_goes_on : (texts : List (List ℕ)) (streams : StreamTrees) (x : Entry) (key : List Value) (keys : List (List Value)) (received : Received) (forks forks' : ForkTable Forest) (number : ℕ) →
-    FoundAt texts streams key keys (λ k. received (Fork k)) forks number → ForkRan texts streams number forks forks' (received (Fork key) ▸ x) →
-    ForksRepresent (ForestRepresents texts streams) (plan_deadline streams) (with_key key keys) (λ k. extended (Fork key) x received (Fork k)) forks'
+    FoundAt texts streams key keys (λ k. received (key_fork k)) forks number → ForkRan texts streams number forks forks' (received (key_fork key) ▸ x) →
+    ForksRepresent (ForestRepresents texts streams) (plan_deadline streams) (with_key key keys) (λ k. extended (key_fork key) x received (key_fork k)) forks'
 fork_goes_on texts streams x key keys received forks forks' number found ran = record {
   is_table = ran.is_table;
   keys_are = ran.keys ∙ found.forks_represent.keys_are;
@@ -199,11 +202,11 @@ fork_goes_on texts streams x key keys received forks forks' number found ran = r
     distinct = subst (λ (ks : List (List Value)). IsDistinct same_key ks) found.forks_represent.keys_are found.forks_represent.is_table.distinct
 
     -- the fork of the key got the entry, and no other one
-    got : (k : List Value) (b : Bool) → same_key key k ≡ b → extended (Fork key) x received (Fork k) ≡ cond b (received (Fork k) ▸ x) (received (Fork k))
-    got k b e = ap (λ (t : Bool). cond t (received (Fork k) ▸ x) (received (Fork k))) e
+    got : (k : List Value) (b : Bool) → same_key key k ≡ b → extended (key_fork key) x received (key_fork k) ≡ cond b (received (key_fork k) ▸ x) (received (key_fork k))
+    got k b e = ap (λ (t : Bool). cond t (received (key_fork k) ▸ x) (received (key_fork k))) e
 
-    got_same : (k : List Value) → k ≡ key → extended (Fork key) x received (Fork k) ≡ received (Fork key) ▸ x
-    got_same k is = got k true (ap (same_key key) is ∙ same_self key) ∙ ap (λ (k : List Value). received (Fork k) ▸ x) is
+    got_same : (k : List Value) → k ≡ key → extended (key_fork key) x received (key_fork k) ≡ received (key_fork key) ▸ x
+    got_same k is = got k true (ap (same_key key) is ∙ same_self key) ∙ ap (λ (k : List Value). received (key_fork k) ▸ x) is
 
     apart : (n : ℕ) → n < length (with_key key keys) → n ≢ number → same_key key (get_or (with_key key keys) n []) ≡ false
     apart n within other =
@@ -211,24 +214,24 @@ fork_goes_on texts streams x key keys received forks forks' number found ran = r
         (apart_at (with_key key keys) number n distinct found.within within other)
 
     each_at : (n : ℕ) (other : Forest) → n < length (with_key key keys) → (b : Bool) → eqb n number ≡ b →
-        ForestRepresents texts streams (nodes_of (get_or (fork_list forks') n other)) (extended (Fork key) x received (Fork (get_or (with_key key keys) n [])))
+        ForestRepresents texts streams (nodes_of (get_or (fork_list forks') n other)) (extended (key_fork key) x received (key_fork (get_or (with_key key keys) n [])))
     each_at n other within true e =
         let is : number ≡ n = is_same n number e in
         subst (λ (h : History). ForestRepresents texts streams (nodes_of (get_or (fork_list forks') n other)) h)
         (sym (got_same (get_or (with_key key keys) n []) (ap (λ (m : ℕ). get_or (with_key key keys) m []) (sym is) ∙ found.at_key)))
-        (subst (λ (m : ℕ). ForestRepresents texts streams (nodes_of (get_or (fork_list forks') m other)) (received (Fork key) ▸ x)) is (ran.here other))
+        (subst (λ (m : ℕ). ForestRepresents texts streams (nodes_of (get_or (fork_list forks') m other)) (received (key_fork key) ▸ x)) is (ran.here other))
     each_at n other within false e =
         subst (λ (h : History). ForestRepresents texts streams (nodes_of (get_or (fork_list forks') n other)) h)
         (sym (got (get_or (with_key key keys) n []) false (apart n within (is_other n number e))))
-        (subst (λ (f : Forest). ForestRepresents texts streams (nodes_of f) (received (Fork (get_or (with_key key keys) n [])))) (sym (ran.elsewhere n other (is_other n number e)))
+        (subst (λ (f : Forest). ForestRepresents texts streams (nodes_of f) (received (key_fork (get_or (with_key key keys) n [])))) (sym (ran.elsewhere n other (is_other n number e)))
         (found.forks_represent.each n other within))
 
-    due_at : (n : ℕ) → n < length (with_key key keys) → (b : Bool) → eqb n number ≡ b → fork_due n forks' ≡ plan_deadline streams (extended (Fork key) x received (Fork (get_or (with_key key keys) n [])))
+    due_at : (n : ℕ) → n < length (with_key key keys) → (b : Bool) → eqb n number ≡ b → fork_due n forks' ≡ plan_deadline streams (extended (key_fork key) x received (key_fork (get_or (with_key key keys) n [])))
     due_at n within true e =
-        ran.dues n ∙ ap (λ (b : Bool). cond b (plan_deadline streams (received (Fork key) ▸ x)) (fork_due n forks)) e
+        ran.dues n ∙ ap (λ (b : Bool). cond b (plan_deadline streams (received (key_fork key) ▸ x)) (fork_due n forks)) e
         ∙ ap (plan_deadline streams) (sym (got_same (get_or (with_key key keys) n []) (ap (λ (m : ℕ). get_or (with_key key keys) m []) (sym (is_same n number e)) ∙ found.at_key)))
     due_at n within false e =
-        ran.dues n ∙ ap (λ (b : Bool). cond b (plan_deadline streams (received (Fork key) ▸ x)) (fork_due n forks)) e
+        ran.dues n ∙ ap (λ (b : Bool). cond b (plan_deadline streams (received (key_fork key) ▸ x)) (fork_due n forks)) e
         ∙ found.forks_represent.dues n within
         ∙ ap (plan_deadline streams) (sym (got (get_or (with_key key keys) n []) false (apart n within (is_other n number e))))
 
@@ -239,10 +242,11 @@ unseen_goes_on None branch x keys received unseen = tt
 unseen_goes_on (Some fields) Children x keys received unseen = λ key absent. unseen key absent
 unseen_goes_on (Some fields) Otherwise x keys received unseen = λ key absent. unseen key absent
 unseen_goes_on (Some fields) (Fork new) x keys received unseen = λ key absent.
-    let parts = not_among-before key new keys absent in
-    subst (λ (h : History). TicksAlone h) (sym (ap (λ (b : Bool). cond b (received (Fork key) ▸ x) (received (Fork key))) parts.1)) (unseen key parts.0)
+    let parts = not_among-before key new.key keys absent in
+    let other : same_fork new (first_fork key) ≡ false = ap (λ (b : Bool). new.number == 0 && b) parts.1 ∙ and_false (new.number == 0) in
+    subst (λ (h : History). TicksAlone h) (sym (ap (λ (b : Bool). cond b (received (key_fork key) ▸ x) (received (key_fork key))) other)) (unseen key parts.0)
 
-pub unseen_fits : (shape : Option (List Field)) (keys : List (List Value)) (received : Received) (key : List Value) → FitsBranch shape (Fork key) → UnseenHaveTicks shape keys received →
-    is_among key keys ≡ false → TicksAlone (received (Fork key))
+pub unseen_fits : (shape : Option (List Field)) (keys : List (List Value)) (received : Received) (key : List Value) → FitsBranch shape (key_fork key) → UnseenHaveTicks shape keys received →
+    is_among key keys ≡ false → TicksAlone (received (key_fork key))
 unseen_fits None keys received key fits unseen = absurd fits
 unseen_fits (Some fields) keys received key fits unseen = unseen key

@@ -17,15 +17,17 @@ use Rattle.stream_plan.proofs.Trees.{stream_tree-opened}
 use Rattle.stream_meaning.specs.Branches.{child_history, fork_keys}
 use Rattle.stream_meaning.specs.Deadlines.{plan_deadline}
 use Rattle.stream_meaning.specs.Emission.{Branch, Children, Otherwise, Fork}
-use Rattle.stream_meaning.specs.History.{History, begun, TicksAlone}
-use Rattle.stream_meaning.proofs.TickLaws.{ticks_handed_on, ticks_make_no_fork}
+use Rattle.stream_meaning.specs.declared.entry.Entry.TheVariants.{Tick, Item as In}
+use Rattle.stream_meaning.specs.History.{History, since, ◌▸◌, begun, TicksAlone}
+use Rattle.stream_meaning.proofs.TickLaws.{ticks_handed_on}
 use Rattle.stream_step.specs.declared.state.State.{State}
 use Rattle.stream_step.specs.declared.state.State.TheVariants.{Forks}
 use Rattle.stream_step.specs.Step.{StateRepresents}
 use Rattle.stream_tree.specs.declared.forest.Forest.{Forest}
 use Rattle.stream_tree.specs.declared.forest.Node.{Node, out-Node}
-use Rattle.stream_tree.specs.Forest.{IsStreamInRange, AreInRange, nodes_of, Meaning, Below, node_below, first_of, forked_by, keys_by, ForksRepresent, CanFork, BelowRepresents, PartsRepresent, NodeRepresents, ForestRepresents}
+use Rattle.stream_tree.specs.Forest.{IsStreamInRange, AreInRange, nodes_of, Meaning, Below, node_below, first_of, forked_by, key_fork, keys_by, ForksRepresent, CanFork, BelowRepresents, PartsRepresent, NodeRepresents, ForestRepresents}
 use Rattle.stream_tree.specs.Fresh.{ForestIsFresh, NodeIsFresh}
+use Rattle.stream_tree.proofs.EndlessLaws.{endless_of}
 use Rattle.stream_tree.proofs.KindLaws.{sound_in_range}
 
 abbrev Texts : Type 0
@@ -110,25 +112,32 @@ no_forks Means deadline keys received forks is_table empty are = record {
   dues = λ number within. let few : number < 0 = subst (λ (ks : List (List Value)). number < length ks) are within in absurd (omega (arith, few));
 }
 
+no_keys : (fields : List Field) (h : History) → TicksAlone h → fork_keys fields h ≡ []
+no_keys fields (since start) alone = refl
+no_keys fields (h ▸ Tick) alone = no_keys fields h alone
+no_keys fields (h ▸ In item) alone = absurd alone
+
 by_fresh : (kind : KindTree) (children otherwise : StreamTrees) (state : State) (below : Below) (start first : ℕ) → is_some (forked_by kind) ≡ true → StateStands kind state start first →
-    ((fields : List Field) → kind ≡ By fields → state ≡ Forks first) → IsTable below.forks → table_keys below.forks ≡ [] → below.children ≡ [] → below.otherwise ≡ [] →
+    ((fields : List Field) → kind ≡ By fields None → state ≡ Forks first) → IsTable below.forks → table_keys below.forks ≡ [] → below.children ≡ [] → below.otherwise ≡ [] →
     PartsFresh kind children otherwise state below start first
-by_fresh (By fields) children otherwise state below start first forked own keeps is_table empty no_children no_otherwise before after h alone begins ranges at small =
+by_fresh (By fields idle) children otherwise state below start first forked own keeps is_table empty no_children no_otherwise before after h alone begins ranges at small =
     let c = plan_patterns children in
     let o = plan_patterns otherwise in
-    let texts : Texts = before ++ ((c ++ o) ++ after) in (
-      state_part (By fields) children otherwise state start first own before after h alone begins ranges.0 at small,
+    let texts : Texts = before ++ ((c ++ o) ++ after) in
+    let stands = state_part (By fields idle) children otherwise state start first own before after h alone begins ranges.0 at small in
+    let endless : idle ≡ None = endless_of texts (By fields idle) state h stands in (
+      state_part (By fields idle) children otherwise state start first own before after h alone begins ranges.0 at small,
       record {
         can_fork = record {
           in_range = ranges.1;
           before = before;
           after = o ++ after;
-          begins = at ∙ ap first_of (sym (keeps fields refl));
+          begins = at ∙ ap first_of (sym (keeps fields (ap (λ (i : Option ℕ). By fields i) endless)));
           among = ap (λ (l : Texts). before ++ l) (append_assoc c o after);
           few = small;
         };
-        forks = no_forks (ForestRepresents texts children) (plan_deadline children) (fork_keys fields h) (λ key. child_history (By fields) (Fork key) h) below.forks is_table empty
-            (ticks_make_no_fork fields h alone);
+        forks = no_forks (ForestRepresents texts children) (plan_deadline children) (fork_keys fields h) (λ key. child_history (By fields idle) (key_fork key) h) below.forks is_table empty
+            (no_keys fields h alone);
         no_children = no_children;
         no_otherwise = no_otherwise;
       },
@@ -153,7 +162,7 @@ node_holds s children otherwise state below start first second third fourth chil
     (subst (λ (l : List Stream). ForestIsFresh (list_trees l) start third fourth below.otherwise) otherwise_is otherwise_fresh) is_table empty
 
 pub unforked_holds : (s : Stream) (state : State) (below : Below) (start first : ℕ) → is_some (forked_by (kind_tree (out-Stream s).kind)) ≡ true → StateStands (kind_tree (out-Stream s).kind) state start first →
-    ((fields : List Field) → kind_tree (out-Stream s).kind ≡ By fields → state ≡ Forks first) → IsTable below.forks → table_keys below.forks ≡ [] → below.children ≡ [] → below.otherwise ≡ [] →
+    ((fields : List Field) → kind_tree (out-Stream s).kind ≡ By fields None → state ≡ Forks first) → IsTable below.forks → table_keys below.forks ≡ [] → below.children ≡ [] → below.otherwise ≡ [] →
     OpenedFresh s state below start first
 unfolding opened stream_patterns
 unforked_holds s state below start first forked own keeps is_table empty no_children no_otherwise =

@@ -25,6 +25,7 @@ use Rattle.stream_meaning.specs.Images.{folded}
 use Rattle.stream_meaning.specs.Outputs.{Effect, Emits, BranchEffects, own_effects, emits_if_any, at_tick, at_emissions, received_more}
 use Rattle.stream_tree.specs.Forest.{IsStreamInRange, AreInRange, forked_by, keys_by}
 use Rattle.stream_tree.specs.Running.{Received, branches_by, FitsBranch, FitAll, with_branch, with_branches, given_to, entering}
+use Rattle.stream_tree.proofs.EndlessLaws.{IsEndless, branches_endless}
 use Rattle.stream_tree.proofs.PerformLaws.{nil_left, acted}
 
 -- ---- ranges
@@ -37,6 +38,8 @@ positive : (n : ℕ) (b : Bool) → (nat_le 1 n && b) ≡ true → 0 < n
 positive n b h = let one : nat_le 1 n ≡ true = (both (nat_le 1 n) b h).0 in grind (arith, nat_tests)
 
 kind_range : (kind : KindTree) → is_in_range kind ≡ true → HasRange kind
+kind_range (By fields None) h = tt
+kind_range (By fields (Some secs)) h = positive secs _ h
 kind_range (Rollup n secs) h = let parts = both (is_count n) (is_secs secs) h in (positive n _ parts.0, positive secs _ parts.1)
 kind_range (Batch n secs) h = let parts = both (is_count n) (is_secs secs) h in positive secs _ parts.1
 kind_range (Coalesce secs) h = positive secs _ h
@@ -84,9 +87,9 @@ sound_in_range plan sound = plan_in_range plan [] 0 _ sound.in_range
 
 -- ---- branches
 
-pub branches_are : (kind : KindTree) (h : History) → branches kind h ≡ branches_by (forked_by kind) (keys_by (forked_by kind) h)
-branches_are Index h = refl
-branches_are kind h = refl
+pub branches_are : (kind : KindTree) (h : History) → IsEndless kind → branches kind h ≡ branches_by (forked_by kind) (keys_by (forked_by kind) h)
+branches_are (By fields idle) h endless = branches_endless fields idle h endless
+branches_are kind h endless = refl
 
 children_fit : (items : List Item) → FitAll None (to_children items)
 children_fit [] = tt
@@ -114,10 +117,10 @@ routed_fits rule Tick = tt
 routed_fits rule (In (One event)) = (test_fits (holds rule event), tt)
 routed_fits rule (In (Many es)) = tt
 
-forked_fits : (fields : List Field) (x : Entry) → FitAll (Some fields) (forked fields x)
-forked_fits fields Tick = tt
-forked_fits fields (In (One event)) = (tt, tt)
-forked_fits fields (In (Many es)) = tt
+forked_fits : (fields : List Field) (idle : Option ℕ) (h : History) (x : Entry) → FitAll (Some fields) (forked idle fields (h ▸ x))
+forked_fits fields idle h Tick = tt
+forked_fits fields idle h (In (One event)) = (tt, tt)
+forked_fits fields idle h (In (Many es)) = tt
 
 fold_fits : (fold : Fold) (x : Entry) → FitAll None (fold_of fold x)
 fold_fits fold Tick = tt
@@ -132,7 +135,7 @@ emissions_fit (Where rule) h x = routed_fits rule x
 emissions_fit (With sets) h x = image_fits _ x
 emissions_fit (Default sets) h x = image_fits _ x
 emissions_fit (Tag tags) h x = image_fits _ x
-emissions_fit (By fields) h x = forked_fits fields x
+emissions_fit (By fields idle) h x = forked_fits fields idle h x
 emissions_fit (Smap fold) h x = fold_fits fold x
 emissions_fit kind h x = children_fit _
 
@@ -141,7 +144,7 @@ emissions_fit kind h x = children_fit _
 branch_keys : (branch : Branch) (keys : List (List Value)) → FitsBranch None branch → with_branch branch keys ≡ keys
 branch_keys Children keys fits = refl
 branch_keys Otherwise keys fits = refl
-branch_keys (Fork key) keys fits = absurd fits
+branch_keys (Fork fork) keys fits = absurd fits
 
 fit_keys : (es : List Emission) (keys : List (List Value)) → FitAll None es → with_branches es keys ≡ keys
 fit_keys [] keys fit = refl
@@ -149,9 +152,9 @@ fit_keys (emission ∷ es) keys fit = ap (λ (ks : List (List Value)). with_bran
 
 -- the keys after one more entry
 pub keys_go_on : (kind : KindTree) (h : History) (x : Entry) → keys_by (forked_by kind) (h ▸ x) ≡ with_branches (emissions kind (h ▸ x)) (keys_by (forked_by kind) h)
-keys_go_on (By fields) h Tick = refl
-keys_go_on (By fields) h (In (One event)) = refl
-keys_go_on (By fields) h (In (Many es)) = refl
+keys_go_on (By fields idle) h Tick = refl
+keys_go_on (By fields idle) h (In (One event)) = refl
+keys_go_on (By fields idle) h (In (Many es)) = refl
 keys_go_on kind h x = sym (fit_keys (emissions kind (h ▸ x)) [] (emissions_fit kind h x))
 
 -- ---- effects
@@ -159,7 +162,7 @@ keys_go_on kind h x = sym (fit_keys (emissions kind (h ▸ x)) [] (emissions_fit
 none_given : (branch : Branch) → FitsBranch None branch → given_to branch ≡ []
 none_given Children fits = refl
 none_given Otherwise fits = refl
-none_given (Fork key) fits = absurd fits
+none_given (Fork fork) fits = absurd fits
 
 plain_emissions : (effects_in : BranchEffects) (received : Received) (es : List Emission) → FitAll None es → at_emissions (entering effects_in) received es ≡ at_emissions effects_in received es
 plain_emissions effects_in received [] fit = refl
@@ -173,9 +176,9 @@ plain_emissions effects_in received (emission ∷ es) fit =
 pub all_effects : (kind : KindTree) (h : History) (x : Entry) (effects_in : BranchEffects) (before after : Received) (bs : List Branch) →
     acted (forked_by kind) (own_effects kind (h ▸ x)) ++ at_tick x effects_in before bs ++ at_emissions (entering effects_in) after (emissions kind (h ▸ x))
     ≡ own_effects kind (h ▸ x) ++ at_tick x effects_in before bs ++ at_emissions effects_in after (emissions kind (h ▸ x))
-all_effects (By fields) h Tick effects_in before after bs = refl
-all_effects (By fields) h (In (One event)) effects_in before after bs = refl
-all_effects (By fields) h (In (Many es)) effects_in before after bs = refl
+all_effects (By fields idle) h Tick effects_in before after bs = refl
+all_effects (By fields idle) h (In (One event)) effects_in before after bs = refl
+all_effects (By fields idle) h (In (Many es)) effects_in before after bs = refl
 all_effects kind h x effects_in before after bs =
     ap (λ (l : List Effect). own_effects kind (h ▸ x) ++ at_tick x effects_in before bs ++ l) (plain_emissions effects_in after (emissions kind (h ▸ x)) (emissions_fit kind h x))
 

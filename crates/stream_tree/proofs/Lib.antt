@@ -1,4 +1,5 @@
 pub mod PerformLaws
+pub mod EndlessLaws
 pub mod KindLaws
 pub mod StillLaws
 pub mod DueLaws

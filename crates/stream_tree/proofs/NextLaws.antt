@@ -20,7 +20,7 @@ use Rattle.stream_plan.specs.Search.{opened}
 use Rattle.stream_plan.specs.Tree.{KindTree, StreamTree, StreamTrees, stream, kind_tree, stream_tree, list_trees}
 use Rattle.stream_plan.proofs.Trees.{stream_tree-opened}
 use Rattle.stream_meaning.specs.Branches.{child_history, branches}
-use Rattle.stream_meaning.specs.Deadlines.{next_deadline, earlier, earliest, deadline_of, stream_deadline, plan_deadline}
+use Rattle.stream_meaning.specs.Deadlines.{next_deadline, earlier, earliest, deadline_of, branch_end, until, stream_deadline, plan_deadline}
 use Rattle.stream_meaning.specs.Emission.{Branch, Children, Otherwise, Fork}
 use Rattle.stream_meaning.specs.History.{History, moment_of}
 use Rattle.stream_meaning.proofs.MomentLaws.{branch_moments}
@@ -29,9 +29,10 @@ use Rattle.stream_step.specs.Step.{StateRepresents}
 use Rattle.tick_schedule.specs.Queue.{moment_at, IsNext}
 use Rattle.stream_tree.specs.declared.forest.Forest.{Forest}
 use Rattle.stream_tree.specs.declared.forest.Node.{Node, out-Node}
-use Rattle.stream_tree.specs.Forest.{Meaning, Below, first_of, forked_by, keys_by, ForksRepresent, BelowRepresents, PartsRepresent, NodeRepresents, ForestRepresents}
+use Rattle.stream_tree.specs.Forest.{Meaning, Below, first_of, forked_by, key_fork, keys_by, ForksRepresent, BelowRepresents, PartsRepresent, NodeRepresents, ForestRepresents}
 use Rattle.stream_tree.specs.Running.{branches_by}
 use Rattle.stream_tree.proofs.DueLaws.{even_keys}
+use Rattle.stream_tree.proofs.EndlessLaws.{IsEndless, endless_of, no_end}
 use Rattle.stream_tree.proofs.KindLaws.{branches_are}
 
 -- ---- the lesser of two
@@ -102,9 +103,9 @@ next_is Means deadline keys received forks (Some m) represents least =
 
 -- ---- what is below a stream
 
-map_twice : (f : Branch → Option ℕ) (keys : List (List Value)) → map f (map Fork keys) ≡ map (λ key. f (Fork key)) keys
+map_twice : (f : Branch → Option ℕ) (keys : List (List Value)) → map f (map key_fork keys) ≡ map (λ key. f (key_fork key)) keys
 map_twice f [] = refl
-map_twice f (key ∷ keys) = ap (λ (l : List (Option ℕ)). f (Fork key) ∷ l) (map_twice f keys)
+map_twice f (key ∷ keys) = ap (λ (l : List (Option ℕ)). f (key_fork key) ∷ l) (map_twice f keys)
 
 plain_below : (texts : List (List ℕ)) (plan beside : StreamTrees) (first : ℕ) (shape : Option (List Field)) (keys : List (List Value)) (received : Branch → History) (below : Below) (one two : Option ℕ) → is_some shape ≡ false →
     BelowRepresents texts plan first (ForestRepresents texts plan) (ForestRepresents texts beside) shape keys received below →
@@ -121,7 +122,7 @@ forked_below : (texts : List (List ℕ)) (plan beside : StreamTrees) (first : �
     next ≡ earliest (map (λ branch. deadline_of (plan_deadline plan) (plan_deadline beside) branch (received branch)) (branches_by shape keys))
 forked_below texts plan beside first None keys received below next forked represents least = absurd (cc)
 forked_below texts plan beside first (Some fields) keys received below next forked represents least =
-    next_is (ForestRepresents texts plan) (plan_deadline plan) keys (λ key. received (Fork key)) below.forks next represents.forks least
+    next_is (ForestRepresents texts plan) (plan_deadline plan) keys (λ key. received (key_fork key)) below.forks next represents.forks least
     ∙ ap earliest (sym (map_twice (λ branch. deadline_of (plan_deadline plan) (plan_deadline beside) branch (received branch)) keys))
 
 -- ---- one stream
@@ -135,6 +136,16 @@ DueOf plan nodes due = (texts : List (List ℕ)) (h : History) → ForestReprese
 abbrev OwnDue : State → Option ℕ → Type 0
 OwnDue state due = (texts : List (List ℕ)) (kind : KindTree) (h : History) → StateRepresents texts kind state h → moment_of h ≤ 2 ^ 40 → due ≡ next_deadline kind h
 
+map_same : (f g : Branch → Option ℕ) → ((branch : Branch) → f branch ≡ g branch) → (bs : List Branch) → map f bs ≡ map g bs
+map_same f g e [] = refl
+map_same f g e (branch ∷ bs) = ap (λ (d : Option ℕ). d ∷ map f bs) (e branch) ∙ ap (λ (l : List (Option ℕ)). g branch ∷ l) (map_same f g e bs)
+
+-- no deadline is cut
+uncut : (kind : KindTree) (h : History) (deadline : Branch → Option ℕ) → IsEndless kind →
+    earliest (map deadline (branches kind h)) ≡ earliest (map (λ branch. until (branch_end kind branch h) (deadline branch)) (branches kind h))
+uncut kind h deadline endless =
+    ap earliest (map_same deadline (λ branch. until (branch_end kind branch h) (deadline branch)) (λ branch. sym (ap (λ (end : Option ℕ). until end (deadline branch)) (no_end kind branch h endless))) (branches kind h))
+
 parts_plain : (kind : KindTree) (children otherwise : StreamTrees) (state : State) (below : Below) (own one two : Option ℕ) → is_some (forked_by kind) ≡ false → OwnDue state own → DueOf children below.children one → DueOf otherwise below.otherwise two →
     (texts : List (List ℕ)) (h : History) → PartsRepresent texts (stream kind children otherwise) state below h → moment_of h ≤ 2 ^ 40 → earlier own (earlier one two) ≡ stream_deadline (stream kind children otherwise) h
 parts_plain kind children otherwise state below own one two plain own_is one_is two_is texts h represents small =
@@ -143,7 +154,8 @@ parts_plain kind children otherwise state below own one two plain own_is one_is 
     ∙ ap (earlier (next_deadline kind h))
     (plain_below texts children otherwise (first_of state) (forked_by kind) (keys_by (forked_by kind) h) (λ branch. child_history kind branch h) below one two plain represents.1
     (λ here. one_is texts (child_history kind Children h) here (small_below kind Children h small)) (λ here. two_is texts (child_history kind Otherwise h) here (small_below kind Otherwise h small))
-    ∙ ap (λ (bs : List Branch). earliest (map deadline bs)) (sym (branches_are kind h)))
+    ∙ ap (λ (bs : List Branch). earliest (map deadline bs)) (sym (branches_are kind h (endless_of texts kind state h represents.0)))
+    ∙ uncut kind h deadline (endless_of texts kind state h represents.0))
 
 parts_forked : (kind : KindTree) (children otherwise : StreamTrees) (state : State) (below : Below) (own next : Option ℕ) → is_some (forked_by kind) ≡ true → OwnDue state own → IsNext (fork_dues below.forks) next →
     (texts : List (List ℕ)) (h : History) → PartsRepresent texts (stream kind children otherwise) state below h → moment_of h ≤ 2 ^ 40 → earlier own next ≡ stream_deadline (stream kind children otherwise) h
@@ -152,7 +164,8 @@ parts_forked kind children otherwise state below own next forked own_is least te
     ap (λ (d : Option ℕ). earlier d next) (own_is texts kind h represents.0 small)
     ∙ ap (earlier (next_deadline kind h))
     (forked_below texts children otherwise (first_of state) (forked_by kind) (keys_by (forked_by kind) h) (λ branch. child_history kind branch h) below next forked represents.1 least
-    ∙ ap (λ (bs : List Branch). earliest (map deadline bs)) (sym (branches_are kind h)))
+    ∙ ap (λ (bs : List Branch). earliest (map deadline bs)) (sym (branches_are kind h (endless_of texts kind state h represents.0)))
+    ∙ uncut kind h deadline (endless_of texts kind state h represents.0))
 
 pub node_plain : (s : Stream) (children otherwise : List Stream) (state : State) (below : Below) (own one two : Option ℕ) → is_some (forked_by (kind_tree (out-Stream s).kind)) ≡ false → children ≡ (out-Stream s).children.items →
     otherwise ≡ (out-Stream s).otherwise.items → OwnDue state own → DueOf (list_trees children) below.children one → DueOf (list_trees otherwise) below.otherwise two →

@@ -73,7 +73,7 @@ item_counts kind h Tick plain = let none = emits-nothing (emissions kind (h ▸ 
 item_counts Index h (In (One event)) plain = (refl, refl)
 item_counts Index h (In (Many es)) plain = (refl, refl)
 item_counts (Notice name) h (In item) plain = (refl, refl)
-item_counts (By fields) h (In item) plain = cc
+item_counts (By fields idle) h (In item) plain = cc
 item_counts kind h (In item) plain = (refl, refl)
 
 -- the effects that a stream itself performs: what is given to a fork is counted where the fork is entered
@@ -155,8 +155,8 @@ module _ {G : Type 0} where
       forks_say_nothing kind h Tick is = refl
       forks_say_nothing Index h (In item) is = cc
       forks_say_nothing (Notice name) h (In item) is = cc
-      forks_say_nothing (By other) h (In (One event)) is = refl
-      forks_say_nothing (By other) h (In (Many es)) is = refl
+      forks_say_nothing (By other idle) h (In (One event)) is = refl
+      forks_say_nothing (By other idle) h (In (Many es)) is = refl
       forks_say_nothing kind h (In item) is = refl
 
   -- a part of what it does

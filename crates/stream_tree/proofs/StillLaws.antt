@@ -21,8 +21,9 @@ use Rattle.stream_step.specs.Step.{StateRepresents}
 use Rattle.stream_step.proofs.StepLaws.{states_stay}
 use Rattle.stream_tree.specs.declared.forest.Forest.{Forest}
 use Rattle.stream_tree.specs.declared.forest.Node.{Node, out-Node}
-use Rattle.stream_tree.specs.Forest.{AreInRange, Meaning, nodes_of, Below, node_below, first_of, forked_by, keys_by, ForksRepresent, CanFork, BelowRepresents, PartsRepresent, ForestRepresents}
+use Rattle.stream_tree.specs.Forest.{AreInRange, Meaning, nodes_of, Below, node_below, first_of, forked_by, key_fork, keys_by, ForksRepresent, CanFork, BelowRepresents, PartsRepresent, ForestRepresents}
 use Rattle.stream_tree.specs.Running.{branches_by}
+use Rattle.stream_tree.proofs.EndlessLaws.{endless_of}
 use Rattle.stream_tree.proofs.KindLaws.{plan_ranges, branches_are, no_emission}
 use Rattle.stream_tree.proofs.PerformLaws.{nil_left, nil_right}
 
@@ -74,8 +75,8 @@ module _ (texts : List (List ℕ)) (plan : StreamTrees) (first : ℕ) (Means Bes
       is_table = represents.forks.is_table;
       keys_are = represents.forks.keys_are;
       each = λ number other within.
-          subst (λ (h : History). Means (nodes_of (get_or (fork_list below.forks) number other)) h) (same (Fork (get_or keys number []))) (represents.forks.each number other within);
-      dues = λ number within. represents.forks.dues number within ∙ ap (plan_deadline plan) (same (Fork (get_or keys number [])));
+          subst (λ (h : History). Means (nodes_of (get_or (fork_list below.forks) number other)) h) (same (key_fork (get_or keys number []))) (represents.forks.each number other within);
+      dues = λ number within. represents.forks.dues number within ∙ ap (plan_deadline plan) (same (key_fork (get_or keys number [])));
     };
     no_children = represents.no_children;
     no_otherwise = represents.no_otherwise;
@@ -83,8 +84,8 @@ module _ (texts : List (List ℕ)) (plan : StreamTrees) (first : ℕ) (Means Bes
 
 -- the effects of a tick in the forks
 pub forks_tick : (below beside : History → List Effect) (received : Branch → History) (keys : List (List Value)) →
-    at_tick Tick (branch_effects below beside) received (map Fork keys) ≡ flat_map (λ key. due_if_any (below (received (Fork key) ▸ Tick))) keys
-forks_tick below beside received keys = flat_map-map (λ branch. marked branch (branch_effects below beside branch (received branch ▸ Tick))) Fork keys
+    at_tick Tick (branch_effects below beside) received (map key_fork keys) ≡ flat_map (λ key. due_if_any (below (received (key_fork key) ▸ Tick))) keys
+forks_tick below beside received keys = flat_map-map (λ branch. marked branch (branch_effects below beside branch (received branch ▸ Tick))) key_fork keys
 
 abbrev pub IsStill : Meaning → (History → List Effect) → Type 0
 IsStill Means effects = (nodes : List Node) (h : History) → Means nodes h → effects (h ▸ Tick) ≡ [] → Means nodes (h ▸ Tick)
@@ -115,7 +116,7 @@ below_still texts plan beside first Means Beside None keys received below still 
     }
 below_still texts plan beside first Means Beside (Some fields) keys received below still still' empty represents = record {
   can_fork = represents.can_fork;
-  forks = forks_still plan Means keys (λ key. received (Fork key)) below.forks represents.can_fork.in_range still
+  forks = forks_still plan Means keys (λ key. received (key_fork key)) below.forks represents.can_fork.in_range still
       (sym (forks_tick (plan_effects plan) (plan_effects beside) received keys) ∙ empty) represents.forks;
   no_children = represents.no_children;
   no_otherwise = represents.no_otherwise;
@@ -133,7 +134,7 @@ mutual
       let after = at_emissions effects_in (λ (branch : Branch). received branch ▸ Tick) (emissions kind (h ▸ Tick)) in
       let quiet : emissions kind (h ▸ Tick) ≡ [] = no_emission kind h tick after empty in
       let silent : at_tick Tick effects_in received (branches_by (forked_by kind) (keys_by (forked_by kind) h)) ≡ [] =
-      ap (at_tick Tick effects_in received) (sym (branches_are kind h)) ∙ nil_right own tick (nil_left (own ++ tick) after empty) in
+      ap (at_tick Tick effects_in received) (sym (branches_are kind h (endless_of texts kind state h represents.0))) ∙ nil_right own tick (nil_left (own ++ tick) after empty) in
       let Means = ForestRepresents texts children in
       let Beside = ForestRepresents texts otherwise in
       let ticked = below_still texts children otherwise (first_of state) Means Beside (forked_by kind) (keys_by (forked_by kind) h) received below

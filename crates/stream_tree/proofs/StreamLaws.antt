@@ -1,5 +1,5 @@
 -- One entry at one stream: the stream acts, a tick goes on, and then each emission does.
-use Rattle.std.proofs.Common.{◌≡◌, ℕ, ◌+◌, ◌≤◌, ◌^◌, true, false, List, [], ◌++◌, Some, refl, sym, ap, ◌∙◌, subst}
+use Rattle.std.proofs.Common.{◌≡◌, ℕ, ◌+◌, ◌≤◌, ◌^◌, true, false, List, [], ◌++◌, Option, Some, refl, sym, ap, ◌∙◌, subst}
 use mathlib.Core.Bool.{true≢false}
 use Rattle.ev_types.specs.declared.field.Field.{Field}
 use Rattle.ev_types.specs.declared.item.Output.{Output}
@@ -18,7 +18,6 @@ use Rattle.stream_meaning.specs.Emission.{Branch, Fork, Emission, emissions}
 use Rattle.stream_meaning.specs.History.{History, ◌▸◌, begun, moment_of, TicksAlone}
 use Rattle.stream_meaning.specs.Laws.{own_outputs}
 use Rattle.stream_meaning.specs.Outputs.{Effect, branch_effects, own_effects, at_tick, at_emissions, stream_effects, plan_effects}
-use Rattle.stream_meaning.proofs.ForkLaws.{unseen_fork}
 use Rattle.stream_meaning.proofs.MomentLaws.{branch_moments}
 use Rattle.stream_step.specs.declared.passed.Passed.{Passed}
 use Rattle.stream_step.specs.declared.state.State.{State}
@@ -26,9 +25,10 @@ use Rattle.stream_step.specs.stream_states.Kept.{keeps}
 use Rattle.stream_step.specs.declared.state.State.TheVariants as variant
 use Rattle.stream_step.proofs.KeptLaws.{kept_keeps}
 use Rattle.stream_step.specs.Step.{emissions_meant, is_kept, StateRepresents, Acts}
-use Rattle.stream_tree.specs.Forest.{Meaning, Below, first_of, forked_by, keys_by, BelowRepresents, PartsRepresent, ForestRepresents}
+use Rattle.stream_tree.specs.Forest.{Meaning, Below, first_of, forked_by, key_fork, keys_by, BelowRepresents, PartsRepresent, ForestRepresents}
 use Rattle.stream_tree.specs.Running.{ComesAt, Stops, StreamRuns, StreamStops, UnseenHaveTicks, entering, AllCome, AllAreAt, TickRuns, TickStops, EmissionsRun, EmissionsStop}
 use Rattle.stream_tree.specs.Tree.{Performs, PerformsPart}
+use Rattle.stream_tree.proofs.EndlessLaws.{IsEndless, endless_of, unseen_endless}
 use Rattle.stream_tree.proofs.KindLaws.{branches_are, emissions_fit, keys_go_on, all_effects, no_emission}
 use Rattle.stream_tree.proofs.PerformLaws.{acted, grew_then, part_then, part_more, stops_more, stops_then, own_grew, own_part}
 
@@ -49,21 +49,21 @@ still_alone h Tick alone = alone
 still_alone h (In item) alone = alone
 
 -- a fork that is not there has received ticks alone, also after a tick
-unseen_ticked : (kind : KindTree) (h : History) (x : Entry) → UnseenHaveTicks (forked_by kind) (keys_by (forked_by kind) h) (λ branch. ticked x (child_history kind branch h))
-unseen_ticked (By fields) h x = λ key absent. still_alone (child_history (By fields) (Fork key) h) x (unseen_fork fields key h absent)
-unseen_ticked kind h x = tt
+unseen_ticked : (kind : KindTree) (h : History) (x : Entry) → IsEndless kind → UnseenHaveTicks (forked_by kind) (keys_by (forked_by kind) h) (λ branch. ticked x (child_history kind branch h))
+unseen_ticked (By fields idle) h x endless = λ key absent. still_alone (child_history (By fields idle) (key_fork key) h) x (unseen_endless fields idle key h endless absent)
+unseen_ticked kind h x endless = tt
 
 -- the state of a `by` has a number alone
-by_keeps_nothing : (texts : List (List ℕ)) (fields : List Field) (state : State) (h : History) → StateRepresents texts (By fields) state h → is_kept state ≡ false
-by_keeps_nothing texts fields (variant.Kept held) h represents = absurd (true≢false (sym (kept_keeps held) ∙ ap keeps represents.keeps.same_kind))
-by_keeps_nothing texts fields state h represents = refl
+by_keeps_nothing : (texts : List (List ℕ)) (fields : List Field) (idle : Option ℕ) (state : State) (h : History) → StateRepresents texts (By fields idle) state h → is_kept state ≡ false
+by_keeps_nothing texts fields idle (variant.Kept held) h represents = absurd (true≢false (sym (kept_keeps held) ∙ ap keeps represents.keeps.same_kind))
+by_keeps_nothing texts fields idle state h represents = refl
 
 -- so the number stays
 below_first : (kind : KindTree) (texts : List (List ℕ)) (plan : StreamTrees) (Means Beside : Meaning) (keys : List (List Value)) (received : Branch → History) (below : Below) (state state' : State) (h : History) →
     StateRepresents texts kind state h → (is_kept state ≡ false → state' ≡ state) →
     BelowRepresents texts plan (first_of state) Means Beside (forked_by kind) keys received below → BelowRepresents texts plan (first_of state') Means Beside (forked_by kind) keys received below
-below_first (By fields) texts plan Means Beside keys received below state state' h represents same here =
-    subst (λ (s : State). BelowRepresents texts plan (first_of s) Means Beside (Some fields) keys received below) (sym (same (by_keeps_nothing texts fields state h represents))) here
+below_first (By fields idle) texts plan Means Beside keys received below state state' h represents same here =
+    subst (λ (s : State). BelowRepresents texts plan (first_of s) Means Beside (Some fields) keys received below) (sym (same (by_keeps_nothing texts fields idle state h represents))) here
 below_first kind texts plan Means Beside keys received below state state' h represents same here = here
 
 come : (start moment : ℕ) (kind : KindTree) (x : Entry) (h : History) → ComesAt start moment h x → AllCome start moment (λ branch. child_history kind branch h) x
@@ -109,7 +109,7 @@ module _ {G : Type 0} (patterns : List Regex) (start moment : ℕ) (kind : KindT
         below = tick.0;
         grew = grew_then a b c t t u (acted (forked_by kind) (own_effects kind (h ▸ x))) (at_tick x effects_in received (branches kind h))
             (own_grew kind h x a b t (forked_by kind) refl acted_so.said)
-            (subst (λ (bs : List Branch). Performs b t c u (at_tick x effects_in received bs)) (sym (branches_are kind h)) tick.1);
+            (subst (λ (bs : List Branch). Performs b t c u (at_tick x effects_in received bs)) (sym (branches_are kind h (endless_of texts kind state h represents.0))) tick.1);
       }
 
   parts_run : (state state' : State) (passed : Passed) (a b c d : List Output) (t u v : StepCount G) (below below' below'' : Below) → StateActs patterns moment kind x state state' passed a b → (is_kept state ≡ false → state' ≡ state) →
@@ -124,7 +124,7 @@ module _ {G : Type 0} (patterns : List Regex) (start moment : ℕ) (kind : KindT
       let es = emissions kind (h ▸ x) in
       let passes : EmissionsRun patterns start moment c u d v es (stream kind children otherwise) (first_of state') below' below'' =
       subst (λ (es : List Emission). EmissionsRun patterns start moment c u d v es (stream kind children otherwise) (first_of state') below' below'') half.passes runs in
-      let last = passes texts (keys_by (forked_by kind) h) after from (emissions_fit kind h x) half.below (unseen_ticked kind h x) (stand start moment kind x h comes) in (
+      let last = passes texts (keys_by (forked_by kind) h) after from (emissions_fit kind h x) half.below (unseen_ticked kind h x (endless_of texts kind state h represents.0)) (stand start moment kind x h comes) in (
         (
           half.represents,
           subst (λ (keys : List (List Value)). BelowRepresents texts children (first_of state') (ForestRepresents texts children) (ForestRepresents texts otherwise) (forked_by kind) keys (λ branch. child_history kind branch (h ▸ x)) below'')
@@ -166,7 +166,7 @@ module _ {G : Type 0} (patterns : List Regex) (start moment : ℕ) (kind : KindT
       subst (λ (hs : List Effect). Stops a t c u x hs) (all_effects kind h x effects_in received after (branches kind h))
       (stops_more a c t u x (own ++ tick) (at_emissions (entering effects_in) after (emissions kind (h ▸ x)))
       (stops_then a b c t t u x own tick (own_grew kind h x a b t (forked_by kind) refl acted_so.said)
-      (subst (λ (bs : List Branch). Stops b t c u x (at_tick x effects_in received bs)) (sym (branches_are kind h)) stop)))
+      (subst (λ (bs : List Branch). Stops b t c u x (at_tick x effects_in received bs)) (sym (branches_are kind h (endless_of texts kind state h represents.0))) stop)))
 
   passed_stops : (state state' : State) (passed : Passed) (a b c d : List Output) (t u v : StepCount G) (below below' : Below) → StateActs patterns moment kind x state state' passed a b → (is_kept state ≡ false → state' ≡ state) →
       TickRuns patterns start moment b t c u x (stream kind children otherwise) (first_of state') below below' →
@@ -180,7 +180,7 @@ module _ {G : Type 0} (patterns : List Regex) (start moment : ℕ) (kind : KindT
       let es = emissions kind (h ▸ x) in
       let passes : EmissionsStop patterns start moment c u d v es (stream kind children otherwise) (first_of state') below' =
       subst (λ (es : List Emission). EmissionsStop patterns start moment c u d v es (stream kind children otherwise) (first_of state') below') half.passes stops in
-      let last = passes texts (keys_by (forked_by kind) h) after from (emissions_fit kind h x) half.below (unseen_ticked kind h x) (stand start moment kind x h comes) in record {
+      let last = passes texts (keys_by (forked_by kind) h) after from (emissions_fit kind h x) half.below (unseen_ticked kind h x (endless_of texts kind state h represents.0)) (stand start moment kind x h comes) in record {
         part = subst (λ (hs : List Effect). PerformsPart a t d v hs) (all_effects kind h x effects_in received after (branches kind h))
             (part_then a c d t u v (acted (forked_by kind) (own_effects kind (h ▸ x)) ++ at_tick x effects_in received (branches kind h)) (at_emissions (entering effects_in) after es) half.grew last.0);
         busy = λ is none.

@@ -10,6 +10,7 @@ use Rattle.stream_plan.specs.Ready.{plan_patterns}
 use Rattle.stream_plan.specs.Tree.{KindTree, By, StreamTree, StreamTrees, stream, none, also}
 use Rattle.stream_meaning.specs.Branches.{child_history, fork_keys}
 use Rattle.stream_meaning.specs.Deadlines.{plan_deadline}
+use Rattle.stream_meaning.specs.EndLaws.{first_fork}
 use Rattle.stream_meaning.specs.Emission.{Branch, Children, Otherwise, Fork}
 use Rattle.stream_meaning.specs.History.{History}
 use Rattle.stream_step.specs.declared.state.State.{State}
@@ -53,12 +54,16 @@ first_of state = 0
 
 -- the fields of a `by`, each of whose forks is a copy of its children; the other kinds have two branches
 abbrev pub forked_by : KindTree → Option (List Field)
-forked_by (By fields) = Some fields
+forked_by (By fields idle) = Some fields
 forked_by kind = None
 
 abbrev pub keys_by : Option (List Field) → History → List (List Value)
 keys_by None h = []
 keys_by (Some fields) h = fork_keys fields h
+
+-- the fork of a key: no key ends, so it has its first fork alone
+abbrev pub key_fork : List Value → Branch
+key_fork key = Fork (first_fork key)
 
 -- the nodes of streams have come to where they would be if all of this history had come to the streams
 abbrev pub Meaning : Type 1
@@ -92,7 +97,7 @@ pub record PlainRepresents (Means Beside : Meaning) (received : Branch → Histo
 -- what is below a `by`: its forks represent what they have received, and are in the table and nowhere else
 pub record ForkedRepresents (texts : List (List ℕ)) (children : StreamTrees) (first : ℕ) (Means : Meaning) (keys : List (List Value)) (received : Branch → History) (below : Below) : Type 0 where
   pub can_fork : CanFork texts children first
-  pub forks : ForksRepresent Means (plan_deadline children) keys (λ key. received (Fork key)) below.forks
+  pub forks : ForksRepresent Means (plan_deadline children) keys (λ key. received (key_fork key)) below.forks
   pub no_children : below.children ≡ []
   pub no_otherwise : below.otherwise ≡ []
 

@@ -23,7 +23,7 @@ use Rattle.stream_meaning.specs.Outputs.{Effect, Given, BranchEffects, branch_ef
 use Rattle.stream_step.specs.declared.state.State.{State}
 use Rattle.stream_tree.specs.declared.forest.Forest.{Forest}
 use Rattle.stream_tree.specs.declared.forest.Node.{Node}
-use Rattle.stream_tree.specs.Forest.{nodes_of, Below, forked_by, AreInRange, ForksRepresent, BelowRepresents, PartsRepresent, NodeRepresents, ForestRepresents}
+use Rattle.stream_tree.specs.Forest.{nodes_of, Below, forked_by, key_fork, AreInRange, ForksRepresent, BelowRepresents, PartsRepresent, NodeRepresents, ForestRepresents}
 use Rattle.stream_tree.specs.Tree.{Performs, PerformsPart}
 
 -- ---- an entry that comes
@@ -64,13 +64,13 @@ effects_below s = branch_effects (plan_effects (children_of s)) (plan_effects (o
 -- the branches below a stream
 abbrev pub branches_by : Option (List Field) → List (List Value) → List Branch
 branches_by None keys = Children ∷ (Otherwise ∷ [])
-branches_by (Some fields) keys = map Fork keys
+branches_by (Some fields) keys = map key_fork keys
 
 -- an emission of the stream can go to this branch
 abbrev pub FitsBranch : Option (List Field) → Branch → Type 0
-FitsBranch None (Fork key) = ⊥
+FitsBranch None (Fork fork) = ⊥
 FitsBranch None branch = Unit {0}
-FitsBranch (Some fields) (Fork key) = Unit {0}
+FitsBranch (Some fields) (Fork fork) = Unit {0}
 FitsBranch (Some fields) branch = ⊥
 
 abbrev pub FitAll : Option (List Field) → List Emission → Type 0
@@ -81,7 +81,7 @@ FitAll shape (emission ∷ more) = FitsBranch shape emission.branch × FitAll sh
 abbrev pub with_branch : Branch → List (List Value) → List (List Value)
 with_branch Children keys = keys
 with_branch Otherwise keys = keys
-with_branch (Fork key) keys = with_key key keys
+with_branch (Fork fork) keys = with_key fork.key keys
 
 abbrev pub with_branches : List Emission → List (List Value) → List (List Value)
 with_branches [] keys = keys
@@ -90,7 +90,7 @@ with_branches (emission ∷ more) keys = with_branches more (with_branch emissio
 -- the fork of a key that is not there has received nothing but ticks
 abbrev pub UnseenHaveTicks : Option (List Field) → List (List Value) → Received → Type 0
 UnseenHaveTicks None keys received = Unit {0}
-UnseenHaveTicks (Some fields) keys received = (key : List Value) → is_among key keys ≡ false → TicksAlone (received (Fork key))
+UnseenHaveTicks (Some fields) keys received = (key : List Value) → is_among key keys ≡ false → TicksAlone (received (key_fork key))
 
 -- one more entry for one branch
 abbrev pub extended : Branch → Entry → Received → Received
@@ -100,7 +100,7 @@ extended branch x received other = if same_branch branch other then received oth
 abbrev pub given_to : Branch → List Effect
 given_to Children = []
 given_to Otherwise = []
-given_to (Fork key) = Given ∷ []
+given_to (Fork fork) = Given ∷ []
 
 -- the effects of what comes to a branch
 abbrev pub entering : BranchEffects → BranchEffects

@@ -2,13 +2,12 @@
 ghost use Rattle.std.specs.Prelude.{◌≡◌, ℕ, ◌≤◌, length, OnOk, OnErr, map};
 ghost use Rattle.fork_by.specs.declared.table.ForkTable.{ForkTable as Table};
 ghost use Rattle.list_laws.specs.Prefix.{IsPrefix};
-ghost use Rattle.stream_meaning.specs.Emission.{Fork};
 ghost use Rattle.stream_plan.specs.Search.{opened};
 ghost use Rattle.stream_plan.specs.Tree.{list_trees};
 ghost use Rattle.stream_step.specs.Step.{branch_meant, branch_numbered, emission_meant, emissions_meant};
 ghost use Rattle.stream_tree.specs.declared.forest.Forest.{Forest as Nodes};
 ghost use Rattle.stream_tree.specs.declared.forest.Node.{out-Node};
-ghost use Rattle.stream_tree.specs.Forest.{nodes_of, below_of, node_below, first_of};
+ghost use Rattle.stream_tree.specs.Forest.{nodes_of, below_of, node_below, first_of, key_fork};
 ghost use Rattle.stream_tree.specs.Running.{children_of, FirstRun, ForestRuns, ForestStops, StreamRuns, StreamStops, ForkRuns, ForkStops, DueRuns, DueStops, TickRuns, TickStops, BranchRuns, BranchStops, EmissionsRun, EmissionsStop};
 
 use crate::forest::{Forest, Node, is_by};
@@ -286,12 +285,12 @@ fn run_key<G: Ledger>(
     ensures runs { OnOk result ((children otherwise : Nodes) →
         BranchRuns context.now.patterns.now context.now.start
         context.now.moment out.old steps.old out.new steps.new entry.now
-        (opened stream.now) first (Fork key)
+        (opened stream.now) first (key_fork key)
         (below_of children otherwise forks.old) (below_of children otherwise forks.new)) }
     ensures stops { OnErr result ((children otherwise : Nodes) →
         BranchStops context.now.patterns.now context.now.start
         context.now.moment out.old steps.old out.new steps.new entry.now
-        (opened stream.now) first (Fork key) (below_of children otherwise forks.old)) }
+        (opened stream.now) first (key_fork key) (below_of children otherwise forks.old)) }
     ensures prefix { IsPrefix out.old out.new }
 {
     let number = find_fork(alloc, &stream.children, forks, key, first, context.start)?;
