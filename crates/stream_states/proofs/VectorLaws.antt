@@ -28,7 +28,7 @@ use Rattle.stream_plan.specs.Tree.{Sdo, Smap}
 use Rattle.stream_meaning.specs.declared.entry.Entry.TheVariants.{Item as In}
 use Rattle.stream_meaning.specs.History.{History, ◌▸◌, window_of}
 use Rattle.stream_meaning.specs.Rates.{events_now, count_in, rolls_into, one_if}
-use Rattle.stream_states.specs.Kept.{KeptRepresents, HasHistory}
+use Rattle.stream_states.specs.Kept.{HasHistory}
 use Rattle.stream_states.specs.VectorLaws.{VectorsPassNothing, VectorsAreIgnored}
 use Rattle.stream_states.specs.declared.kept.KeptState.{KeptState}
 use Rattle.stream_states.specs.declared.kept.KeptState.TheVariants as kept

@@ -6,7 +6,6 @@ use Rattle.ev_types.specs.declared.field.Field.{Field}
 use Rattle.ev_types.specs.declared.item.Emission.{Emission as CodeEmission}
 use Rattle.ev_types.specs.declared.item.Item.{Item}
 use Rattle.ev_types.specs.declared.item.Item.TheVariants.{One, Many}
-use Rattle.ev_types.specs.declared.value.Value.{Value}
 use Rattle.pred_eval.specs.Truth.{holds}
 use Rattle.stream_plan.specs.Tree.{KindTree, Index, Notice, Sdo, Where, With, Default, Tag, By, Changed, Runs, Throttle, Rollup, Batch, Stable, FixedEvent, MovingEvent, FixedTime, MovingTime, Coalesce, Smap}
 use Rattle.stream_meaning.specs.declared.entry.Entry.{Entry}

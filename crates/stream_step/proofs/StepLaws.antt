@@ -2,7 +2,12 @@
 use Rattle.std.proofs.Common.{◌≡◌, ℕ, ◌+◌, ◌≤◌, Bool, true, false, cond, List, [], ◌++◌, length, take, drop, refl, sym, ap, ◌∙◌, subst, arith, length-append}
 use Rattle.std.specs.Prelude.{None}
 use Rattle.std.proofs.lemmas.List.{append-nil}
+use Rattle.ev_types.specs.declared.event.Event.{Event}
+use Rattle.ev_types.specs.declared.field.Field.{Field}
+use Rattle.ev_types.specs.declared.item.Item.TheVariants.{One}
 use Rattle.ev_types.specs.declared.item.Output.{Output}
+use Rattle.ev_types.specs.declared.value.Value.{Value}
+use Rattle.ev_types.specs.Key.{event_key}
 use Rattle.list_laws.specs.Prefix.{IsPrefix}
 use Rattle.pred_eval.specs.Search.{AreReadFrom}
 use Rattle.pred_eval.specs.Truth.{searches}
@@ -10,14 +15,17 @@ use Rattle.pred_eval.specs.Tree.{Tree}
 use Rattle.pred_eval.proofs.SearchLaws.{read_front, read_back, read_length}
 use Rattle.regex.specs.declared.string.regex.Regex.{Regex}
 use Rattle.stream_plan.specs.Ready.{kind_patterns}
-use Rattle.stream_plan.specs.Tree.{KindTree, Where, Rollup, Batch, Stable, Coalesce}
+use Rattle.stream_plan.specs.Tree.{KindTree, Where, By, Rollup, Batch, Stable, Coalesce}
 use Rattle.stream_meaning.specs.Deadlines.{next_deadline}
 use Rattle.stream_states.specs.Kept.{keeps, KeptRepresents}
 use Rattle.stream_states.specs.declared.kept.KeptState.{KeptState}
-use Rattle.stream_meaning.specs.Emission.{Children, Otherwise, emissions}
-use Rattle.stream_meaning.specs.declared.entry.Entry.TheVariants.{Tick}
+use Rattle.stream_meaning.specs.EndLaws.{first_fork}
+use Rattle.stream_meaning.specs.Emission.{Children, Otherwise, Fork, to, emissions}
+use Rattle.stream_meaning.specs.declared.entry.Entry.TheVariants.{Tick, Item as In}
 use Rattle.stream_meaning.specs.History.{History, ◌▸◌}
-use Rattle.stream_step.specs.Step.{AreAt, HasNumbers, is_kept, Keeps, StateRepresents, QuietTicksKeepStates}
+use Rattle.stream_meaning.proofs.LiveLaws.{never_ended}
+use Rattle.stream_step.specs.declared.passed.Passed.TheVariants.{Keyed}
+use Rattle.stream_step.specs.Step.{AreAt, emissions_meant, HasNumbers, is_kept, Keeps, StateRepresents, QuietTicksKeepStates}
 use Rattle.stream_step.specs.declared.state.State.{State}
 use Rattle.stream_step.specs.declared.state.State.TheVariants.{Bare, Rule, Kept, Forks}
 use Rattle.stream_step.proofs.KeptLaws.{kept_still}
@@ -100,3 +108,12 @@ none_put old new own same = (own, ap (λ (l : List Output). l ++ own) (sym same)
 
 pub all_put : (old new own : List Output) → new ≡ old ++ own → IsPrefix new (old ++ own)
 all_put old new own said = ([], sym said ∙ sym (append-nil new))
+
+-- ---- what goes to forks
+
+-- no key ends, so an event goes to the first fork of its key
+pub keyed : (fields : List Field) (key : List Value) (event : Event) (h : History) → key ≡ event_key event fields →
+    emissions_meant (Keyed key) (In (One event)) ≡ emissions (By fields None) (h ▸ In (One event))
+keyed fields key event h is =
+    ap (λ (k : List Value). to (Fork (first_fork k)) (One event)) is
+    ∙ ap (λ (number : ℕ). to (Fork (record { key = event_key event fields; number = number })) (One event)) (sym (never_ended fields (event_key event fields) h))

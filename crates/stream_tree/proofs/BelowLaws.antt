@@ -1,7 +1,5 @@
 -- What comes to the branches below a stream, part by part.
-use Rattle.std.proofs.Common.{◌≡◌, ℕ, ◌+◌, ◌<◌, ◌≤◌, Bool, true, false, cond, List, [], ◌∷◌, ◌++◌, length, map, get_or, Option, Some, None, is_some, refl, sym, ap, ◌∙◌, subst, arith}
-use Rattle.std.specs.Prelude.{IsOk, Result}
-use Rattle.std.specs.List.{flat_map}
+use Rattle.std.proofs.Common.{◌≡◌, ℕ, true, false, cond, List, [], ◌∷◌, ◌++◌, map, get_or, Option, Some, None, is_some, refl, sym, ap, ◌∙◌, subst, arith}
 use Rattle.std.proofs.lemmas.List.{append-nil, append_assoc, map-append}
 use Rattle.ev_types.specs.declared.field.Field.{Field}
 use Rattle.ev_types.specs.declared.item.Emission.{Emission as CodeEmission}
@@ -15,14 +13,14 @@ use Rattle.pred_eval.specs.Search.{AreReadFrom}
 use Rattle.regex.specs.declared.string.regex.Regex.{Regex}
 use Rattle.stream_plan.specs.declared.plan.Stream.{Stream, out-Stream}
 use Rattle.stream_plan.specs.Search.{opened}
-use Rattle.stream_plan.specs.Tree.{KindTree, StreamTree, StreamTrees, stream, kind_tree, list_trees}
-use Rattle.stream_meaning.specs.Branches.{same_branch, after_emissions, ticked, child_history, branches, with_key}
+use Rattle.stream_plan.specs.Tree.{KindTree, StreamTree, StreamTrees, kind_tree, list_trees}
+use Rattle.stream_meaning.specs.Branches.{same_branch, after_emissions, with_key}
 use Rattle.stream_meaning.specs.declared.entry.Entry.{Entry}
 use Rattle.stream_meaning.specs.declared.entry.Entry.TheVariants.{Tick, Item as In}
 use Rattle.stream_meaning.specs.Deadlines.{plan_deadline}
-use Rattle.stream_meaning.specs.Emission.{Branch, Children, Otherwise, Fork, Emission}
-use Rattle.stream_meaning.specs.History.{History, ◌▸◌, begun, moment_of}
-use Rattle.stream_meaning.specs.Outputs.{Effect, Given, BranchEffects, branch_effects, due_if_any, at_tick, at_emissions, received_more, plan_effects}
+use Rattle.stream_meaning.specs.Emission.{Branch, Children, Otherwise, Emission}
+use Rattle.stream_meaning.specs.History.{History, ◌▸◌}
+use Rattle.stream_meaning.specs.Outputs.{Effect, BranchEffects, branch_effects, at_tick, at_emissions, received_more, plan_effects}
 use Rattle.stream_meaning.proofs.MomentLaws.{after_emissions-moments}
 use Rattle.stream_step.specs.declared.passed.Branch.{Branch as CodeBranch}
 use Rattle.stream_step.specs.declared.passed.Branch.TheVariants as code
@@ -31,7 +29,7 @@ use Rattle.stream_tree.specs.declared.forest.Forest.{Forest}
 use Rattle.stream_tree.specs.declared.forest.Node.{Node}
 use Rattle.stream_tree.specs.Forest.{Meaning, nodes_of, Below, below_of, forked_by, key_fork, CanFork, ForksRepresent, BelowRepresents, ForestRepresents}
 use Rattle.stream_tree.specs.Forks.{FoundAt, IsFound}
-use Rattle.stream_tree.specs.Running.{ComesAt, Stops, ForestRuns, ForestStops, kind_of, children_of, otherwise_of, Received, BelowIs, effects_below, branches_by, FitsBranch, FitAll, with_branch, with_branches, UnseenHaveTicks, extended, entering, ForkComes, ForkRuns, ForkStops, AllCome, DueRuns, DueStops, TickRuns, TickStops, BranchRuns, BranchStops, AllAreAt, EmissionsRun, EmissionsStop}
+use Rattle.stream_tree.specs.Running.{ComesAt, Stops, ForestRuns, ForestStops, kind_of, children_of, otherwise_of, Received, BelowIs, effects_below, branches_by, FitsBranch, FitAll, with_branch, with_branches, UnseenHaveTicks, extended, entering, ForkComes, ForkRuns, ForkStops, DueRuns, DueStops, TickRuns, TickStops, BranchRuns, BranchStops, AllAreAt, EmissionsRun, EmissionsStop}
 use Rattle.stream_tree.specs.Tree.{Performs, PerformsPart}
 use Rattle.stream_tree.proofs.DueLaws.{even_keys}
 use Rattle.stream_tree.proofs.ForkLaws.{fork_goes_on, unseen_goes_on, unseen_fits}

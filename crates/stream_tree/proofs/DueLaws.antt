@@ -1,11 +1,11 @@
 -- Which forks are due, and in which order.
-use Rattle.std.proofs.Common.{◌≡◌, ◌≢◌, ℕ, zero, suc, ◌+◌, ◌-◌, ◌<◌, ◌≤◌, ◌⊎◌, inl, inr, ◌==◌, Bool, true, false, not, ◌||◌, cond, nat_le, eqb, List, [], ◌∷◌, ◌++◌, map, filter, length, take, drop, get_or, Option, Some, None, IsSome, refl, sym, ap, ◌∙◌, subst, arith}
+use Rattle.std.proofs.Common.{◌≡◌, ◌≢◌, ℕ, zero, suc, ◌+◌, ◌-◌, ◌<◌, ◌≤◌, ◌⊎◌, inl, inr, ◌==◌, Bool, true, false, not, ◌||◌, cond, nat_le, eqb, List, [], ◌∷◌, ◌++◌, map, filter, length, drop, get_or, Option, Some, None, IsSome, refl, sym, ap, ◌∙◌, subst, arith}
 use mathlib.Core.Bool.{true≢false}
 use Rattle.std.specs.Prelude.{IfSome}
 use Rattle.std.specs.BTreeMap.{is_at}
 use Rattle.std.specs.Cmp.{nat_cmp_is}
 use Rattle.std.specs.declared.cmp.Ordering.TheVariants.{Less, Equal, Greater}
-use Rattle.std.specs.List.{All, AllByRecursion, flat_map, list_any}
+use Rattle.std.specs.List.{AllByRecursion, flat_map, list_any}
 use Rattle.std.specs.List.Sorted.{IsStrictlySortedBy}
 use Rattle.std.specs.Map.{keys_of}
 use Rattle.std.specs.Ordering.{nat_cmp}
@@ -17,22 +17,20 @@ use Rattle.ev_types.specs.declared.item.Output.{Output}
 use Rattle.ev_types.specs.declared.value.Value.{Value}
 use Rattle.fork_by.specs.declared.table.ForkTable.{ForkTable}
 use Rattle.fork_by.specs.Table.{fork_keys as table_keys, fork_list, fork_dues, fork_due, IsTable}
-use Rattle.step_count.specs.Count.{StepCount}
 use Rattle.stream_plan.specs.Tree.{StreamTrees}
 use Rattle.stream_meaning.specs.Deadlines.{plan_deadline}
 use Rattle.stream_meaning.specs.DeadlineLaws.{waited}
 use Rattle.stream_meaning.specs.DueLaws.{has_effects}
 use Rattle.stream_meaning.specs.declared.entry.Entry.TheVariants.{Tick}
 use Rattle.stream_meaning.specs.History.{History, ◌▸◌, moment_of, is_at as falls_at, TicksAlone}
-use Rattle.stream_meaning.specs.Outputs.{Effect, Emits, Due, Given, Put, due_if_any, outputs_among, due_among, given_among, plan_effects}
+use Rattle.stream_meaning.specs.Outputs.{Effect, Due, Given, due_if_any, outputs_among, due_among, given_among, plan_effects}
 use Rattle.stream_meaning.proofs.PlanDueLaws.{plan_ahead, plan_met}
 use Rattle.stream_meaning.proofs.RootLaws.{plan_tick_rooted}
 use Rattle.stream_meaning.proofs.TickLaws.{plan_quiet}
 use Rattle.tick_schedule.specs.Queue.{moment_at, IsRising, Sets, due_ids, due_later}
-use Rattle.tick_schedule.proofs.QueueLaws.{at-eqb, at-same, at-true, is_by, due-is_by, rising-rest}
+use Rattle.tick_schedule.proofs.QueueLaws.{at-eqb, at-same, is_by, due-is_by, rising-rest}
 use Rattle.stream_tree.specs.declared.forest.Forest.{Forest}
 use Rattle.stream_tree.specs.Forest.{AreInRange, Meaning, nodes_of, ForksRepresent}
-use Rattle.stream_tree.specs.Tree.{Performs, PerformsPart}
 use Rattle.stream_tree.proofs.KindLaws.{plan_ranges}
 use Rattle.stream_meaning.proofs.OutputLaws.{outputs_among-append}
 use Rattle.stream_tree.proofs.PerformLaws.{due-append, given-append}

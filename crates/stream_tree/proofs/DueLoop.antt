@@ -1,5 +1,5 @@
 -- A tick on its way along the forks that are due.
-use Rattle.std.proofs.Common.{◌≡◌, ◌≢◌, ℕ, zero, suc, ◌+◌, ◌<◌, ◌≤◌, Bool, true, false, ◌||◌, List, [], ◌∷◌, ◌++◌, length, take, drop, get_or, refl, sym, ap, ◌∙◌, subst, arith}
+use Rattle.std.proofs.Common.{◌≡◌, ℕ, zero, suc, ◌+◌, ◌<◌, ◌≤◌, Bool, true, false, ◌||◌, List, [], ◌∷◌, ◌++◌, length, take, drop, get_or, refl, sym, ap, ◌∙◌, subst, arith}
 use Rattle.std.specs.BTreeMap.{is_at}
 use Rattle.std.specs.List.{flat_map}
 use Rattle.std.specs.Ordering.{nat_cmp}
@@ -8,8 +8,7 @@ use Rattle.std.proofs.lemmas.Grind.{flat_map-append, get_or_default_zero}
 use Rattle.ev_types.specs.declared.item.Output.{Output}
 use Rattle.ev_types.specs.declared.value.Value.{Value}
 use Rattle.fork_by.specs.declared.table.ForkTable.{ForkTable}
-use Rattle.fork_by.specs.Table.{fork_keys as table_keys, fork_list, fork_dues, IsTable, SameForks}
-use Rattle.list_laws.specs.Prefix.{IsPrefix}
+use Rattle.fork_by.specs.Table.{fork_dues, IsTable, SameForks}
 use Rattle.step_count.specs.Count.{StepCount}
 use Rattle.pred_eval.specs.Search.{AreReadFrom}
 use Rattle.regex.specs.declared.string.regex.Regex.{Regex}
@@ -17,12 +16,12 @@ use Rattle.stream_plan.specs.Tree.{StreamTrees}
 use Rattle.stream_meaning.specs.declared.entry.Entry.TheVariants.{Tick}
 use Rattle.stream_meaning.specs.Deadlines.{plan_deadline}
 use Rattle.stream_meaning.specs.History.{History, ◌▸◌, moment_of}
-use Rattle.stream_meaning.specs.Outputs.{Effect, Due, Given, due_if_any, outputs_among, plan_effects}
+use Rattle.stream_meaning.specs.Outputs.{Effect, Due, Given, outputs_among, plan_effects}
 use Rattle.tick_schedule.specs.Queue.{due_ids, due_later}
 use Rattle.tick_schedule.proofs.QueueLaws.{at-same}
 use Rattle.stream_tree.specs.declared.forest.Forest.{Forest}
-use Rattle.stream_tree.specs.Forest.{Meaning, nodes_of, AreInRange, ForksRepresent, ForestRepresents}
-use Rattle.stream_tree.specs.Running.{ComesAt, Stops, ForkRuns, ForkStops, DueRuns, DueStops, ForkComes}
+use Rattle.stream_tree.specs.Forest.{Meaning, AreInRange, ForksRepresent, ForestRepresents}
+use Rattle.stream_tree.specs.Running.{ComesAt, ForkRuns, ForkStops, DueRuns, DueStops, ForkComes}
 use Rattle.stream_tree.specs.Tree.{Performs, PerformsPart}
 use Rattle.stream_tree.proofs.DueLaws.{has, RisesFrom, due_rises, not_below, rises_drop, even_keys, entered_as_given, due_keys, due_are_all, none_due, DueRan, due_begins, due_goes_on, due_ends}
 use Rattle.stream_tree.proofs.PerformLaws.{extends_none, grew_none, grew_then, part_more, part_then}

@@ -3,16 +3,14 @@ use Rattle.std.proofs.Common.{◌≡◌, ℕ, false, List, [], ◌∷◌, map, O
 use mathlib.Core.Bool.{true≢false}
 use Rattle.std.specs.List.{list_any}
 use Rattle.ev_types.specs.declared.field.Field.{Field}
-use Rattle.ev_types.specs.declared.item.Item.TheVariants.{One, Many}
 use Rattle.ev_types.specs.declared.value.Value.{Value}
 use Rattle.stream_plan.specs.Tree.{KindTree, Index, By}
 use Rattle.stream_meaning.specs.Branches.{branches, child_history, fork_keys}
 use Rattle.stream_meaning.specs.Deadlines.{branch_end}
-use Rattle.stream_meaning.specs.declared.entry.Entry.TheVariants.{Tick, Item as In}
 use Rattle.stream_meaning.specs.Emission.{Branch, Fork}
 use Rattle.stream_meaning.specs.Ends.{KeyFork, same_fork, live_forks}
 use Rattle.stream_meaning.specs.EndLaws.{first_fork}
-use Rattle.stream_meaning.specs.History.{History, since, ◌▸◌, TicksAlone}
+use Rattle.stream_meaning.specs.History.{History, TicksAlone}
 use Rattle.stream_meaning.specs.Laws.{is_among}
 use Rattle.stream_meaning.proofs.EndLaws.{unseen_forks_have_ticks}
 use Rattle.stream_meaning.proofs.LiveLaws.{came_first, first_among, live_first}

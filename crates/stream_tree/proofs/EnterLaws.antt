@@ -1,20 +1,18 @@
 -- An entry that comes to one fork.
-use Rattle.std.proofs.Common.{◌≡◌, ◌≢◌, ℕ, ◌+◌, ◌<◌, ◌≤◌, ◌^◌, List, [], ◌∷◌, ◌++◌, length, get_or, Option, refl, sym, ap, ◌∙◌, subst, arith, get_or-set_other, get_or-set_same}
+use Rattle.std.proofs.Common.{◌≡◌, ℕ, ◌+◌, ◌<◌, ◌≤◌, ◌^◌, List, [], ◌∷◌, length, get_or, Option, sym, ap, ◌∙◌, subst, arith, get_or-set_other, get_or-set_same}
 use Rattle.std.proofs.Math.ListN.{set}
 use Rattle.std.proofs.lemmas.List.{append-nil, length-set}
 use Rattle.std.specs.List.{All}
 use Rattle.std.specs.Map.{keys_of}
 use Rattle.ev_types.specs.declared.item.Output.{Output}
 use Rattle.fork_by.specs.declared.table.ForkTable.{ForkTable}
-use Rattle.fork_by.specs.Table.{fork_keys as table_keys, fork_list, fork_dues, IsTable, SameForks, with_fork}
+use Rattle.fork_by.specs.Table.{fork_list, fork_dues, IsTable, SameForks, with_fork}
 use Rattle.step_count.specs.Count.{StepCount}
-use Rattle.pred_eval.specs.Search.{AreReadFrom}
 use Rattle.regex.specs.declared.string.regex.Regex.{Regex}
 use Rattle.stream_plan.specs.declared.plan.Stream.{Stream, out-Stream}
 use Rattle.stream_plan.specs.Search.{opened}
 use Rattle.stream_plan.specs.Tree.{StreamTrees, list_trees}
 use Rattle.stream_meaning.specs.declared.entry.Entry.{Entry}
-use Rattle.stream_meaning.specs.declared.entry.Entry.TheVariants.{Tick, Item as In}
 use Rattle.stream_meaning.specs.Deadlines.{plan_deadline}
 use Rattle.stream_meaning.specs.History.{History, ◌▸◌, moment_of}
 use Rattle.stream_meaning.specs.Outputs.{Effect, Given, plan_effects}

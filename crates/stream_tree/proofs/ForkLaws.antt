@@ -1,11 +1,11 @@
 -- The forks of a `by`: the fork of a key, and an item that comes to it.
 use Rattle.std.proofs.Common.{◌≡◌, ◌≢◌, ℕ, zero, suc, ◌+◌, ◌<◌, ◌≤◌, ◌⊎◌, inl, inr, Bool, true, false, ◌||◌, ◌&&◌, ◌==◌, cond, eqb, List, [], ◌∷◌, ◌++◌, length, get_or, position, Option, Some, None, IsSome, refl, sym, ap, ◌∙◌, subst, arith, length-append}
 use mathlib.Core.Bool.{true≢false}
-use Rattle.std.specs.List.{All, AllByRecursion, IsDistinct, list_any}
+use Rattle.std.specs.List.{AllByRecursion, IsDistinct, list_any}
 use Rattle.std.specs.Map.{keys_of}
 use Rattle.std.proofs.Math.Seq.{get_or-append_seam}
 use Rattle.std.proofs.lemmas.Bool.Decides.{nat_tests}
-use Rattle.std.proofs.lemmas.List.{append-nil, append_assoc, get_or_append_left}
+use Rattle.std.proofs.lemmas.List.{get_or_append_left}
 use Rattle.std.proofs.lemmas.List.Elements.{All-contains}
 use Rattle.std.proofs.lemmas.List.Quantifiers.{position-Some}
 use Rattle.std.proofs.lemmas.Map.Lookups.{exact_unsigned}
@@ -18,19 +18,18 @@ use Rattle.ev_types.proofs.Values.{same_key_decides}
 use Rattle.fork_by.specs.declared.table.ForkTable.{ForkTable}
 use Rattle.fork_by.specs.Table.{fork_keys as table_keys, fork_list, fork_dues, fork_due, key_number, IsTable}
 use Rattle.fork_by.proofs.TableLaws.{none_passes}
-use Rattle.stream_plan.specs.Ready.{plan_patterns}
 use Rattle.stream_plan.specs.Tree.{StreamTrees}
-use Rattle.stream_meaning.specs.Branches.{same_branch, with_key}
+use Rattle.stream_meaning.specs.Branches.{with_key}
 use Rattle.stream_meaning.specs.declared.entry.Entry.{Entry}
 use Rattle.stream_meaning.specs.Deadlines.{plan_deadline}
 use Rattle.stream_meaning.specs.Ends.{same_fork}
 use Rattle.stream_meaning.specs.EndLaws.{first_fork}
 use Rattle.stream_meaning.specs.Emission.{Branch, Children, Otherwise, Fork}
-use Rattle.stream_meaning.specs.History.{History, ◌▸◌, begun, TicksAlone}
+use Rattle.stream_meaning.specs.History.{History, ◌▸◌, TicksAlone}
 use Rattle.stream_meaning.specs.Laws.{is_among}
-use Rattle.tick_schedule.specs.Queue.{Sets, moment_at}
+use Rattle.tick_schedule.specs.Queue.{moment_at}
 use Rattle.stream_tree.specs.declared.forest.Forest.{Forest}
-use Rattle.stream_tree.specs.Forest.{key_fork, Meaning, nodes_of, AreInRange, CanFork, ForksRepresent, ForestRepresents}
+use Rattle.stream_tree.specs.Forest.{key_fork, Meaning, nodes_of, ForksRepresent, ForestRepresents}
 use Rattle.stream_tree.specs.Forks.{FoundAt, IsFound}
 use Rattle.stream_tree.specs.Fresh.{ForestIsFresh}
 use Rattle.stream_tree.specs.Running.{Received, FitsBranch, with_branch, UnseenHaveTicks, extended, ForkRan}

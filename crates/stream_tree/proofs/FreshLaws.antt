@@ -1,22 +1,22 @@
 -- Nodes that are made for streams represent ticks alone.
-use Rattle.std.proofs.Common.{◌≡◌, ℕ, ◌+◌, ◌<◌, ◌≤◌, min, Bool, true, false, List, [], ◌∷◌, ◌++◌, length, take, get_or, Option, Some, None, is_some, refl, sym, ap, ◌∙◌, subst, arith, length-append}
+use Rattle.std.proofs.Common.{◌≡◌, ℕ, ◌+◌, ◌<◌, ◌≤◌, true, false, List, [], ◌∷◌, ◌++◌, length, take, get_or, Option, Some, None, is_some, refl, sym, ap, ◌∙◌, subst, arith, length-append}
 use Rattle.std.proofs.lemmas.List.{append-nil, append_assoc, take_more, take_all}
 use Rattle.list_laws.specs.Counts.{greatest}
 use Rattle.ev_types.specs.declared.field.Field.{Field}
 use Rattle.ev_types.specs.declared.value.Value.{Value}
 use Rattle.fork_by.specs.declared.table.ForkTable.{ForkTable}
-use Rattle.fork_by.specs.Table.{fork_keys as table_keys, fork_list, fork_due, IsTable}
+use Rattle.fork_by.specs.Table.{fork_keys as table_keys, IsTable}
 use Rattle.stream_plan.specs.declared.plan.Stream.{Stream, out-Stream}
 use Rattle.stream_plan.specs.Kinds.{is_in_range}
 use Rattle.stream_plan.specs.Ready.{kind_patterns, stream_patterns, plan_patterns}
 use Rattle.stream_plan.specs.Search.{opened}
 use Rattle.stream_plan.specs.Sound.{IsSound}
-use Rattle.stream_plan.specs.Tree.{KindTree, Index, By, StreamTree, StreamTrees, stream, none, also, kind_tree, stream_tree, list_trees}
+use Rattle.stream_plan.specs.Tree.{KindTree, By, StreamTree, StreamTrees, stream, none, kind_tree, stream_tree, list_trees}
 use Rattle.stream_plan.proofs.PatternLaws.{stream_patterns-opened}
 use Rattle.stream_plan.proofs.Trees.{stream_tree-opened}
 use Rattle.stream_meaning.specs.Branches.{child_history, fork_keys}
 use Rattle.stream_meaning.specs.Deadlines.{plan_deadline}
-use Rattle.stream_meaning.specs.Emission.{Branch, Children, Otherwise, Fork}
+use Rattle.stream_meaning.specs.Emission.{Branch, Children, Otherwise}
 use Rattle.stream_meaning.specs.declared.entry.Entry.TheVariants.{Tick, Item as In}
 use Rattle.stream_meaning.specs.History.{History, since, ◌▸◌, begun, TicksAlone}
 use Rattle.stream_meaning.proofs.TickLaws.{ticks_handed_on}
@@ -25,7 +25,7 @@ use Rattle.stream_step.specs.declared.state.State.TheVariants.{Forks}
 use Rattle.stream_step.specs.Step.{StateRepresents}
 use Rattle.stream_tree.specs.declared.forest.Forest.{Forest}
 use Rattle.stream_tree.specs.declared.forest.Node.{Node, out-Node}
-use Rattle.stream_tree.specs.Forest.{IsStreamInRange, AreInRange, nodes_of, Meaning, Below, node_below, first_of, forked_by, key_fork, keys_by, ForksRepresent, CanFork, BelowRepresents, PartsRepresent, NodeRepresents, ForestRepresents}
+use Rattle.stream_tree.specs.Forest.{IsStreamInRange, AreInRange, Meaning, Below, node_below, first_of, forked_by, key_fork, keys_by, ForksRepresent, BelowRepresents, PartsRepresent, NodeRepresents, ForestRepresents}
 use Rattle.stream_tree.specs.Fresh.{ForestIsFresh, NodeIsFresh}
 use Rattle.stream_tree.proofs.EndlessLaws.{endless_of}
 use Rattle.stream_tree.proofs.KindLaws.{sound_in_range}

@@ -1,5 +1,5 @@
 -- When something is due next, part by part.
-use Rattle.std.proofs.Common.{◌≡◌, ℕ, zero, suc, ◌+◌, ◌<◌, ◌≤◌, ◌^◌, min, Bool, true, false, List, [], ◌∷◌, ◌++◌, length, map, take, drop, get_or, Option, Some, None, is_some, IsSome, refl, sym, ap, ◌∙◌, subst, arith}
+use Rattle.std.proofs.Common.{◌≡◌, ℕ, zero, suc, ◌+◌, ◌<◌, ◌≤◌, ◌^◌, min, true, false, List, [], ◌∷◌, length, map, drop, get_or, Option, Some, None, is_some, refl, sym, ap, ◌∙◌, subst, arith}
 use Rattle.std.specs.Prelude.{IfSome}
 use Rattle.std.specs.BTreeMap.{is_at}
 use Rattle.std.specs.Cmp.{nat_cmp_total, eq_by_cmp_equiv}
@@ -14,21 +14,21 @@ use Rattle.std.proofs.lemmas.Map.Views.{lookup-from_Contains, Contains-keys_from
 use Rattle.ev_types.specs.declared.field.Field.{Field}
 use Rattle.ev_types.specs.declared.value.Value.{Value}
 use Rattle.fork_by.specs.declared.table.ForkTable.{ForkTable}
-use Rattle.fork_by.specs.Table.{fork_keys as table_keys, fork_list, fork_dues, fork_due, IsTable}
+use Rattle.fork_by.specs.Table.{fork_list, fork_dues}
 use Rattle.stream_plan.specs.declared.plan.Stream.{Stream, out-Stream}
 use Rattle.stream_plan.specs.Search.{opened}
-use Rattle.stream_plan.specs.Tree.{KindTree, StreamTree, StreamTrees, stream, kind_tree, stream_tree, list_trees}
+use Rattle.stream_plan.specs.Tree.{KindTree, StreamTree, StreamTrees, stream, kind_tree, list_trees}
 use Rattle.stream_plan.proofs.Trees.{stream_tree-opened}
 use Rattle.stream_meaning.specs.Branches.{child_history, branches}
 use Rattle.stream_meaning.specs.Deadlines.{next_deadline, earlier, earliest, deadline_of, branch_end, until, stream_deadline, plan_deadline}
-use Rattle.stream_meaning.specs.Emission.{Branch, Children, Otherwise, Fork}
+use Rattle.stream_meaning.specs.Emission.{Branch, Children, Otherwise}
 use Rattle.stream_meaning.specs.History.{History, moment_of}
 use Rattle.stream_meaning.proofs.MomentLaws.{branch_moments}
 use Rattle.stream_step.specs.declared.state.State.{State}
 use Rattle.stream_step.specs.Step.{StateRepresents}
 use Rattle.tick_schedule.specs.Queue.{moment_at, IsNext}
 use Rattle.stream_tree.specs.declared.forest.Forest.{Forest}
-use Rattle.stream_tree.specs.declared.forest.Node.{Node, out-Node}
+use Rattle.stream_tree.specs.declared.forest.Node.{Node}
 use Rattle.stream_tree.specs.Forest.{Meaning, Below, first_of, forked_by, key_fork, keys_by, ForksRepresent, BelowRepresents, PartsRepresent, NodeRepresents, ForestRepresents}
 use Rattle.stream_tree.specs.Running.{branches_by}
 use Rattle.stream_tree.proofs.DueLaws.{even_keys}

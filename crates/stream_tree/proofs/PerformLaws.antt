@@ -1,19 +1,18 @@
 -- What is said and counted, one part after another.
-use Rattle.std.proofs.Common.{◌≡◌, ℕ, ◌+◌, ◌≤◌, true, List, [], ◌∷◌, ◌++◌, length, Option, Some, None, refl, sym, ap, ◌∙◌, subst, arith}
-use Rattle.std.specs.List.{flat_map}
+use Rattle.std.proofs.Common.{◌≡◌, ◌+◌, List, [], ◌∷◌, ◌++◌, Option, Some, None, refl, sym, ap, ◌∙◌, subst, arith}
 use Rattle.std.proofs.lemmas.List.{append-nil, append_assoc}
 use Rattle.ev_types.specs.declared.field.Field.{Field}
 use Rattle.ev_types.specs.declared.item.Item.TheVariants.{One, Many}
 use Rattle.ev_types.specs.declared.item.Output.{Output}
 use Rattle.list_laws.specs.Prefix.{IsPrefix}
 use Rattle.step_count.specs.Count.{StepCount}
-use Rattle.stream_plan.specs.Tree.{KindTree, Index, Notice, Sdo, By}
+use Rattle.stream_plan.specs.Tree.{KindTree, Index, Notice, By}
 use Rattle.stream_meaning.specs.declared.entry.Entry.{Entry}
 use Rattle.stream_meaning.specs.declared.entry.Entry.TheVariants.{Tick, Item as In}
 use Rattle.stream_meaning.specs.History.{History, ◌▸◌}
 use Rattle.stream_meaning.specs.Emission.{Emission, emissions}
 use Rattle.stream_meaning.specs.Laws.{own_outputs}
-use Rattle.stream_meaning.specs.Outputs.{Effect, Emits, Due, Given, Put, own_effects, at_item, emits_if_any, outputs_among, due_among, given_among}
+use Rattle.stream_meaning.specs.Outputs.{Effect, Emits, Due, Given, Put, own_effects, emits_if_any, outputs_among, due_among, given_among}
 use Rattle.stream_meaning.proofs.OutputLaws.{outputs_among-append}
 use Rattle.stream_tree.specs.Forest.{forked_by}
 use Rattle.stream_tree.specs.Running.{Stops}

@@ -1,27 +1,26 @@
 -- A tick at which nothing happens leaves what nodes represent.
-use Rattle.std.proofs.Common.{◌≡◌, ℕ, zero, suc, ◌+◌, ◌<◌, List, [], ◌∷◌, ◌++◌, map, length, get_or, Option, Some, None, false, refl, sym, ap, ◌∙◌, subst, arith}
+use Rattle.std.proofs.Common.{◌≡◌, ℕ, zero, suc, ◌<◌, List, [], ◌∷◌, ◌++◌, map, length, get_or, Option, Some, None, false, refl, sym, ap, ◌∙◌, subst, arith}
 use Rattle.std.specs.List.{flat_map}
 use Rattle.std.proofs.lemmas.List.Folds.{flat_map-map}
 use Rattle.ev_types.specs.declared.field.Field.{Field}
 use Rattle.ev_types.specs.declared.value.Value.{Value}
 use Rattle.fork_by.specs.declared.table.ForkTable.{ForkTable}
-use Rattle.fork_by.specs.Table.{fork_list, fork_due}
-use Rattle.stream_plan.specs.Tree.{KindTree, Index, By, StreamTree, StreamTrees, stream, none, also}
-use Rattle.stream_meaning.specs.Branches.{after_emissions, child_history, branches, fork_keys}
+use Rattle.fork_by.specs.Table.{fork_list}
+use Rattle.stream_plan.specs.Tree.{KindTree, StreamTree, StreamTrees, stream, none, also}
+use Rattle.stream_meaning.specs.Branches.{after_emissions, child_history, branches}
 use Rattle.stream_meaning.specs.Deadlines.{plan_deadline}
-use Rattle.stream_meaning.specs.DueLaws.{has_effects, some_emits}
-use Rattle.stream_meaning.specs.Emission.{Branch, Children, Otherwise, Fork, Emission, emissions}
+use Rattle.stream_meaning.specs.DueLaws.{has_effects}
+use Rattle.stream_meaning.specs.Emission.{Branch, Children, Otherwise, Emission, emissions}
 use Rattle.stream_meaning.specs.declared.entry.Entry.TheVariants.{Tick}
-use Rattle.stream_meaning.specs.History.{History, ◌▸◌, is_at}
+use Rattle.stream_meaning.specs.History.{History, ◌▸◌}
 use Rattle.stream_meaning.specs.Outputs.{Effect, due_if_any, marked, branch_effects, own_effects, at_tick, at_emissions, stream_effects, plan_effects}
-use Rattle.stream_meaning.proofs.PlanDueLaws.{plan_ahead, plan_met, plan_stays}
+use Rattle.stream_meaning.proofs.PlanDueLaws.{plan_stays}
 use Rattle.stream_meaning.proofs.RootLaws.{plan_tick_rooted}
 use Rattle.stream_step.specs.declared.state.State.{State}
-use Rattle.stream_step.specs.Step.{StateRepresents}
 use Rattle.stream_step.proofs.StepLaws.{states_stay}
 use Rattle.stream_tree.specs.declared.forest.Forest.{Forest}
 use Rattle.stream_tree.specs.declared.forest.Node.{Node, out-Node}
-use Rattle.stream_tree.specs.Forest.{AreInRange, Meaning, nodes_of, Below, node_below, first_of, forked_by, key_fork, keys_by, ForksRepresent, CanFork, BelowRepresents, PartsRepresent, ForestRepresents}
+use Rattle.stream_tree.specs.Forest.{AreInRange, Meaning, nodes_of, Below, node_below, first_of, forked_by, key_fork, keys_by, ForksRepresent, BelowRepresents, PartsRepresent, ForestRepresents}
 use Rattle.stream_tree.specs.Running.{branches_by}
 use Rattle.stream_tree.proofs.EndlessLaws.{endless_of}
 use Rattle.stream_tree.proofs.KindLaws.{plan_ranges, branches_are, no_emission}

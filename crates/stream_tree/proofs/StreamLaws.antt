@@ -1,5 +1,5 @@
 -- One entry at one stream: the stream acts, a tick goes on, and then each emission does.
-use Rattle.std.proofs.Common.{◌≡◌, ℕ, ◌+◌, ◌≤◌, ◌^◌, true, false, List, [], ◌++◌, Option, Some, refl, sym, ap, ◌∙◌, subst}
+use Rattle.std.proofs.Common.{◌≡◌, ℕ, ◌+◌, ◌≤◌, ◌^◌, false, List, [], ◌++◌, Option, Some, refl, sym, ap, ◌∙◌, subst}
 use mathlib.Core.Bool.{true≢false}
 use Rattle.ev_types.specs.declared.field.Field.{Field}
 use Rattle.ev_types.specs.declared.item.Output.{Output}
@@ -14,7 +14,7 @@ use Rattle.stream_plan.specs.Tree.{KindTree, By, StreamTrees, stream, kind_tree,
 use Rattle.stream_meaning.specs.Branches.{ticked, child_history, branches}
 use Rattle.stream_meaning.specs.declared.entry.Entry.{Entry}
 use Rattle.stream_meaning.specs.declared.entry.Entry.TheVariants.{Tick, Item as In}
-use Rattle.stream_meaning.specs.Emission.{Branch, Fork, Emission, emissions}
+use Rattle.stream_meaning.specs.Emission.{Branch, Emission, emissions}
 use Rattle.stream_meaning.specs.History.{History, ◌▸◌, begun, moment_of, TicksAlone}
 use Rattle.stream_meaning.specs.Laws.{own_outputs}
 use Rattle.stream_meaning.specs.Outputs.{Effect, branch_effects, own_effects, at_tick, at_emissions, stream_effects, plan_effects}
