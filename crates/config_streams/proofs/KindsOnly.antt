@@ -324,7 +324,7 @@ kind_means env word.Else start forms = tt
 kind_means env word.With start forms = with_means env start forms
 kind_means env word.Default start forms = default_means env start forms
 kind_means env word.Tag start forms = one_means env word.Tag texts_at plan.Tag (IsTexts env) (texts_mean env) (λ x tags are. start_kind (tagging are)) (λ fs. refl) refl start forms
-kind_means env word.By start forms = one_means env word.By fields_at plan.By (IsFields env) (fields_mean env) (λ f fields are. start_kind (by are)) (λ fs. refl) refl start forms
+kind_means env word.By start forms = one_means env word.By fields_at (λ fields. plan.By fields None) (IsFields env) (fields_mean env) (λ f fields are. start_kind (by are)) (λ fs. refl) refl start forms
 kind_means env word.Changed start forms = changed_means env start forms
 kind_means env word.Runs start forms =
     two_mean env word.Runs count_at field_at plan.Runs (IsCount env) (IsField env) (count_means env) (field_means env) (λ n f count one is means. start_kind (runs is means)) (λ fs. refl) refl start forms

@@ -348,7 +348,7 @@ kind_read env _ _ _ (default_all {entries = entries} {sets = sets} are) forms mo
     one_led env word.Default (plan.Default sets) forms (map_of entries) more refl
     (λ f rest at _. default_reads_one env f rest sets (map_sets_are env entries sets are 0 f rest at).1 (λ start. (map_sets_are env entries sets are start f rest at).0)) h
 kind_read env _ _ _ (tagging {x = x} {tags = tags} are) forms more h plain = one_read env word.Tag texts_at plan.Tag tags x (λ start fs. refl) (λ fs. refl) refl (texts_are env x tags are) forms more h
-kind_read env _ _ _ (by {f = x} {fields = fields} are) forms more h plain = one_read env word.By fields_at plan.By fields x (λ start fs. refl) (λ fs. refl) refl (fields_are env x fields are) forms more h
+kind_read env _ _ _ (by {f = x} {fields = fields} are) forms more h plain = one_read env word.By fields_at (λ fields. plan.By fields None) fields x (λ start fs. refl) (λ fs. refl) refl (fields_are env x fields are) forms more h
 kind_read env _ _ _ (changed {f = x} {one = one} means) forms more h plain =
     one_led env word.Changed (plan.Changed one None) forms x more refl (λ f rest at are. changed_one env f rest one (plain rest are).1 (field_is env x one means f at)) h
 kind_read env _ _ _ (changed_from {f = x} {entries = entries} {one = one} {held = held} means is) forms more h plain =

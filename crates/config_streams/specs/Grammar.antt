@@ -61,7 +61,7 @@ pub data IsKind : Env → List ℕ → BareTrees → KindTree → Type 0 where
   default_one : {env : Env} {f v : BareTree} {one : Field} {set : Set} → IsField env f one → IsSet env one v set → IsKind env (codes "default") (listed (f ∷ v ∷ [])) (kind.Default (set ∷ []))
   default_all : {env : Env} {entries : BareTrees} {sets : List Set} → AreSets env entries sets → IsKind env (codes "default") (listed (map_of entries ∷ [])) (kind.Default sets)
   tagging : {env : Env} {x : BareTree} {tags : List (List ℕ)} → IsTexts env x tags → IsKind env (codes "tag") (listed (x ∷ [])) (kind.Tag tags)
-  by : {env : Env} {f : BareTree} {fields : List Field} → IsFields env f fields → IsKind env (codes "by") (listed (f ∷ [])) (kind.By fields)
+  by : {env : Env} {f : BareTree} {fields : List Field} → IsFields env f fields → IsKind env (codes "by") (listed (f ∷ [])) (kind.By fields None)
   changed : {env : Env} {f : BareTree} {one : Field} → IsField env f one → IsKind env (codes "changed") (listed (f ∷ [])) (kind.Changed one None)
   changed_from : {env : Env} {f : BareTree} {entries : BareTrees} {one : Field} {held : Value} → IsField env f one → IsInit env entries held
       → IsKind env (codes "changed") (listed (f ∷ map_of entries ∷ [])) (kind.Changed one (Some held))

@@ -180,7 +180,7 @@ kind_of env word.Where start forms = one_argument rule_at kind.Where env start f
 kind_of env word.With start forms = sets_of env start forms >>= λ sets. Ok (kind.With sets)
 kind_of env word.Default start forms = sets_of env start forms >>= λ sets. Ok (kind.Default sets)
 kind_of env word.Tag start forms = one_argument texts_at kind.Tag env start forms
-kind_of env word.By start forms = one_argument fields_at kind.By env start forms
+kind_of env word.By start forms = one_argument fields_at (λ fields. kind.By fields None) env start forms
 kind_of env word start forms = counting_kind env word start forms
 
 -- ---- the number of arguments before the streams
