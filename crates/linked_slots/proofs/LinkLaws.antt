@@ -5,13 +5,13 @@ use Rattle.std.proofs.lemmas.Grind.{get_or_default_zero}
 use Rattle.std.proofs.lemmas.List.{get_or_append_left}
 use Rattle.slab.specs.Slab.{Slab, Updates}
 use Rattle.linked_slots.specs.Table.{value_at, IsLive}
-use Rattle.linked_slots.specs.IdLists.{list_at, times_in, times, IsListed, without, append_to, first_of, following}
+use Rattle.linked_slots.specs.IdLists.{list_at, times_in, times, IsListed, without, append_to, first_of, last_of, following}
 use Rattle.linked_slots.specs.Nodes.{next_of, previous_of, kind_of, next_at, previous_at, kind_at, id_of, AreMutual, Leads, head_at, AreRings, IsLinked, changed, lists_after, Cuts, Ties, Adds}
 use Rattle.linked_slots.specs.declared.nodes.Node.{Node}
 use Rattle.linked_slots.specs.declared.nodes.Change.{Change}
 use Rattle.linked_slots.specs.declared.nodes.Change.TheVariants.{Append, Remove}
 use Rattle.linked_slots.proofs.ListLaws.{bool_cases, eqb-same, eqb-true, eqb-false, eqb-apart, times-without, at-empty, times-empty, length-empty, length-without, listed_at, all_listed}
-use Rattle.linked_slots.proofs.RingLaws.{rings-cut, rings-tied, leads-first, leads-following}
+use Rattle.linked_slots.proofs.RingLaws.{rings-cut, rings-tied, leads-first, leads-last, leads-following}
 
 -- ---- one change more
 pub changed-append : (lists : List (List ℕ)) (changes : List (Change × Unit {0})) (number id : ℕ)
@@ -193,6 +193,13 @@ module _ (lists : List (List ℕ)) (slots : List (Option Node)) (heads : List �
       → id_of (kind_at slots (next_at slots (head_at heads number))) (next_at slots (head_at heads number)) ≡ first_of (list_at lists number)
   first-is number h =
       leads-first (next_at slots) (kind_at slots) (head_at heads number) (list_at lists number) (head_at heads number) (r.are_heads number h)
+      (all_listed (λ x. kind_at slots x ≡ Some false) (list_at lists number) (λ x more. r.are_ids x (listed_at x number lists more)))
+      (r.rings number h)
+
+  pub last-is : (number : ℕ) → number < length lists
+      → id_of (kind_at slots (previous_at slots (head_at heads number))) (previous_at slots (head_at heads number)) ≡ last_of (list_at lists number)
+  last-is number h =
+      leads-last (next_at slots) (previous_at slots) (kind_at slots) r.mutual_links.back (head_at heads number) (list_at lists number) (r.are_heads number h)
       (all_listed (λ x. kind_at slots x ≡ Some false) (list_at lists number) (λ x more. r.are_ids x (listed_at x number lists more)))
       (r.rings number h)
 

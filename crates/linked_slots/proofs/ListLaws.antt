@@ -32,7 +32,7 @@ parts : (b : Bool) (m n : ℕ) → cond b 0 m + cond b 0 n ≡ cond b 0 (m + n)
 parts true m n = refl
 parts false m n = refl
 
-times_in-remove : (id q : ℕ) (xs : List ℕ) → times_in q (remove_in id xs) ≡ cond (eqb q id) 0 (times_in q xs)
+pub times_in-remove : (id q : ℕ) (xs : List ℕ) → times_in q (remove_in id xs) ≡ cond (eqb q id) 0 (times_in q xs)
 times_in-remove id q [] = either (eqb q id) 0
 times_in-remove id q (x ∷ xs) =
     elim (bool_cases (eqb x id)) [
@@ -46,7 +46,7 @@ times_in-remove id q (x ∷ xs) =
       ])
     ]
 
-times_in-push : (id q : ℕ) (xs : List ℕ) → times_in q (xs ++ id ∷ []) ≡ times_in q xs + cond (eqb id q) 1 0
+pub times_in-push : (id q : ℕ) (xs : List ℕ) → times_in q (xs ++ id ∷ []) ≡ times_in q xs + cond (eqb id q) 1 0
 times_in-push id q [] = omega arith
 times_in-push id q (x ∷ xs) =
     elim (bool_cases (eqb x q)) [

@@ -1,7 +1,7 @@
 -- Laws of rings of nodes.
 use Rattle.std.proofs.Common.{◌≡◌, ◌≢◌, ℕ, ◌+◌, ◌<◌, Bool, true, false, cond, eqb, List, [], ◌∷◌, ◌++◌, length, Option, Some, arith, refl, sym, ◌∙◌, ap, subst, inl, inr}
 use Rattle.std.specs.List.{AllByRecursion}
-use Rattle.linked_slots.specs.IdLists.{list_at, times_in, times, IsListed, without, append_to, first_of, following}
+use Rattle.linked_slots.specs.IdLists.{list_at, times_in, times, IsListed, without, append_to, first_of, last_from, last_of, following}
 use Rattle.linked_slots.specs.Nodes.{id_of, Leads, head_at, AreRings}
 use Rattle.linked_slots.proofs.ListLaws.{bool_cases, eqb-same, eqb-true, eqb-false, eqb-apart, remove_in, times-without, times-append, listed_at, at-without, at-append_same, at-append_other, length-without, length-append_to, all_listed}
 
@@ -123,6 +123,25 @@ module _ (f : ℕ → ℕ) (kind : ℕ → Option Bool) where
             rw here (leads-first id xs e a h.1 (subst P (eqb-true x id here) w.1)))
         | inr apart ↦ rw apart (leads-following id x xs e a h.1 w.1 (let same : times_in id (x ∷ xs) ≡ times_in id xs = rw apart refl in omega (arith, same, more)))
       ]
+
+-- the last number leads to the end
+leads-end : (f : ℕ → ℕ) (p : ℕ) (xs : List ℕ) (e : ℕ) → Leads f p xs e → f (last_from p xs) ≡ e
+leads-end f p [] e w = w
+leads-end f p (x ∷ xs) e w = leads-end f x xs e w.1
+
+all-last : (P : ℕ → Type 0) (x : ℕ) (xs : List ℕ) → AllByRecursion P (x ∷ xs) → P (last_from x xs)
+all-last P x [] a = a.0
+all-last P x (y ∷ xs) a = all-last P y xs a.1
+
+pub leads-last : (f g : ℕ → ℕ) (kind : ℕ → Option Bool) → ((q : ℕ) → g (f q) ≡ q) → (e : ℕ) (xs : List ℕ) → kind e ≡ Some true
+    → AllByRecursion (λ x. kind x ≡ Some false) xs → Leads f e xs e → id_of (kind (g e)) (g e) ≡ last_of xs
+leads-last f g kind back e [] head a w =
+    let is : g e ≡ e = ap g (sym w) ∙ back e in
+    rw (is, head) refl
+leads-last f g kind back e (x ∷ xs) head a w =
+    let is : g e ≡ last_from x xs = ap g (sym (leads-end f x xs e w.1)) ∙ back (last_from x xs) in
+    let id : kind (last_from x xs) ≡ Some false = all-last (λ y. kind y ≡ Some false) x xs a in
+    rw (is, id) refl
 
 -- ---- lists as rings
 pub some_differ : (a b : Option Bool) → a ≡ Some true → b ≡ Some false → a ≢ b

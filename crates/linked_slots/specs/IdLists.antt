@@ -43,6 +43,16 @@ abbrev pub first_of : List ℕ → Option ℕ
 first_of [] = None
 first_of (first ∷ rest) = Some first
 
+-- the last id of the list that begins with this one
+abbrev pub last_from : ℕ → List ℕ → ℕ
+last_from first [] = first
+last_from first (second ∷ rest) = last_from second rest
+
+-- the last id of the list
+abbrev pub last_of : List ℕ → Option ℕ
+last_of [] = None
+last_of (first ∷ rest) = Some (last_from first rest)
+
 -- the id that follows the given one in the list
 abbrev pub following : ℕ → List ℕ → Option ℕ
 following id [] = None

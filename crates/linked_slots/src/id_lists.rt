@@ -1,8 +1,8 @@
 ghost use Rattle.std.specs.Prelude.{◌≡◌, ℕ, ◌+◌, ◌<◌, ◌≤◌, [], length, replicate, IfOk, OnOk, OnErr};
-ghost use Rattle.linked_slots.specs.IdLists.{list_at, times, times_in, IsListed, AreApart, without, append_to, first_of, following};
+ghost use Rattle.linked_slots.specs.IdLists.{list_at, times, times_in, IsListed, AreApart, without, append_to, first_of, last_of, following};
 ghost use Rattle.linked_slots.specs.Nodes.{IsLinked};
 
-use crate::nodes::{Change, Node, add_node, cut, id_after, tie};
+use crate::nodes::{Change, Node, add_node, cut, id_after, id_before, tie};
 use http_server::Log;
 use list_laws::Memory;
 use slab::Slab;
@@ -124,6 +124,15 @@ impl Lists {
         ensures apart { AreApart self.now.lists }
     {
         id_after(&self.nodes, self.heads[list])
+    }
+
+    /// The last id of the list of this number.
+    pub fn back(&self, list: usize) -> Option<usize>
+        requires { list < length self.now.lists }
+        ensures back { result ≡ last_of (list_at self.now.lists list) }
+        ensures apart { AreApart self.now.lists }
+    {
+        id_before(&self.nodes, self.heads[list])
     }
 
     /// The id that follows this one in its list.

@@ -49,6 +49,21 @@ pub(crate) fn id_after(nodes: &Slab<Node>, key: usize) -> Option<usize>
     }
 }
 
+/// The id before the node, where there is one.
+pub(crate) fn id_before(nodes: &Slab<Node>, key: usize) -> Option<usize>
+    requires live { IsLive nodes.now.slots key }
+    requires linked { AreMutual (next_at nodes.now.slots) (previous_at nodes.now.slots) }
+    ensures { result ≡ id_of (kind_at nodes.now.slots (previous_at nodes.now.slots key))
+        (previous_at nodes.now.slots key) }
+{
+    let previous = nodes[key].previous;
+    if nodes[previous].is_head {
+        None
+    } else {
+        Some(previous)
+    }
+}
+
 /// Links the neighbours of the node to each other, and the node to itself.
 pub(crate) fn cut(nodes: &mut Slab<Node>, id: usize)
     requires live { IsLive nodes.old.slots id }
