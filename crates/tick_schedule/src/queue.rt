@@ -116,7 +116,7 @@ impl DueQueue {
     }
 
     /// Whether an id is due at or before the moment.
-    fn is_due(&self, now: u64) -> bool
+    pub fn is_due(&self, now: u64) -> bool
         ensures none { result ≡ false → due_ids now self.now ≡ [] }
         ensures some { result ≡ true → due_ids now self.now ≢ [] }
         ensures rising { IsRising self.now }
@@ -128,14 +128,14 @@ impl DueQueue {
     }
 
     /// The ids that are due at or before the moment.
-    fn due_ids(&self, alloc: Global, now: u64) -> Result<BTreeSet<usize>, Memory>
+    pub fn due_ids(&self, alloc: Global, now: u64) -> Result<BTreeSet<usize>, Memory>
         ensures { IfOk result (λ ids. ids.keys ≡ due_ids now self.now) }
     {
         self.lists.ids_until(alloc, now)
     }
 
     /// Removes the moments of the ids.
-    fn clear_all(&mut self, ids: &BTreeSet<usize>)
+    pub fn clear_all(&mut self, ids: &BTreeSet<usize>)
         ensures { self.new ≡ filter (λ entry.
             not (list_any (is_at (nat_cmp entry.0)) ids.now.keys)) self.old }
     {
