@@ -1,1 +1,9 @@
+pub mod ChangeLaws
+pub mod DueLaws
+pub mod EndingLaws
+pub mod KeptLaws
+pub mod LabelLaws
+pub mod ListLaws
+pub mod OrderLaws
+pub mod SlotLaws
 pub mod TableLaws

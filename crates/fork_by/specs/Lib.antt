@@ -1,1 +1,6 @@
+pub mod Ending
+pub mod Labels
+pub mod Order
+pub mod Register
+pub mod Slots
 pub mod Table

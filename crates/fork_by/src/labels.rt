@@ -1,0 +1,186 @@
+//! What is known of the forks of a table, whose memory is taken with the first fork.
+ghost use Rattle.std.specs.Prelude.{◌≡◌, ◌+◌, ◌≤◌, ◌<◌, ◌++◌, ◌↔◌, [], length, unwrap_or, None, IsSome, IsTrue, IsOk, IfOk, IfSome, IfNone, OnOk, OnErr};
+ghost use Rattle.std.specs.List.{All};
+ghost use Rattle.list_laws.specs.Prefix.{IsPrefix};
+ghost use Rattle.tick_schedule.specs.Queue.{IsLeast};
+ghost use Rattle.fork_by.specs.Labels.{IsLive, number_of, index_at, dues_set, due_numbers, dues_cleared, due_moments, AreSound, Adds, Touches, Drops, labels_in};
+
+use crate::register::Register;
+use ev_types::Key;
+use list_laws::{Ids, Memory};
+use std::alloc::Global;
+use std::marker::Model;
+use step_count::{Ledger, Steps};
+
+/// The labels of the forks of a table, in the order in which these were added. Without a fork they take no memory but
+/// that of a pointer, since most streams have no forks.
+#[derive(Drop)]
+pub(crate) struct Labels {
+    register: Option<Box<Register>>,
+}
+
+impl Model for Labels {
+    ghost use Rattle.std.specs.Prelude.{List};
+    ghost use Rattle.fork_by.specs.Labels.{Label, labels_in};
+
+    ghost Value = { List Label };
+
+    ghost view = { λ labels. labels_in labels.register };
+}
+
+impl Labels {
+    /// The labels of no forks. It takes no memory.
+    pub(crate) fn fresh() -> Labels
+        ensures { result ≡ [] }
+    {
+        Labels { register: None }
+    }
+
+    /// The number of the key, if it has one.
+    pub(crate) fn find(&self, key: &Key) -> Option<usize>
+        ensures { result ≡ number_of key.now self.now }
+    {
+        match &self.register {
+            Some(register) => register.find(key),
+            None => None,
+        }
+    }
+
+    /// Where the fork of the number is, and 0 where it has none.
+    pub(crate) fn index(&self, number: usize) -> usize
+        ensures { result ≡ unwrap_or (index_at number self.now) 0 }
+    {
+        match &self.register {
+            Some(register) => register.index(number),
+            None => 0,
+        }
+    }
+
+    /// Whether the number has a fork.
+    pub(crate) fn is_live(&self, number: usize) -> bool
+        ensures { IsTrue result ↔ IsLive number self.now }
+    {
+        match &self.register {
+            Some(register) => register.is_live(number),
+            None => false,
+        }
+    }
+
+    /// Adds the label of a fork, and gives its number. A moment before that of another fork counts as that one.
+    #[tactic(auto, using(crate::proofs::LabelLaws::sound_nothing))]
+    pub(crate) fn add(&mut self, alloc: Global, key: Key, now: u64) -> Result<usize, Memory>
+        requires { number_of key self.old ≡ None }
+        ensures ok { IfOk result (λ number. Adds self.old self.new key number now) }
+        ensures err { OnErr result (self.new ≡ self.old) }
+        ensures sound { AreSound self.new }
+    {
+        open(alloc, &mut self.register)?;
+        let Some(register) = &mut self.register else {
+            return Err(Memory);
+        };
+        register.add(alloc, key, now)
+    }
+
+    /// Sets the moment of the last item of the fork. A moment before that of another fork counts as that one.
+    #[tactic(auto, using(crate::proofs::LabelLaws::sound_nothing))]
+    pub(crate) fn touch(&mut self, number: usize, now: u64)
+        requires { IsLive number self.old }
+        ensures touched { Touches self.old self.new number now }
+        ensures sound { AreSound self.new }
+    {
+        if let Some(register) = &mut self.register {
+            register.touch(number, now);
+        }
+    }
+
+    /// Removes the label of a fork whose moment is at or before `upto`, if there is one, and gives where the fork is. The
+    /// last fork is to come there.
+    #[tactic(auto, using(crate::proofs::LabelLaws::sound_nothing))]
+    pub(crate) fn take_idle(&mut self, upto: u64) -> Option<usize>
+        ensures none { IfNone result (self.new ≡ self.old) }
+        ensures later { IfNone result (All (λ label. upto < label.moment) self.old) }
+        ensures dropped { IfSome result (λ index. Drops self.old self.new upto index) }
+        ensures sound { AreSound self.new }
+    {
+        let Some(register) = &mut self.register else {
+            return None;
+        };
+        register.take_idle(upto)
+    }
+
+    /// Sets or clears the due moment of the fork. Clearing takes no memory.
+    #[tactic(auto, using(crate::proofs::LabelLaws::sound_nothing))]
+    pub(crate) fn set_due(
+        &mut self,
+        alloc: Global,
+        number: usize,
+        due: Option<u64>,
+    ) -> Result<(), Memory>
+        requires { IsLive number self.old }
+        ensures ok { OnOk result (self.new ≡ dues_set number due self.old) }
+        ensures clears { due ≡ None → IsOk result }
+        ensures err { OnErr result (self.new ≡ self.old) }
+        ensures sound { AreSound self.new }
+    {
+        let Some(register) = &mut self.register else {
+            return Ok(());
+        };
+        register.set_due(alloc, number, due)
+    }
+
+    /// Appends the numbers of the forks that are due at or before the moment `now`, in the order of the labels, and clears
+    /// their due moments. It counts one entry for each.
+    #[tactic(auto, using(crate::proofs::LabelLaws::sound_nothing))]
+    pub(crate) fn due_forks<G: Ledger>(
+        &mut self,
+        alloc: Global,
+        now: u64,
+        out: &mut Ids,
+        steps: &mut Steps<G>,
+    ) -> Result<(), Memory>
+        ensures numbers { OnOk result (out.new ≡ out.old ++ due_numbers now self.old) }
+        ensures later { OnOk result (self.new ≡ dues_cleared now self.old) }
+        ensures entries { OnOk result (steps.new.entries
+            ≡ steps.old.entries + length (due_numbers now self.old)) }
+
+        // Where nothing is due it takes no memory.
+        ensures quiet { due_numbers now self.old ≡ [] → IsOk result }
+        ensures err { OnErr result (self.new ≡ self.old) }
+        ensures sound { AreSound self.new }
+        ensures prefix { OnErr result (IsPrefix out.old out.new) }
+        ensures at_most { steps.new.entries
+            ≤ steps.old.entries + length (due_numbers now self.old) }
+        ensures at_least { steps.old.entries ≤ steps.new.entries }
+        ensures forks { steps.new.forks ≡ steps.old.forks }
+        ensures began { steps.new.began ≡ steps.old.began }
+    {
+        let Some(register) = &mut self.register else {
+            return Ok(());
+        };
+        register.due_forks(alloc, now, out, steps)
+    }
+
+    /// The least due moment of a fork.
+    pub(crate) fn next_due(&self) -> Option<u64>
+        ensures { IsLeast (due_moments self.now) result }
+    {
+        match &self.register {
+            Some(register) => register.next_due(),
+            None => None,
+        }
+    }
+}
+
+/// Makes the register, if it is not there.
+fn open(alloc: Global, register: &mut Option<Box<Register>>) -> Result<(), Memory>
+    ensures same { labels_in register.new ≡ labels_in register.old }
+    ensures open { OnOk result (IsSome register.new) }
+    ensures none { OnErr result (labels_in register.old ≡ []) }
+{
+    if register.is_some() {
+        return Ok(());
+    }
+    let made = Register::fresh(alloc)?;
+    *register = Some(Box::new(alloc, made)?);
+    Ok(())
+}
