@@ -21,8 +21,10 @@ use Rattle.config_terms.specs.Rules.{with_rule}
 use Rattle.config_terms.proofs.RuleLaws.{rule_pushed}
 use Rattle.config_terms.specs.Code.{Look, Symbol, look_of, map_in}
 
-pub map_of_sets : (env : Env) (start : ℕ) (forms entries : FormTrees) (form : FormTree) → Some entries ≡ map_in form → sets_by env start forms form ≡ sets_from (start_of form) env [] entries
-map_of_sets env start forms entries (Group Curly more begin last) e = ap (λ (found : Option FormTrees). sets_of_found found) (sym e)
+pub map_of_sets : (env : Env) (start : ℕ) (forms entries : FormTrees) (form : FormTree) → Some entries ≡ map_in form
+    → sets_by env start forms form ≡ sets_from (start_of form) env [] entries
+map_of_sets env start forms entries (Group Curly more begin last) e =
+    ap (λ (found : Option FormTrees). sets_of_found found) (sym e)
   where
     sets_of_found : Option FormTrees → Result (List Set) Fault
     sets_of_found None = Ok []
@@ -31,7 +33,8 @@ map_of_sets env start forms entries (Group Round more begin last) e = cc
 map_of_sets env start forms entries (Group Square more begin last) e = cc
 map_of_sets env start forms entries (Single a begin last) e = cc
 
-pub no_map_of_sets : (env : Env) (start : ℕ) (forms : FormTrees) (form : FormTree) → None ≡ map_in form → sets_by env start forms form ≡ one_set env start form forms
+pub no_map_of_sets : (env : Env) (start : ℕ) (forms : FormTrees) (form : FormTree) → None ≡ map_in form
+    → sets_by env start forms form ≡ one_set env start form forms
 no_map_of_sets env start forms (Group Curly more begin last) e = cc
 no_map_of_sets env start forms (Group Round more begin last) e = refl
 no_map_of_sets env start forms (Group Square more begin last) e = refl
@@ -48,15 +51,19 @@ map_of_init env entries (Group Round more begin last) e = cc
 map_of_init env entries (Group Square more begin last) e = cc
 map_of_init env entries (Single a begin last) e = cc
 
-pub init_is : (env : Env) (forms entries : FormTrees) (form : FormTree) → Some form ≡ nth 1 forms → Some entries ≡ map_in form →
+pub init_is : (env : Env) (forms entries : FormTrees) (form : FormTree) → Some form ≡ nth 1 forms →
+    Some entries ≡ map_in form →
     init_of env forms ≡ some_init env (start_of form) entries
 unfolding init_of
 init_is env forms entries form at is = ap (init_by env) (sym at) ∙ map_of_init env entries form is
 
-pub sets_are : (env : Env) (start : ℕ) (forms entries : FormTrees) (form : FormTree) → argument start 0 forms ≡ Ok form → Some entries ≡ map_in form →
+pub sets_are : (env : Env) (start : ℕ) (forms entries : FormTrees) (form : FormTree) →
+    argument start 0 forms ≡ Ok form → Some entries ≡ map_in form →
     sets_of env start forms ≡ sets_from (start_of form) env [] entries
 unfolding sets_of
-sets_are env start forms entries form at is = ap (λ (found : Result FormTree Fault). found >>= sets_by env start forms) at ∙ map_of_sets env start forms entries form is
+sets_are env start forms entries form at is =
+    ap (λ (found : Result FormTree Fault). found >>= sets_by env start forms) at
+    ∙ map_of_sets env start forms entries form is
 
 pub no_map_of_init : (env : Env) (form : FormTree) → None ≡ map_in form → init_by env (Some form) ≡ Ok None
 no_map_of_init env (Group Curly more begin last) e = cc
@@ -103,8 +110,10 @@ tag_rules-append : (tags : List (List ℕ)) (tag : List ℕ) → tag_rules (tags
 tag_rules-append [] tag = refl
 tag_rules-append (first ∷ tags) tag = ap (λ more. pred.also (pred.Tagged first) more) (tag_rules-append tags tag)
 
-pub tag_more : (tags : List (List ℕ)) (rules pushed : List Rule) (tag copied : List ℕ) (i : ℕ) → i < length tags → tag ≡ get_or tags i tag → copied ≡ tag →
-    pushed ≡ rules ++ code.Tagged copied ∷ [] → trees_in rules ≡ tag_rules (take i tags) → trees_in pushed ≡ tag_rules (take (i + 1) tags)
+pub tag_more : (tags : List (List ℕ)) (rules pushed : List Rule) (tag copied : List ℕ) (i : ℕ) → i < length tags →
+    tag ≡ get_or tags i tag → copied ≡ tag →
+    pushed ≡ rules ++ code.Tagged copied ∷ [] → trees_in rules ≡ tag_rules (take i tags) →
+    trees_in pushed ≡ tag_rules (take (i + 1) tags)
 tag_more tags rules pushed tag copied i within is same grown so_far =
     ap trees_in grown
     ∙ rule_pushed rules (code.Tagged copied)
@@ -113,12 +122,14 @@ tag_more tags rules pushed tag copied i within is same grown so_far =
     ∙ sym (tag_rules-append (take i tags) (get_or tags i tag))
     ∙ ap tag_rules (sym (take_more tags i tag within))
 
-pub one_tag : (tags : List (List ℕ)) (tag : List ℕ) → length tags ≡ 1 → tag ≡ get_or tags 0 tag → all_tagged tags ≡ pred.Tagged tag
+pub one_tag : (tags : List (List ℕ)) (tag : List ℕ) → length tags ≡ 1 → tag ≡ get_or tags 0 tag
+    → all_tagged tags ≡ pred.Tagged tag
 one_tag [] tag one is = absurd (omega arith)
 one_tag (first ∷ []) tag one is = ap pred.Tagged (sym is)
 one_tag (first ∷ second ∷ tags) tag one is = absurd (omega arith)
 
-pub many_tags : (tags : List (List ℕ)) (held : Vec Rule Global) → length tags ≢ 1 → trees_in held.items ≡ tag_rules tags → all_tagged tags ≡ tree_of (code.All held)
+pub many_tags : (tags : List (List ℕ)) (held : Vec Rule Global) → length tags ≢ 1 → trees_in held.items ≡ tag_rules tags
+    → all_tagged tags ≡ tree_of (code.All held)
 many_tags [] held more is = ap All (sym is) ∙ sym (tree_of_all held)
 many_tags (first ∷ []) held more is = absurd (more refl)
 many_tags (first ∷ second ∷ tags) held more is = ap All (sym is) ∙ sym (tree_of_all held)

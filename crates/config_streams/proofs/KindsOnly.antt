@@ -50,54 +50,71 @@ abbrev NumberIs : Env → BareTree → ℤ → Type 0
 NumberIs env form number = IsLiteral env form (bound.Number number)
 
 rule_means : (env : Env) (f : FormTree) → OkGood (IsPredicate env (bare_tree f)) (rule_at env f)
-rule_means env f = good_of (IsPredicate env (bare_tree f)) (rule_at env f) (λ rule is. (predicates_are_those env f rule).1 is)
+rule_means env f =
+    good_of (IsPredicate env (bare_tree f)) (rule_at env f) (λ rule is. (predicates_are_those env f rule).1 is)
 
 text_means : (env : Env) (f : FormTree) → OkGood (TextIs env (bare_tree f)) (text_at env f)
 text_means env f = good_of (TextIs env (bare_tree f)) (text_at env f) (λ text is. (texts_are_read env f text).1 is)
 
 number_means : (env : Env) (f : FormTree) → OkGood (NumberIs env (bare_tree f)) (number_at env f)
-number_means env f = good_of (NumberIs env (bare_tree f)) (number_at env f) (λ number is. (numbers_are_read env f number).1 is)
+number_means env f =
+    good_of (NumberIs env (bare_tree f)) (number_at env f) (λ number is. (numbers_are_read env f number).1 is)
 
 field_means : (env : Env) (f : FormTree) → OkGood (IsField env (bare_tree f)) (field_at env f)
 field_means env f = good_of (IsField env (bare_tree f)) (field_at env f) (λ one is. (fields_are_read env f one).1 is)
 
 count_means : (env : Env) (f : FormTree) → OkGood (IsCount env (bare_tree f)) (count_at env f)
-count_means env f = good_of (IsCount env (bare_tree f)) (count_at env f) (λ count is. (ranges_are_read 1 MAX_COUNT env f count).1 is)
+count_means env f =
+    good_of (IsCount env (bare_tree f)) (count_at env f) (λ count is. (ranges_are_read 1 MAX_COUNT env f count).1 is)
 
 secs_mean : (env : Env) (f : FormTree) → OkGood (AreSecs env (bare_tree f)) (secs_at env f)
-secs_mean env f = good_of (AreSecs env (bare_tree f)) (secs_at env f) (λ secs is. (ranges_are_read 1 MAX_SECS env f secs).1 is)
+secs_mean env f =
+    good_of (AreSecs env (bare_tree f)) (secs_at env f) (λ secs is. (ranges_are_read 1 MAX_SECS env f secs).1 is)
 
 texts_mean : (env : Env) (f : FormTree) → OkGood (IsTexts env (bare_tree f)) (texts_at env f)
-texts_mean env f = good_of (IsTexts env (bare_tree f)) (texts_at env f) (λ texts is. (text_vectors_are_read env f texts).1 is)
+texts_mean env f =
+    good_of (IsTexts env (bare_tree f)) (texts_at env f) (λ texts is. (text_vectors_are_read env f texts).1 is)
 
 fields_mean : (env : Env) (f : FormTree) → OkGood (IsFields env (bare_tree f)) (fields_at env f)
-fields_mean env f = good_of (IsFields env (bare_tree f)) (fields_at env f) (λ fields is. (field_vectors_are_read env f fields).1 is)
+fields_mean env f =
+    good_of (IsFields env (bare_tree f)) (fields_at env f) (λ fields is. (field_vectors_are_read env f fields).1 is)
 
 set_means : (env : Env) (one : Field) (f : FormTree) → OkGood (IsSet env one (bare_tree f)) (set_at env one f)
-set_means env one f = good_of (IsSet env one (bare_tree f)) (set_at env one f) (λ set is. (sets_are_read env one f set).1 is)
+set_means env one f =
+    good_of (IsSet env one (bare_tree f)) (set_at env one f) (λ set is. (sets_are_read env one f set).1 is)
 
-sets_mean : (env : Env) (place : ℕ) (forms : FormTrees) → OkGood (AreSets env (bare_trees forms)) (sets_from place env [] forms)
-sets_mean env place forms = good_of (AreSets env (bare_trees forms)) (sets_from place env [] forms) (λ sets is. (set_maps_are_read env place forms sets).1 is)
+sets_mean : (env : Env) (place : ℕ) (forms : FormTrees)
+    → OkGood (AreSets env (bare_trees forms)) (sets_from place env [] forms)
+sets_mean env place forms =
+    good_of (AreSets env (bare_trees forms)) (sets_from place env [] forms)
+    (λ sets is. (set_maps_are_read env place forms sets).1 is)
 
-init_means : (env : Env) (place : ℕ) (forms : FormTrees) → OkGood (IsInit env (bare_trees forms)) (one_entry init_text value_at place env None forms)
-init_means env place forms = good_of (IsInit env (bare_trees forms)) (one_entry init_text value_at place env None forms) (λ held is. (inits_are_read env place forms held).1 is)
+init_means : (env : Env) (place : ℕ) (forms : FormTrees)
+    → OkGood (IsInit env (bare_trees forms)) (one_entry init_text value_at place env None forms)
+init_means env place forms =
+    good_of (IsInit env (bare_trees forms)) (one_entry init_text value_at place env None forms)
+    (λ held is. (inits_are_read env place forms held).1 is)
 
 -- the words of the folds
 
 abbrev FoldOf : List ℕ → Fold → Type 0
 FoldOf name one = IsFold (symbol name) one
 
-fold_if : (name text : List ℕ) (one : Fold) (other : Option Fold) → IsFold (symbol text) one → SomeGood (FoldOf name) other → SomeGood (FoldOf name) (if bytes_eq name text then Some one else other)
+fold_if : (name text : List ℕ) (one : Fold) (other : Option Fold) → IsFold (symbol text) one
+    → SomeGood (FoldOf name) other → SomeGood (FoldOf name) (if bytes_eq name text then Some one else other)
 fold_if name text one other is rest =
-    some_if (FoldOf name) (bytes_eq name text) (Some one) other (λ same. subst (λ (n : List ℕ). IsFold (symbol n) one) (sym ((bytes_eq-Decides name text).0 same)) is) (λ _. rest)
+    some_if (FoldOf name) (bytes_eq name text) (Some one) other
+    (λ same. subst (λ (n : List ℕ). IsFold (symbol n) one) (sym ((bytes_eq-Decides name text).0 same)) is) (λ _. rest)
 
 fold_word_means : (name : List ℕ) → SomeGood (FoldOf name) (fold_word name)
 unfolding fold_word
 fold_word_means name =
     fold_if name (codes "folds/sum") fold.Sum _ sum (fold_if name (codes "folds/minimum") fold.Minimum _ minimum
-    (fold_if name (codes "folds/maximum") fold.Maximum _ maximum (fold_if name (codes "folds/count") fold.Count _ counted tt)))
+    (fold_if name (codes "folds/maximum") fold.Maximum _ maximum
+    (fold_if name (codes "folds/count") fold.Count _ counted tt)))
 
-fold_by_means : (P : Fold → Type 0) (env : Env) (f : FormTree) (found : Option Fold) → SomeGood P found → OkGood P (fold_by env f found)
+fold_by_means : (P : Fold → Type 0) (env : Env) (f : FormTree) (found : Option Fold) → SomeGood P found
+    → OkGood P (fold_by env f found)
 fold_by_means P env f None good = tt
 fold_by_means P env f (Some one) good = good
 
@@ -118,8 +135,10 @@ fold_means env f = fold_by_means (IsFold (bare_tree f)) env f (fold_named f) (na
 -- the word and these arguments begin a stream of the kind, also one that no stream follows
 pub data Starts : Env → List ℕ → BareTrees → KindTree → Type 0 where
   start_index : {env : Env} → Starts env (codes "index") no_trees plan.Index
-  start_notice : {env : Env} {x : BareTree} {name : List ℕ} → IsLiteral env x (bound.Text name) → Starts env (codes "notice") (listed (x ∷ [])) (plan.Notice name)
-  start_kind : {env : Env} {name : List ℕ} {own : BareTrees} {one : KindTree} → IsKind env name own one → Starts env name own one
+  start_notice : {env : Env} {x : BareTree} {name : List ℕ} → IsLiteral env x (bound.Text name)
+      → Starts env (codes "notice") (listed (x ∷ [])) (plan.Notice name)
+  start_kind : {env : Env} {name : List ℕ} {own : BareTrees} {one : KindTree} → IsKind env name own one
+      → Starts env name own one
 
 -- an `else` may follow
 pub record Divides (env : Env) (own : BareTrees) (one : KindTree) : Type 0 where
@@ -140,8 +159,11 @@ never e = cc
 
 -- ---- kinds of one argument and of two
 
-one_means : {A : Type 0} (env : Env) (from : StreamWord) (read : Env → FormTree → Result A Fault) (make : A → KindTree) (Is : BareTree → A → Type 0) → ((f : FormTree) → OkGood (Is (bare_tree f)) (read env f))
-    → ((x : BareTree) (a : A) → Is x a → Starts env (stream_text from) (listed (x ∷ [])) (make a)) → ((forms : FormTrees) → leads env from forms ≡ 1) → is_where from ≡ false
+one_means : {A : Type 0} (env : Env) (from : StreamWord) (read : Env → FormTree → Result A Fault) (make : A → KindTree)
+    (Is : BareTree → A → Type 0)
+    → ((f : FormTree) → OkGood (Is (bare_tree f)) (read env f))
+    → ((x : BareTree) (a : A) → Is x a → Starts env (stream_text from) (listed (x ∷ [])) (make a))
+    → ((forms : FormTrees) → leads env from forms ≡ 1) → is_where from ≡ false
     → (start : ℕ) (forms : FormTrees) → OkGood (Known env from forms) (one_argument read make env start forms)
 unfolding argument
 one_means env from read make Is means starts own no_else start none = tt
@@ -150,30 +172,44 @@ one_means env from read make Is means starts own no_else start (also f rest) =
     (λ a is. record {
       own = listed (bare_tree f ∷ []);
       is = starts (bare_tree f) a is;
-      are = ap (λ (n : ℕ). and_then (listed (bare_tree f ∷ [])) (bare_trees (later n (also f rest)))) (sym (own (also f rest)));
+      are =
+          ap (λ (n : ℕ). and_then (listed (bare_tree f ∷ [])) (bare_trees (later n (also f rest))))
+          (sym (own (also f rest)));
       divides = λ at. never (sym no_else ∙ at);
     })
 
-two_mean : {A B : Type 0} (env : Env) (from : StreamWord) (read : Env → FormTree → Result A Fault) (read_next : Env → FormTree → Result B Fault) (make : A → B → KindTree) (Is : BareTree → A → Type 0) (Is_next : BareTree → B → Type 0)
-    → ((f : FormTree) → OkGood (Is (bare_tree f)) (read env f)) → ((f : FormTree) → OkGood (Is_next (bare_tree f)) (read_next env f))
-    → ((x y : BareTree) (a : A) (b : B) → Is x a → Is_next y b → Starts env (stream_text from) (listed (x ∷ y ∷ [])) (make a b)) → ((forms : FormTrees) → leads env from forms ≡ 2) → is_where from ≡ false
-    → (start : ℕ) (forms : FormTrees) → OkGood (Known env from forms) (two_arguments read read_next make env start forms)
+two_mean : {A B : Type 0} (env : Env) (from : StreamWord) (read : Env → FormTree → Result A Fault)
+    (read_next : Env → FormTree → Result B Fault) (make : A → B → KindTree) (Is : BareTree → A → Type 0)
+    (Is_next : BareTree → B → Type 0)
+    → ((f : FormTree) → OkGood (Is (bare_tree f)) (read env f))
+    → ((f : FormTree) → OkGood (Is_next (bare_tree f)) (read_next env f))
+    → ((x y : BareTree) (a : A) (b : B) → Is x a → Is_next y b
+    → Starts env (stream_text from) (listed (x ∷ y ∷ [])) (make a b))
+    → ((forms : FormTrees) → leads env from forms ≡ 2) → is_where from ≡ false
+    → (start : ℕ) (forms : FormTrees)
+    → OkGood (Known env from forms) (two_arguments read read_next make env start forms)
 unfolding argument
 two_mean env from read read_next make Is Is_next means next_means starts own no_else start none = tt
-two_mean env from read read_next make Is Is_next means next_means starts own no_else start (also f none) = bind_good Any_ (Known env from (also f none)) (read env f) _ (any_good (read env f)) (λ a _. tt)
+two_mean env from read read_next make Is Is_next means next_means starts own no_else start (also f none) =
+    bind_good Any_ (Known env from (also f none)) (read env f) _ (any_good (read env f)) (λ a _. tt)
 two_mean env from read read_next make Is Is_next means next_means starts own no_else start (also f (also g rest)) =
     bind_good (Is (bare_tree f)) (Known env from (also f (also g rest))) (read env f) _ (means f) (λ a is.
-    bind_good (Is_next (bare_tree g)) (Known env from (also f (also g rest))) (read_next env g) (λ b. Ok (make a b)) (next_means g) (λ b next_is.
+    bind_good (Is_next (bare_tree g)) (Known env from (also f (also g rest))) (read_next env g) (λ b. Ok (make a b))
+    (next_means g) (λ b next_is.
     record {
       own = listed (bare_tree f ∷ bare_tree g ∷ []);
       is = starts (bare_tree f) (bare_tree g) a b is next_is;
-      are = ap (λ (n : ℕ). and_then (listed (bare_tree f ∷ bare_tree g ∷ [])) (bare_trees (later n (also f (also g rest))))) (sym (own (also f (also g rest))));
+      are =
+          ap
+          (λ (n : ℕ). and_then (listed (bare_tree f ∷ bare_tree g ∷ [])) (bare_trees (later n (also f (also g rest)))))
+          (sym (own (also f (also g rest))));
       divides = λ at. never (sym no_else ∙ at);
     }))
 
 -- ---- where, and tags
 
-where_means : (env : Env) (start : ℕ) (forms : FormTrees) → OkGood (Known env word.Where forms) (kind_of env word.Where start forms)
+where_means : (env : Env) (start : ℕ) (forms : FormTrees)
+    → OkGood (Known env word.Where forms) (kind_of env word.Where start forms)
 unfolding kind_of leads argument
 where_means env start none = tt
 where_means env start (also a rest) =
@@ -186,21 +222,27 @@ where_means env start (also a rest) =
     })
 
 some_tags : (env : Env) (a : FormTree) (rest : FormTrees) (texts : List (List ℕ)) → IsTexts env (bare_tree a) texts
-    → OkGood (Known env word.Tagged (also a rest)) (some_of (start_of a) texts >>= λ tags. Ok (plan.Where (all_tagged tags)))
+    → OkGood (Known env word.Tagged (also a rest))
+    (some_of (start_of a) texts >>= λ tags. Ok (plan.Where (all_tagged tags)))
 unfolding leads
 some_tags env a rest [] are = tt
 some_tags env a rest (one ∷ tags) are =
     record {
       own = listed (bare_tree a ∷ []);
-      is = subst (λ (rule : Tree). Starts env (codes "tagged") (listed (bare_tree a ∷ [])) (plan.Where rule)) (sym (all_tags_are one tags)) (start_kind (tagged are));
+      is =
+          subst (λ (rule : Tree). Starts env (codes "tagged") (listed (bare_tree a ∷ [])) (plan.Where rule))
+          (sym (all_tags_are one tags)) (start_kind (tagged are));
       are = refl;
       divides = never;
     }
 
-tagged_means : (env : Env) (start : ℕ) (forms : FormTrees) → OkGood (Known env word.Tagged forms) (kind_of env word.Tagged start forms)
+tagged_means : (env : Env) (start : ℕ) (forms : FormTrees)
+    → OkGood (Known env word.Tagged forms) (kind_of env word.Tagged start forms)
 unfolding kind_of counting_kind window_kind tagged_kind argument
 tagged_means env start none = tt
-tagged_means env start (also a rest) = bind_good (IsTexts env (bare_tree a)) (Known env word.Tagged (also a rest)) (texts_at env a) _ (texts_mean env a) (λ texts are. some_tags env a rest texts are)
+tagged_means env start (also a rest) =
+    bind_good (IsTexts env (bare_tree a)) (Known env word.Tagged (also a rest)) (texts_at env a) _ (texts_mean env a)
+    (λ texts are. some_tags env a rest texts are)
 
 -- seconds, where there are any
 
@@ -209,18 +251,22 @@ record Coalesced (env : Env) (forms : FormTrees) (has : Bool) (secs : ℕ) : Typ
   is : IsKind env (codes "coalesce") own (plan.Coalesce secs)
   are : bare_trees forms ≡ and_then own (bare_trees (later (one_if has) forms))
 
-coalesced : (env : Env) (start : ℕ) (forms : FormTrees) (has : Bool) → OkGood (Coalesced env forms has) (if has then (argument start 0 forms >>= secs_at env) else Ok 1)
+coalesced : (env : Env) (start : ℕ) (forms : FormTrees) (has : Bool)
+    → OkGood (Coalesced env forms has) (if has then (argument start 0 forms >>= secs_at env) else Ok 1)
 unfolding argument
 coalesced env start none true = tt
 coalesced env start (also a rest) true =
-    weaker (AreSecs env (bare_tree a)) (Coalesced env (also a rest) true) (secs_at env a) (λ secs are. record { own = listed (bare_tree a ∷ []); is = coalesce_every are; are = refl }) (secs_mean env a)
+    weaker (AreSecs env (bare_tree a)) (Coalesced env (also a rest) true) (secs_at env a)
+    (λ secs are. record { own = listed (bare_tree a ∷ []); is = coalesce_every are; are = refl }) (secs_mean env a)
 coalesced env start none false = record { own = no_trees; is = coalesce; are = refl }
 coalesced env start (also a rest) false = record { own = no_trees; is = coalesce; are = refl }
 
-coalesce_means : (env : Env) (start : ℕ) (forms : FormTrees) → OkGood (Known env word.Coalesce forms) (kind_of env word.Coalesce start forms)
+coalesce_means : (env : Env) (start : ℕ) (forms : FormTrees)
+    → OkGood (Known env word.Coalesce forms) (kind_of env word.Coalesce start forms)
 unfolding kind_of counting_kind coalesce_secs leads
 coalesce_means env start forms =
-    bind_good (Coalesced env forms (has_secs env forms)) (Known env word.Coalesce forms) _ _ (coalesced env start forms (has_secs env forms))
+    bind_good (Coalesced env forms (has_secs env forms)) (Known env word.Coalesce forms) _ _
+    (coalesced env start forms (has_secs env forms))
     (λ secs known. record { own = known.own; is = start_kind known.is; are = known.are; divides = never })
 
 -- ---- sets
@@ -233,9 +279,11 @@ record Setting (env : Env) (forms : FormTrees) (sets : List Set) : Type 0 where
   as_default : IsKind env (codes "default") own (plan.Default sets)
   are : bare_trees forms ≡ and_then own (bare_trees (later (two_if (not (is_map_in (nth 0 forms)))) forms))
 
-one_setting : (env : Env) (start : ℕ) (a : FormTree) (rest : FormTrees) → is_map a ≡ false → OkGood (Setting env (also a rest)) (one_set env start a (also a rest))
+one_setting : (env : Env) (start : ℕ) (a : FormTree) (rest : FormTrees) → is_map a ≡ false
+    → OkGood (Setting env (also a rest)) (one_set env start a (also a rest))
 unfolding argument
-one_setting env start a none no_map = bind_good Any_ (Setting env (also a none)) (field_at env a) _ (any_good (field_at env a)) (λ one _. tt)
+one_setting env start a none no_map =
+    bind_good Any_ (Setting env (also a none)) (field_at env a) _ (any_good (field_at env a)) (λ one _. tt)
 one_setting env start a (also b rest) no_map =
     let Q = Setting env (also a (also b rest)) in
     bind_good (IsField env (bare_tree a)) Q (field_at env a) _ (field_means env a) (λ one means.
@@ -244,26 +292,41 @@ one_setting env start a (also b rest) no_map =
       own = listed (bare_tree a ∷ bare_tree b ∷ []);
       as_with = with_one means is;
       as_default = default_one means is;
-      are = ap (λ (map : Bool). and_then (listed (bare_tree a ∷ bare_tree b ∷ [])) (bare_trees (later (two_if (not map)) (also a (also b rest))))) (sym no_map);
+      are =
+          ap
+          (λ (map : Bool). and_then (listed (bare_tree a ∷ bare_tree b ∷ []))
+          (bare_trees (later (two_if (not map)) (also a (also b rest)))))
+          (sym no_map);
     }))
 
 settings : (env : Env) (start : ℕ) (forms : FormTrees) → OkGood (Setting env forms) (sets_of env start forms)
 unfolding sets_of argument
 settings env start none = tt
 settings env start (also (Group Curly entries begin last) rest) =
-    weaker (AreSets env (bare_trees entries)) (Setting env (also (Group Curly entries begin last) rest)) (sets_from begin env [] entries)
-    (λ sets are. record { own = listed (map_of (bare_trees entries) ∷ []); as_with = with_all are; as_default = default_all are; are = refl }) (sets_mean env begin entries)
-settings env start (also (Group Round entries begin last) rest) = one_setting env start (Group Round entries begin last) rest refl
-settings env start (also (Group Square entries begin last) rest) = one_setting env start (Group Square entries begin last) rest refl
+    weaker (AreSets env (bare_trees entries)) (Setting env (also (Group Curly entries begin last) rest))
+    (sets_from begin env [] entries)
+    (λ sets are. record {
+      own = listed (map_of (bare_trees entries) ∷ []);
+      as_with = with_all are;
+      as_default = default_all are;
+      are = refl;
+    })
+    (sets_mean env begin entries)
+settings env start (also (Group Round entries begin last) rest) =
+    one_setting env start (Group Round entries begin last) rest refl
+settings env start (also (Group Square entries begin last) rest) =
+    one_setting env start (Group Square entries begin last) rest refl
 settings env start (also (Single one begin last) rest) = one_setting env start (Single one begin last) rest refl
 
-with_means : (env : Env) (start : ℕ) (forms : FormTrees) → OkGood (Known env word.With forms) (kind_of env word.With start forms)
+with_means : (env : Env) (start : ℕ) (forms : FormTrees)
+    → OkGood (Known env word.With forms) (kind_of env word.With start forms)
 unfolding kind_of leads
 with_means env start forms =
     bind_good (Setting env forms) (Known env word.With forms) (sets_of env start forms) _ (settings env start forms)
     (λ sets known. record { own = known.own; is = start_kind known.as_with; are = known.are; divides = never })
 
-default_means : (env : Env) (start : ℕ) (forms : FormTrees) → OkGood (Known env word.Default forms) (kind_of env word.Default start forms)
+default_means : (env : Env) (start : ℕ) (forms : FormTrees)
+    → OkGood (Known env word.Default forms) (kind_of env word.Default start forms)
 unfolding kind_of leads
 default_means env start forms =
     bind_good (Setting env forms) (Known env word.Default forms) (sets_of env start forms) _ (settings env start forms)
@@ -271,13 +334,16 @@ default_means env start forms =
 
 -- a field, and what it was
 
-no_init_means : (env : Env) (a : FormTree) (rest : FormTrees) → is_map_in (nth 0 rest) ≡ false → (one : Field) → IsField env (bare_tree a) one → Known env word.Changed (also a rest) (plan.Changed one None)
+no_init_means : (env : Env) (a : FormTree) (rest : FormTrees) → is_map_in (nth 0 rest) ≡ false → (one : Field)
+    → IsField env (bare_tree a) one → Known env word.Changed (also a rest) (plan.Changed one None)
 unfolding leads
 no_init_means env a rest no_map one means =
     record {
       own = listed (bare_tree a ∷ []);
       is = start_kind (changed means);
-      are = ap (λ (map : Bool). and_then (listed (bare_tree a ∷ [])) (bare_trees (later (two_if map) (also a rest)))) (sym no_map);
+      are =
+          ap (λ (map : Bool). and_then (listed (bare_tree a ∷ [])) (bare_trees (later (two_if map) (also a rest))))
+          (sym no_map);
       divides = never;
     }
 
@@ -288,77 +354,117 @@ record Inited (env : Env) (entries : FormTrees) (init : Option Value) : Type 0 w
 
 inited : (env : Env) (place : ℕ) (entries : FormTrees) → OkGood (Inited env entries) (some_init env place entries)
 inited env place entries =
-    bind_good (IsInit env (bare_trees entries)) (Inited env entries) (one_entry init_text value_at place env None entries) _ (init_means env place entries) (λ held is. record { held = held; init_is = refl; is = is })
+    bind_good (IsInit env (bare_trees entries)) (Inited env entries)
+    (one_entry init_text value_at place env None entries) _ (init_means env place entries)
+    (λ held is. record { held = held; init_is = refl; is = is })
 
-changed_means : (env : Env) (start : ℕ) (forms : FormTrees) → OkGood (Known env word.Changed forms) (kind_of env word.Changed start forms)
+changed_means : (env : Env) (start : ℕ) (forms : FormTrees)
+    → OkGood (Known env word.Changed forms) (kind_of env word.Changed start forms)
 unfolding kind_of counting_kind changed_kind init_of leads argument
 changed_means env start none = tt
 changed_means env start (also a none) =
-    bind_good (IsField env (bare_tree a)) (Known env word.Changed (also a none)) (field_at env a) _ (field_means env a) (λ one means. no_init_means env a none refl one means)
+    bind_good (IsField env (bare_tree a)) (Known env word.Changed (also a none)) (field_at env a) _ (field_means env a)
+    (λ one means. no_init_means env a none refl one means)
 changed_means env start (also a (also (Single x begin last) rest)) =
-    bind_good (IsField env (bare_tree a)) (Known env word.Changed (also a (also (Single x begin last) rest))) (field_at env a) _ (field_means env a)
+    bind_good (IsField env (bare_tree a)) (Known env word.Changed (also a (also (Single x begin last) rest)))
+    (field_at env a) _ (field_means env a)
     (λ one means. no_init_means env a (also (Single x begin last) rest) refl one means)
 changed_means env start (also a (also (Group Round entries begin last) rest)) =
-    bind_good (IsField env (bare_tree a)) (Known env word.Changed (also a (also (Group Round entries begin last) rest))) (field_at env a) _ (field_means env a)
+    bind_good (IsField env (bare_tree a)) (Known env word.Changed (also a (also (Group Round entries begin last) rest)))
+    (field_at env a) _ (field_means env a)
     (λ one means. no_init_means env a (also (Group Round entries begin last) rest) refl one means)
 changed_means env start (also a (also (Group Square entries begin last) rest)) =
-    bind_good (IsField env (bare_tree a)) (Known env word.Changed (also a (also (Group Square entries begin last) rest))) (field_at env a) _ (field_means env a)
+    bind_good (IsField env (bare_tree a))
+    (Known env word.Changed (also a (also (Group Square entries begin last) rest))) (field_at env a) _
+    (field_means env a)
     (λ one means. no_init_means env a (also (Group Square entries begin last) rest) refl one means)
 changed_means env start (also a (also (Group Curly entries begin last) rest)) =
     let Q = Known env word.Changed (also a (also (Group Curly entries begin last) rest)) in
-    let make : (one : Field) → IsField env (bare_tree a) one → (held : Value) → IsInit env (bare_trees entries) held → Q (plan.Changed one (Some held)) =
-    λ one means held is. record { own = listed (bare_tree a ∷ map_of (bare_trees entries) ∷ []); is = start_kind (changed_from means is); are = refl; divides = never } in
+    let make : (one : Field) → IsField env (bare_tree a) one → (held : Value) → IsInit env (bare_trees entries) held
+    → Q (plan.Changed one (Some held)) =
+    λ one means held is. record {
+      own = listed (bare_tree a ∷ map_of (bare_trees entries) ∷ []);
+      is = start_kind (changed_from means is);
+      are = refl;
+      divides = never;
+    } in
     bind_good (IsField env (bare_tree a)) Q (field_at env a) _ (field_means env a) (λ one means.
     bind_good (Inited env entries) Q (some_init env begin entries) _ (inited env begin entries) (λ init known.
-    subst (λ (found : Option Value). Q (plan.Changed one found)) (sym known.init_is) (make one means known.held known.is)))
+    subst (λ (found : Option Value). Q (plan.Changed one found)) (sym known.init_is)
+    (make one means known.held known.is)))
 
 -- ---- all kinds
 
-pub kind_means : (env : Env) (from : StreamWord) (start : ℕ) (forms : FormTrees) → OkGood (Known env from forms) (kind_of env from start forms)
+pub kind_means : (env : Env) (from : StreamWord) (start : ℕ) (forms : FormTrees)
+    → OkGood (Known env from forms) (kind_of env from start forms)
 unfolding kind_of counting_kind window_kind order_kind leads
 kind_means env word.Index start forms = record { own = no_trees; is = start_index; are = refl; divides = never }
-kind_means env word.Notice start forms = one_means env word.Notice text_at plan.Notice (TextIs env) (text_means env) (λ x name is. start_notice is) (λ fs. refl) refl start forms
+kind_means env word.Notice start forms =
+    one_means env word.Notice text_at plan.Notice (TextIs env) (text_means env) (λ x name is. start_notice is)
+    (λ fs. refl) refl start forms
 kind_means env word.Sdo start forms = record { own = no_trees; is = start_kind sdo; are = refl; divides = never }
 kind_means env word.Where start forms = where_means env start forms
 kind_means env word.Else start forms = tt
 kind_means env word.With start forms = with_means env start forms
 kind_means env word.Default start forms = default_means env start forms
-kind_means env word.Tag start forms = one_means env word.Tag texts_at plan.Tag (IsTexts env) (texts_mean env) (λ x tags are. start_kind (tagging are)) (λ fs. refl) refl start forms
-kind_means env word.By start forms = one_means env word.By fields_at (λ fields. plan.By fields None) (IsFields env) (fields_mean env) (λ f fields are. start_kind (by are)) (λ fs. refl) refl start forms
+kind_means env word.Tag start forms =
+    one_means env word.Tag texts_at plan.Tag (IsTexts env) (texts_mean env) (λ x tags are. start_kind (tagging are))
+    (λ fs. refl) refl start forms
+kind_means env word.By start forms =
+    one_means env word.By fields_at (λ fields. plan.By fields None) (IsFields env) (fields_mean env)
+    (λ f fields are. start_kind (by are)) (λ fs. refl) refl start forms
 kind_means env word.Changed start forms = changed_means env start forms
 kind_means env word.Runs start forms =
-    two_mean env word.Runs count_at field_at plan.Runs (IsCount env) (IsField env) (count_means env) (field_means env) (λ n f count one is means. start_kind (runs is means)) (λ fs. refl) refl start forms
+    two_mean env word.Runs count_at field_at plan.Runs (IsCount env) (IsField env) (count_means env) (field_means env)
+    (λ n f count one is means. start_kind (runs is means)) (λ fs. refl) refl start forms
 kind_means env word.Throttle start forms =
-    two_mean env word.Throttle count_at secs_at plan.Throttle (IsCount env) (AreSecs env) (count_means env) (secs_mean env) (λ n dt count secs is are. start_kind (throttle is are)) (λ fs. refl) refl start forms
+    two_mean env word.Throttle count_at secs_at plan.Throttle (IsCount env) (AreSecs env) (count_means env)
+    (secs_mean env) (λ n dt count secs is are. start_kind (throttle is are)) (λ fs. refl) refl start forms
 kind_means env word.Rollup start forms =
-    two_mean env word.Rollup count_at secs_at plan.Rollup (IsCount env) (AreSecs env) (count_means env) (secs_mean env) (λ n dt count secs is are. start_kind (rollup is are)) (λ fs. refl) refl start forms
+    two_mean env word.Rollup count_at secs_at plan.Rollup (IsCount env) (AreSecs env) (count_means env) (secs_mean env)
+    (λ n dt count secs is are. start_kind (rollup is are)) (λ fs. refl) refl start forms
 kind_means env word.Batch start forms =
-    two_mean env word.Batch count_at secs_at plan.Batch (IsCount env) (AreSecs env) (count_means env) (secs_mean env) (λ n dt count secs is are. start_kind (batch is are)) (λ fs. refl) refl start forms
+    two_mean env word.Batch count_at secs_at plan.Batch (IsCount env) (AreSecs env) (count_means env) (secs_mean env)
+    (λ n dt count secs is are. start_kind (batch is are)) (λ fs. refl) refl start forms
 kind_means env word.Stable start forms =
-    two_mean env word.Stable secs_at field_at plan.Stable (AreSecs env) (IsField env) (secs_mean env) (field_means env) (λ dt f secs one are means. start_kind (stable are means)) (λ fs. refl) refl start forms
+    two_mean env word.Stable secs_at field_at plan.Stable (AreSecs env) (IsField env) (secs_mean env) (field_means env)
+    (λ dt f secs one are means. start_kind (stable are means)) (λ fs. refl) refl start forms
 kind_means env word.FixedEvent start forms =
-    one_means env word.FixedEvent count_at plan.FixedEvent (IsCount env) (count_means env) (λ n count is. start_kind (fixed_event is)) (λ fs. refl) refl start forms
+    one_means env word.FixedEvent count_at plan.FixedEvent (IsCount env) (count_means env)
+    (λ n count is. start_kind (fixed_event is)) (λ fs. refl) refl start forms
 kind_means env word.MovingEvent start forms =
-    one_means env word.MovingEvent count_at plan.MovingEvent (IsCount env) (count_means env) (λ n count is. start_kind (moving_event is)) (λ fs. refl) refl start forms
-kind_means env word.FixedTime start forms = one_means env word.FixedTime secs_at plan.FixedTime (AreSecs env) (secs_mean env) (λ dt secs are. start_kind (fixed_time are)) (λ fs. refl) refl start forms
+    one_means env word.MovingEvent count_at plan.MovingEvent (IsCount env) (count_means env)
+    (λ n count is. start_kind (moving_event is)) (λ fs. refl) refl start forms
+kind_means env word.FixedTime start forms =
+    one_means env word.FixedTime secs_at plan.FixedTime (AreSecs env) (secs_mean env)
+    (λ dt secs are. start_kind (fixed_time are)) (λ fs. refl) refl start forms
 kind_means env word.MovingTime start forms =
-    one_means env word.MovingTime secs_at plan.MovingTime (AreSecs env) (secs_mean env) (λ dt secs are. start_kind (moving_time are)) (λ fs. refl) refl start forms
+    one_means env word.MovingTime secs_at plan.MovingTime (AreSecs env) (secs_mean env)
+    (λ dt secs are. start_kind (moving_time are)) (λ fs. refl) refl start forms
 kind_means env word.Coalesce start forms = coalesce_means env start forms
-kind_means env word.Smap start forms = one_means env word.Smap fold_at plan.Smap IsFold (fold_means env) (λ f fold is. start_kind (smap is)) (λ fs. refl) refl start forms
-kind_means env word.Expired start forms = record { own = no_trees; is = start_kind expired; are = refl; divides = never }
+kind_means env word.Smap start forms =
+    one_means env word.Smap fold_at plan.Smap IsFold (fold_means env) (λ f fold is. start_kind (smap is)) (λ fs. refl)
+    refl start forms
+kind_means env word.Expired start forms =
+    record { own = no_trees; is = start_kind expired; are = refl; divides = never }
 kind_means env word.Tagged start forms = tagged_means env start forms
 kind_means env word.Over start forms =
-    one_means env word.Over number_at (λ number. plan.Where (Order field.Metric Greater number)) (NumberIs env) (number_means env) (λ k number is. start_kind (over is)) (λ fs. refl) refl start forms
+    one_means env word.Over number_at (λ number. plan.Where (Order field.Metric Greater number)) (NumberIs env)
+    (number_means env) (λ k number is. start_kind (over is)) (λ fs. refl) refl start forms
 kind_means env word.Under start forms =
-    one_means env word.Under number_at (λ number. plan.Where (Order field.Metric Less number)) (NumberIs env) (number_means env) (λ k number is. start_kind (under is)) (λ fs. refl) refl start forms
+    one_means env word.Under number_at (λ number. plan.Where (Order field.Metric Less number)) (NumberIs env)
+    (number_means env) (λ k number is. start_kind (under is)) (λ fs. refl) refl start forms
 
 -- ---- words
 
 abbrev pub Spells : List ℕ → StreamWord → Type 0
 Spells name one = name ≡ stream_text one
 
-spells_if : (name : List ℕ) (one : StreamWord) (other : Option StreamWord) → SomeGood (Spells name) other → SomeGood (Spells name) (if bytes_eq name (stream_text one) then Some one else other)
-spells_if name one other rest = some_if (Spells name) (bytes_eq name (stream_text one)) (Some one) other (λ is. (bytes_eq-Decides name (stream_text one)).0 is) (λ _. rest)
+spells_if : (name : List ℕ) (one : StreamWord) (other : Option StreamWord) → SomeGood (Spells name) other
+    → SomeGood (Spells name) (if bytes_eq name (stream_text one) then Some one else other)
+spells_if name one other rest =
+    some_if (Spells name) (bytes_eq name (stream_text one)) (Some one) other
+    (λ is. (bytes_eq-Decides name (stream_text one)).0 is) (λ _. rest)
 
 pub word_spells : (name : List ℕ) → SomeGood (Spells name) (stream_word name)
 unfolding stream_word passing_word counting_word window_word
@@ -368,9 +474,13 @@ word_spells name =
     (spells_if name word.Else _ (spells_if name word.With _ (spells_if name word.Default _ (spells_if name word.Tag _
     (spells_if name word.By _ tt)))))))))
     (some_or (Spells name) (counting_word name) (window_word name)
-    (spells_if name word.Changed _ (spells_if name word.Runs _ (spells_if name word.Throttle _ (spells_if name word.Rollup _
-    (spells_if name word.Batch _ (spells_if name word.Stable _ (spells_if name word.Coalesce _ (spells_if name word.Smap _
+    (spells_if name word.Changed _
+    (spells_if name word.Runs _ (spells_if name word.Throttle _ (spells_if name word.Rollup _
+    (spells_if name word.Batch _
+    (spells_if name word.Stable _ (spells_if name word.Coalesce _ (spells_if name word.Smap _
     tt))))))))
-    (spells_if name word.FixedEvent _ (spells_if name word.MovingEvent _ (spells_if name word.FixedTime _ (spells_if name word.MovingTime _
-    (spells_if name word.Expired _ (spells_if name word.Tagged _ (spells_if name word.Over _ (spells_if name word.Under _
+    (spells_if name word.FixedEvent _
+    (spells_if name word.MovingEvent _ (spells_if name word.FixedTime _ (spells_if name word.MovingTime _
+    (spells_if name word.Expired _
+    (spells_if name word.Tagged _ (spells_if name word.Over _ (spells_if name word.Under _
     tt)))))))))

@@ -43,43 +43,65 @@ use Rattle.config_streams.proofs.KindLaws.{no_map_of_sets}
 
 -- ---- arguments
 
-pub rule_is : (env : Env) (p : BareTree) (rule : Tree) → IsPredicate env p rule → (f : FormTree) → bare_tree f ≡ p → rule_at env f ≡ Ok rule
-rule_is env p rule is f at = (predicates_are_those env f rule).0 (subst (λ (t : BareTree). IsPredicate env t rule) (sym at) is)
+pub rule_is : (env : Env) (p : BareTree) (rule : Tree) → IsPredicate env p rule → (f : FormTree) → bare_tree f ≡ p
+    → rule_at env f ≡ Ok rule
+rule_is env p rule is f at =
+    (predicates_are_those env f rule).0 (subst (λ (t : BareTree). IsPredicate env t rule) (sym at) is)
 
-pub text_is : (env : Env) (x : BareTree) (text : List ℕ) → IsLiteral env x (bound.Text text) → (f : FormTree) → bare_tree f ≡ x → text_at env f ≡ Ok text
-text_is env x text is f at = (texts_are_read env f text).0 (subst (λ (t : BareTree). IsLiteral env t (bound.Text text)) (sym at) is)
+pub text_is : (env : Env) (x : BareTree) (text : List ℕ) → IsLiteral env x (bound.Text text) → (f : FormTree)
+    → bare_tree f ≡ x → text_at env f ≡ Ok text
+text_is env x text is f at =
+    (texts_are_read env f text).0 (subst (λ (t : BareTree). IsLiteral env t (bound.Text text)) (sym at) is)
 
-number_is : (env : Env) (k : BareTree) (number : ℤ) → IsLiteral env k (bound.Number number) → (f : FormTree) → bare_tree f ≡ k → number_at env f ≡ Ok number
-number_is env k number is f at = (numbers_are_read env f number).0 (subst (λ (t : BareTree). IsLiteral env t (bound.Number number)) (sym at) is)
+number_is : (env : Env) (k : BareTree) (number : ℤ) → IsLiteral env k (bound.Number number) → (f : FormTree)
+    → bare_tree f ≡ k → number_at env f ≡ Ok number
+number_is env k number is f at =
+    (numbers_are_read env f number).0 (subst (λ (t : BareTree). IsLiteral env t (bound.Number number)) (sym at) is)
 
-field_is : (env : Env) (x : BareTree) (one : Field) → IsField env x one → (f : FormTree) → bare_tree f ≡ x → field_at env f ≡ Ok one
+field_is : (env : Env) (x : BareTree) (one : Field) → IsField env x one → (f : FormTree) → bare_tree f ≡ x
+    → field_at env f ≡ Ok one
 field_is env x one is f at = (fields_are_read env f one).0 (subst (λ (t : BareTree). IsField env t one) (sym at) is)
 
-ranged_is : (least most : ℕ) (env : Env) (x : BareTree) (number : ℕ) → IsRanged least most env x number → (f : FormTree) → bare_tree f ≡ x → ranged_at least most env f ≡ Ok number
-ranged_is least most env x number is f at = (ranges_are_read least most env f number).0 (subst (λ (t : BareTree). IsRanged least most env t number) (sym at) is)
+ranged_is : (least most : ℕ) (env : Env) (x : BareTree) (number : ℕ) → IsRanged least most env x number → (f : FormTree)
+    → bare_tree f ≡ x → ranged_at least most env f ≡ Ok number
+ranged_is least most env x number is f at =
+    (ranges_are_read least most env f number).0 (subst (λ (t : BareTree). IsRanged least most env t number) (sym at) is)
 
-count_is : (env : Env) (x : BareTree) (count : ℕ) → IsCount env x count → (f : FormTree) → bare_tree f ≡ x → count_at env f ≡ Ok count
+count_is : (env : Env) (x : BareTree) (count : ℕ) → IsCount env x count → (f : FormTree) → bare_tree f ≡ x
+    → count_at env f ≡ Ok count
 count_is env x count is f at = ranged_is 1 MAX_COUNT env x count is f at
 
-secs_are : (env : Env) (x : BareTree) (secs : ℕ) → AreSecs env x secs → (f : FormTree) → bare_tree f ≡ x → secs_at env f ≡ Ok secs
+secs_are : (env : Env) (x : BareTree) (secs : ℕ) → AreSecs env x secs → (f : FormTree) → bare_tree f ≡ x
+    → secs_at env f ≡ Ok secs
 secs_are env x secs is f at = ranged_is 1 MAX_SECS env x secs is f at
 
-texts_are : (env : Env) (x : BareTree) (texts : List (List ℕ)) → IsTexts env x texts → (f : FormTree) → bare_tree f ≡ x → texts_at env f ≡ Ok texts
-texts_are env x texts is f at = (text_vectors_are_read env f texts).0 (subst (λ (t : BareTree). IsTexts env t texts) (sym at) is)
+texts_are : (env : Env) (x : BareTree) (texts : List (List ℕ)) → IsTexts env x texts → (f : FormTree) → bare_tree f ≡ x
+    → texts_at env f ≡ Ok texts
+texts_are env x texts is f at =
+    (text_vectors_are_read env f texts).0 (subst (λ (t : BareTree). IsTexts env t texts) (sym at) is)
 
-fields_are : (env : Env) (x : BareTree) (fields : List Field) → IsFields env x fields → (f : FormTree) → bare_tree f ≡ x → fields_at env f ≡ Ok fields
-fields_are env x fields is f at = (field_vectors_are_read env f fields).0 (subst (λ (t : BareTree). IsFields env t fields) (sym at) is)
+fields_are : (env : Env) (x : BareTree) (fields : List Field) → IsFields env x fields → (f : FormTree) → bare_tree f ≡ x
+    → fields_at env f ≡ Ok fields
+fields_are env x fields is f at =
+    (field_vectors_are_read env f fields).0 (subst (λ (t : BareTree). IsFields env t fields) (sym at) is)
 
-set_is : (env : Env) (one : Field) (x : BareTree) (set : Set) → IsSet env one x set → (f : FormTree) → bare_tree f ≡ x → set_at env one f ≡ Ok set
-set_is env one x set is f at = (sets_are_read env one f set).0 (subst (λ (t : BareTree). IsSet env one t set) (sym at) is)
+set_is : (env : Env) (one : Field) (x : BareTree) (set : Set) → IsSet env one x set → (f : FormTree) → bare_tree f ≡ x
+    → set_at env one f ≡ Ok set
+set_is env one x set is f at =
+    (sets_are_read env one f set).0 (subst (λ (t : BareTree). IsSet env one t set) (sym at) is)
 
-sets_are : (env : Env) (row : BareTrees) (sets : List Set) → AreSets env row sets → (place : ℕ) (forms : FormTrees) → bare_trees forms ≡ row → sets_from place env [] forms ≡ Ok sets
-sets_are env row sets are place forms at = (set_maps_are_read env place forms sets).0 (subst (λ (ts : BareTrees). AreSets env ts sets) (sym at) are)
+sets_are : (env : Env) (row : BareTrees) (sets : List Set) → AreSets env row sets → (place : ℕ) (forms : FormTrees)
+    → bare_trees forms ≡ row → sets_from place env [] forms ≡ Ok sets
+sets_are env row sets are place forms at =
+    (set_maps_are_read env place forms sets).0 (subst (λ (ts : BareTrees). AreSets env ts sets) (sym at) are)
 
-init_is : (env : Env) (row : BareTrees) (held : Value) → IsInit env row held → (place : ℕ) (forms : FormTrees) → bare_trees forms ≡ row → one_entry init_text value_at place env None forms ≡ Ok held
-init_is env row held is place forms at = (inits_are_read env place forms held).0 (subst (λ (ts : BareTrees). IsInit env ts held) (sym at) is)
+init_is : (env : Env) (row : BareTrees) (held : Value) → IsInit env row held → (place : ℕ) (forms : FormTrees)
+    → bare_trees forms ≡ row → one_entry init_text value_at place env None forms ≡ Ok held
+init_is env row held is place forms at =
+    (inits_are_read env place forms held).0 (subst (λ (ts : BareTrees). IsInit env ts held) (sym at) is)
 
-fold_found : (env : Env) (f : FormTree) (name : List ℕ) (one : Fold) → IsSingle f (atom.Symbol name) → fold_word name ≡ Some one → fold_at env f ≡ Ok one
+fold_found : (env : Env) (f : FormTree) (name : List ℕ) (one : Fold) → IsSingle f (atom.Symbol name)
+    → fold_word name ≡ Some one → fold_at env f ≡ Ok one
 unfolding fold_at
 fold_found env f name one single is = ap (fold_by env f) (ap fold_named single.is ∙ is)
 
@@ -90,26 +112,43 @@ fold_word_is fold.Minimum = refl
 fold_word_is fold.Maximum = refl
 fold_word_is fold.Count = refl
 
-fold_is : (env : Env) (x : BareTree) (one : Fold) → IsFold x one → (f : FormTree) → bare_tree f ≡ x → fold_at env f ≡ Ok one
-fold_is env _ _ sum f at = fold_found env f (codes "folds/sum") fold.Sum (single_of f (atom.Symbol (codes "folds/sum")) at) (fold_word_is fold.Sum)
-fold_is env _ _ minimum f at = fold_found env f (codes "folds/minimum") fold.Minimum (single_of f (atom.Symbol (codes "folds/minimum")) at) (fold_word_is fold.Minimum)
-fold_is env _ _ maximum f at = fold_found env f (codes "folds/maximum") fold.Maximum (single_of f (atom.Symbol (codes "folds/maximum")) at) (fold_word_is fold.Maximum)
-fold_is env _ _ counted f at = fold_found env f (codes "folds/count") fold.Count (single_of f (atom.Symbol (codes "folds/count")) at) (fold_word_is fold.Count)
+fold_is : (env : Env) (x : BareTree) (one : Fold) → IsFold x one → (f : FormTree) → bare_tree f ≡ x
+    → fold_at env f ≡ Ok one
+fold_is env _ _ sum f at =
+    fold_found env f (codes "folds/sum") fold.Sum (single_of f (atom.Symbol (codes "folds/sum")) at)
+    (fold_word_is fold.Sum)
+fold_is env _ _ minimum f at =
+    fold_found env f (codes "folds/minimum") fold.Minimum (single_of f (atom.Symbol (codes "folds/minimum")) at)
+    (fold_word_is fold.Minimum)
+fold_is env _ _ maximum f at =
+    fold_found env f (codes "folds/maximum") fold.Maximum (single_of f (atom.Symbol (codes "folds/maximum")) at)
+    (fold_word_is fold.Maximum)
+fold_is env _ _ counted f at =
+    fold_found env f (codes "folds/count") fold.Count (single_of f (atom.Symbol (codes "folds/count")) at)
+    (fold_word_is fold.Count)
 
 -- a literal and a name are single forms
 record Alone (f : FormTree) : Type 0 where
   one : Atom
   single : IsSingle f one
 
-literal_alone : (env : Env) (form : BareTree) (literal : Bound) → IsLiteral env form literal → (f : FormTree) → bare_tree f ≡ form → Alone f
-literal_alone env _ _ (a_text {text = text}) f h = record { one = atom.Text text; single = single_of f (atom.Text text) h }
-literal_alone env _ _ (a_pattern {text = text}) f h = record { one = atom.Pattern text; single = single_of f (atom.Pattern text) h }
-literal_alone env _ _ (a_number {number = number}) f h = record { one = atom.Number number; single = single_of f (atom.Number number) h }
-literal_alone env _ _ (a_keyword {name = name}) f h = record { one = atom.Keyword name; single = single_of f (atom.Keyword name) h }
-literal_alone env _ literal (a_name {name = name} is) f h = record { one = atom.Symbol name; single = single_of f (atom.Symbol name) h }
+literal_alone : (env : Env) (form : BareTree) (literal : Bound) → IsLiteral env form literal → (f : FormTree)
+    → bare_tree f ≡ form → Alone f
+literal_alone env _ _ (a_text {text = text}) f h =
+    record { one = atom.Text text; single = single_of f (atom.Text text) h }
+literal_alone env _ _ (a_pattern {text = text}) f h =
+    record { one = atom.Pattern text; single = single_of f (atom.Pattern text) h }
+literal_alone env _ _ (a_number {number = number}) f h =
+    record { one = atom.Number number; single = single_of f (atom.Number number) h }
+literal_alone env _ _ (a_keyword {name = name}) f h =
+    record { one = atom.Keyword name; single = single_of f (atom.Keyword name) h }
+literal_alone env _ literal (a_name {name = name} is) f h =
+    record { one = atom.Symbol name; single = single_of f (atom.Symbol name) h }
 
-field_no_map : (env : Env) (form : BareTree) (one : Field) → IsField env form one → (f : FormTree) → bare_tree f ≡ form → None ≡ map_in f
-field_no_map env form one (a_field {name = name} literal is) f h = sym (ap map_in (literal_alone env form (bound.Keyword name) literal f h).single.is)
+field_no_map : (env : Env) (form : BareTree) (one : Field) → IsField env form one → (f : FormTree) → bare_tree f ≡ form
+    → None ≡ map_in f
+field_no_map env form one (a_field {name = name} literal is) f h =
+    sym (ap map_in (literal_alone env form (bound.Keyword name) literal f h).single.is)
 
 is_no_map : (f : FormTree) → None ≡ map_in f → is_map f ≡ false
 is_no_map (Single a start last) h = refl
@@ -143,21 +182,27 @@ pub record Led (env : Env) (name : List ℕ) (one : KindTree) (forms : FormTrees
   pub read : (start : ℕ) → kind_of env from start forms ≡ Ok one
   pub drops : (may_else : Bool) → drop (leads env from forms) (parts_in may_else env forms) ≡ parts_in may_else env rest
 
-parts_of : (may_else : Bool) (env : Env) (f : FormTree) (forms : FormTrees) → parts_in may_else env (also f forms) ≡ (start_of f, part_at may_else env f) ∷ parts_in may_else env forms
+parts_of : (may_else : Bool) (env : Env) (f : FormTree) (forms : FormTrees)
+    → parts_in may_else env (also f forms) ≡ (start_of f, part_at may_else env f) ∷ parts_in may_else env forms
 unfolding part_at parts_in
 parts_of may_else env f forms = refl
 
-one_dropped : (may_else : Bool) (env : Env) (f : FormTree) (forms : FormTrees) → drop 1 (parts_in may_else env (also f forms)) ≡ parts_in may_else env forms
+one_dropped : (may_else : Bool) (env : Env) (f : FormTree) (forms : FormTrees)
+    → drop 1 (parts_in may_else env (also f forms)) ≡ parts_in may_else env forms
 one_dropped may_else env f forms = ap (drop 1) (parts_of may_else env f forms)
 
-two_dropped : (may_else : Bool) (env : Env) (f g : FormTree) (forms : FormTrees) → drop 2 (parts_in may_else env (also f (also g forms))) ≡ parts_in may_else env forms
-two_dropped may_else env f g forms = ap (drop 2) (parts_of may_else env f (also g forms)) ∙ ap (drop 1) (parts_of may_else env g forms)
+two_dropped : (may_else : Bool) (env : Env) (f g : FormTree) (forms : FormTrees)
+    → drop 2 (parts_in may_else env (also f (also g forms))) ≡ parts_in may_else env forms
+two_dropped may_else env f g forms =
+    ap (drop 2) (parts_of may_else env f (also g forms)) ∙ ap (drop 1) (parts_of may_else env g forms)
 
 abbrev ReadsKind : Env → StreamWord → KindTree → FormTrees → ℕ → Type 0
 ReadsKind env from one forms n = ((start : ℕ) → kind_of env from start forms ≡ Ok one) × (leads env from forms ≡ n)
 
 -- a kind of no arguments, of one and of two
-none_led : (env : Env) (from : StreamWord) (one : KindTree) (forms : FormTrees) (more : BareTrees) → is_else from ≡ false → ReadsKind env from one forms 0 → bare_trees forms ≡ more → Led env (stream_text from) one forms more
+none_led : (env : Env) (from : StreamWord) (one : KindTree) (forms : FormTrees) (more : BareTrees)
+    → is_else from ≡ false → ReadsKind env from one forms 0 → bare_trees forms ≡ more
+    → Led env (stream_text from) one forms more
 none_led env from one forms more not_else reads h =
     record {
       from = from;
@@ -169,8 +214,11 @@ none_led env from one forms more not_else reads h =
       drops = λ may_else. ap (λ (n : ℕ). drop n (parts_in may_else env forms)) reads.1;
     }
 
-one_led : (env : Env) (from : StreamWord) (one : KindTree) (forms : FormTrees) (a : BareTree) (more : BareTrees) → is_else from ≡ false
-    → ((f : FormTree) (rest : FormTrees) → bare_tree f ≡ a → bare_trees rest ≡ more → ReadsKind env from one (also f rest) 1) → bare_trees forms ≡ and_trees a more → Led env (stream_text from) one forms more
+one_led : (env : Env) (from : StreamWord) (one : KindTree) (forms : FormTrees) (a : BareTree) (more : BareTrees)
+    → is_else from ≡ false
+    → ((f : FormTree) (rest : FormTrees) → bare_tree f ≡ a → bare_trees rest ≡ more
+    → ReadsKind env from one (also f rest) 1)
+    → bare_trees forms ≡ and_trees a more → Led env (stream_text from) one forms more
 one_led env from one forms a more not_else reads h =
     let first = also_of forms a more h in
     let known = reads first.first first.rest first.first_is first.rest_are in
@@ -182,11 +230,15 @@ one_led env from one forms a more not_else reads h =
       rest_are = first.rest_are;
       read = λ start. ap (kind_of env from start) first.are ∙ known.0 start;
       drops = λ may_else. ap (λ (fs : FormTrees). drop (leads env from fs) (parts_in may_else env fs)) first.are
-          ∙ ap (λ (n : ℕ). drop n (parts_in may_else env (also first.first first.rest))) known.1 ∙ one_dropped may_else env first.first first.rest;
+          ∙ ap (λ (n : ℕ). drop n (parts_in may_else env (also first.first first.rest))) known.1
+          ∙ one_dropped may_else env first.first first.rest;
     }
 
-two_led : (env : Env) (from : StreamWord) (one : KindTree) (forms : FormTrees) (a b : BareTree) (more : BareTrees) → is_else from ≡ false
-    → ((f g : FormTree) (rest : FormTrees) → bare_tree f ≡ a → bare_tree g ≡ b → ReadsKind env from one (also f (also g rest)) 2) → bare_trees forms ≡ and_trees a (and_trees b more)
+two_led : (env : Env) (from : StreamWord) (one : KindTree) (forms : FormTrees) (a b : BareTree) (more : BareTrees)
+    → is_else from ≡ false
+    → ((f g : FormTree) (rest : FormTrees) → bare_tree f ≡ a → bare_tree g ≡ b
+    → ReadsKind env from one (also f (also g rest)) 2)
+    → bare_trees forms ≡ and_trees a (and_trees b more)
     → Led env (stream_text from) one forms more
 two_led env from one forms a b more not_else reads h =
     let first = also_of forms a (and_trees b more) h in
@@ -201,12 +253,14 @@ two_led env from one forms a b more not_else reads h =
       rest_are = second.rest_are;
       read = λ start. ap (kind_of env from start) are ∙ known.0 start;
       drops = λ may_else. ap (λ (fs : FormTrees). drop (leads env from fs) (parts_in may_else env fs)) are
-          ∙ ap (λ (n : ℕ). drop n (parts_in may_else env (also first.first (also second.first second.rest)))) known.1 ∙ two_dropped may_else env first.first second.first second.rest;
+          ∙ ap (λ (n : ℕ). drop n (parts_in may_else env (also first.first (also second.first second.rest)))) known.1
+          ∙ two_dropped may_else env first.first second.first second.rest;
     }
 
 -- ---- kinds of no arguments
 
-coalesce_none : (env : Env) (forms : FormTrees) → has_secs env forms ≡ false → ReadsKind env word.Coalesce (plan.Coalesce 1) forms 0
+coalesce_none : (env : Env) (forms : FormTrees) → has_secs env forms ≡ false
+    → ReadsKind env word.Coalesce (plan.Coalesce 1) forms 0
 unfolding kind_of counting_kind coalesce_secs leads
 coalesce_none env forms is = ((λ start. rw is refl), rw is refl)
 
@@ -220,26 +274,46 @@ no_secs env forms is = is
 abbrev IsRead : {A : Type 0} → Env → (Env → FormTree → Result A Fault) → BareTree → A → Type 0
 IsRead env read x a = (f : FormTree) → bare_tree f ≡ x → read env f ≡ Ok a
 
-first_read : {A : Type 0} (env : Env) (read : Env → FormTree → Result A Fault) (make : A → KindTree) (a : A) (start : ℕ) (f : FormTree) (rest : FormTrees) → read env f ≡ Ok a → one_argument read make env start (also f rest) ≡ Ok (make a)
+first_read : {A : Type 0} (env : Env) (read : Env → FormTree → Result A Fault) (make : A → KindTree) (a : A) (start : ℕ)
+    (f : FormTree) (rest : FormTrees)
+    → read env f ≡ Ok a → one_argument read make env start (also f rest) ≡ Ok (make a)
 unfolding argument
 first_read env read make a start f rest is = rw is refl
 
-both_read : {A B : Type 0} (env : Env) (read : Env → FormTree → Result A Fault) (read_next : Env → FormTree → Result B Fault) (make : A → B → KindTree) (a : A) (b : B) (start : ℕ) (f g : FormTree) (rest : FormTrees)
-    → read env f ≡ Ok a → read_next env g ≡ Ok b → two_arguments read read_next make env start (also f (also g rest)) ≡ Ok (make a b)
+both_read : {A B : Type 0} (env : Env) (read : Env → FormTree → Result A Fault)
+    (read_next : Env → FormTree → Result B Fault) (make : A → B → KindTree) (a : A) (b : B) (start : ℕ) (f g : FormTree)
+    (rest : FormTrees)
+    → read env f ≡ Ok a → read_next env g ≡ Ok b
+    → two_arguments read read_next make env start (also f (also g rest)) ≡ Ok (make a b)
 unfolding argument
 both_read env read read_next make a b start f g rest is next_is = rw (is, next_is) refl
 
-one_read : {A : Type 0} (env : Env) (from : StreamWord) (read : Env → FormTree → Result A Fault) (make : A → KindTree) (a : A) (x : BareTree) → ((start : ℕ) (fs : FormTrees) → kind_of env from start fs ≡ one_argument read make env start fs)
-    → ((fs : FormTrees) → leads env from fs ≡ 1) → is_else from ≡ false → IsRead env read x a → (forms : FormTrees) (more : BareTrees) → bare_trees forms ≡ and_trees x more → Led env (stream_text from) (make a) forms more
+one_read : {A : Type 0} (env : Env) (from : StreamWord) (read : Env → FormTree → Result A Fault) (make : A → KindTree)
+    (a : A) (x : BareTree)
+    → ((start : ℕ) (fs : FormTrees) → kind_of env from start fs ≡ one_argument read make env start fs)
+    → ((fs : FormTrees) → leads env from fs ≡ 1) → is_else from ≡ false → IsRead env read x a
+    → (forms : FormTrees) (more : BareTrees) → bare_trees forms ≡ and_trees x more
+    → Led env (stream_text from) (make a) forms more
 one_read env from read make a x kind_is own not_else is forms more h =
-    one_led env from (make a) forms x more not_else (λ f rest at _. ((λ start. kind_is start (also f rest) ∙ first_read env read make a start f rest (is f at)), own (also f rest))) h
+    one_led env from (make a) forms x more not_else
+    (λ f rest at _.
+    ((λ start. kind_is start (also f rest) ∙ first_read env read make a start f rest (is f at)), own (also f rest)))
+    h
 
-two_read : {A B : Type 0} (env : Env) (from : StreamWord) (read : Env → FormTree → Result A Fault) (read_next : Env → FormTree → Result B Fault) (make : A → B → KindTree) (a : A) (b : B) (x y : BareTree)
-    → ((start : ℕ) (fs : FormTrees) → kind_of env from start fs ≡ two_arguments read read_next make env start fs) → ((fs : FormTrees) → leads env from fs ≡ 2) → is_else from ≡ false → IsRead env read x a → IsRead env read_next y b
-    → (forms : FormTrees) (more : BareTrees) → bare_trees forms ≡ and_trees x (and_trees y more) → Led env (stream_text from) (make a b) forms more
+two_read : {A B : Type 0} (env : Env) (from : StreamWord) (read : Env → FormTree → Result A Fault)
+    (read_next : Env → FormTree → Result B Fault) (make : A → B → KindTree) (a : A) (b : B) (x y : BareTree)
+    → ((start : ℕ) (fs : FormTrees) → kind_of env from start fs ≡ two_arguments read read_next make env start fs)
+    → ((fs : FormTrees) → leads env from fs ≡ 2) → is_else from ≡ false → IsRead env read x a → IsRead env read_next y b
+    → (forms : FormTrees) (more : BareTrees) → bare_trees forms ≡ and_trees x (and_trees y more)
+    → Led env (stream_text from) (make a b) forms more
 two_read env from read read_next make a b x y kind_is own not_else is next_is forms more h =
     two_led env from (make a b) forms x y more not_else
-    (λ f g rest at to. ((λ start. kind_is start (also f (also g rest)) ∙ both_read env read read_next make a b start f g rest (is f at) (next_is g to)), own (also f (also g rest)))) h
+    (λ f g rest at to. (
+      (λ start. kind_is start (also f (also g rest))
+          ∙ both_read env read read_next make a b start f g rest (is f at) (next_is g to)),
+      own (also f (also g rest)),
+    ))
+    h
 
 pub each_tag_is : (tags : List (List ℕ)) → tag_rules tags ≡ each_tag tags
 each_tag_is [] = refl
@@ -247,17 +321,23 @@ each_tag_is (tag ∷ tags) = ap (λ (rules : Trees). pred.also (Tagged tag) rule
 
 pub all_tags_are : (tag : List ℕ) (tags : List (List ℕ)) → all_tagged (tag ∷ tags) ≡ all_of (Tagged tag) (each_tag tags)
 all_tags_are tag [] = refl
-all_tags_are tag (second ∷ tags) = ap (λ (rules : Trees). All (pred.also (Tagged tag) (pred.also (Tagged second) rules))) (each_tag_is tags)
+all_tags_are tag (second ∷ tags) =
+    ap (λ (rules : Trees). All (pred.also (Tagged tag) (pred.also (Tagged second) rules))) (each_tag_is tags)
 
-tagged_one : (env : Env) (f : FormTree) (rest : FormTrees) (tag : List ℕ) (tags : List (List ℕ)) → texts_at env f ≡ Ok (tag ∷ tags) → ReadsKind env word.Tagged (plan.Where (all_of (Tagged tag) (each_tag tags))) (also f rest) 1
+tagged_one : (env : Env) (f : FormTree) (rest : FormTrees) (tag : List ℕ) (tags : List (List ℕ))
+    → texts_at env f ≡ Ok (tag ∷ tags)
+    → ReadsKind env word.Tagged (plan.Where (all_of (Tagged tag) (each_tag tags))) (also f rest) 1
 unfolding kind_of counting_kind window_kind tagged_kind leads argument
-tagged_one env f rest tag tags is = ((λ start. rw is (ap (λ (rule : Tree). Ok (plan.Where rule)) (all_tags_are tag tags))), refl)
+tagged_one env f rest tag tags is =
+    ((λ start. rw is (ap (λ (rule : Tree). Ok (plan.Where rule)) (all_tags_are tag tags))), refl)
 
-has_number : (env : Env) (dt : BareTree) (secs : ℕ) → AreSecs env dt secs → (f : FormTree) (rest : FormTrees) → bare_tree f ≡ dt → has_secs env (also f rest) ≡ true
+has_number : (env : Env) (dt : BareTree) (secs : ℕ) → AreSecs env dt secs → (f : FormTree) (rest : FormTrees)
+    → bare_tree f ≡ dt → has_secs env (also f rest) ≡ true
 unfolding has_secs
 has_number env dt secs (a_ranged is low high) f rest h = rw (literal_read env dt (bound.Number (pos secs)) is f h) refl
 
-coalesce_one : (env : Env) (f : FormTree) (rest : FormTrees) (secs : ℕ) → has_secs env (also f rest) ≡ true → secs_at env f ≡ Ok secs → ReadsKind env word.Coalesce (plan.Coalesce secs) (also f rest) 1
+coalesce_one : (env : Env) (f : FormTree) (rest : FormTrees) (secs : ℕ) → has_secs env (also f rest) ≡ true
+    → secs_at env f ≡ Ok secs → ReadsKind env word.Coalesce (plan.Coalesce secs) (also f rest) 1
 unfolding kind_of counting_kind coalesce_secs leads argument
 coalesce_one env f rest secs has is = ((λ start. rw (has, is) refl), rw has refl)
 
@@ -268,118 +348,183 @@ no_init env (Some (Group Round forms start last)) h = refl
 no_init env (Some (Group Square forms start last)) h = refl
 no_init env (Some (Group Curly forms start last)) h = cc
 
-changed_one : (env : Env) (f : FormTree) (rest : FormTrees) (one : Field) → is_map_in (nth 0 rest) ≡ false → field_at env f ≡ Ok one → ReadsKind env word.Changed (plan.Changed one None) (also f rest) 1
+changed_one : (env : Env) (f : FormTree) (rest : FormTrees) (one : Field) → is_map_in (nth 0 rest) ≡ false
+    → field_at env f ≡ Ok one → ReadsKind env word.Changed (plan.Changed one None) (also f rest) 1
 unfolding kind_of counting_kind changed_kind init_of leads argument
 changed_one env f rest one no_map is = ((λ start. rw (is, no_init env (nth 0 rest) no_map) refl), rw no_map refl)
 
 -- ---- sets
 
-map_sets : (env : Env) (start begin last : ℕ) (entries rest : FormTrees) → sets_of env start (also (Group Curly entries begin last) rest) ≡ sets_from begin env [] entries
+map_sets : (env : Env) (start begin last : ℕ) (entries rest : FormTrees)
+    → sets_of env start (also (Group Curly entries begin last) rest) ≡ sets_from begin env [] entries
 unfolding sets_of argument
 map_sets env start begin last entries rest = refl
 
-map_sets_are : (env : Env) (row : BareTrees) (sets : List Set) → AreSets env row sets → (start : ℕ) (f : FormTree) (rest : FormTrees) → bare_tree f ≡ map_of row → (sets_of env start (also f rest) ≡ Ok sets) × (is_map f ≡ true)
+map_sets_are : (env : Env) (row : BareTrees) (sets : List Set) → AreSets env row sets
+    → (start : ℕ) (f : FormTree) (rest : FormTrees) → bare_tree f ≡ map_of row
+    → (sets_of env start (also f rest) ≡ Ok sets) × (is_map f ≡ true)
 map_sets_are env row sets are start f rest h =
     let group = group_of f Curly row h in (
-      ap (λ (one : FormTree). sets_of env start (also one rest)) group.is ∙ map_sets env start group.start group.last group.forms rest ∙ sets_are env row sets are group.start group.forms group.forms_are,
+      ap (λ (one : FormTree). sets_of env start (also one rest)) group.is
+          ∙ map_sets env start group.start group.last group.forms rest
+          ∙ sets_are env row sets are group.start group.forms group.forms_are,
       ap is_map group.is,
     )
 
-one_set_is : (env : Env) (start : ℕ) (f g : FormTree) (rest : FormTrees) (one : Field) (set : Set) → field_at env f ≡ Ok one → set_at env one g ≡ Ok set → one_set env start f (also f (also g rest)) ≡ Ok (set ∷ [])
+one_set_is : (env : Env) (start : ℕ) (f g : FormTree) (rest : FormTrees) (one : Field) (set : Set)
+    → field_at env f ≡ Ok one → set_at env one g ≡ Ok set → one_set env start f (also f (also g rest)) ≡ Ok (set ∷ [])
 unfolding argument
 one_set_is env start f g rest one set first second = rw (first, second) refl
 
-two_sets : (env : Env) (start : ℕ) (f g : FormTree) (rest : FormTrees) (sets : List Set) → None ≡ map_in f → one_set env start f (also f (also g rest)) ≡ Ok sets → sets_of env start (also f (also g rest)) ≡ Ok sets
+two_sets : (env : Env) (start : ℕ) (f g : FormTree) (rest : FormTrees) (sets : List Set) → None ≡ map_in f
+    → one_set env start f (also f (also g rest)) ≡ Ok sets → sets_of env start (also f (also g rest)) ≡ Ok sets
 unfolding sets_of argument
 two_sets env start f g rest sets no_map is = no_map_of_sets env start (also f (also g rest)) f no_map ∙ is
 
-with_reads_one : (env : Env) (f : FormTree) (rest : FormTrees) (sets : List Set) → is_map f ≡ true → ((start : ℕ) → sets_of env start (also f rest) ≡ Ok sets) → ReadsKind env word.With (plan.With sets) (also f rest) 1
+with_reads_one : (env : Env) (f : FormTree) (rest : FormTrees) (sets : List Set) → is_map f ≡ true
+    → ((start : ℕ) → sets_of env start (also f rest) ≡ Ok sets)
+    → ReadsKind env word.With (plan.With sets) (also f rest) 1
 unfolding kind_of leads
 with_reads_one env f rest sets map is = ((λ start. rw (is start) refl), rw map refl)
 
-with_reads_two : (env : Env) (f g : FormTree) (rest : FormTrees) (sets : List Set) → is_map f ≡ false → ((start : ℕ) → sets_of env start (also f (also g rest)) ≡ Ok sets) → ReadsKind env word.With (plan.With sets) (also f (also g rest)) 2
+with_reads_two : (env : Env) (f g : FormTree) (rest : FormTrees) (sets : List Set) → is_map f ≡ false
+    → ((start : ℕ) → sets_of env start (also f (also g rest)) ≡ Ok sets)
+    → ReadsKind env word.With (plan.With sets) (also f (also g rest)) 2
 unfolding kind_of leads
 with_reads_two env f g rest sets map is = ((λ start. rw (is start) refl), rw map refl)
 
-default_reads_one : (env : Env) (f : FormTree) (rest : FormTrees) (sets : List Set) → is_map f ≡ true → ((start : ℕ) → sets_of env start (also f rest) ≡ Ok sets) → ReadsKind env word.Default (plan.Default sets) (also f rest) 1
+default_reads_one : (env : Env) (f : FormTree) (rest : FormTrees) (sets : List Set) → is_map f ≡ true
+    → ((start : ℕ) → sets_of env start (also f rest) ≡ Ok sets)
+    → ReadsKind env word.Default (plan.Default sets) (also f rest) 1
 unfolding kind_of leads
 default_reads_one env f rest sets map is = ((λ start. rw (is start) refl), rw map refl)
 
-default_reads_two : (env : Env) (f g : FormTree) (rest : FormTrees) (sets : List Set) → is_map f ≡ false → ((start : ℕ) → sets_of env start (also f (also g rest)) ≡ Ok sets)
+default_reads_two : (env : Env) (f g : FormTree) (rest : FormTrees) (sets : List Set) → is_map f ≡ false
+    → ((start : ℕ) → sets_of env start (also f (also g rest)) ≡ Ok sets)
     → ReadsKind env word.Default (plan.Default sets) (also f (also g rest)) 2
 unfolding kind_of leads
 default_reads_two env f g rest sets map is = ((λ start. rw (is start) refl), rw map refl)
 
-one_of_sets : (env : Env) (x v : BareTree) (one : Field) (set : Set) → IsField env x one → IsSet env one v set → (start : ℕ) (f g : FormTree) (rest : FormTrees) → bare_tree f ≡ x → bare_tree g ≡ v
+one_of_sets : (env : Env) (x v : BareTree) (one : Field) (set : Set) → IsField env x one → IsSet env one v set
+    → (start : ℕ) (f g : FormTree) (rest : FormTrees) → bare_tree f ≡ x → bare_tree g ≡ v
     → sets_of env start (also f (also g rest)) ≡ Ok (set ∷ [])
 one_of_sets env x v one set means is start f g rest at to =
-    two_sets env start f g rest (set ∷ []) (field_no_map env x one means f at) (one_set_is env start f g rest one set (field_is env x one means f at) (set_is env one v set is g to))
+    two_sets env start f g rest (set ∷ []) (field_no_map env x one means f at)
+    (one_set_is env start f g rest one set (field_is env x one means f at) (set_is env one v set is g to))
 
 -- ---- a field, and what it was
 
-map_init : (env : Env) (row : BareTrees) (held : Value) → IsInit env row held → (f : FormTree) → bare_tree f ≡ map_of row → (init_by env (Some f) ≡ Ok (Some held)) × (is_map f ≡ true)
+map_init : (env : Env) (row : BareTrees) (held : Value) → IsInit env row held → (f : FormTree)
+    → bare_tree f ≡ map_of row → (init_by env (Some f) ≡ Ok (Some held)) × (is_map f ≡ true)
 map_init env row held is f h =
     let group = group_of f Curly row h in
     let read : some_init env group.start group.forms ≡ Ok (Some held) =
-    ap (λ (read : Result Value Fault). read >>= λ init. Ok (Some init)) (init_is env row held is group.start group.forms group.forms_are) in
+    ap (λ (read : Result Value Fault). read >>= λ init. Ok (Some init))
+    (init_is env row held is group.start group.forms group.forms_are) in
     (ap (λ (one : FormTree). init_by env (Some one)) group.is ∙ read, ap is_map group.is)
 
-changed_two : (env : Env) (f g : FormTree) (rest : FormTrees) (one : Field) (held : Value) → field_at env f ≡ Ok one → init_by env (Some g) ≡ Ok (Some held) → is_map g ≡ true
+changed_two : (env : Env) (f g : FormTree) (rest : FormTrees) (one : Field) (held : Value) → field_at env f ≡ Ok one
+    → init_by env (Some g) ≡ Ok (Some held) → is_map g ≡ true
     → ReadsKind env word.Changed (plan.Changed one (Some held)) (also f (also g rest)) 2
 unfolding kind_of counting_kind changed_kind init_of leads argument
 changed_two env f g rest one held first second map = ((λ start. rw (first, second) refl), rw map refl)
 
 -- ---- all kinds
 
-pub kind_read : (env : Env) (name : List ℕ) (own : BareTrees) (one : KindTree) → IsKind env name own one → (forms : FormTrees) (more : BareTrees) → bare_trees forms ≡ and_then own more → IsPlainRow env more → Led env name one forms more
+pub kind_read : (env : Env) (name : List ℕ) (own : BareTrees) (one : KindTree) → IsKind env name own one
+    → (forms : FormTrees) (more : BareTrees) → bare_trees forms ≡ and_then own more → IsPlainRow env more
+    → Led env name one forms more
 unfolding kind_of counting_kind window_kind order_kind leads
 kind_read env _ _ _ sdo forms more h plain = none_led env word.Sdo plan.Sdo forms more refl ((λ start. refl), refl) h
-kind_read env _ _ _ (where_ {p = p} {rule = rule} is) forms more h plain = one_read env word.Where rule_at plan.Where rule p (λ start fs. refl) (λ fs. refl) refl (rule_is env p rule is) forms more h
+kind_read env _ _ _ (where_ {p = p} {rule = rule} is) forms more h plain =
+    one_read env word.Where rule_at plan.Where rule p (λ start fs. refl) (λ fs. refl) refl (rule_is env p rule is) forms
+    more h
 kind_read env _ _ _ (with_one {f = x} {v = v} {one = one} {set = set} means is) forms more h plain =
     two_led env word.With (plan.With (set ∷ [])) forms x v more refl
-    (λ f g rest at to. with_reads_two env f g rest (set ∷ []) (is_no_map f (field_no_map env x one means f at)) (λ start. one_of_sets env x v one set means is start f g rest at to)) h
+    (λ f g rest at to. with_reads_two env f g rest (set ∷ []) (is_no_map f (field_no_map env x one means f at))
+    (λ start. one_of_sets env x v one set means is start f g rest at to))
+    h
 kind_read env _ _ _ (with_all {entries = entries} {sets = sets} are) forms more h plain =
     one_led env word.With (plan.With sets) forms (map_of entries) more refl
-    (λ f rest at _. with_reads_one env f rest sets (map_sets_are env entries sets are 0 f rest at).1 (λ start. (map_sets_are env entries sets are start f rest at).0)) h
+    (λ f rest at _. with_reads_one env f rest sets (map_sets_are env entries sets are 0 f rest at).1
+    (λ start. (map_sets_are env entries sets are start f rest at).0))
+    h
 kind_read env _ _ _ (default_one {f = x} {v = v} {one = one} {set = set} means is) forms more h plain =
     two_led env word.Default (plan.Default (set ∷ [])) forms x v more refl
-    (λ f g rest at to. default_reads_two env f g rest (set ∷ []) (is_no_map f (field_no_map env x one means f at)) (λ start. one_of_sets env x v one set means is start f g rest at to)) h
+    (λ f g rest at to. default_reads_two env f g rest (set ∷ []) (is_no_map f (field_no_map env x one means f at))
+    (λ start. one_of_sets env x v one set means is start f g rest at to))
+    h
 kind_read env _ _ _ (default_all {entries = entries} {sets = sets} are) forms more h plain =
     one_led env word.Default (plan.Default sets) forms (map_of entries) more refl
-    (λ f rest at _. default_reads_one env f rest sets (map_sets_are env entries sets are 0 f rest at).1 (λ start. (map_sets_are env entries sets are start f rest at).0)) h
-kind_read env _ _ _ (tagging {x = x} {tags = tags} are) forms more h plain = one_read env word.Tag texts_at plan.Tag tags x (λ start fs. refl) (λ fs. refl) refl (texts_are env x tags are) forms more h
-kind_read env _ _ _ (by {f = x} {fields = fields} are) forms more h plain = one_read env word.By fields_at (λ fields. plan.By fields None) fields x (λ start fs. refl) (λ fs. refl) refl (fields_are env x fields are) forms more h
+    (λ f rest at _. default_reads_one env f rest sets (map_sets_are env entries sets are 0 f rest at).1
+    (λ start. (map_sets_are env entries sets are start f rest at).0))
+    h
+kind_read env _ _ _ (tagging {x = x} {tags = tags} are) forms more h plain =
+    one_read env word.Tag texts_at plan.Tag tags x (λ start fs. refl) (λ fs. refl) refl (texts_are env x tags are) forms
+    more h
+kind_read env _ _ _ (by {f = x} {fields = fields} are) forms more h plain =
+    one_read env word.By fields_at (λ fields. plan.By fields None) fields x (λ start fs. refl) (λ fs. refl) refl
+    (fields_are env x fields are) forms more h
 kind_read env _ _ _ (changed {f = x} {one = one} means) forms more h plain =
-    one_led env word.Changed (plan.Changed one None) forms x more refl (λ f rest at are. changed_one env f rest one (plain rest are).1 (field_is env x one means f at)) h
+    one_led env word.Changed (plan.Changed one None) forms x more refl
+    (λ f rest at are. changed_one env f rest one (plain rest are).1 (field_is env x one means f at)) h
 kind_read env _ _ _ (changed_from {f = x} {entries = entries} {one = one} {held = held} means is) forms more h plain =
     two_led env word.Changed (plan.Changed one (Some held)) forms x (map_of entries) more refl
-    (λ f g rest at to. let init = map_init env entries held is g to in changed_two env f g rest one held (field_is env x one means f at) init.0 init.1) h
+    (λ f g rest at to.
+    let init = map_init env entries held is g to in
+    changed_two env f g rest one held (field_is env x one means f at) init.0 init.1)
+    h
 kind_read env _ _ _ (runs {n = n} {f = x} {count = count} {one = one} is means) forms more h plain =
-    two_read env word.Runs count_at field_at plan.Runs count one n x (λ start fs. refl) (λ fs. refl) refl (count_is env n count is) (field_is env x one means) forms more h
+    two_read env word.Runs count_at field_at plan.Runs count one n x (λ start fs. refl) (λ fs. refl) refl
+    (count_is env n count is) (field_is env x one means) forms more h
 kind_read env _ _ _ (throttle {n = n} {dt = dt} {count = count} {secs = secs} is are) forms more h plain =
-    two_read env word.Throttle count_at secs_at plan.Throttle count secs n dt (λ start fs. refl) (λ fs. refl) refl (count_is env n count is) (secs_are env dt secs are) forms more h
+    two_read env word.Throttle count_at secs_at plan.Throttle count secs n dt (λ start fs. refl) (λ fs. refl) refl
+    (count_is env n count is) (secs_are env dt secs are) forms more h
 kind_read env _ _ _ (rollup {n = n} {dt = dt} {count = count} {secs = secs} is are) forms more h plain =
-    two_read env word.Rollup count_at secs_at plan.Rollup count secs n dt (λ start fs. refl) (λ fs. refl) refl (count_is env n count is) (secs_are env dt secs are) forms more h
+    two_read env word.Rollup count_at secs_at plan.Rollup count secs n dt (λ start fs. refl) (λ fs. refl) refl
+    (count_is env n count is) (secs_are env dt secs are) forms more h
 kind_read env _ _ _ (batch {n = n} {dt = dt} {count = count} {secs = secs} is are) forms more h plain =
-    two_read env word.Batch count_at secs_at plan.Batch count secs n dt (λ start fs. refl) (λ fs. refl) refl (count_is env n count is) (secs_are env dt secs are) forms more h
+    two_read env word.Batch count_at secs_at plan.Batch count secs n dt (λ start fs. refl) (λ fs. refl) refl
+    (count_is env n count is) (secs_are env dt secs are) forms more h
 kind_read env _ _ _ (stable {dt = dt} {f = x} {secs = secs} {one = one} are means) forms more h plain =
-    two_read env word.Stable secs_at field_at plan.Stable secs one dt x (λ start fs. refl) (λ fs. refl) refl (secs_are env dt secs are) (field_is env x one means) forms more h
-kind_read env _ _ _ (fixed_event {n = n} {count = count} is) forms more h plain = one_read env word.FixedEvent count_at plan.FixedEvent count n (λ start fs. refl) (λ fs. refl) refl (count_is env n count is) forms more h
-kind_read env _ _ _ (moving_event {n = n} {count = count} is) forms more h plain = one_read env word.MovingEvent count_at plan.MovingEvent count n (λ start fs. refl) (λ fs. refl) refl (count_is env n count is) forms more h
-kind_read env _ _ _ (fixed_time {dt = dt} {secs = secs} are) forms more h plain = one_read env word.FixedTime secs_at plan.FixedTime secs dt (λ start fs. refl) (λ fs. refl) refl (secs_are env dt secs are) forms more h
-kind_read env _ _ _ (moving_time {dt = dt} {secs = secs} are) forms more h plain = one_read env word.MovingTime secs_at plan.MovingTime secs dt (λ start fs. refl) (λ fs. refl) refl (secs_are env dt secs are) forms more h
-kind_read env _ _ _ coalesce forms more h plain = none_led env word.Coalesce (plan.Coalesce 1) forms more refl (coalesce_none env forms (no_secs env forms (plain forms h).0)) h
+    two_read env word.Stable secs_at field_at plan.Stable secs one dt x (λ start fs. refl) (λ fs. refl) refl
+    (secs_are env dt secs are) (field_is env x one means) forms more h
+kind_read env _ _ _ (fixed_event {n = n} {count = count} is) forms more h plain =
+    one_read env word.FixedEvent count_at plan.FixedEvent count n (λ start fs. refl) (λ fs. refl) refl
+    (count_is env n count is) forms more h
+kind_read env _ _ _ (moving_event {n = n} {count = count} is) forms more h plain =
+    one_read env word.MovingEvent count_at plan.MovingEvent count n (λ start fs. refl) (λ fs. refl) refl
+    (count_is env n count is) forms more h
+kind_read env _ _ _ (fixed_time {dt = dt} {secs = secs} are) forms more h plain =
+    one_read env word.FixedTime secs_at plan.FixedTime secs dt (λ start fs. refl) (λ fs. refl) refl
+    (secs_are env dt secs are) forms more h
+kind_read env _ _ _ (moving_time {dt = dt} {secs = secs} are) forms more h plain =
+    one_read env word.MovingTime secs_at plan.MovingTime secs dt (λ start fs. refl) (λ fs. refl) refl
+    (secs_are env dt secs are) forms more h
+kind_read env _ _ _ coalesce forms more h plain =
+    none_led env word.Coalesce (plan.Coalesce 1) forms more refl
+    (coalesce_none env forms (no_secs env forms (plain forms h).0)) h
 kind_read env _ _ _ (coalesce_every {dt = dt} {secs = secs} are) forms more h plain =
-    one_led env word.Coalesce (plan.Coalesce secs) forms dt more refl (λ f rest at _. coalesce_one env f rest secs (has_number env dt secs are f rest at) (secs_are env dt secs are f at)) h
-kind_read env _ _ _ (smap {f = x} {fold = one} is) forms more h plain = one_read env word.Smap fold_at plan.Smap one x (λ start fs. refl) (λ fs. refl) refl (fold_is env x one is) forms more h
-kind_read env _ _ _ expired forms more h plain = none_led env word.Expired (plan.Where (pred.Equal field.State (value.Text (codes "expired")))) forms more refl ((λ start. refl), refl) h
+    one_led env word.Coalesce (plan.Coalesce secs) forms dt more refl
+    (λ f rest at _. coalesce_one env f rest secs (has_number env dt secs are f rest at) (secs_are env dt secs are f at))
+    h
+kind_read env _ _ _ (smap {f = x} {fold = one} is) forms more h plain =
+    one_read env word.Smap fold_at plan.Smap one x (λ start fs. refl) (λ fs. refl) refl (fold_is env x one is) forms
+    more h
+kind_read env _ _ _ expired forms more h plain =
+    none_led env word.Expired (plan.Where (pred.Equal field.State (value.Text (codes "expired")))) forms more refl
+    ((λ start. refl), refl) h
 kind_read env _ _ _ (tagged {x = x} {tag = one} {tags = tags} are) forms more h plain =
-    one_led env word.Tagged (plan.Where (all_of (Tagged one) (each_tag tags))) forms x more refl (λ f rest at _. tagged_one env f rest one tags (texts_are env x (one ∷ tags) are f at)) h
+    one_led env word.Tagged (plan.Where (all_of (Tagged one) (each_tag tags))) forms x more refl
+    (λ f rest at _. tagged_one env f rest one tags (texts_are env x (one ∷ tags) are f at)) h
 kind_read env _ _ _ (over {k = k} {number = number} is) forms more h plain =
-    one_read env word.Over number_at (λ number. plan.Where (Order field.Metric Greater number)) number k (λ start fs. refl) (λ fs. refl) refl (number_is env k number is) forms more h
+    one_read env word.Over number_at (λ number. plan.Where (Order field.Metric Greater number)) number k
+    (λ start fs. refl) (λ fs. refl) refl (number_is env k number is) forms more h
 kind_read env _ _ _ (under {k = k} {number = number} is) forms more h plain =
-    one_read env word.Under number_at (λ number. plan.Where (Order field.Metric Less number)) number k (λ start fs. refl) (λ fs. refl) refl (number_is env k number is) forms more h
+    one_read env word.Under number_at (λ number. plan.Where (Order field.Metric Less number)) number k
+    (λ start fs. refl) (λ fs. refl) refl (number_is env k number is) forms more h
 
-pub kind_passes : (env : Env) (name : List ℕ) (own : BareTrees) (one : KindTree) → IsKind env name own one → may_have_children one ≡ true
+pub kind_passes : (env : Env) (name : List ℕ) (own : BareTrees) (one : KindTree) → IsKind env name own one
+    → may_have_children one ≡ true
 kind_passes env _ _ _ sdo = refl
 kind_passes env _ _ _ is = refl

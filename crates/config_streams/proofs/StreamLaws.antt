@@ -23,11 +23,13 @@ use Rattle.config_streams.specs.Made.{source_tree, source_trees, source_list}
 
 -- ---- one more at the end
 
-pub stream_pushed : (streams : List Stream) (one : Stream) → list_trees (streams ++ one ∷ []) ≡ with_stream (list_trees streams) (stream_tree one)
+pub stream_pushed : (streams : List Stream) (one : Stream)
+    → list_trees (streams ++ one ∷ []) ≡ with_stream (list_trees streams) (stream_tree one)
 stream_pushed [] one = refl
 stream_pushed (first ∷ streams) one = ap (λ more. plan.also (stream_tree first) more) (stream_pushed streams one)
 
-pub source_pushed : (places : List Source) (one : Source) → source_list (places ++ one ∷ []) ≡ with_source (source_list places) (source_tree one)
+pub source_pushed : (places : List Source) (one : Source)
+    → source_list (places ++ one ∷ []) ≡ with_source (source_list places) (source_tree one)
 source_pushed [] one = refl
 source_pushed (first ∷ places) one = ap (λ more. sources.also (source_tree first) more) (source_pushed places one)
 
@@ -37,24 +39,36 @@ pub source_trees-list : {m : _} (row : Row_of-Source m) → source_trees row ≡
 source_trees-list end_of-Source = refl
 source_trees-list (more_of-Source s rest) = ap (λ more. sources.also (source_tree s) more) (source_trees-list rest)
 
-pub source_trees-hidden : (places : Vec Source Global) → source_trees (hidden-the_row-Source-0 places) ≡ source_list places.items
-source_trees-hidden places = source_trees-list (hidden-the_row-Source-0 places) ∙ ap source_list (items_hidden-the_row-Source-0 places)
+pub source_trees-hidden : (places : Vec Source Global)
+    → source_trees (hidden-the_row-Source-0 places) ≡ source_list places.items
+source_trees-hidden places =
+    source_trees-list (hidden-the_row-Source-0 places) ∙ ap source_list (items_hidden-the_row-Source-0 places)
 
-pub source_tree-opened : (s : Source) → source_tree s ≡ source (out-Source s).place (source_list (out-Source s).children.items) (source_list (out-Source s).otherwise.items)
+pub source_tree-opened : (s : Source)
+    → source_tree s
+    ≡ source (out-Source s).place (source_list (out-Source s).children.items)
+    (source_list (out-Source s).otherwise.items)
 source_tree-opened s =
     ap source_tree (is-Source' s)
-    ∙ ap (λ (children : SourceTrees). source (out-Source s).place children (source_trees (hidden-the_row-Source-0 (out-Source s).otherwise))) (source_trees-hidden (out-Source s).children)
-    ∙ ap (λ (otherwise : SourceTrees). source (out-Source s).place (source_list (out-Source s).children.items) otherwise) (source_trees-hidden (out-Source s).otherwise)
+    ∙ ap
+    (λ (children : SourceTrees).
+    source (out-Source s).place children (source_trees (hidden-the_row-Source-0 (out-Source s).otherwise)))
+    (source_trees-hidden (out-Source s).children)
+    ∙ ap
+    (λ (otherwise : SourceTrees). source (out-Source s).place (source_list (out-Source s).children.items) otherwise)
+    (source_trees-hidden (out-Source s).otherwise)
 
 -- ---- by what a form looks like
 
 abbrev pub part_by : Bool → Env → ℕ → Look → Result Part Fault
 part_by may_else env start (Symbol name) = symbol_by (bound_value name env) name start
-part_by may_else env start (Call name forms) = worded may_else env (stream_word name) start forms (parts_in (is_where_in (stream_word name)) env forms)
+part_by may_else env start (Call name forms) =
+    worded may_else env (stream_word name) start forms (parts_in (is_where_in (stream_word name)) env forms)
 part_by may_else env start (Lookup name forms) = Err (start, why.Form)
 part_by may_else env start Other = Err (start, why.Form)
 
-part_looks : (may_else : Bool) (env : Env) (form : FormTree) → part_at may_else env form ≡ part_by may_else env (start_of form) (look_of form)
+part_looks : (may_else : Bool) (env : Env) (form : FormTree)
+    → part_at may_else env form ≡ part_by may_else env (start_of form) (look_of form)
 unfolding part_at look_of
 part_looks m env (Single (atom.Symbol name) start last) = refl
 part_looks m env (Single (atom.Text name) start last) = refl
@@ -71,50 +85,62 @@ part_looks m env (Group Round none start last) = refl
 part_looks m env (Group Square forms start last) = refl
 part_looks m env (Group Curly forms start last) = refl
 
-pub part_by_look : (may_else : Bool) (env : Env) (form : FormTree) (look : Look) → look ≡ look_of form → part_at may_else env form ≡ part_by may_else env (start_of form) look
+pub part_by_look : (may_else : Bool) (env : Env) (form : FormTree) (look : Look) → look ≡ look_of form
+    → part_at may_else env form ≡ part_by may_else env (start_of form) look
 part_by_look m env form look e = part_looks m env form ∙ ap (part_by m env (start_of form)) (sym e)
 
 -- ---- the forms later some
 
-parts_in-later : (m : Bool) (env : Env) (n : ℕ) (forms : FormTrees) → parts_in m env (later n forms) ≡ drop n (parts_in m env forms)
+parts_in-later : (m : Bool) (env : Env) (n : ℕ) (forms : FormTrees)
+    → parts_in m env (later n forms) ≡ drop n (parts_in m env forms)
 unfolding parts_in
 parts_in-later m env zero forms = refl
 parts_in-later m env (suc n) none = refl
 parts_in-later m env (suc n) (also form forms) = parts_in-later m env n forms
 
-pub parts_later : (may_else : Bool) (env : Env) (n : ℕ) (forms rest : FormTrees) → rest ≡ later n forms → parts_in may_else env rest ≡ drop n (parts_in may_else env forms)
+pub parts_later : (may_else : Bool) (env : Env) (n : ℕ) (forms rest : FormTrees) → rest ≡ later n forms
+    → parts_in may_else env rest ≡ drop n (parts_in may_else env forms)
 parts_later m env n forms rest e = ap (parts_in m env) e ∙ parts_in-later m env n forms
 
-pub next_of_parts : (may_else : Bool) (env : Env) (forms : FormTrees) → next_place (parts_in may_else env forms) ≡ next_of forms
+pub next_of_parts : (may_else : Bool) (env : Env) (forms : FormTrees)
+    → next_place (parts_in may_else env forms) ≡ next_of forms
 unfolding parts_in
 next_of_parts m env none = refl
 next_of_parts m env (also f forms) = refl
 
 -- ---- one more part is read
 
-pub parts_more : (may_else : Bool) (env : Env) (below more : Below) (left forms : FormTrees) (form : FormTree) (one : Part) (next : Option ℕ) →
-    left ≡ also form forms → part_at may_else env form ≡ Ok one → next ≡ next_of forms → with_part below one next ≡ Ok more →
+pub parts_more : (may_else : Bool) (env : Env) (below more : Below) (left forms : FormTrees) (form : FormTree)
+    (one : Part) (next : Option ℕ) →
+    left ≡ also form forms → part_at may_else env form ≡ Ok one → next ≡ next_of forms →
+    with_part below one next ≡ Ok more →
     all_read below (parts_in may_else env left) ≡ all_read more (parts_in may_else env forms)
 unfolding all_read parts_in
 parts_more m env below more left forms form one next at read is put =
-    let reported : with_part below one (next_place (parts_in m env forms)) ≡ Ok more = rw (next_of_parts m env forms, sym is) put in
+    let reported : with_part below one (next_place (parts_in m env forms)) ≡ Ok more =
+    rw (next_of_parts m env forms, sym is) put in
     rw (at, read, reported) refl
 
-pub parts_fail : (may_else : Bool) (env : Env) (below : Below) (left forms : FormTrees) (form : FormTree) (one : Part) (next : Option ℕ) (fault : Fault) →
-    left ≡ also form forms → part_at may_else env form ≡ Ok one → next ≡ next_of forms → with_part below one next ≡ Err fault →
+pub parts_fail : (may_else : Bool) (env : Env) (below : Below) (left forms : FormTrees) (form : FormTree) (one : Part)
+    (next : Option ℕ) (fault : Fault) →
+    left ≡ also form forms → part_at may_else env form ≡ Ok one → next ≡ next_of forms →
+    with_part below one next ≡ Err fault →
     all_read below (parts_in may_else env left) ≡ Err fault
 unfolding all_read parts_in
 parts_fail m env below left forms form one next fault at read is put =
-    let reported : with_part below one (next_place (parts_in m env forms)) ≡ Err fault = rw (next_of_parts m env forms, sym is) put in
+    let reported : with_part below one (next_place (parts_in m env forms)) ≡ Err fault =
+    rw (next_of_parts m env forms, sym is) put in
     rw (at, read, reported) refl
 
 -- ---- a stream and a source that are put together
 
-pub stream_is : (s : Stream) (kind : Kind) (children otherwise : Vec Stream Global) → (out-Stream s).kind ≡ kind → (out-Stream s).children ≡ children → (out-Stream s).otherwise ≡ otherwise →
+pub stream_is : (s : Stream) (kind : Kind) (children otherwise : Vec Stream Global) → (out-Stream s).kind ≡ kind →
+    (out-Stream s).children ≡ children → (out-Stream s).otherwise ≡ otherwise →
     stream_tree s ≡ stream (kind_tree kind) (list_trees children.items) (list_trees otherwise.items)
 unfolding opened
 stream_is s kind children otherwise k c o = stream_tree-opened s ∙ rw (k, c, o) refl
 
-pub source_is : (s : Source) (place : ℕ) (children otherwise : Vec Source Global) → (out-Source s).place ≡ place → (out-Source s).children ≡ children → (out-Source s).otherwise ≡ otherwise →
+pub source_is : (s : Source) (place : ℕ) (children otherwise : Vec Source Global) → (out-Source s).place ≡ place →
+    (out-Source s).children ≡ children → (out-Source s).otherwise ≡ otherwise →
     source_tree s ≡ source place (source_list children.items) (source_list otherwise.items)
 source_is s place children otherwise p c o = source_tree-opened s ∙ rw (p, c, o) refl

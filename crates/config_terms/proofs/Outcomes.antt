@@ -15,7 +15,8 @@ SomeGood P None = Unit {0}
 abbrev pub Any_ : {A : Type 0} → A → Type 0
 Any_ a = Unit {0}
 
-pub bind_good : {A B : Type 0} (P : A → Type 0) (Q : B → Type 0) (read : Result A Fault) (next : A → Result B Fault) → OkGood P read → ((a : A) → P a → OkGood Q (next a)) → OkGood Q (read >>= next)
+pub bind_good : {A B : Type 0} (P : A → Type 0) (Q : B → Type 0) (read : Result A Fault) (next : A → Result B Fault)
+    → OkGood P read → ((a : A) → P a → OkGood Q (next a)) → OkGood Q (read >>= next)
 bind_good P Q (Ok a) next good then_good = then_good a good
 bind_good P Q (Err fault) next good then_good = tt
 
@@ -23,15 +24,18 @@ pub any_good : {A : Type 0} (read : Result A Fault) → OkGood {A = A} Any_ read
 any_good (Ok a) = tt
 any_good (Err fault) = tt
 
-pub weaker : {A : Type 0} (P Q : A → Type 0) (read : Result A Fault) → ((a : A) → P a → Q a) → OkGood P read → OkGood Q read
+pub weaker : {A : Type 0} (P Q : A → Type 0) (read : Result A Fault) → ((a : A) → P a → Q a) → OkGood P read
+    → OkGood Q read
 weaker P Q (Ok a) turned good = turned a good
 weaker P Q (Err fault) turned good = tt
 
-pub ok_if : {A : Type 0} (P : A → Type 0) (test : Bool) (x y : Result A Fault) → (test ≡ true → OkGood P x) → (test ≡ false → OkGood P y) → OkGood P (cond test x y)
+pub ok_if : {A : Type 0} (P : A → Type 0) (test : Bool) (x y : Result A Fault) → (test ≡ true → OkGood P x)
+    → (test ≡ false → OkGood P y) → OkGood P (cond test x y)
 ok_if P true x y first second = first refl
 ok_if P false x y first second = second refl
 
-pub some_if : {A : Type 0} (P : A → Type 0) (test : Bool) (x y : Option A) → (test ≡ true → SomeGood P x) → (test ≡ false → SomeGood P y) → SomeGood P (cond test x y)
+pub some_if : {A : Type 0} (P : A → Type 0) (test : Bool) (x y : Option A) → (test ≡ true → SomeGood P x)
+    → (test ≡ false → SomeGood P y) → SomeGood P (cond test x y)
 some_if P true x y first second = first refl
 some_if P false x y first second = second refl
 
@@ -43,7 +47,8 @@ pub some_from : {A : Type 0} (P : A → Type 0) (x : Option A) → ((a : A) → 
 some_from P (Some a) h = h a refl
 some_from P None h = tt
 
-pub fitting_good : {A : Type 0} (P : A → Type 0) (place : ℕ) (given : Argument) (found : Option A) → SomeGood P found → OkGood P (fitting place given found)
+pub fitting_good : {A : Type 0} (P : A → Type 0) (place : ℕ) (given : Argument) (found : Option A) → SomeGood P found
+    → OkGood P (fitting place given found)
 fitting_good P place given (Some a) good = good
 fitting_good P place given None good = tt
 

@@ -19,9 +19,11 @@ use Rattle.config_terms.specs.Code.{Look, Symbol, Call, Lookup, Other, look_of}
 
 -- ---- by what a form looks like
 
-pub symbol_field : (form : FormTree) (name : List ℕ) → Some name ≡ name_in form → rule_field_at form ≡ known_field (start_of form) (protocol_field name)
+pub symbol_field : (form : FormTree) (name : List ℕ) → Some name ≡ name_in form
+    → rule_field_at form ≡ known_field (start_of form) (protocol_field name)
 unfolding rule_field_at
-symbol_field (Single (atom.Symbol known) start last) name e = ap (λ (found : Option (List ℕ)). found_field found) (sym e)
+symbol_field (Single (atom.Symbol known) start last) name e =
+    ap (λ (found : Option (List ℕ)). found_field found) (sym e)
   where
     found_field : Option (List ℕ) → Result Field Fault
     found_field None = Err (start, why.Name)
@@ -43,7 +45,8 @@ other_field (Group bracket forms start last) e = refl
 
 abbrev pub rule_by : Env → ℕ → Look → Result Tree Fault
 rule_by env start (Symbol name) = symbol_rule env name start
-rule_by env start (Call name forms) = headed_rule env (symbol_head (rule_word name) (protocol_field name)) start forms (rules_in env forms)
+rule_by env start (Call name forms) =
+    headed_rule env (symbol_head (rule_word name) (protocol_field name)) start forms (rules_in env forms)
 rule_by env start (Lookup name forms) = headed_rule env (field_head (named_field name)) start forms (rules_in env forms)
 rule_by env start Other = Err (start, why.Form)
 
@@ -64,22 +67,27 @@ rule_looks env (Group Round none start last) = refl
 rule_looks env (Group Square forms start last) = refl
 rule_looks env (Group Curly forms start last) = refl
 
-pub rule_by_look : (env : Env) (form : FormTree) (look : Look) → look ≡ look_of form → rule_at env form ≡ rule_by env (start_of form) look
+pub rule_by_look : (env : Env) (form : FormTree) (look : Look) → look ≡ look_of form
+    → rule_at env form ≡ rule_by env (start_of form) look
 rule_by_look env form look e = rule_looks env form ∙ ap (rule_by env (start_of form)) (sym e)
 
 -- ---- predicates of predicates
 
-pub rule_pushed : (rules : List Rule) (rule : Rule) → trees_in (rules ++ rule ∷ []) ≡ with_rule (trees_in rules) (tree_of rule)
+pub rule_pushed : (rules : List Rule) (rule : Rule)
+    → trees_in (rules ++ rule ∷ []) ≡ with_rule (trees_in rules) (tree_of rule)
 rule_pushed [] rule = refl
 rule_pushed (first ∷ rules) rule = ap (λ more. pred.also (tree_of first) more) (rule_pushed rules rule)
 
-pub none_joined : (join : Trees → Tree) (start : ℕ) (parts : List Rule) → parts ≡ [] → joined join start (trees_in parts) ≡ Err (start, why.Arguments)
+pub none_joined : (join : Trees → Tree) (start : ℕ) (parts : List Rule) → parts ≡ []
+    → joined join start (trees_in parts) ≡ Err (start, why.Arguments)
 none_joined join start parts e = rw e refl
 
-pub one_joined : (join : Trees → Tree) (start : ℕ) (parts : List Rule) (part : Rule) → parts ≡ part ∷ [] → joined join start (trees_in parts) ≡ Ok (tree_of part)
+pub one_joined : (join : Trees → Tree) (start : ℕ) (parts : List Rule) (part : Rule) → parts ≡ part ∷ []
+    → joined join start (trees_in parts) ≡ Ok (tree_of part)
 one_joined join start parts part e = rw e refl
 
-many_joined : (join : Trees → Tree) (start : ℕ) (parts : List Rule) → length parts ≢ 0 → length parts ≢ 1 → joined join start (trees_in parts) ≡ Ok (join (trees_in parts))
+many_joined : (join : Trees → Tree) (start : ℕ) (parts : List Rule) → length parts ≢ 0 → length parts ≢ 1
+    → joined join start (trees_in parts) ≡ Ok (join (trees_in parts))
 many_joined join start [] some more = absurd (some refl)
 many_joined join start (part ∷ []) some more = absurd (more refl)
 many_joined join start (part ∷ second ∷ parts) some more = refl
@@ -90,13 +98,19 @@ ok_all rules = Ok (All (trees_in rules))
 abbrev ok_any : List Rule → Result Tree Fault
 ok_any rules = Ok (Any (trees_in rules))
 
-pub all_joined : (start : ℕ) (parts : List Rule) (held : Vec Rule Global) → length parts ≢ 0 → length parts ≢ 1 → held.items ≡ parts →
+pub all_joined : (start : ℕ) (parts : List Rule) (held : Vec Rule Global) → length parts ≢ 0 → length parts ≢ 1 →
+    held.items ≡ parts →
     joined All start (trees_in parts) ≡ Ok (tree_of (code.All held))
-all_joined start parts held some more e = many_joined All start parts some more ∙ ap (λ (rules : List Rule). ok_all rules) (sym e) ∙ ap Ok (sym (tree_of_all held))
+all_joined start parts held some more e =
+    many_joined All start parts some more ∙ ap (λ (rules : List Rule). ok_all rules) (sym e)
+    ∙ ap Ok (sym (tree_of_all held))
 
-pub any_joined : (start : ℕ) (parts : List Rule) (held : Vec Rule Global) → length parts ≢ 0 → length parts ≢ 1 → held.items ≡ parts →
+pub any_joined : (start : ℕ) (parts : List Rule) (held : Vec Rule Global) → length parts ≢ 0 → length parts ≢ 1 →
+    held.items ≡ parts →
     joined Any start (trees_in parts) ≡ Ok (tree_of (code.Any held))
-any_joined start parts held some more e = many_joined Any start parts some more ∙ ap (λ (rules : List Rule). ok_any rules) (sym e) ∙ ap Ok (sym (tree_of_any held))
+any_joined start parts held some more e =
+    many_joined Any start parts some more ∙ ap (λ (rules : List Rule). ok_any rules) (sym e)
+    ∙ ap Ok (sym (tree_of_any held))
 
 -- one more predicate is read
 pub rules_more : (env : Env) (rules pushed : List Rule) (rule : Rule) (left forms : FormTrees) (form : FormTree) →

@@ -27,7 +27,8 @@ use Rattle.config_terms.proofs.TermLaws.{field_read, field_means}
 
 -- ---- one set
 
-set_read : (env : Env) (one : Field) (form : BareTree) (set : Set) → IsSet env one form set → (f : FormTree) → bare_tree f ≡ form → set_at env one f ≡ Ok set
+set_read : (env : Env) (one : Field) (form : BareTree) (set : Set) → IsSet env one form set → (f : FormTree)
+    → bare_tree f ≡ form → set_at env one f ≡ Ok set
 unfolding set_at
 set_read env one form _ (a_set {held = held} is fit) f h = rw (value_read env form held is f h, fit) refl
 
@@ -36,7 +37,8 @@ unfolding set_at
 set_means env one f =
     let Q = IsSet env one (bare_tree f) in
     bind_good (IsValue env (bare_tree f)) Q (value_at env f) (fitted (start_of f) one) (value_means env f)
-    (λ held is. ok_if Q (fits one held) _ _ (λ fit. a_set is fit) (λ _. ok_if Q (is_ttl_field one && is_number held) _ _ (λ _. tt) (λ _. tt)))
+    (λ held is. ok_if Q (fits one held) _ _ (λ fit. a_set is fit)
+    (λ _. ok_if Q (is_ttl_field one && is_number held) _ _ (λ _. tt) (λ _. tt)))
 
 pub sets_are_read : SetsAreRead
 sets_are_read env one f set = (
@@ -114,18 +116,22 @@ all_named : (before : List Set) (set : Set) → AllNamed before → Named set.fi
 all_named [] set all one = (one, tt)
 all_named (first ∷ before) set all one = (all.0, all_named before set all.1 one)
 
-unset_more : (one : Field) (before : List Set) (set : Set) → IsUnset one before → set.field ≢ one → IsUnset one (before ++ set ∷ [])
+unset_more : (one : Field) (before : List Set) (set : Set) → IsUnset one before → set.field ≢ one
+    → IsUnset one (before ++ set ∷ [])
 unset_more one [] set all new = (new, tt)
 unset_more one (first ∷ before) set all new = (all.0, unset_more one before set all.1 new)
 
-unset_front : (one : Field) (before : List Set) (set : Set) → IsUnset one (before ++ set ∷ []) → IsUnset one before × (set.field ≢ one)
+unset_front : (one : Field) (before : List Set) (set : Set) → IsUnset one (before ++ set ∷ [])
+    → IsUnset one before × (set.field ≢ one)
 unset_front one [] set all = (tt, all.0)
 unset_front one (first ∷ before) set all = let rest = unset_front one before set all.1 in ((all.0, rest.0), rest.1)
 
-unset_none : (one : Field) (before : List Set) → Named one → AllNamed before → IsUnset one before → has_field one before ≡ false
+unset_none : (one : Field) (before : List Set) → Named one → AllNamed before → IsUnset one before
+    → has_field one before ≡ false
 unset_none one [] good all new = refl
 unset_none one (set ∷ before) good all new =
-    or_from (same_field set.field one) (has_field one before) (false_from_ne_true (same_field set.field one) (λ same. new.0 (same_named set.field one all.0 good same)))
+    or_from (same_field set.field one) (has_field one before)
+    (false_from_ne_true (same_field set.field one) (λ same. new.0 (same_named set.field one all.0 good same)))
     (unset_none one before good all.1 new.1)
 
 none_unset : (one : Field) (before : List Set) → has_field one before ≡ false → IsUnset one before
@@ -142,11 +148,14 @@ abbrev Apart : List Set → List Set → Type 0
 Apart before [] = Unit {0}
 Apart before (set ∷ sets) = IsUnset set.field before × Apart before sets
 
-apart_more : (before : List Set) (set : Set) (sets : List Set) → Apart before sets → IsUnset set.field sets → Apart (before ++ set ∷ []) sets
+apart_more : (before : List Set) (set : Set) (sets : List Set) → Apart before sets → IsUnset set.field sets
+    → Apart (before ++ set ∷ []) sets
 apart_more before set [] apart new = tt
-apart_more before set (first ∷ sets) apart new = (unset_more first.field before set apart.0 (λ same. new.0 (sym same)), apart_more before set sets apart.1 new.1)
+apart_more before set (first ∷ sets) apart new =
+    (unset_more first.field before set apart.0 (λ same. new.0 (sym same)), apart_more before set sets apart.1 new.1)
 
-apart_front : (before : List Set) (set : Set) (sets : List Set) → Apart (before ++ set ∷ []) sets → Apart before sets × IsUnset set.field sets
+apart_front : (before : List Set) (set : Set) (sets : List Set) → Apart (before ++ set ∷ []) sets
+    → Apart before sets × IsUnset set.field sets
 apart_front before set [] apart = (tt, tt)
 apart_front before set (first ∷ sets) apart =
     let one = unset_front first.field before set apart.0 in
@@ -159,7 +168,8 @@ apart_none (set ∷ sets) = (tt, apart_none sets)
 
 -- ---- the sets of a map
 
-new_read : (env : Env) (before : List Set) (f : FormTree) (one : Field) → field_at env f ≡ Ok one → has_field one before ≡ false → new_field_at env before f ≡ Ok one
+new_read : (env : Env) (before : List Set) (f : FormTree) (one : Field) → field_at env f ≡ Ok one
+    → has_field one before ≡ false → new_field_at env before f ≡ Ok one
 unfolding new_field_at
 new_read env before f one is new = rw (is, new) refl
 
@@ -167,7 +177,8 @@ sets_done : (place : ℕ) (env : Env) (before : List Set) → sets_from place en
 unfolding sets_from
 sets_done place env before = refl
 
-sets_next : (place : ℕ) (env : Env) (before : List Set) (one : Field) (set : Set) (key f : FormTree) (forms : FormTrees) → new_field_at env before key ≡ Ok one → set_at env one f ≡ Ok set
+sets_next : (place : ℕ) (env : Env) (before : List Set) (one : Field) (set : Set) (key f : FormTree) (forms : FormTrees)
+    → new_field_at env before key ≡ Ok one → set_at env one f ≡ Ok set
     → sets_from place env before (also key (also f forms)) ≡ sets_from place env (before ++ set ∷ []) forms
 unfolding sets_from
 sets_next place env before one set key f forms first second = rw (first, second) refl
@@ -175,20 +186,25 @@ sets_next place env before one set key f forms first second = rw (first, second)
 set_of_field : (env : Env) (one : Field) (form : BareTree) (set : Set) → IsSet env one form set → set.field ≡ one
 set_of_field env one form _ (a_set is fit) = refl
 
-sets_onto : (env : Env) (row : BareTrees) (sets : List Set) → AreSets env row sets → (place : ℕ) (forms : FormTrees) (before : List Set) → AllNamed before → Apart before sets → bare_trees forms ≡ row
+sets_onto : (env : Env) (row : BareTrees) (sets : List Set) → AreSets env row sets
+    → (place : ℕ) (forms : FormTrees) (before : List Set) → AllNamed before → Apart before sets → bare_trees forms ≡ row
     → sets_from place env before forms ≡ Ok (before ++ sets)
 sets_onto env _ _ no_sets place forms before good apart h =
-    ap (sets_from place env before) (none_of forms h) ∙ sets_done place env before ∙ ap (λ (all : List Set). Ok all) (sym (append-nil before))
-sets_onto env _ _ (more_sets {f = f} {v = v} {forms = row} {one = one} {set = set} {sets = sets} means is others new) place forms before good apart h =
+    ap (sets_from place env before) (none_of forms h) ∙ sets_done place env before
+    ∙ ap (λ (all : List Set). Ok all) (sym (append-nil before))
+sets_onto env _ _ (more_sets {f = f} {v = v} {forms = row} {one = one} {set = set} {sets = sets} means is others new)
+    place forms before good apart h =
     let first = also_of forms f (and_trees v row) h in
     let second = also_of first.rest v row first.rest_are in
     let of = set_of_field env one v set is in
     let name = field_named env f one means in
     ap (sets_from place env before) (first.are ∙ ap (also first.first) second.are)
     ∙ sets_next place env before one set first.first second.first second.rest
-    (new_read env before first.first one (field_read env f one means first.first first.first_is) (unset_none one before name good (subst (λ (x : Field). IsUnset x before) of apart.0)))
+    (new_read env before first.first one (field_read env f one means first.first first.first_is)
+    (unset_none one before name good (subst (λ (x : Field). IsUnset x before) of apart.0)))
     (set_read env one v set is second.first second.first_is)
-    ∙ sets_onto env row sets others place second.rest (before ++ set ∷ []) (all_named before set good (subst Named (sym of) name))
+    ∙ sets_onto env row sets others place second.rest (before ++ set ∷ [])
+    (all_named before set good (subst Named (sym of) name))
     (apart_more before set sets apart.1 (subst (λ (x : Field). IsUnset x sets) (sym of) new)) second.rest_are
     ∙ ap (λ (all : List Set). Ok all) (append_assoc before (set ∷ []) sets)
 
@@ -198,7 +214,9 @@ record SetRow (env : Env) (row : BareTrees) (before all : List Set) : Type 0 whe
   are : AreSets env row later
   apart : Apart before later
 
-sets_more : (env : Env) (f v : BareTree) (row : BareTrees) (before : List Set) (one : Field) (set : Set) → IsField env f one → IsUnset one before → IsSet env one v set → (all : List Set) → SetRow env row (before ++ set ∷ []) all
+sets_more : (env : Env) (f v : BareTree) (row : BareTrees) (before : List Set) (one : Field) (set : Set)
+    → IsField env f one → IsUnset one before → IsSet env one v set → (all : List Set)
+    → SetRow env row (before ++ set ∷ []) all
     → SetRow env (and_trees f (and_trees v row)) before all
 sets_more env f v row before one set means new is all known =
     let of = set_of_field env one v set is in
@@ -213,24 +231,29 @@ sets_more env f v row before one set means new is all known =
 abbrev IsNew : Env → BareTree → List Set → Field → Type 0
 IsNew env form before one = IsField env form one × IsUnset one before
 
-new_means : (env : Env) (before : List Set) (f : FormTree) → OkGood (IsNew env (bare_tree f) before) (new_field_at env before f)
+new_means : (env : Env) (before : List Set) (f : FormTree)
+    → OkGood (IsNew env (bare_tree f) before) (new_field_at env before f)
 unfolding new_field_at
 new_means env before f =
     let Q = IsNew env (bare_tree f) before in
     bind_good (IsField env (bare_tree f)) Q (field_at env f) (new_field (start_of f) before) (field_means env f)
     (λ one is. ok_if Q (has_field one before) _ _ (λ _. tt) (λ new. (is, none_unset one before new)))
 
-sets_mean : (place : ℕ) (env : Env) (forms : FormTrees) (before : List Set) → OkGood (SetRow env (bare_trees forms) before) (sets_from place env before forms)
+sets_mean : (place : ℕ) (env : Env) (forms : FormTrees) (before : List Set)
+    → OkGood (SetRow env (bare_trees forms) before) (sets_from place env before forms)
 unfolding sets_from
 sets_mean place env none before = record { later = []; is = sym (append-nil before); are = no_sets; apart = tt }
 sets_mean place env (also key none) before =
-    bind_good Any_ (SetRow env (bare_trees (also key none)) before) (new_field_at env before key) _ (any_good (new_field_at env before key)) (λ one _. tt)
+    bind_good Any_ (SetRow env (bare_trees (also key none)) before) (new_field_at env before key) _
+    (any_good (new_field_at env before key)) (λ one _. tt)
 sets_mean place env (also key (also f forms)) before =
     let Q = SetRow env (bare_trees (also key (also f forms))) before in
-    bind_good (IsNew env (bare_tree key) before) Q (new_field_at env before key) _ (new_means env before key) (λ one new.
+    bind_good (IsNew env (bare_tree key) before) Q (new_field_at env before key) _ (new_means env before key)
+    (λ one new.
     bind_good (IsSet env one (bare_tree f)) Q (set_at env one f) _ (set_means env one f) (λ set is.
     weaker (SetRow env (bare_trees forms) (before ++ set ∷ [])) Q (sets_from place env (before ++ set ∷ []) forms)
-    (sets_more env (bare_tree key) (bare_tree f) (bare_trees forms) before one set new.0 new.1 is) (sets_mean place env forms (before ++ set ∷ []))))
+    (sets_more env (bare_tree key) (bare_tree f) (bare_trees forms) before one set new.0 new.1 is)
+    (sets_mean place env forms (before ++ set ∷ []))))
 
 set_row : (env : Env) (row : BareTrees) (all : List Set) → SetRow env row [] all → AreSets env row all
 set_row env row all known = subst (λ (sets : List Set). AreSets env row sets) (sym known.is) known.are
@@ -238,7 +261,9 @@ set_row env row all known = subst (λ (sets : List Set). AreSets env row sets) (
 pub set_maps_are_read : SetMapsAreRead
 set_maps_are_read env place forms sets = (
   (λ are. sets_onto env (bare_trees forms) sets are place forms [] tt (apart_none sets) refl),
-  (λ is. set_row env (bare_trees forms) sets (ok_read (SetRow env (bare_trees forms) []) (sets_from place env [] forms) sets is (sets_mean place env forms []))),
+  (λ is. set_row env (bare_trees forms) sets
+      (ok_read (SetRow env (bare_trees forms) []) (sets_from place env [] forms) sets is
+      (sets_mean place env forms []))),
 )
 
 -- ---- the value of the one key of a map
@@ -246,7 +271,8 @@ set_maps_are_read env place forms sets = (
 abbrev pub KeyIs : Env → BareTree → List ℕ → Type 0
 KeyIs env form name = IsLiteral env form (bound.Keyword name)
 
-keyword_in_means : (env : Env) (form : BareTree) (given : Argument) → Meaning env form given → SomeGood (KeyIs env form) (keyword_in given)
+keyword_in_means : (env : Env) (form : BareTree) (given : Argument) → Meaning env form given
+    → SomeGood (KeyIs env form) (keyword_in given)
 keyword_in_means env form (Keyword key) means = means
 keyword_in_means env form given means = tt
 
@@ -254,32 +280,39 @@ pub keyword_means : (env : Env) (f : FormTree) → OkGood (KeyIs env (bare_tree 
 unfolding keyword_at
 keyword_means env f = taken_means (KeyIs env (bare_tree f)) keyword_in env f (keyword_in_means env (bare_tree f))
 
-keyword_found : (env : Env) (f : FormTree) (name : List ℕ) → argument_of env f ≡ Keyword name → keyword_at env f ≡ Ok name
+keyword_found : (env : Env) (f : FormTree) (name : List ℕ) → argument_of env f ≡ Keyword name
+    → keyword_at env f ≡ Ok name
 unfolding keyword_at
 keyword_found env f name is = rw is refl
 
-pub keyword_read : (env : Env) (form : BareTree) (name : List ℕ) → KeyIs env form name → (f : FormTree) → bare_tree f ≡ form → keyword_at env f ≡ Ok name
+pub keyword_read : (env : Env) (form : BareTree) (name : List ℕ) → KeyIs env form name → (f : FormTree)
+    → bare_tree f ≡ form → keyword_at env f ≡ Ok name
 keyword_read env form name is f h = keyword_found env f name (literal_read env form (bound.Keyword name) is f h)
 
-entry_is : (env : Env) (place : ℕ) (key f : FormTree) (held : Value) → keyword_at env key ≡ Ok (codes "init") → value_at env f ≡ Ok held → one_entry init_text value_at place env None (also key (also f none)) ≡ Ok held
+entry_is : (env : Env) (place : ℕ) (key f : FormTree) (held : Value) → keyword_at env key ≡ Ok (codes "init")
+    → value_at env f ≡ Ok held → one_entry init_text value_at place env None (also key (also f none)) ≡ Ok held
 unfolding one_entry only_key_at
 entry_is env place key f held first second = rw (first, second) refl
 
-init_read : (env : Env) (row : BareTrees) (held : Value) → IsInit env row held → (place : ℕ) (forms : FormTrees) → bare_trees forms ≡ row → one_entry init_text value_at place env None forms ≡ Ok held
+init_read : (env : Env) (row : BareTrees) (held : Value) → IsInit env row held → (place : ℕ) (forms : FormTrees)
+    → bare_trees forms ≡ row → one_entry init_text value_at place env None forms ≡ Ok held
 init_read env _ held (an_init {key = key} {v = v} literal is) place forms h =
     let two = two_of forms key v h in
     ap (one_entry init_text value_at place env None) two.are
-    ∙ entry_is env place two.a two.b held (keyword_read env key (codes "init") literal two.a two.a_is) (value_read env v held is two.b two.b_is)
+    ∙ entry_is env place two.a two.b held (keyword_read env key (codes "init") literal two.a two.a_is)
+    (value_read env v held is two.b two.b_is)
 
 abbrev Wanted : Env → BareTree → List ℕ → Unit {0} → Type 0
 Wanted env form wanted known = KeyIs env form wanted
 
-first_key : (env : Env) (wanted : List ℕ) (f : FormTree) → OkGood (Wanted env (bare_tree f) wanted) (only_key_at wanted false env f)
+first_key : (env : Env) (wanted : List ℕ) (f : FormTree)
+    → OkGood (Wanted env (bare_tree f) wanted) (only_key_at wanted false env f)
 unfolding only_key_at
 first_key env wanted f =
     let Q = Wanted env (bare_tree f) wanted in
     bind_good (KeyIs env (bare_tree f)) Q (keyword_at env f) (only_key wanted false (start_of f)) (keyword_means env f)
-    (λ name is. ok_if Q (bytes_eq name wanted) _ _ (λ same. subst (KeyIs env (bare_tree f)) ((bytes_eq-Decides name wanted).0 same) is) (λ _. tt))
+    (λ name is. ok_if Q (bytes_eq name wanted) _ _
+    (λ same. subst (KeyIs env (bare_tree f)) ((bytes_eq-Decides name wanted).0 same) is) (λ _. tt))
 
 abbrev Never_ : Unit {0} → Type 0
 Never_ known = ⊥
@@ -288,29 +321,41 @@ Never_ known = ⊥
 second_key : (env : Env) (wanted : List ℕ) (f : FormTree) → OkGood Never_ (only_key_at wanted true env f)
 unfolding only_key_at
 second_key env wanted f =
-    bind_good Any_ Never_ (keyword_at env f) (only_key wanted true (start_of f)) (any_good (keyword_at env f)) (λ name _. ok_if Never_ (bytes_eq name wanted) _ _ (λ _. tt) (λ _. tt))
+    bind_good Any_ Never_ (keyword_at env f) (only_key wanted true (start_of f)) (any_good (keyword_at env f))
+    (λ name _. ok_if Never_ (bytes_eq name wanted) _ _ (λ _. tt) (λ _. tt))
 
-entries_end : (env : Env) (place : ℕ) (P : Value → Type 0) (held : Value) (key : FormTree) (forms : FormTrees) → OkGood P (one_entry init_text value_at place env (Some held) (also key forms))
+entries_end : (env : Env) (place : ℕ) (P : Value → Type 0) (held : Value) (key : FormTree) (forms : FormTrees)
+    → OkGood P (one_entry init_text value_at place env (Some held) (also key forms))
 unfolding one_entry
-entries_end env place P held key none = bind_good Never_ P (only_key_at init_text true env key) _ (second_key env init_text key) (λ known never. absurd never)
-entries_end env place P held key (also f forms) = bind_good Never_ P (only_key_at init_text true env key) _ (second_key env init_text key) (λ known never. absurd never)
+entries_end env place P held key none =
+    bind_good Never_ P (only_key_at init_text true env key) _ (second_key env init_text key)
+    (λ known never. absurd never)
+entries_end env place P held key (also f forms) =
+    bind_good Never_ P (only_key_at init_text true env key) _ (second_key env init_text key)
+    (λ known never. absurd never)
 
-init_means : (env : Env) (place : ℕ) (forms : FormTrees) → OkGood (IsInit env (bare_trees forms)) (one_entry init_text value_at place env None forms)
+init_means : (env : Env) (place : ℕ) (forms : FormTrees)
+    → OkGood (IsInit env (bare_trees forms)) (one_entry init_text value_at place env None forms)
 unfolding one_entry
 init_means env place none = tt
 init_means env place (also key none) =
-    bind_good Any_ (IsInit env (bare_trees (also key none))) (only_key_at init_text false env key) _ (any_good (only_key_at init_text false env key)) (λ known _. tt)
+    bind_good Any_ (IsInit env (bare_trees (also key none))) (only_key_at init_text false env key) _
+    (any_good (only_key_at init_text false env key)) (λ known _. tt)
 init_means env place (also key (also f none)) =
     let Q = IsInit env (bare_trees (also key (also f none))) in
-    bind_good (Wanted env (bare_tree key) init_text) Q (only_key_at init_text false env key) _ (first_key env init_text key) (λ known is.
+    bind_good (Wanted env (bare_tree key) init_text) Q (only_key_at init_text false env key) _
+    (first_key env init_text key) (λ known is.
     bind_good (IsValue env (bare_tree f)) Q (value_at env f) _ (value_means env f) (λ held means. an_init is means))
 init_means env place (also key (also f (also other forms))) =
     let Q = IsInit env (bare_trees (also key (also f (also other forms)))) in
-    bind_good Any_ Q (only_key_at init_text false env key) _ (any_good (only_key_at init_text false env key)) (λ known _.
-    bind_good Any_ Q (value_at env f) _ (any_good (value_at env f)) (λ held _. entries_end env place Q held other forms))
+    bind_good Any_ Q (only_key_at init_text false env key) _ (any_good (only_key_at init_text false env key))
+    (λ known _.
+    bind_good Any_ Q (value_at env f) _ (any_good (value_at env f))
+    (λ held _. entries_end env place Q held other forms))
 
 pub inits_are_read : InitsAreRead
 inits_are_read env place forms held = (
   (λ is. init_read env (bare_trees forms) held is place forms refl),
-  (λ is. ok_read (IsInit env (bare_trees forms)) (one_entry init_text value_at place env None forms) held is (init_means env place forms)),
+  (λ is. ok_read (IsInit env (bare_trees forms)) (one_entry init_text value_at place env None forms) held is
+      (init_means env place forms)),
 )

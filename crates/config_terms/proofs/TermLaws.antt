@@ -30,15 +30,20 @@ values_are_read env f held = (
   (λ is. ok_read (IsValue env (bare_tree f)) (value_at env f) held is (value_means env f)),
 )
 
-pub keyword_field : (env : Env) (f : FormTree) (name : List ℕ) (field : Field) → argument_of env f ≡ Keyword name → named_field name ≡ Some field → field_at env f ≡ Ok field
+pub keyword_field : (env : Env) (f : FormTree) (name : List ℕ) (field : Field) → argument_of env f ≡ Keyword name
+    → named_field name ≡ Some field → field_at env f ≡ Ok field
 unfolding field_at
 keyword_field env f name field at is = rw (at, is) refl
 
-pub field_read : (env : Env) (form : BareTree) (field : Field) → IsField env form field → (f : FormTree) → bare_tree f ≡ form → field_at env f ≡ Ok field
-field_read env form field (a_field {name = name} literal is) f h = keyword_field env f name field (literal_read env form (bound.Keyword name) literal f h) is
+pub field_read : (env : Env) (form : BareTree) (field : Field) → IsField env form field → (f : FormTree)
+    → bare_tree f ≡ form → field_at env f ≡ Ok field
+field_read env form field (a_field {name = name} literal is) f h =
+    keyword_field env f name field (literal_read env form (bound.Keyword name) literal f h) is
 
-field_in_means : (env : Env) (form : BareTree) (given : Argument) → Meaning env form given → SomeGood (IsField env form) (field_in given)
-field_in_means env form (Keyword name) means = some_from (IsField env form) (named_field name) (λ field is. a_field means is)
+field_in_means : (env : Env) (form : BareTree) (given : Argument) → Meaning env form given
+    → SomeGood (IsField env form) (field_in given)
+field_in_means env form (Keyword name) means =
+    some_from (IsField env form) (named_field name) (λ field is. a_field means is)
 field_in_means env form (Text text) means = tt
 field_in_means env form (Pattern text) means = tt
 field_in_means env form (Number number) means = tt

@@ -27,35 +27,44 @@ abbrev pub Both : {A : Type 0} → (A → Type 0) → (Fault → Type 0) → Res
 Both P E (Ok a) = P a
 Both P E (Err fault) = E (plain fault)
 
-pub both_then : {A B : Type 0} (P : A → Type 0) (E F : Fault → Type 0) (Q : B → Type 0) (read : Result A Fault) (next : A → Result B Fault) → Both P E read
+pub both_then : {A B : Type 0} (P : A → Type 0) (E F : Fault → Type 0) (Q : B → Type 0) (read : Result A Fault)
+    (next : A → Result B Fault)
+    → Both P E read
     → ((fault : Fault) → E fault → F fault) → ((a : A) → P a → Both Q F (next a)) → Both Q F (read >>= next)
 both_then P E F Q (Ok a) next both refused goes_on = goes_on a both
 both_then P E F Q (Err fault) next both refused goes_on = refused (plain fault) both
 
-pub both_if : {A : Type 0} (P : A → Type 0) (E : Fault → Type 0) (test : Bool) (x y : Result A Fault) → (test ≡ true → Both P E x) → (test ≡ false → Both P E y) → Both P E (cond test x y)
+pub both_if : {A : Type 0} (P : A → Type 0) (E : Fault → Type 0) (test : Bool) (x y : Result A Fault)
+    → (test ≡ true → Both P E x) → (test ≡ false → Both P E y) → Both P E (cond test x y)
 both_if P E true x y first second = first refl
 both_if P E false x y first second = second refl
 
-pub both_weaker : {A : Type 0} (P Q : A → Type 0) (E F : Fault → Type 0) (read : Result A Fault) → Both P E read → ((a : A) → P a → Q a) → ((fault : Fault) → E fault → F fault) → Both Q F read
+pub both_weaker : {A : Type 0} (P Q : A → Type 0) (E F : Fault → Type 0) (read : Result A Fault) → Both P E read
+    → ((a : A) → P a → Q a) → ((fault : Fault) → E fault → F fault) → Both Q F read
 both_weaker P Q E F (Ok a) both turned refused = turned a both
 both_weaker P Q E F (Err fault) both turned refused = refused (plain fault) both
 
-pub both_ok : {A : Type 0} (P : A → Type 0) (E : Fault → Type 0) (read : Result A Fault) (a : A) → read ≡ Ok a → Both P E read → P a
+pub both_ok : {A : Type 0} (P : A → Type 0) (E : Fault → Type 0) (read : Result A Fault) (a : A) → read ≡ Ok a
+    → Both P E read → P a
 both_ok {A} P E read a is both = subst (λ (r : Result A Fault). Both P E r) is both
 
-pub both_err : {A : Type 0} (P : A → Type 0) (E : Fault → Type 0) (read : Result A Fault) (fault : Fault) → Refuses read fault → Both P E read → E fault
+pub both_err : {A : Type 0} (P : A → Type 0) (E : Fault → Type 0) (read : Result A Fault) (fault : Fault)
+    → Refuses read fault → Both P E read → E fault
 both_err P E (Ok a) fault refused both = cc
 both_err P E (Err raw) fault refused both = let same : plain raw ≡ fault = cc in subst E same both
 
-pub refuses_first : {A B : Type 0} (read : Result A Fault) (next : A → Result B Fault) (fault : Fault) → Refuses read fault → Refuses (read >>= next) fault
+pub refuses_first : {A B : Type 0} (read : Result A Fault) (next : A → Result B Fault) (fault : Fault)
+    → Refuses read fault → Refuses (read >>= next) fault
 refuses_first (Ok a) next fault refused = cc
 refuses_first (Err raw) next fault refused = let same : plain raw ≡ fault = cc in ap (λ (f : Fault). Err f) same
 
-pub refuses_next : {A B : Type 0} (read : Result A Fault) (a : A) (next : A → Result B Fault) (fault : Fault) → read ≡ Ok a → Refuses (next a) fault → Refuses (read >>= next) fault
+pub refuses_next : {A B : Type 0} (read : Result A Fault) (a : A) (next : A → Result B Fault) (fault : Fault)
+    → read ≡ Ok a → Refuses (next a) fault → Refuses (read >>= next) fault
 refuses_next read a next fault is refused = rw is refused
 
 -- one reading is refused as another that is the same
-pub refuses_as : {A : Type 0} (read other : Result A Fault) (fault : Fault) → read ≡ other → Refuses other fault → Refuses read fault
+pub refuses_as : {A : Type 0} (read other : Result A Fault) (fault : Fault) → read ≡ other → Refuses other fault
+    → Refuses read fault
 refuses_as read other fault same refused = rw same refused
 
 pub ok_err : {A : Type 0} (read : Result A Fault) (a : A) (fault : Fault) → read ≡ Ok a → read ≡ Err fault → ⊥
@@ -78,19 +87,24 @@ misfit_plain (Group Curly forms start last) = refl
 abbrev pub Finds : {A : Type 0} → (BareTree → A → Type 0) → (Argument → Option A) → Type 0
 Finds {A} Is test = (f : FormTree) (a : A) → Is (bare_tree f) a ↔ (taken test [] f ≡ Ok a)
 
-pub taken_both : {A : Type 0} (Is : BareTree → A → Type 0) (test : Argument → Option A) → Finds Is test → (f : FormTree) → Both (Is (bare_tree f)) (IsMisfit Is f) (taken test [] f)
+pub taken_both : {A : Type 0} (Is : BareTree → A → Type 0) (test : Argument → Option A) → Finds Is test → (f : FormTree)
+    → Both (Is (bare_tree f)) (IsMisfit Is f) (taken test [] f)
 taken_both {A} Is test finds f = by (test (argument_of [] f)) refl
   where
-    by : (found : Option A) → test (argument_of [] f) ≡ found → Both (Is (bare_tree f)) (IsMisfit Is f) (fitting (start_of f) (argument_of [] f) found)
+    by : (found : Option A) → test (argument_of [] f) ≡ found
+        → Both (Is (bare_tree f)) (IsMisfit Is f) (fitting (start_of f) (argument_of [] f) found)
     by (Some a) is = (finds f a).1 (ap (fitting (start_of f) (argument_of [] f)) is)
     by None is =
         subst (λ (w : ConfigWhy). IsMisfit Is f (start_of f, w)) (sym (misfit_plain f))
-        (a_misfit (λ a has. ok_err (taken test [] f) a (start_of f, misfit (argument_of [] f)) ((finds f a).0 has) (ap (fitting (start_of f) (argument_of [] f)) is)))
+        (a_misfit (λ a has. ok_err (taken test [] f) a (start_of f, misfit (argument_of [] f)) ((finds f a).0 has)
+        (ap (fitting (start_of f) (argument_of [] f)) is)))
 
-pub taken_refuses : {A : Type 0} (Is : BareTree → A → Type 0) (test : Argument → Option A) → Finds Is test → (f : FormTree) (fault : Fault) → IsMisfit Is f fault → Refuses (taken test [] f) fault
+pub taken_refuses : {A : Type 0} (Is : BareTree → A → Type 0) (test : Argument → Option A) → Finds Is test
+    → (f : FormTree) (fault : Fault) → IsMisfit Is f fault → Refuses (taken test [] f) fault
 taken_refuses {A} Is test finds _ _ (a_misfit {f = f} none) = by (test (argument_of [] f)) refl
   where
-    by : (found : Option A) → test (argument_of [] f) ≡ found → Refuses (fitting (start_of f) (argument_of [] f) found) (start_of f, misfit_why f)
+    by : (found : Option A) → test (argument_of [] f) ≡ found
+        → Refuses (fitting (start_of f) (argument_of [] f) found) (start_of f, misfit_why f)
     by (Some a) is = absurd (none a ((finds f a).1 (ap (fitting (start_of f) (argument_of [] f)) is)))
     by None is = ap (λ (w : ConfigWhy). Err (start_of f, w)) (misfit_plain f)
 
@@ -108,7 +122,8 @@ number_both f = taken_both IsNumber number_in (λ g number. numbers_are_read [] 
 
 pub number_refuses : (f : FormTree) (fault : Fault) → IsMisfit IsNumber f fault → Refuses (number_at [] f) fault
 unfolding number_at
-number_refuses f fault misfit = taken_refuses IsNumber number_in (λ g number. numbers_are_read [] g number) f fault misfit
+number_refuses f fault misfit =
+    taken_refuses IsNumber number_in (λ g number. numbers_are_read [] g number) f fault misfit
 
 pub value_both : (f : FormTree) → Both (IsValue [] (bare_tree f)) (IsMisfit (IsValue []) f) (value_at [] f)
 unfolding value_at

@@ -16,7 +16,8 @@ use Rattle.stream_meaning.proofs.RunLaws.{has_run-length}
 use Rattle.stream_meaning.proofs.TickLaws.{run-ticks}
 
 -- where nothing has come but ticks the first value is still the one to compare with
-pub last_value-ticks : (field : Field) (init : Option Value) (h : History) → TicksAlone h → last_value field init h ≡ init
+pub last_value-ticks : (field : Field) (init : Option Value) (h : History) → TicksAlone h
+    → last_value field init h ≡ init
 last_value-ticks field init (since start) alone = refl
 last_value-ticks field init (h ▸ Tick) alone = last_value-ticks field init h alone
 last_value-ticks field init (h ▸ In item) alone = absurd alone
@@ -37,7 +38,8 @@ counted_step : (count : ℕ) (d : Bool) (r : List Event) (event : Event) (old : 
 counted_step count true r event old e = refl
 counted_step count false r event old e = omega (arith, length_push r event)
 
-counted-more : (count : ℕ) (field : Field) (h : History) (event : Event) (last : Option Value) (old : ℕ) → last ≡ last_value field None h → old ≡ min count (length (run field h)) →
+counted-more : (count : ℕ) (field : Field) (h : History) (event : Event) (last : Option Value) (old : ℕ) →
+    last ≡ last_value field None h → old ≡ min count (length (run field h)) →
     min count (cond (differs_from field last event) 1 (old + 1)) ≡ min count (length (run field (h ▸ In (One event))))
 counted-more count field h event last old is e =
     ap (λ l. min count (cond (differs_from field l event) 1 (old + 1))) is
@@ -47,14 +49,18 @@ full : (count n : ℕ) → nat_le count n ≡ (min count n == count)
 full count n = grind (arith, nat_tests)
 
 -- an event passes where the run is as long as the count
-runs_items-count : (count : ℕ) (field : Field) (h : History) (event : Event) (now : ℕ) → now ≡ min count (length (run field (h ▸ In (One event)))) →
+runs_items-count : (count : ℕ) (field : Field) (h : History) (event : Event) (now : ℕ) →
+    now ≡ min count (length (run field (h ▸ In (One event)))) →
     runs_items count field (h ▸ In (One event)) ≡ cond (now == count) (each (event ∷ [])) []
 runs_items-count count field h event now e =
-    ap (λ t. cond t (each (event ∷ [])) []) (has_run-length count field (field_value event field) (h ▸ In (One event)) refl
+    ap (λ t. cond t (each (event ∷ [])) [])
+    (has_run-length count field (field_value event field) (h ▸ In (One event)) refl
     ∙ full count (length (run field (h ▸ In (One event)))) ∙ ap (λ n. n == count) (sym e))
 
 -- the test that the code makes, where it counted the event
-pub full-passes : (count : ℕ) (field : Field) (h : History) (event : Event) (last : Option Value) (old now : ℕ) → last ≡ last_value field None h → old ≡ min count (length (run field h)) →
-    now ≡ min count (cond (differs_from field last event) 1 (old + 1)) → cond (now == count) (each (event ∷ [])) [] ≡ runs_items count field (h ▸ In (One event))
+pub full-passes : (count : ℕ) (field : Field) (h : History) (event : Event) (last : Option Value) (old now : ℕ) →
+    last ≡ last_value field None h → old ≡ min count (length (run field h)) →
+    now ≡ min count (cond (differs_from field last event) 1 (old + 1)) →
+    cond (now == count) (each (event ∷ [])) [] ≡ runs_items count field (h ▸ In (One event))
 full-passes count field h event last old now is e counts =
     sym (runs_items-count count field h event now (counts ∙ counted-more count field h event last old is e))

@@ -8,17 +8,21 @@ use Rattle.fork_by.specs.declared.slots.Slot.{Slot}
 use Rattle.fork_by.specs.Register.{is_number}
 use Rattle.fork_by.specs.Slots.{slot_at, SetsSlot, with_index, at_moment}
 
-pub slot_set : (slots : List (Option Slot)) (number : ℕ) (slot : Option Slot) → number < length slots → SetsSlot slots (slice_set slots number slot) number slot
+pub slot_set : (slots : List (Option Slot)) (number : ℕ) (slot : Option Slot) → number < length slots
+    → SetsSlot slots (slice_set slots number slot) number slot
 slot_set slots number slot h other =
-    elim (eqb other number) as (λ b. eqb other number ≡ b → slot_at other (slice_set slots number slot) ≡ cond b slot (slot_at other slots)) [
+    elim (eqb other number) as
+    (λ b. eqb other number ≡ b → slot_at other (slice_set slots number slot) ≡ cond b slot (slot_at other slots)) [
       | true ↦ λ same. get_or-set_at slots number other slot None (grind (arith, nat_tests, same)) h
       | false ↦ λ apart. get_or-set_other slots number other slot None (grind (arith, nat_tests, apart))
     ] refl
 
-pub has_slot : (number : ℕ) (slots : List (Option Slot)) (slot : Slot) → slot_at number slots ≡ Some slot → number < length slots
+pub has_slot : (number : ℕ) (slots : List (Option Slot)) (slot : Slot) → slot_at number slots ≡ Some slot
+    → number < length slots
 has_slot number [] slot h = absurd (cc)
 has_slot zero (first ∷ slots) slot h = omega (arith)
-has_slot (suc number) (first ∷ slots) slot h = let rest : number < length slots = has_slot number slots slot h in omega (arith, rest)
+has_slot (suc number) (first ∷ slots) slot h =
+    let rest : number < length slots = has_slot number slots slot h in omega (arith, rest)
 
 pub none_at : (number : ℕ) → slot_at number [] ≡ None
 none_at zero = refl
@@ -36,7 +40,8 @@ slot_grown zero (slot ∷ slots) = refl
 slot_grown (suc number) (slot ∷ slots) = slot_grown number slots
 
 -- a number without a slot stays without one
-pub slot_unset : (number : ℕ) (slots : List (Option Slot)) → slot_at number slots ≡ None → SetsSlot slots slots number None
+pub slot_unset : (number : ℕ) (slots : List (Option Slot)) → slot_at number slots ≡ None
+    → SetsSlot slots slots number None
 slot_unset number slots h other =
     elim (bool_cases (eqb other number)) [
       | inl same ↦ rw same (ap (λ n. slot_at n slots) (eqb-true other number same) ∙ h)
@@ -44,14 +49,18 @@ slot_unset number slots h other =
     ]
 
 -- the slot of the number that is at an index, if there is one, has the index
-pub moved_some : (slots slots' : List (Option Slot)) (index number : ℕ) (o : Option ℕ) → o ≡ Some number → SetsSlot slots slots' number (with_index index (slot_at number slots))
+pub moved_some : (slots slots' : List (Option Slot)) (index number : ℕ) (o : Option ℕ) → o ≡ Some number
+    → SetsSlot slots slots' number (with_index index (slot_at number slots))
     → (q : ℕ) → slot_at q slots' ≡ cond (is_number q o) (with_index index (slot_at q slots)) (slot_at q slots)
 moved_some slots slots' index number o is sets q =
     sets q
     ∙ elim (bool_cases (eqb q number)) [
-      | inl same ↦ (let at : q ≡ number = eqb-true q number same in rw (is, same) (ap (λ n. with_index index (slot_at n slots)) (sym at)))
+      | inl same ↦
+          (let at : q ≡ number = eqb-true q number same in
+          rw (is, same) (ap (λ n. with_index index (slot_at n slots)) (sym at)))
       | inr apart ↦ rw (is, apart) refl
     ]
 
-pub moved_none : (slots : List (Option Slot)) (index : ℕ) (o : Option ℕ) → o ≡ None → (q : ℕ) → slot_at q slots ≡ cond (is_number q o) (with_index index (slot_at q slots)) (slot_at q slots)
+pub moved_none : (slots : List (Option Slot)) (index : ℕ) (o : Option ℕ) → o ≡ None → (q : ℕ)
+    → slot_at q slots ≡ cond (is_number q o) (with_index index (slot_at q slots)) (slot_at q slots)
 moved_none slots index o is q = rw is refl

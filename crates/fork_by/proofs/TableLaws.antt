@@ -31,7 +31,8 @@ not_some true n h = absurd (cc)
 not_some false n h = refl
 
 pub none_passes : {X : Type 0} (p : X → Bool) (xs : List X) → position p xs ≡ None → list_any p xs ≡ false
-none_passes p xs h = sym (first_within p xs) ∙ not_some (nat_lt (position_or_len p xs) (length xs)) (position_or_len p xs) h
+none_passes p xs h =
+    sym (first_within p xs) ∙ not_some (nat_lt (position_or_len p xs) (length xs)) (position_or_len p xs) h
 
 bound_at : (old new : List (ℕ × ℕ)) (number bound : ℕ) (due : Option ℕ) → Sets old new number due → number < bound
     → All (λ n. n < bound) (keys_of old) → (q : ℕ) (b : Bool) → eqb q number ≡ b → IsSome (moment_at q new) → q < bound
@@ -49,7 +50,8 @@ within_set old new number bound due sets below within =
     All-keys_from_lookup (eq_by_cmp_equiv nat_cmp_total) (λ n. n < bound) new
     (λ q some. bound_at old new number bound due sets below within q (eqb q number) refl some)
 
-pub within_some : (bound : ℕ) (p : ℕ × ℕ → Bool) (es : List (ℕ × ℕ)) → All (λ n. n < bound) (keys_of es) → All (λ n. n < bound) (keys_of (filter p es))
+pub within_some : (bound : ℕ) (p : ℕ × ℕ → Bool) (es : List (ℕ × ℕ)) → All (λ n. n < bound) (keys_of es)
+    → All (λ n. n < bound) (keys_of (filter p es))
 within_some bound p [] h = All-nil (λ n. n < bound)
 within_some bound p (e ∷ es) h =
     elim (p e) as (λ b. All (λ n. n < bound) (keys_of (cond b (e ∷ filter p es) (filter p es)))) [
@@ -59,12 +61,15 @@ within_some bound p (e ∷ es) h =
     ]
 
 -- a table of no forks
-pub no_forks : {F : Type 0} (table : ForkTable F) → fork_keys table ≡ [] → fork_list table ≡ [] → IsDistinct same_key (fork_keys table)
+pub no_forks : {F : Type 0} (table : ForkTable F) → fork_keys table ≡ [] → fork_list table ≡ []
+    → IsDistinct same_key (fork_keys table)
     → fork_dues table ≡ [] → IsTable table
 unfolding IsStrictlySortedBy
 no_forks table keys forks distinct dues = record {
   even = ap length keys ∙ sym (ap length forks);
   distinct = distinct;
   rising = subst (λ (es : List (ℕ × ℕ)). IsRising es) (sym dues) tt;
-  within = subst (λ (es : List (ℕ × ℕ)). All (λ number. number < length (fork_list table)) (keys_of es)) (sym dues) (All-nil (λ number. number < length (fork_list table)));
+  within =
+      subst (λ (es : List (ℕ × ℕ)). All (λ number. number < length (fork_list table)) (keys_of es)) (sym dues)
+      (All-nil (λ number. number < length (fork_list table)));
 }

@@ -13,7 +13,8 @@ link_waits old bare within = record {
   unchanged = refl;
 }
 
-pub link_stops : (old new : Held) (size : ℕ) → IsOversized old.bytes → size ≡ length_at old.bytes → new.bytes ≡ old.bytes → new.stopped ≡ true
+pub link_stops : (old new : Held) (size : ℕ) → IsOversized old.bytes → size ≡ length_at old.bytes
+    → new.bytes ≡ old.bytes → new.stopped ≡ true
     → Stops old size new
 link_stops old new size over is same stopped = record {
   over = over;
@@ -24,7 +25,8 @@ link_stops old new size over is same stopped = record {
   stopped = stopped;
 }
 
-pub link_hands_out : (old new : Held) (body : List ℕ) → HasFrame old.bytes → body ≡ first_body old.bytes → new.bytes ≡ after_frame old.bytes → new.stopped ≡ false
+pub link_hands_out : (old new : Held) (body : List ℕ) → HasFrame old.bytes → body ≡ first_body old.bytes
+    → new.bytes ≡ after_frame old.bytes → new.stopped ≡ false
     → HandsOut old body new
 link_hands_out old new body h is later goes_on =
     let whole = after_frame_length old.bytes h in

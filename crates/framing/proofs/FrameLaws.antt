@@ -33,11 +33,13 @@ has_frame_false b bare =
 
 pub frame_cases : (b : List ℕ) → HasFrame b ⊎ (HasFrame b → ⊥)
 frame_cases b =
-    elim (cases_of_test (has_frame b)) [ inl e ↦ inl (has_frame_tells b e) | inr e ↦ inr (λ h. false≢true (sym e ∙ has_frame_true b h)) ]
+    elim (cases_of_test (has_frame b))
+    [ inl e ↦ inl (has_frame_tells b e) | inr e ↦ inr (λ h. false≢true (sym e ∙ has_frame_true b h)) ]
 
 -- any count of frames that is at least the length gives them all
 
-frames_within_frame : (n : ℕ) (b : List ℕ) → HasFrame b → frames_within (suc n) b ≡ first_body b ∷ frames_within n (after_frame b)
+frames_within_frame : (n : ℕ) (b : List ℕ) → HasFrame b
+    → frames_within (suc n) b ≡ first_body b ∷ frames_within n (after_frame b)
 unfolding frames_within
 frames_within_frame n b h = rw (has_frame_true b h)
 
@@ -66,13 +68,18 @@ first_body_length b h =
 no_frame_in_none : (b : List ℕ) → length b ≤ 0 → HasFrame b → ⊥
 no_frame_in_none b short h = let head = h.head in omega arith
 
-within_enough : (n m : ℕ) (b : List ℕ) → length b ≤ n → length b ≤ m → (frames_within n b ≡ frames_within m b) × (after_within n b ≡ after_within m b)
+within_enough : (n m : ℕ) (b : List ℕ) → length b ≤ n → length b ≤ m
+    → (frames_within n b ≡ frames_within m b) × (after_within n b ≡ after_within m b)
 within_enough zero m b p q =
-    let bare = no_frame_in_none b p in
-    (frames_within_none zero b bare ∙ sym (frames_within_none m b bare), after_within_none zero b bare ∙ sym (after_within_none m b bare))
+    let bare = no_frame_in_none b p in (
+      frames_within_none zero b bare ∙ sym (frames_within_none m b bare),
+      after_within_none zero b bare ∙ sym (after_within_none m b bare),
+    )
 within_enough (suc n) zero b p q =
-    let bare = no_frame_in_none b q in
-    (frames_within_none (suc n) b bare ∙ sym (frames_within_none zero b bare), after_within_none (suc n) b bare ∙ sym (after_within_none zero b bare))
+    let bare = no_frame_in_none b q in (
+      frames_within_none (suc n) b bare ∙ sym (frames_within_none zero b bare),
+      after_within_none (suc n) b bare ∙ sym (after_within_none zero b bare),
+    )
 within_enough (suc n) (suc m) b p q =
     elim (frame_cases b) [
       | inl h ↦
@@ -95,7 +102,8 @@ frames_at_frame b h =
     let long = after_frame_length b h in
     (within_enough (length b) (suc (length b)) b (omega arith) (omega arith)).0
     ∙ frames_within_frame (length b) b h
-    ∙ ap (λ fs. first_body b ∷ fs) (within_enough (length b) (length (after_frame b)) (after_frame b) (omega arith) (omega arith)).0
+    ∙ ap (λ fs. first_body b ∷ fs)
+    (within_enough (length b) (length (after_frame b)) (after_frame b) (omega arith) (omega arith)).0
 
 pub partial_at_frame : (b : List ℕ) → HasFrame b → partial b ≡ partial (after_frame b)
 unfolding partial
@@ -152,13 +160,15 @@ after_frame_append b more h =
 -- bytes that come in two pieces
 
 cut_at_none : (b more : List ℕ) → (HasFrame b → ⊥)
-    → (frames_of (b ++ more) ≡ frames_of b ++ frames_of (partial b ++ more)) × (partial (b ++ more) ≡ partial (partial b ++ more))
+    → (frames_of (b ++ more) ≡ frames_of b ++ frames_of (partial b ++ more))
+    × (partial (b ++ more) ≡ partial (partial b ++ more))
 cut_at_none b more bare = (rw (frames_at_none b bare, partial_at_none b bare), rw (partial_at_none b bare))
 
 cut_at_frame : (b more : List ℕ) → HasFrame b
     → (frames_of (after_frame b ++ more) ≡ frames_of (after_frame b) ++ frames_of (partial (after_frame b) ++ more))
     → (partial (after_frame b ++ more) ≡ partial (partial (after_frame b) ++ more))
-    → (frames_of (b ++ more) ≡ frames_of b ++ frames_of (partial b ++ more)) × (partial (b ++ more) ≡ partial (partial b ++ more))
+    → (frames_of (b ++ more) ≡ frames_of b ++ frames_of (partial b ++ more))
+    × (partial (b ++ more) ≡ partial (partial b ++ more))
 cut_at_frame b more h frames rest =
     let stays = frame_stays b more h in (
       rw (frames_at_frame b h, partial_at_frame b h)
@@ -171,7 +181,8 @@ cut_at_frame b more h frames rest =
     )
 
 cut_within : (n : ℕ) (b more : List ℕ) → length b ≤ n
-    → (frames_of (b ++ more) ≡ frames_of b ++ frames_of (partial b ++ more)) × (partial (b ++ more) ≡ partial (partial b ++ more))
+    → (frames_of (b ++ more) ≡ frames_of b ++ frames_of (partial b ++ more))
+    × (partial (b ++ more) ≡ partial (partial b ++ more))
 cut_within zero b more short = cut_at_none b more (no_frame_in_none b short)
 cut_within (suc n) b more short =
     elim (frame_cases b) [
@@ -213,7 +224,8 @@ partial_oversized b more large =
 pub represents_nothing : Represents [] [] []
 represents_nothing = record { frames = refl; rest = refl }
 
-pub represents_more : (b : List ℕ) (handed : List (List ℕ)) (came more : List ℕ) → Represents b handed came → Represents (b ++ more) handed (came ++ more)
+pub represents_more : (b : List ℕ) (handed : List (List ℕ)) (came more : List ℕ) → Represents b handed came
+    → Represents (b ++ more) handed (came ++ more)
 represents_more b handed came more old = record {
   frames =
       frames_append came more
@@ -267,7 +279,8 @@ pub first_body_of_frame : (body more : List ℕ) → length body ≤ BODY_LIMIT 
 first_body_of_frame body more small =
     rw (length_at_frame body more small)
     (ap (λ s. take (length body) (drop 4 s)) (append_assoc (to_be_bytes w32 (length body)) body more)
-    ∙ ap (take (length body)) (drop_at (to_be_bytes w32 (length body)) (body ++ more) 4 (length_of_length (length body)))
+    ∙ ap (take (length body))
+    (drop_at (to_be_bytes w32 (length body)) (body ++ more) 4 (length_of_length (length body)))
     ∙ take_at body more (length body) refl)
 
 pub after_frame_of_frame : (body more : List ℕ) → length body ≤ BODY_LIMIT → after_frame (frame body ++ more) ≡ more
@@ -275,7 +288,8 @@ after_frame_of_frame body more small =
     rw (length_at_frame body more small)
     (drop_at (frame body) more (4 + length body) (length-append (to_be_bytes w32 (length body)) body))
 
-pub frames_of_frame : (body more : List ℕ) → length body ≤ BODY_LIMIT → frames_of (frame body ++ more) ≡ body ∷ frames_of more
+pub frames_of_frame : (body more : List ℕ) → length body ≤ BODY_LIMIT
+    → frames_of (frame body ++ more) ≡ body ∷ frames_of more
 frames_of_frame body more small =
     frames_at_frame (frame body ++ more) (frame_holds body more small)
     ∙ ap (λ x. x ∷ frames_of (after_frame (frame body ++ more))) (first_body_of_frame body more small)
@@ -286,10 +300,13 @@ partial_of_frame body more small =
     partial_at_frame (frame body ++ more) (frame_holds body more small)
     ∙ ap partial (after_frame_of_frame body more small)
 
-pub splits_are_one : (bodies : List (List ℕ)) (stream rest : List ℕ) → stream ≡ flat_map frame bodies ++ rest → AreWithinLimit bodies → (HasFrame rest → ⊥)
+pub splits_are_one : (bodies : List (List ℕ)) (stream rest : List ℕ) → stream ≡ flat_map frame bodies ++ rest
+    → AreWithinLimit bodies → (HasFrame rest → ⊥)
     → (bodies ≡ frames_of stream) × (rest ≡ partial stream)
-splits_are_one [] stream rest whole small bare =
-    (sym (frames_at_none rest bare) ∙ ap frames_of (sym whole), sym (partial_at_none rest bare) ∙ ap partial (sym whole))
+splits_are_one [] stream rest whole small bare = (
+  sym (frames_at_none rest bare) ∙ ap frames_of (sym whole),
+  sym (partial_at_none rest bare) ∙ ap partial (sym whole),
+)
 splits_are_one (body ∷ bodies) stream rest whole small bare =
     let more : List ℕ = flat_map frame bodies ++ rest in
     let later = splits_are_one bodies more rest refl small.1 bare in
@@ -299,7 +316,8 @@ splits_are_one (body ∷ bodies) stream rest whole small bare =
     )
 
 pub frames_are_one_lem : FramesAreOne
-frames_are_one_lem stream bodies rest split = splits_are_one bodies stream rest split.whole split.small split.partial_frame
+frames_are_one_lem stream bodies rest split =
+    splits_are_one bodies stream rest split.whole split.small split.partial_frame
 
 -- the frames of any stream
 
@@ -328,11 +346,13 @@ stream_of_frame b small h =
     ∙ ap (λ s. take 4 b ++ first_body b ++ s) (drop-drop (length_at b) 4 b)
     ∙ ap (λ s. s ++ first_body b ++ after_frame b) (sym (ap (to_be_bytes w32) size ∙ front))
 
-split_at_frame : (b : List ℕ) → AreBytes b → HasFrame b → Splits (after_frame b) (frames_of (after_frame b)) (partial (after_frame b)) → Splits b (frames_of b) (partial b)
+split_at_frame : (b : List ℕ) → AreBytes b → HasFrame b
+    → Splits (after_frame b) (frames_of (after_frame b)) (partial (after_frame b)) → Splits b (frames_of b) (partial b)
 split_at_frame b small h later =
     let within = h.small in
     let size = first_body_length b h in
-    let tail = append_assoc (frame (first_body b)) (flat_map frame (frames_of (after_frame b))) (partial (after_frame b)) in
+    let tail =
+    append_assoc (frame (first_body b)) (flat_map frame (frames_of (after_frame b))) (partial (after_frame b)) in
     rw (frames_at_frame b h, partial_at_frame b h) (record {
       whole = stream_of_frame b small h ∙ ap (λ s. frame (first_body b) ++ s) later.whole ∙ sym tail;
       small = (omega arith, later.small);
@@ -349,7 +369,8 @@ split_within (suc n) b short small =
     elim (frame_cases b) [
       | inl h ↦
           (let long = after_frame_length b h in
-          split_at_frame b small h (split_within n (after_frame b) (omega arith) (bytes_after b (4 + length_at b) small)))
+          split_at_frame b small h
+          (split_within n (after_frame b) (omega arith) (bytes_after b (4 + length_at b) small)))
       | inr bare ↦ split_at_none b bare
     ]
 

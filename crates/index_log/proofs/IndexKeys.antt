@@ -47,17 +47,20 @@ turned_by r Greater e h = ap is_gt e
 pub not_gt_turned : (a b : Event) → is_lt (index_key_cmp a b) ≡ false → is_gt (index_key_cmp b a) ≡ false
 not_gt_turned a b = turned_by (index_key_cmp b a) (index_key_cmp a b) (index_key_total.antisymm b a)
 
-lt_chain_by : (a b c : Event) (r s : Ordering) → index_key_cmp a b ≡ r → index_key_cmp b c ≡ s → is_lt r ≡ true → is_gt s ≡ false → is_lt (index_key_cmp a c) ≡ true
+lt_chain_by : (a b c : Event) (r s : Ordering) → index_key_cmp a b ≡ r → index_key_cmp b c ≡ s → is_lt r ≡ true
+    → is_gt s ≡ false → is_lt (index_key_cmp a c) ≡ true
 lt_chain_by a b c Less Less p q h k = ap is_lt (index_key_total.trans a b c p q)
 lt_chain_by a b c Less Equal p q h k = ap is_lt (sym (alike_right index_key_total b c a q) ∙ p)
 lt_chain_by a b c Less Greater p q h k = absurd (true≢false k)
 lt_chain_by a b c Equal s p q h k = absurd (true≢false (sym h))
 lt_chain_by a b c Greater s p q h k = absurd (true≢false (sym h))
 
-pub lt_chain : (a b c : Event) → is_lt (index_key_cmp a b) ≡ true → is_gt (index_key_cmp b c) ≡ false → is_lt (index_key_cmp a c) ≡ true
+pub lt_chain : (a b c : Event) → is_lt (index_key_cmp a b) ≡ true → is_gt (index_key_cmp b c) ≡ false
+    → is_lt (index_key_cmp a c) ≡ true
 lt_chain a b c = lt_chain_by a b c (index_key_cmp a b) (index_key_cmp b c) refl refl
 
-none_before_chain : (a b : Event) (bs : List Event) → is_gt (index_key_cmp a b) ≡ false → IsNoneBefore b bs → IsNoneBefore a bs
+none_before_chain : (a b : Event) (bs : List Event) → is_gt (index_key_cmp a b) ≡ false → IsNoneBefore b bs
+    → IsNoneBefore a bs
 none_before_chain a b [] h k = tt
 none_before_chain a b (c ∷ bs) h k = (upto index_key_total a b c h k.0, none_before_chain a b bs h k.1)
 
@@ -71,15 +74,19 @@ after_chain a b (c ∷ bs) h k = (lt_chain a b c h k.0, after_chain a b bs h k.1
 abbrev placed_by : Bool → Event → Event → List Event → List Event
 placed_by test a b bs = cond test (a ∷ (b ∷ bs)) (b ∷ placed a bs)
 
-none_before-placed_by : (t : Bool) (x a b : Event) (bs : List Event) → is_gt (index_key_cmp x a) ≡ false → IsNoneBefore x (b ∷ bs) → IsNoneBefore x (placed a bs) → IsNoneBefore x (placed_by t a b bs)
+none_before-placed_by : (t : Bool) (x a b : Event) (bs : List Event) → is_gt (index_key_cmp x a) ≡ false
+    → IsNoneBefore x (b ∷ bs) → IsNoneBefore x (placed a bs) → IsNoneBefore x (placed_by t a b bs)
 none_before-placed_by true x a b bs h k ih = (h, k)
 none_before-placed_by false x a b bs h k ih = (k.0, ih)
 
-none_before-placed : (x a : Event) (bs : List Event) → is_gt (index_key_cmp x a) ≡ false → IsNoneBefore x bs → IsNoneBefore x (placed a bs)
+none_before-placed : (x a : Event) (bs : List Event) → is_gt (index_key_cmp x a) ≡ false → IsNoneBefore x bs
+    → IsNoneBefore x (placed a bs)
 none_before-placed x a [] h k = (h, tt)
-none_before-placed x a (b ∷ bs) h k = none_before-placed_by (is_lt (index_key_cmp a b)) x a b bs h k (none_before-placed x a bs h k.1)
+none_before-placed x a (b ∷ bs) h k =
+    none_before-placed_by (is_lt (index_key_cmp a b)) x a b bs h k (none_before-placed x a bs h k.1)
 
-in_order-placed_by : (t : Bool) (a b : Event) (bs : List Event) → is_lt (index_key_cmp a b) ≡ t → IsInOrder (b ∷ bs) → IsInOrder (placed a bs) → IsInOrder (placed_by t a b bs)
+in_order-placed_by : (t : Bool) (a b : Event) (bs : List Event) → is_lt (index_key_cmp a b) ≡ t → IsInOrder (b ∷ bs)
+    → IsInOrder (placed a bs) → IsInOrder (placed_by t a b bs)
 in_order-placed_by true a b bs e k ih =
     let before = not_gt_by (index_key_cmp a b) e in
     ((before, none_before_chain a b bs before k.0), k)
@@ -101,7 +108,8 @@ placed-first a (b ∷ bs) k = ap (λ t. placed_by t a b bs) k.0
 -- ---- what a filter keeps of a list in order
 
 module _ (p : Event → Bool) where
-  following-filter_by : (t : Bool) (a b : Event) (bs : List Event) → AreAfter a (b ∷ bs) → AreAfter a (filter p bs) → AreAfter a (cond t (b ∷ filter p bs) (filter p bs))
+  following-filter_by : (t : Bool) (a b : Event) (bs : List Event) → AreAfter a (b ∷ bs) → AreAfter a (filter p bs)
+      → AreAfter a (cond t (b ∷ filter p bs) (filter p bs))
   following-filter_by true a b bs k ih = (k.0, ih)
   following-filter_by false a b bs k ih = ih
 
@@ -110,20 +118,29 @@ module _ (p : Event → Bool) where
   following-filter a (b ∷ bs) k = following-filter_by (p b) a b bs k (following-filter a bs k.1)
 
   -- an event that the filter keeps, put in before or after the filter
-  kept_by : (t u : Bool) (a b : Event) (bs : List Event) → p a ≡ true → is_lt (index_key_cmp a b) ≡ t → p b ≡ u → IsInOrder (b ∷ bs) → filter p (placed a bs) ≡ placed a (filter p bs) →
+  kept_by : (t u : Bool) (a b : Event) (bs : List Event) → p a ≡ true → is_lt (index_key_cmp a b) ≡ t → p b ≡ u →
+      IsInOrder (b ∷ bs) → filter p (placed a bs) ≡ placed a (filter p bs) →
       filter p (placed_by t a b bs) ≡ placed a (cond u (b ∷ filter p bs) (filter p bs))
-  kept_by true true a b bs pa e f k ih = ap (λ s. cond s (a ∷ filter p (b ∷ bs)) (filter p (b ∷ bs))) pa ∙ ap (λ s. a ∷ cond s (b ∷ filter p bs) (filter p bs)) f ∙ sym (ap (λ s. placed_by s a b (filter p bs)) e)
+  kept_by true true a b bs pa e f k ih =
+      ap (λ s. cond s (a ∷ filter p (b ∷ bs)) (filter p (b ∷ bs))) pa
+      ∙ ap (λ s. a ∷ cond s (b ∷ filter p bs) (filter p bs)) f ∙ sym (ap (λ s. placed_by s a b (filter p bs)) e)
   kept_by true false a b bs pa e f k ih =
-      ap (λ s. cond s (a ∷ filter p (b ∷ bs)) (filter p (b ∷ bs))) pa ∙ ap (λ s. a ∷ cond s (b ∷ filter p bs) (filter p bs)) f
+      ap (λ s. cond s (a ∷ filter p (b ∷ bs)) (filter p (b ∷ bs))) pa
+      ∙ ap (λ s. a ∷ cond s (b ∷ filter p bs) (filter p bs)) f
       ∙ sym (placed-first a (filter p bs) (following-filter a bs (after_chain a b bs e k.0)))
-  kept_by false true a b bs pa e f k ih = ap (λ s. cond s (b ∷ filter p (placed a bs)) (filter p (placed a bs))) f ∙ ap (λ s. b ∷ s) ih ∙ sym (ap (λ s. placed_by s a b (filter p bs)) e)
+  kept_by false true a b bs pa e f k ih =
+      ap (λ s. cond s (b ∷ filter p (placed a bs)) (filter p (placed a bs))) f ∙ ap (λ s. b ∷ s) ih
+      ∙ sym (ap (λ s. placed_by s a b (filter p bs)) e)
   kept_by false false a b bs pa e f k ih = ap (λ s. cond s (b ∷ filter p (placed a bs)) (filter p (placed a bs))) f ∙ ih
 
-  pub filter-placed_kept : (a : Event) (bs : List Event) → p a ≡ true → IsInOrder bs → filter p (placed a bs) ≡ placed a (filter p bs)
+  pub filter-placed_kept : (a : Event) (bs : List Event) → p a ≡ true → IsInOrder bs
+      → filter p (placed a bs) ≡ placed a (filter p bs)
   filter-placed_kept a [] pa k = ap (λ s. cond s (a ∷ []) []) pa
-  filter-placed_kept a (b ∷ bs) pa k = kept_by (is_lt (index_key_cmp a b)) (p b) a b bs pa refl refl k (filter-placed_kept a bs pa k.1)
+  filter-placed_kept a (b ∷ bs) pa k =
+      kept_by (is_lt (index_key_cmp a b)) (p b) a b bs pa refl refl k (filter-placed_kept a bs pa k.1)
 
-  left_by : (t : Bool) (a b : Event) (bs : List Event) → p a ≡ false → filter p (placed a bs) ≡ filter p bs → filter p (placed_by t a b bs) ≡ filter p (b ∷ bs)
+  left_by : (t : Bool) (a b : Event) (bs : List Event) → p a ≡ false → filter p (placed a bs) ≡ filter p bs
+      → filter p (placed_by t a b bs) ≡ filter p (b ∷ bs)
   left_by true a b bs pa ih = ap (λ s. cond s (a ∷ filter p (b ∷ bs)) (filter p (b ∷ bs))) pa
   left_by false a b bs pa ih = ap (λ s. cond (p b) (b ∷ s) s) ih
 
@@ -132,10 +149,14 @@ module _ (p : Event → Bool) where
   filter-placed_left a [] pa = ap (λ s. cond s (a ∷ []) []) pa
   filter-placed_left a (b ∷ bs) pa = left_by (is_lt (index_key_cmp a b)) a b bs pa (filter-placed_left a bs pa)
 
-  onto_by : (t : Bool) (a : Event) (sorted es : List Event) → p a ≡ t → IsInOrder sorted → placed_onto (filter p (placed a sorted)) (filter p es) ≡ placed_onto (filter p sorted) (cond t (a ∷ filter p es) (filter p es))
+  onto_by : (t : Bool) (a : Event) (sorted es : List Event) → p a ≡ t → IsInOrder sorted
+      → placed_onto (filter p (placed a sorted)) (filter p es)
+      ≡ placed_onto (filter p sorted) (cond t (a ∷ filter p es) (filter p es))
   onto_by true a sorted es pa k = ap (λ s. placed_onto s (filter p es)) (filter-placed_kept a sorted pa k)
   onto_by false a sorted es pa k = ap (λ s. placed_onto s (filter p es)) (filter-placed_left a sorted pa)
 
-  pub filter-placed_onto : (sorted es : List Event) → IsInOrder sorted → filter p (placed_onto sorted es) ≡ placed_onto (filter p sorted) (filter p es)
+  pub filter-placed_onto : (sorted es : List Event) → IsInOrder sorted
+      → filter p (placed_onto sorted es) ≡ placed_onto (filter p sorted) (filter p es)
   filter-placed_onto sorted [] k = refl
-  filter-placed_onto sorted (a ∷ es) k = filter-placed_onto (placed a sorted) es (in_order-placed a sorted k) ∙ onto_by (p a) a sorted es refl k
+  filter-placed_onto sorted (a ∷ es) k =
+      filter-placed_onto (placed a sorted) es (in_order-placed a sorted k) ∙ onto_by (p a) a sorted es refl k

@@ -14,27 +14,33 @@ use Rattle.index_log.proofs.Rising.{IsRising, all-placed, rising-placed, nothing
 moved : (xs ys : List Event) (event : Event) → IsPermutation (event ∷ (xs ++ ys)) (xs ++ event ∷ ys)
 moved xs ys event = IsPermutation-sym (xs ++ event ∷ ys) (event ∷ (xs ++ ys)) (IsPermutation-middle xs event ys)
 
-either-permutes : (t : Bool) (xs ys zs : List Event) → IsPermutation xs ys → IsPermutation xs zs → IsPermutation xs (cond t ys zs)
+either-permutes : (t : Bool) (xs ys zs : List Event) → IsPermutation xs ys → IsPermutation xs zs
+    → IsPermutation xs (cond t ys zs)
 either-permutes true xs ys zs p q = p
 either-permutes false xs ys zs p q = q
 
 placed-permutes : (event : Event) (es : List Event) → IsPermutation (event ∷ es) (placed event es)
 placed-permutes event [] = IsPermutation-refl (event ∷ [])
 placed-permutes event (first ∷ es) =
-    either-permutes (is_lt (index_key_cmp event first)) (event ∷ (first ∷ es)) (event ∷ (first ∷ es)) (first ∷ placed event es)
+    either-permutes (is_lt (index_key_cmp event first)) (event ∷ (first ∷ es)) (event ∷ (first ∷ es))
+    (first ∷ placed event es)
     (IsPermutation-refl (event ∷ (first ∷ es)))
-    (IsPermutation-trans (event ∷ (first ∷ es)) (first ∷ (event ∷ es)) (first ∷ placed event es) (moved (first ∷ []) es event)
+    (IsPermutation-trans (event ∷ (first ∷ es)) (first ∷ (event ∷ es)) (first ∷ placed event es)
+    (moved (first ∷ []) es event)
     (IsPermutation-cons first (event ∷ es) (placed event es) (placed-permutes event es)))
 
 onto-permutes : (sorted es : List Event) → IsPermutation (es ++ sorted) (placed_onto sorted es)
 onto-permutes sorted [] = IsPermutation-refl sorted
 onto-permutes sorted (event ∷ es) =
-    IsPermutation-trans (event ∷ (es ++ sorted)) (es ++ event ∷ sorted) (placed_onto (placed event sorted) es) (moved es sorted event)
+    IsPermutation-trans (event ∷ (es ++ sorted)) (es ++ event ∷ sorted) (placed_onto (placed event sorted) es)
+    (moved es sorted event)
     (IsPermutation-trans (es ++ event ∷ sorted) (es ++ placed event sorted) (placed_onto (placed event sorted) es)
-    (IsPermutation-append_right es (event ∷ sorted) (placed event sorted) (placed-permutes event sorted)) (onto-permutes (placed event sorted) es))
+    (IsPermutation-append_right es (event ∷ sorted) (placed event sorted) (placed-permutes event sorted))
+    (onto-permutes (placed event sorted) es))
 
 pub placed_onto-permutes : (es : List Event) → IsPermutation es (placed_onto [] es)
-placed_onto-permutes es = subst (λ (l : List Event). IsPermutation l (placed_onto [] es)) (append-nil es) (onto-permutes [] es)
+placed_onto-permutes es =
+    subst (λ (l : List Event). IsPermutation l (placed_onto [] es)) (append-nil es) (onto-permutes [] es)
 
 pub live-permutes : (log : IndexLog) → IsPermutation (kept log) (live_events log)
 unfolding live_events
@@ -50,17 +56,24 @@ AreApart (event ∷ es) = AllByRecursion (λ other. same_index_key event other �
 -- none of these is of the key of one that is put in already
 abbrev AreOthers : List Event → List Event → Type 0
 AreOthers sorted [] = Unit {0}
-AreOthers sorted (event ∷ es) = AllByRecursion (λ other. same_index_key other event ≡ false) sorted × AreOthers sorted es
+AreOthers sorted (event ∷ es) =
+    AllByRecursion (λ other. same_index_key other event ≡ false) sorted × AreOthers sorted es
 
-others-placed : (event : Event) (sorted es : List Event) → AllByRecursion (λ other. same_index_key event other ≡ false) es → AreOthers sorted es → AreOthers (placed event sorted) es
+others-placed : (event : Event) (sorted es : List Event)
+    → AllByRecursion (λ other. same_index_key event other ≡ false) es → AreOthers sorted es
+    → AreOthers (placed event sorted) es
 others-placed event sorted [] apart others = tt
-others-placed event sorted (first ∷ es) apart others =
-    (all-placed (λ other. same_index_key other first ≡ false) event sorted apart.0 others.0, others-placed event sorted es apart.1 others.1)
+others-placed event sorted (first ∷ es) apart others = (
+  all-placed (λ other. same_index_key other first ≡ false) event sorted apart.0 others.0,
+  others-placed event sorted es apart.1 others.1,
+)
 
-rising-onto : (sorted es : List Event) → IsRising sorted → AreApart es → AreOthers sorted es → IsRising (placed_onto sorted es)
+rising-onto : (sorted es : List Event) → IsRising sorted → AreApart es → AreOthers sorted es
+    → IsRising (placed_onto sorted es)
 rising-onto sorted [] rising apart others = rising
 rising-onto sorted (event ∷ es) rising apart others =
-    rising-onto (placed event sorted) es (rising-placed event sorted others.0 rising) apart.1 (others-placed event sorted es apart.0 others.1)
+    rising-onto (placed event sorted) es (rising-placed event sorted others.0 rising) apart.1
+    (others-placed event sorted es apart.0 others.1)
 
 nothing_else : (es : List Event) → AreOthers [] es
 nothing_else [] = tt

@@ -34,10 +34,13 @@ tagged : {A : Type 0} (of : Event → A) (t : Bool) (a b : Event) → of b ≡ o
 tagged of true a b e = refl
 tagged of false a b e = e
 
-tag_kept : (fields : List Field) → are_index_fields fields ≡ true → (event : Event) (tag : List ℕ) → event_key (with_tag event tag) fields ≡ event_key event fields
+tag_kept : (fields : List Field) → are_index_fields fields ≡ true → (event : Event) (tag : List ℕ)
+    → event_key (with_tag event tag) fields ≡ event_key event fields
 tag_kept fields within event tag =
     let longer : Event = record event { tags = event.tags ++ tag ∷ [] } in
-    same_values fields (with_tag event tag) event within (tagged (λ (a : Event). a.host) (has_text tag event.tags) event longer refl) (tagged (λ (a : Event). a.service) (has_text tag event.tags) event longer refl)
+    same_values fields (with_tag event tag) event within
+    (tagged (λ (a : Event). a.host) (has_text tag event.tags) event longer refl)
+    (tagged (λ (a : Event). a.service) (has_text tag event.tags) event longer refl)
 
 pub of_is_kept : (fields : List Field) → are_index_fields fields ≡ true → (key : List Value) → IsKept (IsOf fields key)
 of_is_kept fields within key = record {
@@ -56,13 +59,18 @@ same_field a b e = absurd (true≢false (sym e))
 abbrev value_in : List Field → List Value → Field → Value
 value_in [] values field = Nil
 value_in (other ∷ others) [] field = Nil
-value_in (other ∷ others) (value ∷ values) field = cond (same_index_field field other) value (value_in others values field)
+value_in (other ∷ others) (value ∷ values) field =
+    cond (same_index_field field other) value (value_in others values field)
 
-value_is : (others : List Field) (field : Field) (event : Event) → list_any (same_index_field field) others ≡ true → value_in others (event_key event others) field ≡ field_value event field
+value_is : (others : List Field) (field : Field) (event : Event) → list_any (same_index_field field) others ≡ true
+    → value_in others (event_key event others) field ≡ field_value event field
 value_is [] field event e = absurd (true≢false (sym e))
 value_is (other ∷ others) field event e = step (same_index_field field other) refl (value_is others field event)
   where
-    step : (t : Bool) → same_index_field field other ≡ t → (list_any (same_index_field field) others ≡ true → value_in others (event_key event others) field ≡ field_value event field) → cond t (field_value event other) (value_in others (event_key event others) field) ≡ field_value event field
+    step : (t : Bool) → same_index_field field other ≡ t
+        → (list_any (same_index_field field) others ≡ true
+        → value_in others (event_key event others) field ≡ field_value event field)
+        → cond t (field_value event other) (value_in others (event_key event others) field) ≡ field_value event field
     step true d ih = ap (field_value event) (sym (same_field field other d))
     step false d ih = ih (sym (ap (λ t. t || list_any (same_index_field field) others) d) ∙ e)
 
@@ -70,7 +78,8 @@ value_is (other ∷ others) field event e = step (same_index_field field other) 
 abbrev pub part_of : List Field → List Field → List Value → List Value
 part_of others fields key = map (value_in others key) fields
 
-pub part_is : (others fields : List Field) → has_all fields others ≡ true → (event : Event) → part_of others fields (event_key event others) ≡ event_key event fields
+pub part_is : (others fields : List Field) → has_all fields others ≡ true → (event : Event)
+    → part_of others fields (event_key event others) ≡ event_key event fields
 part_is others [] e event = refl
 part_is others (field ∷ fields) e event =
     let parts = both_true (list_any (same_index_field field) others) (has_all fields others) e in

@@ -24,27 +24,33 @@ set-some old new s v sets none =
     let no : None ≡ Some v = sym (ap (service_at s) none) ∙ at in cc
 
 -- they stay some where one is set, or nothing changes
-pub still-some : {T E : Type 0} (r : Result T E) (old new : Services) (s : Option (List ℕ)) (v : ℕ) → OnOk r (SetsService old new s (Some v)) → OnErr r (new ≡ old) → old ≢ [] → new ≢ []
+pub still-some : {T E : Type 0} (r : Result T E) (old new : Services) (s : Option (List ℕ)) (v : ℕ)
+    → OnOk r (SetsService old new s (Some v)) → OnErr r (new ≡ old) → old ≢ [] → new ≢ []
 still-some (Ok _) old new s v ok err some = set-some old new s v ok
 still-some (Err _) old new s v ok err some = λ none. some (sym err ∙ none)
 
 -- the host has services now
-pub full-set : (hosts hosts' : List (List ℕ × Services)) (host : List ℕ) (services : Services) → SetsHost hosts hosts' host (Some services) → services ≢ [] → HaveServices hosts → HaveServices hosts'
+pub full-set : (hosts hosts' : List (List ℕ × Services)) (host : List ℕ) (services : Services)
+    → SetsHost hosts hosts' host (Some services) → services ≢ [] → HaveServices hosts → HaveServices hosts'
 full-set hosts hosts' host services sets some full other none = by_host (is_at (bytes_cmp host) other) refl
   where
     by_host : (b : Bool) → is_at (bytes_cmp host) other ≡ b → ⊥
     by_host true is =
-        some (let e : Some services ≡ Some [] = sym (sets other ∙ ap (λ b. cond b (Some services) (services_at other hosts)) is) ∙ none in cc)
+        some (let e : Some services ≡ Some [] =
+        sym (sets other ∙ ap (λ b. cond b (Some services) (services_at other hosts)) is) ∙ none in
+        cc)
     by_host false apart =
         full other (sym (sets other ∙ ap (λ b. cond b (Some services) (services_at other hosts)) apart) ∙ none)
 
 -- every other host keeps what it had
-pub others-kept : (hosts hosts' : List (List ℕ × Services)) (host : List ℕ) (slot : Option Services) → SetsHost hosts hosts' host slot → HaveServices hosts → OthersHaveServices host hosts'
+pub others-kept : (hosts hosts' : List (List ℕ × Services)) (host : List ℕ) (slot : Option Services)
+    → SetsHost hosts hosts' host slot → HaveServices hosts → OthersHaveServices host hosts'
 others-kept hosts hosts' host slot sets full other apart none =
     full other (sym (sets other ∙ ap (λ b. cond b slot (services_at other hosts)) apart) ∙ none)
 
 -- the host is not kept
-pub full-without : (hosts hosts' : List (List ℕ × Services)) (host : List ℕ) → SetsHost hosts hosts' host None → OthersHaveServices host hosts → HaveServices hosts'
+pub full-without : (hosts hosts' : List (List ℕ × Services)) (host : List ℕ) → SetsHost hosts hosts' host None
+    → OthersHaveServices host hosts → HaveServices hosts'
 full-without hosts hosts' host sets others other none = by_host (is_at (bytes_cmp host) other) refl
   where
     by_host : (b : Bool) → is_at (bytes_cmp host) other ≡ b → ⊥
@@ -54,7 +60,8 @@ full-without hosts hosts' host sets others other none = by_host (is_at (bytes_cm
         others other apart (sym (sets other ∙ ap (λ b. cond b None (services_at other hosts)) apart) ∙ none)
 
 -- the host is not there without services
-pub full-at : (hosts : List (List ℕ × Services)) (host : List ℕ) → services_at host hosts ≢ Some [] → OthersHaveServices host hosts → HaveServices hosts
+pub full-at : (hosts : List (List ℕ × Services)) (host : List ℕ) → services_at host hosts ≢ Some []
+    → OthersHaveServices host hosts → HaveServices hosts
 full-at hosts host here others other none = by_host (is_at (bytes_cmp host) other) refl
   where
     by_host : (b : Bool) → is_at (bytes_cmp host) other ≡ b → ⊥
@@ -63,7 +70,8 @@ full-at hosts host here others other none = by_host (is_at (bytes_cmp host) othe
 
 -- ---- a host is kept exactly where it has a key
 
-some-in : (slot : Option Services) → IsSome slot → slot ≢ Some [] → (service : Option (List ℕ)) × IsSome (service_in service slot)
+some-in : (slot : Option Services) → IsSome slot → slot ≢ Some []
+    → (service : Option (List ℕ)) × IsSome (service_in service slot)
 some-in None some full = absurd (true≢false (sym some))
 some-in (Some []) some full = absurd (full refl)
 some-in (Some (x ∷ services)) some full =
@@ -73,13 +81,19 @@ from-some : (slot : Option Services) (service : Option (List ℕ)) → IsSome (s
 from-some None service some = absurd (true≢false (sym some))
 from-some (Some services) service some = refl
 
-pub has-key : (w : Services) (hosts : List (List ℕ × Services)) → IsStrictlySortedBy bytes_cmp (keys_of hosts) → HaveServices hosts → (host : List ℕ) → Contains (keys_of hosts) host
+pub has-key : (w : Services) (hosts : List (List ℕ × Services)) → IsStrictlySortedBy bytes_cmp (keys_of hosts)
+    → HaveServices hosts → (host : List ℕ) → Contains (keys_of hosts) host
     → (service : Option (List ℕ)) × IsSome (number_at (Some host, service) (numbers_of w hosts))
 has-key w hosts rising full host listed =
-    let found = some-in (services_at host hosts) (IsSome-lookup_from_Contains {eq = λ a b. is_at (bytes_cmp a) b} (eq_by_cmp_equiv nat_list_cmp_total) host hosts listed) (full host) in
+    let found =
+    some-in (services_at host hosts)
+    (IsSome-lookup_from_Contains {eq = λ a b. is_at (bytes_cmp a) b} (eq_by_cmp_equiv nat_list_cmp_total) host hosts
+    listed)
+    (full host) in
     (found.0, subst IsSome (sym (at-host w hosts host found.0 rising)) found.1)
 
-pub is-kept : (w : Services) (hosts : List (List ℕ × Services)) → IsStrictlySortedBy bytes_cmp (keys_of hosts) → (host : List ℕ) (service : Option (List ℕ))
+pub is-kept : (w : Services) (hosts : List (List ℕ × Services)) → IsStrictlySortedBy bytes_cmp (keys_of hosts)
+    → (host : List ℕ) (service : Option (List ℕ))
     → IsSome (number_at (Some host, service) (numbers_of w hosts)) → Contains (keys_of hosts) host
 is-kept w hosts rising host service some =
     Contains-keys_from_lookup {eq = λ a b. is_at (bytes_cmp a) b} host-is host hosts

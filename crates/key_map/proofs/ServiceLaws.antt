@@ -30,7 +30,8 @@ present-cmp t u = then_equal (bytes_cmp t u)
 abbrev pub as_services : List (List ℕ × ℕ) → Services
 as_services present = map (λ entry. (Some entry.0, entry.1)) present
 
-present-at : (t : List ℕ) (es : List (List ℕ × ℕ)) → service_at (Some t) (as_services es) ≡ lookup (is_at (bytes_cmp t)) es
+present-at : (t : List ℕ) (es : List (List ℕ × ℕ))
+    → service_at (Some t) (as_services es) ≡ lookup (is_at (bytes_cmp t)) es
 present-at t [] = refl
 present-at t (e ∷ es) =
     ap (λ o. cond (is_eq o) (Some e.1) (service_at (Some t) (as_services es))) (present-cmp t e.0)
@@ -44,7 +45,8 @@ abbrev pub kept_at : Option (List ℕ) → Option ℕ → List (List ℕ × ℕ)
 kept_at None absent present = absent
 kept_at (Some t) absent present = lookup (is_at (bytes_cmp t)) present
 
-pub services-at : (absent : Option ℕ) (es : List (List ℕ × ℕ)) (q : Option (List ℕ)) → service_at q (services_of absent es) ≡ kept_at q absent es
+pub services-at : (absent : Option ℕ) (es : List (List ℕ × ℕ)) (q : Option (List ℕ))
+    → service_at q (services_of absent es) ≡ kept_at q absent es
 services-at None es None = absent-at es
 services-at None es (Some t) = present-at t es
 services-at (Some n) es None = refl
@@ -52,7 +54,8 @@ services-at (Some n) es (Some t) = present-at t es
 
 -- the present services with one more, or without one
 pub put-present : (absent : Option ℕ) (es es' : List (List ℕ × ℕ)) (t : List ℕ) (w : Option ℕ)
-    → ((q : List ℕ) → lookup (is_at (bytes_cmp q)) es' ≡ cond (is_at (bytes_cmp t) q) w (lookup (is_at (bytes_cmp q)) es))
+    → ((q : List ℕ)
+    → lookup (is_at (bytes_cmp q)) es' ≡ cond (is_at (bytes_cmp t) q) w (lookup (is_at (bytes_cmp q)) es))
     → SetsService (services_of absent es) (services_of absent es') (Some t) w
 put-present absent es es' t w h None = services-at absent es' None ∙ sym (services-at absent es None)
 put-present absent es es' t w h (Some q) =
@@ -60,13 +63,15 @@ put-present absent es es' t w h (Some q) =
     ∙ sym (ap (λ o. cond (is_eq o) w (service_at (Some q) (services_of absent es))) (present-cmp t q)
     ∙ ap (λ r. cond (is_at (bytes_cmp t) q) w r) (services-at absent es (Some q)))
 
-pub put-absent : (absent absent' : Option ℕ) (es : List (List ℕ × ℕ)) → SetsService (services_of absent es) (services_of absent' es) None absent'
+pub put-absent : (absent absent' : Option ℕ) (es : List (List ℕ × ℕ))
+    → SetsService (services_of absent es) (services_of absent' es) None absent'
 put-absent absent absent' es None = services-at absent' es None
 put-absent absent absent' es (Some q) = services-at absent' es (Some q) ∙ sym (services-at absent es (Some q))
 
 -- ---- in rising order
 
-all-present : (t : List ℕ) (es : List (List ℕ × ℕ)) → AllByRecursion (λ u. bytes_cmp t u ≡ Less) (keys_of es) → AllByRecursion (λ q. text_cmp (Some t) q ≡ Less) (keys_of (as_services es))
+all-present : (t : List ℕ) (es : List (List ℕ × ℕ)) → AllByRecursion (λ u. bytes_cmp t u ≡ Less) (keys_of es)
+    → AllByRecursion (λ q. text_cmp (Some t) q ≡ Less) (keys_of (as_services es))
 all-present t [] k = tt
 all-present t (e ∷ es) k = (present-cmp t e.0 ∙ k.0, all-present t es k.1)
 
@@ -79,7 +84,8 @@ unfolding IsStrictlySortedBy
 rise-present [] k = tt
 rise-present (e ∷ es) k = (all-present e.0 es k.0, rise-present es k.1)
 
-pub rise-services : (absent : Option ℕ) (es : List (List ℕ × ℕ)) → IsStrictlySortedBy bytes_cmp (keys_of es) → ServicesRise (services_of absent es)
+pub rise-services : (absent : Option ℕ) (es : List (List ℕ × ℕ)) → IsStrictlySortedBy bytes_cmp (keys_of es)
+    → ServicesRise (services_of absent es)
 unfolding IsStrictlySortedBy
 rise-services None es k = rise-present es k
 rise-services (Some n) es k = (all-absent es, rise-present es k)
@@ -94,6 +100,7 @@ values-present : (es : List (List ℕ × ℕ)) → values_of (as_services es) �
 values-present [] = refl
 values-present (e ∷ es) = ap (λ ns. e.1 ∷ ns) (values-present es)
 
-pub values-services : (absent : Option ℕ) (es : List (List ℕ × ℕ)) → values_of (services_of absent es) ≡ values_of (services_of absent []) ++ values_of es
+pub values-services : (absent : Option ℕ) (es : List (List ℕ × ℕ))
+    → values_of (services_of absent es) ≡ values_of (services_of absent []) ++ values_of es
 values-services None es = values-present es
 values-services (Some n) es = ap (λ ns. n ∷ ns) (values-present es)

@@ -38,10 +38,14 @@ times_in-remove id q (x ∷ xs) =
     elim (bool_cases (eqb x id)) [
       | inl here ↦ rw here (times_in-remove id q xs ∙ (elim (bool_cases (eqb q id)) [
         | inl same ↦ rw same refl
-        | inr apart ↦ (let no : eqb x q ≡ false = eqb-false x q (λ e. eqb-apart q id apart (sym e ∙ eqb-true x id here)) in rw (apart, no) refl)
+        | inr apart ↦
+            (let no : eqb x q ≡ false = eqb-false x q (λ e. eqb-apart q id apart (sym e ∙ eqb-true x id here)) in
+            rw (apart, no) refl)
       ]))
       | inr other ↦ rw (other, times_in-remove id q xs) (elim (bool_cases (eqb q id)) [
-        | inl same ↦ (let no : eqb x q ≡ false = eqb-false x q (λ e. eqb-apart x id other (e ∙ eqb-true q id same)) in rw (same, no) refl)
+        | inl same ↦
+            (let no : eqb x q ≡ false = eqb-false x q (λ e. eqb-apart x id other (e ∙ eqb-true q id same)) in
+            rw (same, no) refl)
         | inr apart ↦ rw apart refl
       ])
     ]
@@ -74,7 +78,8 @@ pub listed_at : (q number : ℕ) (lists : List (List ℕ)) → 0 < times_in q (l
 listed_at q number lists h = omega (arith, h, times-at q number lists)
 
 -- ---- the list of a number
-pub at-without : (id number : ℕ) (lists : List (List ℕ)) → list_at (without id lists) number ≡ remove_in id (list_at lists number)
+pub at-without : (id number : ℕ) (lists : List (List ℕ))
+    → list_at (without id lists) number ≡ remove_in id (list_at lists number)
 at-without id number [] = refl
 at-without id zero (xs ∷ lists) = refl
 at-without id (suc number) (xs ∷ lists) = at-without id number lists

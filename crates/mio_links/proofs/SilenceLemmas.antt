@@ -20,4 +20,5 @@ one_more sockets wants i d found next within before others this =
 -- all links were looked at
 pub all_of : (sockets : Sockets) (wants : List Want) (i : ℕ) (found : Option Heard) → length wants ≤ i
     → AreNoLonger sockets (take i wants) found → AreNoLonger sockets wants found
-all_of sockets wants i found long before = subst (λ looked. AreNoLonger sockets looked found) (take_all i wants long) before
+all_of sockets wants i found long before =
+    subst (λ looked. AreNoLonger sockets looked found) (take_all i wants long) before

@@ -46,14 +46,16 @@ event_written out event =
     ∙ ap (λ xs. xs ++ 125 ∷ []) (sym (join_ended (first_parts event) t (last_parts event))))))))
 
 four : (f : List ℕ → List ℕ) (out : List ℕ) (a b c d : List (List ℕ))
-    → (((out ++ flat_map f a) ++ flat_map f b) ++ flat_map f c) ++ flat_map f d ≡ out ++ flat_map f (a ++ (b ++ (c ++ d)))
+    → (((out ++ flat_map f a) ++ flat_map f b) ++ flat_map f c) ++ flat_map f d
+    ≡ out ++ flat_map f (a ++ (b ++ (c ++ d)))
 four f out a b c d =
     append_assoc ((out ++ flat_map f a) ++ flat_map f b) (flat_map f c) (flat_map f d)
     ∙ (append_assoc (out ++ flat_map f a) (flat_map f b) (flat_map f c ++ flat_map f d)
     ∙ (append_assoc out (flat_map f a) (flat_map f b ++ (flat_map f c ++ flat_map f d))
     ∙ ap (λ xs. out ++ xs)
     (ap (λ xs. flat_map f a ++ (flat_map f b ++ xs)) (sym (flat_map-append f c d))
-    ∙ (ap (λ xs. flat_map f a ++ xs) (sym (flat_map-append f b (c ++ d))) ∙ sym (flat_map-append f a (b ++ (c ++ d)))))))
+    ∙ (ap (λ xs. flat_map f a ++ xs) (sym (flat_map-append f b (c ++ d)))
+    ∙ sym (flat_map-append f a (b ++ (c ++ d)))))))
 
 pub ended_four : (out : List ℕ) (a b c d : List (List ℕ))
     → (((out ++ ended a) ++ ended b) ++ ended c) ++ ended d ≡ out ++ ended (a ++ (b ++ (c ++ d)))
@@ -70,7 +72,8 @@ events_written out first rest =
     ∙ ap (λ xs. out ++ xs) (sym (join_led (event_text first) (map event_text rest)))
 
 pub tags_written : (out tag : List ℕ) (tags : List (List ℕ))
-    → (((out ++ codes " tags=[") ++ quoted tag) ++ led (map quoted tags)) ++ 93 ∷ [] ≡ out ++ led (tags_part (tag ∷ tags))
+    → (((out ++ codes " tags=[") ++ quoted tag) ++ led (map quoted tags)) ++ 93 ∷ []
+    ≡ out ++ led (tags_part (tag ∷ tags))
 tags_written out tag tags =
     let b = led (map quoted tags) in
     append_assoc ((out ++ codes " tags=[") ++ quoted tag) b (93 ∷ [])
@@ -104,7 +107,8 @@ pub events_step : (out : List ℕ) (events : List Event) (i : ℕ) (event : Even
     ≡ out ++ led (map event_text (take (i + 1) events))
 events_step = step event_text
 
-pub events_all : (events : List Event) → led (map event_text (take (length events) events)) ≡ led (map event_text events)
+pub events_all : (events : List Event)
+    → led (map event_text (take (length events) events)) ≡ led (map event_text events)
 events_all events = ap (λ xs. led (map event_text xs)) (take-length events)
 
 pub tags_step : (out : List ℕ) (tags : List (List ℕ)) (i : ℕ) (tag : List ℕ) → i < length tags → tag ≡ get_or tags i tag
@@ -125,7 +129,8 @@ pub attributes_all : (attributes : List Attr)
 attributes_all attributes = ap (λ xs. led (map attribute_text xs)) (take-length attributes)
 
 pub line_written : (out : List ℕ) (notice : Notice)
-    → (((((out ++ decimal notice.moment) ++ 32 ∷ []) ++ quoted notice.name) ++ 32 ∷ []) ++ item_text notice.item) ++ 10 ∷ []
+    → (((((out ++ decimal notice.moment) ++ 32 ∷ []) ++ quoted notice.name) ++ 32 ∷ []) ++ item_text notice.item) ++ 10
+    ∷ []
     ≡ out ++ notice_line notice
 line_written out notice =
     let d = decimal notice.moment in

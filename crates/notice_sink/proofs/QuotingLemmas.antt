@@ -7,7 +7,10 @@ use Rattle.notice_sink.specs.Quoting.{hex_digit, is_control, is_escaped, quoted_
 
 plain_byte : (byte : ℕ) → is_escaped byte ≡ false → is_control byte ≡ false → quoted_byte byte ≡ byte ∷ []
 plain_byte byte h k =
-    ap (λ b. cond b (92 ∷ byte ∷ []) (cond (is_control byte) (92 ∷ 120 ∷ hex_digit (byte / 16) ∷ hex_digit (byte % 16) ∷ []) (byte ∷ []))) h
+    ap
+    (λ b. cond b (92 ∷ byte ∷ [])
+    (cond (is_control byte) (92 ∷ 120 ∷ hex_digit (byte / 16) ∷ hex_digit (byte % 16) ∷ []) (byte ∷ [])))
+    h
     ∙ ap (λ b. cond b (92 ∷ 120 ∷ hex_digit (byte / 16) ∷ hex_digit (byte % 16) ∷ []) (byte ∷ [])) k
 
 pub plain_more : (bytes : List ℕ) (i byte : ℕ) → i < length bytes → byte ≡ get_or bytes i 0 → is_escaped byte ≡ false
@@ -42,4 +45,5 @@ pub stretch_last : (out rest : List ℕ) (n : ℕ) → drop n rest ≡ [] → fl
     → out ++ take n rest ≡ out ++ flat_map quoted_byte rest
 stretch_last out rest n none plain =
     ap (λ xs. out ++ xs)
-    (sym (append-nil (take n rest)) ∙ (ap (λ xs. take n rest ++ flat_map quoted_byte xs) (sym none) ∙ sym (parted rest n plain)))
+    (sym (append-nil (take n rest))
+    ∙ (ap (λ xs. take n rest ++ flat_map quoted_byte xs) (sym none) ∙ sym (parted rest n plain)))

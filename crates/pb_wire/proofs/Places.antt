@@ -22,30 +22,40 @@ pub at_next : (bytes : List ℕ) (place : ℕ) (a b : List ℕ) → At bytes pla
 at_next bytes place a b at = record {
   within = at_end bytes place a (at_first bytes place a b at);
   rest = at.rest;
-  is = sym (drop-drop (length a) place bytes) ∙ ap (drop (length a)) (at.is ∙ append_assoc a b at.rest) ∙ drop_at a (b ++ at.rest) (length a) refl;
+  is =
+      sym (drop-drop (length a) place bytes) ∙ ap (drop (length a)) (at.is ∙ append_assoc a b at.rest)
+      ∙ drop_at a (b ++ at.rest) (length a) refl;
 }
 
-pub at_slice : (bytes : List ℕ) (place : ℕ) (text : List ℕ) → At bytes place text → slice_range bytes place (place + length text) ≡ text
+pub at_slice : (bytes : List ℕ) (place : ℕ) (text : List ℕ) → At bytes place text
+    → slice_range bytes place (place + length text) ≡ text
 at_slice bytes place text at =
     let size : place + length text - place ≡ length text = omega arith in
-    ap (λ (n : ℕ). take n (drop place bytes)) size ∙ ap (take (length text)) at.is ∙ take_at text at.rest (length text) refl
+    ap (λ (n : ℕ). take n (drop place bytes)) size ∙ ap (take (length text)) at.is
+    ∙ take_at text at.rest (length text) refl
 
-pub at_between : (bytes : List ℕ) (from past : ℕ) → from ≤ past → past ≤ length bytes → At bytes from (slice_range bytes from past)
+pub at_between : (bytes : List ℕ) (from past : ℕ) → from ≤ past → past ≤ length bytes
+    → At bytes from (slice_range bytes from past)
 at_between bytes from past order within = record {
   within = omega arith;
   rest = drop (past - from) (drop from bytes);
   is = sym (take-append-drop (past - from) (drop from bytes));
 }
 
-pub length_slice : (bytes : List ℕ) (from past : ℕ) → past ≤ length bytes → length (slice_range bytes from past) ≡ past - from
-length_slice bytes from past within = length-take-le (past - from) (drop from bytes) (omega (arith, length-drop from bytes))
+pub length_slice : (bytes : List ℕ) (from past : ℕ) → past ≤ length bytes
+    → length (slice_range bytes from past) ≡ past - from
+length_slice bytes from past within =
+    length-take-le (past - from) (drop from bytes) (omega (arith, length-drop from bytes))
 
-pub slice_split : (bytes : List ℕ) (from middle past : ℕ) → from ≤ middle → middle ≤ past → past ≤ length bytes → slice_range bytes from past ≡ slice_range bytes from middle ++ slice_range bytes middle past
+pub slice_split : (bytes : List ℕ) (from middle past : ℕ) → from ≤ middle → middle ≤ past → past ≤ length bytes
+    → slice_range bytes from past ≡ slice_range bytes from middle ++ slice_range bytes middle past
 unfolding at_between
 slice_split bytes from middle past h k within =
     let front = at_between bytes from middle h (omega arith) in
     let size = length_slice bytes from middle (omega arith) in
-    let rest : drop middle bytes ≡ front.rest = ap (λ (n : ℕ). drop n bytes) {x = middle} {y = from + (middle - from)} (omega arith) ∙ sym (drop-drop (middle - from) from bytes) in
+    let rest : drop middle bytes ≡ front.rest =
+    ap (λ (n : ℕ). drop n bytes) {x = middle} {y = from + (middle - from)} (omega arith)
+    ∙ sym (drop-drop (middle - from) from bytes) in
     let whole : past - from ≡ length (slice_range bytes from middle) + (past - middle) = omega arith in
     ap (λ (n : ℕ). take n (drop from bytes)) whole
     ∙ ap (take (length (slice_range bytes from middle) + (past - middle))) front.is

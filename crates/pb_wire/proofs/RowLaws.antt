@@ -32,7 +32,8 @@ end_of_all bytes = let test : leb (length bytes) (length bytes) ≡ true = le-le
 
 -- at a field
 
-pub next_at_field : (bytes : List ℕ) (place : ℕ) (read : ℕ × Body × ℕ) → field_from bytes place ≡ Ok read → next_at bytes place ≡ Field read.0 read.1 place
+pub next_at_field : (bytes : List ℕ) (place : ℕ) (read : ℕ × Body × ℕ) → field_from bytes place ≡ Ok read
+    → next_at bytes place ≡ Field read.0 read.1 place
 unfolding next_at
 next_at_field bytes place read e =
     let found = field_found bytes place read e in
@@ -41,17 +42,20 @@ next_at_field bytes place read e =
     let inside : leb (length bytes) place ≡ false = lt-leb _ _ (omega arith) in
     rw (inside, e) refl
 
-pub next_place_field : (bytes : List ℕ) (place : ℕ) (read : ℕ × Body × ℕ) → field_from bytes place ≡ Ok read → next_place bytes place ≡ read.2
+pub next_place_field : (bytes : List ℕ) (place : ℕ) (read : ℕ × Body × ℕ) → field_from bytes place ≡ Ok read
+    → next_place bytes place ≡ read.2
 unfolding next_place
 next_place_field bytes place read e = rw e refl
 
-next_place_none : (bytes : List ℕ) (place : ℕ) (why : WireWhy) → field_from bytes place ≡ Err why → next_place bytes place ≡ place
+next_place_none : (bytes : List ℕ) (place : ℕ) (why : WireWhy) → field_from bytes place ≡ Err why
+    → next_place bytes place ≡ place
 unfolding next_place
 next_place_none bytes place why e = rw e refl
 
 -- at no field, however many are counted
 
-none_within : (n : ℕ) (bytes : List ℕ) (place : ℕ) (why : WireWhy) → field_from bytes place ≡ Err why → (fields_within n bytes place ≡ []) × (end_within n bytes place ≡ place)
+none_within : (n : ℕ) (bytes : List ℕ) (place : ℕ) (why : WireWhy) → field_from bytes place ≡ Err why
+    → (fields_within n bytes place ≡ []) × (end_within n bytes place ≡ place)
 unfolding fields_within end_within
 none_within zero bytes place why e = (refl, refl)
 none_within (suc n) bytes place why e =
@@ -59,13 +63,17 @@ none_within (suc n) bytes place why e =
     (rw e refl, rw (stays) (none_within n bytes place why e).1)
 
 some_within : (n : ℕ) (bytes : List ℕ) (place : ℕ) (read : ℕ × Body × ℕ) → field_from bytes place ≡ Ok read
-    → (fields_within (suc n) bytes place ≡ record { number = read.0; body = read.1; place = place } ∷ fields_within n bytes read.2) × (end_within (suc n) bytes place ≡ end_within n bytes read.2)
+    → (fields_within (suc n) bytes place
+    ≡ record { number = read.0; body = read.1; place = place } ∷ fields_within n bytes read.2)
+    × (end_within (suc n) bytes place ≡ end_within n bytes read.2)
 unfolding fields_within end_within
 some_within n bytes place read e = (rw e refl, rw (next_place_field bytes place read e) refl)
 
 -- any count that is enough gives them all
 
-enough : (n m : ℕ) (bytes : List ℕ) (place : ℕ) → length bytes ≤ n + place → length bytes ≤ m + place → (fields_within n bytes place ≡ fields_within m bytes place) × (end_within n bytes place ≡ end_within m bytes place)
+enough : (n m : ℕ) (bytes : List ℕ) (place : ℕ) → length bytes ≤ n + place → length bytes ≤ m + place
+    → (fields_within n bytes place ≡ fields_within m bytes place)
+    × (end_within n bytes place ≡ end_within m bytes place)
 enough zero m bytes place h k =
     let none = nothing_past bytes place (omega arith) in
     let left = none_within zero bytes place Short none in
@@ -82,8 +90,14 @@ enough (suc n) (suc m) bytes place h k =
           (let rises = (field_found bytes place found.0 found.1).rises in
           let left = some_within n bytes place found.0 found.1 in
           let right = some_within m bytes place found.0 found.1 in
-          let more = enough n m bytes found.0.2 (omega arith) (omega arith) in
-          (left.0 ∙ ap (λ (fields : List FieldAt). record { number = found.0.0; body = found.0.1; place = place } ∷ fields) more.0 ∙ sym right.0, left.1 ∙ more.1 ∙ sym right.1))
+          let more = enough n m bytes found.0.2 (omega arith) (omega arith) in (
+            left.0
+                ∙ ap
+                (λ (fields : List FieldAt). record { number = found.0.0; body = found.0.1; place = place } ∷ fields)
+                more.0
+                ∙ sym right.0,
+            left.1 ∙ more.1 ∙ sym right.1,
+          ))
       | inr none ↦
           (let left = none_within (suc n) bytes place none.0 none.1 in
           let right = none_within (suc m) bytes place none.0 none.1 in
@@ -91,18 +105,21 @@ enough (suc n) (suc m) bytes place h k =
     ]
 
 pub from_field : (bytes : List ℕ) (place : ℕ) (read : ℕ × Body × ℕ) → field_from bytes place ≡ Ok read
-    → (fields_from bytes place ≡ record { number = read.0; body = read.1; place = place } ∷ fields_from bytes read.2) × (fields_end bytes place ≡ fields_end bytes read.2)
+    → (fields_from bytes place ≡ record { number = read.0; body = read.1; place = place } ∷ fields_from bytes read.2)
+    × (fields_end bytes place ≡ fields_end bytes read.2)
 unfolding fields_from fields_end
 from_field bytes place read e =
     let one = enough (length bytes) (suc (length bytes)) bytes place (omega arith) (omega arith) in
     let step = some_within (length bytes) bytes place read e in
     (one.0 ∙ step.0, one.1 ∙ step.1)
 
-pub fault_from_field : (bytes : List ℕ) (place : ℕ) (read : ℕ × Body × ℕ) → field_from bytes place ≡ Ok read → fault_from bytes place ≡ fault_from bytes read.2
+pub fault_from_field : (bytes : List ℕ) (place : ℕ) (read : ℕ × Body × ℕ) → field_from bytes place ≡ Ok read
+    → fault_from bytes place ≡ fault_from bytes read.2
 unfolding fault_from
 fault_from_field bytes place read e = ap (λ (n : ℕ). fault_in (next_at bytes n)) (from_field bytes place read e).1
 
-pub from_none : (bytes : List ℕ) (place : ℕ) (why : WireWhy) → field_from bytes place ≡ Err why → (fields_from bytes place ≡ []) × (fields_end bytes place ≡ place)
+pub from_none : (bytes : List ℕ) (place : ℕ) (why : WireWhy) → field_from bytes place ≡ Err why
+    → (fields_from bytes place ≡ []) × (fields_end bytes place ≡ place)
 unfolding fields_from fields_end
 from_none bytes place why e = none_within (length bytes) bytes place why e
 
@@ -131,7 +148,8 @@ reads_end bytes place end =
       steps = (record { unchanged = refl; fields = stop.0; fault_is = rw (stop.1, test) refl }, end);
     }
 
-pub reads_field : (bytes : List ℕ) (place number : ℕ) (body : Body) (after : ℕ) → Ok (number, body, after) ≡ field_from bytes place → IsStep bytes place (Field number body place) after
+pub reads_field : (bytes : List ℕ) (place number : ℕ) (body : Body) (after : ℕ)
+    → Ok (number, body, after) ≡ field_from bytes place → IsStep bytes place (Field number body place) after
 reads_field bytes place number body after e =
     let read : ℕ × Body × ℕ = (number, body, after) in
     let is = field_found bytes place read (sym e) in
@@ -151,7 +169,8 @@ reads_field bytes place number body after e =
       };
     }
 
-pub reads_fault : (bytes : List ℕ) (place : ℕ) (why : WireWhy) → place < length bytes → Err why ≡ field_from bytes place → IsStep bytes place (Refused place why) place
+pub reads_fault : (bytes : List ℕ) (place : ℕ) (why : WireWhy) → place < length bytes → Err why ≡ field_from bytes place
+    → IsStep bytes place (Refused place why) place
 unfolding next_at fault_from
 reads_fault bytes place why inside e =
     let none = sym e in
@@ -161,7 +180,12 @@ reads_fault bytes place why inside e =
       answer = rw (test, none) refl;
       moves = sym (next_place_none bytes place why none);
       within = omega arith;
-      steps = (record { unchanged = refl; fields = stop.0; fault_is = rw (stop.1, test, none) refl }, refl, inside, field_cause bytes place why none);
+      steps = (
+        record { unchanged = refl; fields = stop.0; fault_is = rw (stop.1, test, none) refl },
+        refl,
+        inside,
+        field_cause bytes place why none,
+      );
     }
 
 -- where they end
@@ -196,7 +220,8 @@ end_stays (suc n) bytes place h =
           end_stays n bytes (next_place bytes place) (omega arith))
     ]
 
-none_at_end : (n : ℕ) (bytes : List ℕ) (place : ℕ) → length bytes ≤ n + place → (why : WireWhy) × (field_from bytes (end_within n bytes place) ≡ Err why)
+none_at_end : (n : ℕ) (bytes : List ℕ) (place : ℕ) → length bytes ≤ n + place
+    → (why : WireWhy) × (field_from bytes (end_within n bytes place) ≡ Err why)
 unfolding end_within
 none_at_end zero bytes place h = (Short, nothing_past bytes place (omega arith))
 none_at_end (suc n) bytes place h =
@@ -212,7 +237,8 @@ none_at_end (suc n) bytes place h =
 
 -- the laws
 
-in_row_within : (n : ℕ) (bytes : List ℕ) (place : ℕ) → AreInRow bytes place (fields_within n bytes place) (end_within n bytes place)
+in_row_within : (n : ℕ) (bytes : List ℕ) (place : ℕ)
+    → AreInRow bytes place (fields_within n bytes place) (end_within n bytes place)
 unfolding fields_within end_within
 in_row_within zero bytes place = refl
 in_row_within (suc n) bytes place =
@@ -222,13 +248,16 @@ in_row_within (suc n) bytes place =
           let is = field_found bytes place read found.1 in
           let step = some_within n bytes place read found.1 in
           let field : FieldAt = record { number = read.0; body = read.1; place = place } in
-          let holds : IsFieldAt bytes field read.2 = record { within = is.within; spelled = is.spelled; ends = is.ends } in
-          let row : AreInRow bytes place (field ∷ fields_within n bytes read.2) (end_within n bytes read.2) = (refl, read.2, holds, in_row_within n bytes read.2) in
+          let holds : IsFieldAt bytes field read.2 =
+          record { within = is.within; spelled = is.spelled; ends = is.ends } in
+          let row : AreInRow bytes place (field ∷ fields_within n bytes read.2) (end_within n bytes read.2) =
+          (refl, read.2, holds, in_row_within n bytes read.2) in
           subst (λ (fields : List FieldAt). AreInRow bytes place fields (end_within (suc n) bytes place)) (sym step.0)
           (subst (λ (last : ℕ). AreInRow bytes place (field ∷ fields_within n bytes read.2) last) (sym step.1) row))
       | inr none ↦
           (let stop = none_within (suc n) bytes place none.0 none.1 in
-          subst (λ (fields : List FieldAt). AreInRow bytes place fields (end_within (suc n) bytes place)) (sym stop.0) (sym stop.1))
+          subst (λ (fields : List FieldAt). AreInRow bytes place fields (end_within (suc n) bytes place)) (sym stop.0)
+          (sym stop.1))
     ]
 
 pub fields_in_row : (bytes : List ℕ) → AreInRow bytes 0 (fields_of bytes) (fields_end bytes 0)
@@ -247,7 +276,8 @@ row_is_first bytes place (field ∷ fields) last row =
       ap (fields_end bytes) (sym row.0) ∙ step.1 ∙ more.1,
     )
 
-pub fields_are_longest : (bytes : List ℕ) (fields : List FieldAt) (last : ℕ) → AreInRow bytes 0 fields last → (fields_of bytes ≡ fields ++ fields_from bytes last) × (last ≤ fields_end bytes 0)
+pub fields_are_longest : (bytes : List ℕ) (fields : List FieldAt) (last : ℕ) → AreInRow bytes 0 fields last
+    → (fields_of bytes ≡ fields ++ fields_from bytes last) × (last ≤ fields_end bytes 0)
 unfolding fields_of fields_end
 fields_are_longest bytes fields last row =
     let first = row_is_first bytes 0 fields last row in
@@ -256,7 +286,8 @@ fields_are_longest bytes fields last row =
     (first.0, omega arith)
 
 fault_at : (bytes : List ℕ) (last : ℕ) (why : WireWhy) → last ≤ length bytes → field_from bytes last ≡ Err why
-    → MatchOption (fault_in (next_at bytes last)) (last ≡ length bytes) (λ fault. (fault.0 ≡ last) × (fault.0 < length bytes))
+    → MatchOption (fault_in (next_at bytes last)) (last ≡ length bytes)
+    (λ fault. (fault.0 ≡ last) × (fault.0 < length bytes))
 unfolding next_at
 fault_at bytes last why within none =
     elim (cases_lt last (length bytes)) [
@@ -264,17 +295,22 @@ fault_at bytes last why within none =
       | inr end ↦ (let test : leb (length bytes) last ≡ true = le-leb _ _ end in rw test (omega arith))
     ]
 
-pub fault_is_after : (bytes : List ℕ) → MatchOption (fields_fault bytes) (fields_end bytes 0 ≡ length bytes) (λ fault. (fault.0 ≡ fields_end bytes 0) × (fault.0 < length bytes))
+pub fault_is_after : (bytes : List ℕ)
+    → MatchOption (fields_fault bytes) (fields_end bytes 0 ≡ length bytes)
+    (λ fault. (fault.0 ≡ fields_end bytes 0) × (fault.0 < length bytes))
 unfolding fields_fault fault_from fields_end
 fault_is_after bytes =
     let none = none_at_end (length bytes) bytes 0 (omega arith) in
     fault_at bytes (end_within (length bytes) bytes 0) none.0 (end_stays (length bytes) bytes 0 (omega arith)) none.1
 
-cause_at : (bytes : List ℕ) (last : ℕ) (why : WireWhy) → field_from bytes last ≡ Err why → IfSome (fault_in (next_at bytes last)) (λ fault. IsCause (drop fault.0 bytes) fault.1)
+cause_at : (bytes : List ℕ) (last : ℕ) (why : WireWhy) → field_from bytes last ≡ Err why
+    → IfSome (fault_in (next_at bytes last)) (λ fault. IsCause (drop fault.0 bytes) fault.1)
 unfolding next_at
 cause_at bytes last why none =
     elim (cases_lt last (length bytes)) [
-      | inl inside ↦ (let test : leb (length bytes) last ≡ false = lt-leb _ _ inside in rw (test, none) (field_cause bytes last why none))
+      | inl inside ↦
+          (let test : leb (length bytes) last ≡ false = lt-leb _ _ inside in
+          rw (test, none) (field_cause bytes last why none))
       | inr end ↦ (let test : leb (length bytes) last ≡ true = le-leb _ _ end in rw test tt)
     ]
 

@@ -16,7 +16,10 @@ spelled_alone (suc n) value below =
     let less : value < 128 * 128 ^ suc n = rw (pow-succ' 128 (suc n)) at below in
     elim (cases_lt value 128) [
       | inl small ↦ rw (lt-ltb value 128 small) small
-      | inr large ↦ rw (le-ltb value 128 large) (cons_alone (128 + value % 128) (spelled_within n (value / 128)) (omega arith) (spelled_alone n (value / 128) (omega arith)))
+      | inr large ↦
+          rw (le-ltb value 128 large)
+          (cons_alone (128 + value % 128) (spelled_within n (value / 128)) (omega arith)
+          (spelled_alone n (value / 128) (omega arith)))
     ]
 
 spelled_few : (n value : ℕ) → length (spelled_within n value) ≤ suc n
@@ -61,7 +64,8 @@ varint_is value fits =
     let low = spelled_low 9 value below in
     record { last = spelled_alone 9 value below; few = spelled_few 9 value; sum = omega arith }
 
-alone_below : (text : List ℕ) (value : ℕ) → IsLastAlone text → value < 128 ^ length text → length (varint value) ≤ length text
+alone_below : (text : List ℕ) (value : ℕ) → IsLastAlone text → value < 128 ^ length text
+    → length (varint value) ≤ length text
 unfolding varint
 alone_below [] value last below = absurd last
 alone_below (b ∷ text) value last below = spelled_short 9 (length text) value below
@@ -108,9 +112,15 @@ spelling_is value is =
       body_is = body_spelled value.content is.fits;
     }
 
-pub spelling_shortest : (value : FieldValue) (text : List ℕ) → IsSpelling text value.number value.content → length (value_spelling value) ≤ length text
+pub spelling_shortest : (value : FieldValue) (text : List ℕ) → IsSpelling text value.number value.content
+    → length (value_spelling value) ≤ length text
 unfolding field_spelling
 spelling_shortest value text is =
     let tag = varint_shortest is.tag _ is.tag_is in
     let body = body_shortest value.content is.body is.body_is in
-    omega (arith, ap (length {A = ℕ}) is.whole, length-append is.tag is.body, length-append (varint (tag_of value.number value.content)) (body_spelling value.content))
+    omega (
+      arith,
+      ap (length {A = ℕ}) is.whole,
+      length-append is.tag is.body,
+      length-append (varint (tag_of value.number value.content)) (body_spelling value.content),
+    )

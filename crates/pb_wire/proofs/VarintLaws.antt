@@ -21,10 +21,14 @@ varint_again x rest v h =
     let size = suc_high x rest h.last in
     let few = h.few in
     let not_long : leb 10 (high_bytes (x ++ rest)) ≡ false = lt-leb _ _ (omega arith) in
-    let not_short : leb (length (x ++ rest)) (high_bytes (x ++ rest)) ≡ false = lt-leb _ _ (omega (arith, length-append x rest)) in
-    let front : take (suc (high_bytes (x ++ rest))) (x ++ rest) ≡ x = ap (λ (n : ℕ). take n (x ++ rest)) size ∙ take_at x rest (length x) refl in
-    let value : low_bits (take (suc (high_bytes (x ++ rest))) (x ++ rest)) % 2 ^ 64 ≡ v = ap (λ (y : List ℕ). low_bits y % 2 ^ 64) front ∙ sym h.sum in
-    rw (not_long, not_short) (ap (λ (n : ℕ). read_of n (suc (high_bytes (x ++ rest)))) value ∙ ap (λ (n : ℕ). read_of v n) size)
+    let not_short : leb (length (x ++ rest)) (high_bytes (x ++ rest)) ≡ false =
+    lt-leb _ _ (omega (arith, length-append x rest)) in
+    let front : take (suc (high_bytes (x ++ rest))) (x ++ rest) ≡ x =
+    ap (λ (n : ℕ). take n (x ++ rest)) size ∙ take_at x rest (length x) refl in
+    let value : low_bits (take (suc (high_bytes (x ++ rest))) (x ++ rest)) % 2 ^ 64 ≡ v =
+    ap (λ (y : List ℕ). low_bits y % 2 ^ 64) front ∙ sym h.sum in
+    rw (not_long, not_short)
+    (ap (λ (n : ℕ). read_of n (suc (high_bytes (x ++ rest)))) value ∙ ap (λ (n : ℕ). read_of v n) size)
 
 -- what is read was spelled
 
@@ -42,7 +46,8 @@ last_alone (b ∷ bytes) h =
           rw (le-ltb b 128 high) (cons_alone b (take (suc (high_bytes bytes)) bytes) high (last_alone bytes inside)))
     ]
 
-chosen : {A : Type 0} (a b : Bool) (p q : WireWhy) (x y : A) → cond a (Err p) (cond b (Err q) (Ok x)) ≡ Ok y → (a ≡ false) × (b ≡ false) × (x ≡ y)
+chosen : {A : Type 0} (a b : Bool) (p q : WireWhy) (x y : A) → cond a (Err p) (cond b (Err q) (Ok x)) ≡ Ok y
+    → (a ≡ false) × (b ≡ false) × (x ≡ y)
 chosen true b p q x y e = absurd cc
 chosen false true p q x y e = absurd cc
 chosen false false p q x y e = (refl, refl, cc)
@@ -56,7 +61,8 @@ pub varint_found : (bytes : List ℕ) (read : ℕ × ℕ) → varint_at bytes �
 unfolding varint_at
 varint_found bytes read e =
     let high : ℕ = high_bytes bytes in
-    let parts = chosen (leb 10 high) (leb (length bytes) high) _ _ (low_bits (take (suc high) bytes) % 2 ^ 64, suc high) read e in
+    let parts =
+    chosen (leb 10 high) (leb (length bytes) high) _ _ (low_bits (take (suc high) bytes) % 2 ^ 64, suc high) read e in
     let few : high < 10 = leb-false _ _ parts.0 in
     let inside : high < length bytes = leb-false _ _ parts.1 in
     let found : Found bytes (low_bits (take (suc high) bytes) % 2 ^ 64, suc high) = record {
@@ -72,6 +78,8 @@ varint_found bytes read e =
 
 -- the varint of one byte
 
-pub one_byte : (bytes : List ℕ) (value : ℕ) → 0 < length bytes → get_or bytes 0 0 < 128 → value ≡ get_or bytes 0 0 → Ok (value, 1) ≡ varint_at bytes
+pub one_byte : (bytes : List ℕ) (value : ℕ) → 0 < length bytes → get_or bytes 0 0 < 128 → value ≡ get_or bytes 0 0
+    → Ok (value, 1) ≡ varint_at bytes
 one_byte [] value some small is = absurd (omega arith)
-one_byte (b ∷ bytes) value some small is = sym (varint_again (b ∷ []) bytes value (record { last = small; few = omega arith; sum = omega arith }))
+one_byte (b ∷ bytes) value some small is =
+    sym (varint_again (b ∷ []) bytes value (record { last = small; few = omega arith; sum = omega arith }))

@@ -11,7 +11,8 @@ pub grown_nothing : (log : Option (List Entry)) → log ≡ grown log []
 grown_nothing None = refl
 grown_nothing (Some log) = ap Some (sym (append-nil log))
 
-pub grown_twice : (log : Option (List Entry)) (first second : List Entry) → grown (grown log first) second ≡ grown log (first ++ second)
+pub grown_twice : (log : Option (List Entry)) (first second : List Entry)
+    → grown (grown log first) second ≡ grown log (first ++ second)
 grown_twice None first second = refl
 grown_twice (Some log) first second = ap Some (append_assoc log first second)
 
@@ -29,18 +30,22 @@ calls_then a b c first second one two = record {
 
 -- the calls of links that report nothing but their faults
 pub unreported_calls : (faults faults' : ℕ) (made : List Entry) → faults ≤ faults'
-    → AddsCalls (record { log = None; script = None; faults = faults }) (record { log = None; script = None; faults = faults' }) made
-unreported_calls faults faults' made risen = record { log = refl; script = refl; plays = λ plays. plays; faults = risen }
+    → AddsCalls (record { log = None; script = None; faults = faults })
+    (record { log = None; script = None; faults = faults' }) made
+unreported_calls faults faults' made risen =
+    record { log = refl; script = refl; plays = λ plays. plays; faults = risen }
 
 -- calls of links that play a script, which they still play after them
 pub played_calls : (links links' : ScriptedCalls) (made : List Entry) → Some links'.log ≡ grown (Some links.log) made
-    → links'.script ≡ links.script → Plays (Some links'.script) (Some links'.log) → AddsCalls (script_report links) (script_report links') made
+    → links'.script ≡ links.script → Plays (Some links'.script) (Some links'.log)
+    → AddsCalls (script_report links) (script_report links') made
 played_calls links links' made log script plays =
     record { log = log; script = ap Some script; plays = λ _. plays; faults = omega arith }
 
 -- the same calls, with another count of faults beside them
 pub calls_counted : (links links' : ScriptedCalls) (faults faults' : ℕ) (made : List Entry)
     → AddsCalls (script_report links) (script_report links') made → faults ≤ faults'
-    → AddsCalls (record (script_report links) { faults = faults }) (record (script_report links') { faults = faults' }) made
+    → AddsCalls (record (script_report links) { faults = faults }) (record (script_report links') { faults = faults' })
+    made
 calls_counted links links' faults faults' made calls risen =
     record { log = calls.log; script = calls.script; plays = calls.plays; faults = risen }

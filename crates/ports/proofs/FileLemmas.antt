@@ -21,6 +21,7 @@ pub held_in-drop_other : (files : List NamedFile) (i : ℕ) (file : NamedFile) (
     → file ≡ get_or files i file → (file.0 ≡ name → ⊥)
     → held_in (drop i files) name ≡ held_in (drop (i + 1) files) name
 held_in-drop_other files i file name below is other =
-    let differs : bytes_eq file.0 name ≡ false = same_from_decides (bytes_eq file.0 name) false (bytes_eq-Decides file.0 name)
+    let differs : bytes_eq file.0 name ≡ false =
+    same_from_decides (bytes_eq file.0 name) false (bytes_eq-Decides file.0 name)
     ((λ h. cc), (λ h. absurd (other h))) in
     rw (held_in-drop files i file name below is, differs) refl

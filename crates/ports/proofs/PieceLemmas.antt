@@ -31,13 +31,15 @@ same_within limit some zero n bytes h k = none_within limit zero bytes h ∙ sym
 same_within limit some (suc m) zero bytes h k =
     none_within limit (suc m) bytes k ∙ sym (none_within limit zero bytes k)
 same_within limit some (suc m) (suc n) bytes h k =
-    let P : Bool → Type 0 = λ b. (length bytes == 0) ≡ b → pieces_within limit (suc m) bytes ≡ pieces_within limit (suc n) bytes in
+    let P : Bool → Type 0 =
+    λ b. (length bytes == 0) ≡ b → pieces_within limit (suc m) bytes ≡ pieces_within limit (suc n) bytes in
     let when_none : P true = λ e. let none : length bytes ≤ 0 = grind (arith, nat_tests) in
     none_within limit (suc m) bytes none ∙ sym (none_within limit (suc n) bytes none) in
     let when_some : P false = λ e. let more : 0 < length bytes = grind (arith, nat_tests) in
     first_within limit m bytes more
     ∙ (ap (λ xs. take limit bytes ∷ xs)
-    (same_within limit some m n (drop limit bytes) (omega (arith, length-drop limit bytes)) (omega (arith, length-drop limit bytes)))
+    (same_within limit some m n (drop limit bytes) (omega (arith, length-drop limit bytes))
+    (omega (arith, length-drop limit bytes)))
     ∙ sym (first_within limit n bytes more)) in
     (elim (length bytes == 0) as P [ true ↦ when_none | false ↦ when_some ]) refl
 
@@ -68,7 +70,8 @@ pieces_done steps limit rest none = ap (λ xs. steps ++ xs) (pieces_none limit r
 -- the first piece, and then the others
 pub piece_more : (steps : List Step) (limit : ℕ) (bytes first more : List ℕ) → 0 < limit → 0 < length bytes
     → first ≡ take (min limit (length bytes)) bytes → more ≡ drop (min limit (length bytes)) bytes
-    → (steps ++ read_step first ∷ []) ++ map read_step (pieces_of limit more) ≡ steps ++ map read_step (pieces_of limit bytes)
+    → (steps ++ read_step first ∷ []) ++ map read_step (pieces_of limit more)
+    ≡ steps ++ map read_step (pieces_of limit bytes)
 piece_more steps limit bytes first more some some_bytes first_is more_is =
     append_assoc steps (read_step first ∷ []) (map read_step (pieces_of limit more))
     ∙ ap (λ xs. steps ++ xs)

@@ -20,7 +20,8 @@ use Rattle.ports.specs.declared.script.Script.{Script}
 answered_more : (state : Playing) (entries : List Entry) (entry : Entry) → AreAnswered state entries
     → IsAnswered (fold played state entries) entry → AreAnswered state (entries ++ entry ∷ [])
 answered_more state [] entry all one = (one, tt)
-answered_more state (first ∷ entries) entry all one = (all.0, answered_more (played state first) entries entry all.1 one)
+answered_more state (first ∷ entries) entry all one =
+    (all.0, answered_more (played state first) entries entry all.1 one)
 
 filter_one : (entry : Entry) → succeeded entry ≡ true → filter succeeded (entry ∷ []) ≡ entry ∷ []
 filter_one entry h = ap (λ b. cond b (entry ∷ []) []) h
@@ -127,7 +128,8 @@ pub playing_failed_listen : (script : Script) (log : List Entry) (next secs : �
     → IsPlaying script log next secs rules taken nothing poisoned → (address : List ℕ)
     → IsPlaying script (log ++ Listen address listen.Failed ∷ []) next secs rules taken nothing poisoned
 playing_failed_listen script log next secs rules taken nothing poisoned was address =
-    playing_failed script log next secs rules taken nothing poisoned was (Listen address listen.Failed) refl (λ link. refl)
+    playing_failed script log next secs rules taken nothing poisoned was (Listen address listen.Failed) refl
+    (λ link. refl)
 
 pub playing_failed_turn : (script : Script) (log : List Entry) (next secs : ℕ) (rules : SendRules)
     (taken : ℕ → List ℕ) (nothing : List ℕ) (poisoned : Bool)
@@ -145,7 +147,8 @@ pub playing_turned : (script : Script) (log : List Entry) (next secs : ℕ) (rul
     → drop next' script.steps ≡ (first_turn (drop next script.steps) secs).rest → secs' ≡ turn.secs
     → rules' ≡ rules_at_turn (drop next script.steps) rules
     → IsPlaying script (log ++ Next wants turn piece ∷ []) next' secs' rules' taken nothing false
-playing_turned script log next secs rules taken nothing poisoned was alive wants turn piece next' secs' rules' reported turn_is piece_is within rest secs_is rules_is =
+playing_turned script log next secs rules taken nothing poisoned was alive wants turn piece next' secs' rules' reported
+    turn_is piece_is within rest secs_is rules_is =
     let entry = Next wants turn piece in
     let place = was.place alive in
     let kept : succeeded entry ≡ true = reported in
@@ -159,8 +162,12 @@ playing_turned script log next secs rules taken nothing poisoned was alive wants
       no_bytes = was.no_bytes;
       place = λ h. playing_more script log entry kept
           ∙ (ap (λ s. played s entry) place
-          ∙ (ap (λ x. record { steps = x; secs = turn.secs; rules = rules_at_turn (drop next script.steps) rules }) (sym rest)
-          ∙ (ap (λ x. record { steps = drop next' script.steps; secs = x; rules = rules_at_turn (drop next script.steps) rules }) (sym secs_is)
+          ∙ (ap (λ x. record { steps = x; secs = turn.secs; rules = rules_at_turn (drop next script.steps) rules })
+          (sym rest)
+          ∙ (ap
+          (λ x.
+          record { steps = drop next' script.steps; secs = x; rules = rules_at_turn (drop next script.steps) rules })
+          (sym secs_is)
           ∙ ap (λ x. record { steps = drop next' script.steps; secs = secs'; rules = x }) (sym rules_is))));
     }
 
@@ -175,7 +182,8 @@ pub playing_sent : (script : Script) (log : List Entry) (next secs : ℕ) (rules
     → rules' ≡ with_rule link (rule_after (rules link) (length bytes)) rules
     → ((other : ℕ) → taken' other ≡ taken other ++ cond (link == other) piece [])
     → IsPlaying script (log ++ Send link bytes answer ∷ []) next secs rules' taken' nothing false
-playing_sent script log next secs rules taken nothing poisoned was alive link bytes answer piece rules' taken' answer_is piece_is rules_is more =
+playing_sent script log next secs rules taken nothing poisoned was alive link bytes answer piece rules' taken' answer_is
+    piece_is rules_is more =
     let entry = Send link bytes answer in
     let place = was.place alive in
     record {

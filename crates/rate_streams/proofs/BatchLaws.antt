@@ -36,7 +36,8 @@ rest_full m n full =
     let times : (m + 1) / n * n ≡ (q + 1) * n = ap (λ k. k * n) quotient in
     omega arith
 
-last_more : (k : ℕ) (es : List Event) (event : Event) → k ≤ length es → last_of (k + 1) (es ++ event ∷ []) ≡ last_of k es ++ event ∷ []
+last_more : (k : ℕ) (es : List Event) (event : Event) → k ≤ length es
+    → last_of (k + 1) (es ++ event ∷ []) ≡ last_of k es ++ event ∷ []
 last_more k es event within =
     let longer = length_push es event in
     let back : length (es ++ event ∷ []) - (k + 1) ≡ length es - k = omega arith in
@@ -49,7 +50,8 @@ last_nothing : (n : ℕ) (es : List Event) → es ≡ [] → last_of (length es 
 last_nothing n es none = let empty = ap length none in drop_all (length es - length es % n) es (omega arith)
 
 length_last : (k : ℕ) (es : List Event) → k ≤ length es → length (last_of k es) ≡ k
-length_last k es within = length-drop (length es - k) es ∙ (let exact : length es - (length es - k) ≡ k = omega arith in exact)
+length_last k es within =
+    length-drop (length es - k) es ∙ (let exact : length es - (length es - k) ≡ k = omega arith in exact)
 
 -- one event more, after those that are in batches or wait
 module _ (n : ℕ) (es : List Event) (event : Event) (positive : 0 < n) where
@@ -57,7 +59,9 @@ module _ (n : ℕ) (es : List Event) (event : Event) (positive : 0 < n) where
   waiting = last_of (length es % n) es ++ event ∷ []
 
   size : length waiting ≡ length es % n + 1
-  size = length_push (last_of (length es % n) es) event ∙ ap (λ m. m + 1) (length_last (length es % n) es (mod-le (length es) n))
+  size =
+      length_push (last_of (length es % n) es) event
+      ∙ ap (λ m. m + 1) (length_last (length es % n) es (mod-le (length es) n))
 
   more : length (es ++ event ∷ []) ≡ length es + 1
   more = length_push es event
@@ -72,7 +76,8 @@ module _ (n : ℕ) (es : List Event) (event : Event) (positive : 0 < n) where
   is_not_full below = let s = size in grind (arith, nat_tests)
 
   last_full : length es % n + 1 ≡ n → last_of n (es ++ event ∷ []) ≡ waiting
-  last_full full = ap (λ k. last_of k (es ++ event ∷ [])) (sym full) ∙ last_more (length es % n) es event (mod-le (length es) n)
+  last_full full =
+      ap (λ k. last_of k (es ++ event ∷ [])) (sym full) ∙ last_more (length es % n) es event (mod-le (length es) n)
 
   rest_after_full : length es % n + 1 ≡ n → length (es ++ event ∷ []) % n ≡ 0
   rest_after_full full = ap (λ m. m % n) more ∙ rest_full (length es) n full
@@ -80,57 +85,75 @@ module _ (n : ℕ) (es : List Event) (event : Event) (positive : 0 < n) where
   rest_after : length es % n + 1 < n → length (es ++ event ∷ []) % n ≡ length es % n + 1
   rest_after below = ap (λ m. m % n) more ∙ rest_more (length es) n below
 
-  pub sends : cond (nat_le n (length waiting)) (vector waiting) [] ≡ cond (length (es ++ event ∷ []) % n == 0) (vector (last_of n (es ++ event ∷ []))) []
+  pub sends : cond (nat_le n (length waiting)) (vector waiting) []
+      ≡ cond (length (es ++ event ∷ []) % n == 0) (vector (last_of n (es ++ event ∷ []))) []
   sends = elim ways [
     | inl full ↦ ap (λ t. cond t (vector waiting) []) (is_full full) ∙ ap vector (sym (last_full full))
-        ∙ sym (ap (λ t. cond t (vector (last_of n (es ++ event ∷ []))) []) (eq-zero (length (es ++ event ∷ []) % n) (rest_after_full full)))
+        ∙ sym (ap (λ t. cond t (vector (last_of n (es ++ event ∷ []))) [])
+        (eq-zero (length (es ++ event ∷ []) % n) (rest_after_full full)))
     | inr below ↦ ap (λ t. cond t (vector waiting) []) (is_not_full below)
-        ∙ sym (ap (λ t. cond t (vector (last_of n (es ++ event ∷ []))) []) (ne-zero (length (es ++ event ∷ []) % n) (let after = rest_after below in omega arith)))
+        ∙ sym (ap (λ t. cond t (vector (last_of n (es ++ event ∷ []))) [])
+        (ne-zero (length (es ++ event ∷ []) % n) (let after = rest_after below in omega arith)))
   ]
 
   pub keeps : cond (nat_le n (length waiting)) [] waiting ≡ last_of (length (es ++ event ∷ []) % n) (es ++ event ∷ [])
   keeps = elim ways [
-    | inl full ↦ ap (λ t. cond t [] waiting) (is_full full) ∙ sym (last_none (length (es ++ event ∷ []) % n) (es ++ event ∷ []) (rest_after_full full))
+    | inl full ↦
+        ap (λ t. cond t [] waiting) (is_full full)
+        ∙ sym (last_none (length (es ++ event ∷ []) % n) (es ++ event ∷ []) (rest_after_full full))
     | inr below ↦ ap (λ t. cond t [] waiting) (is_not_full below)
-        ∙ sym (ap (λ k. last_of k (es ++ event ∷ [])) (rest_after below) ∙ last_more (length es % n) es event (mod-le (length es) n))
+        ∙ sym (ap (λ k. last_of k (es ++ event ∷ [])) (rest_after below)
+        ∙ last_more (length es % n) es event (mod-le (length es) n))
   ]
 
-pub fresh_represents : (state : BatchState) (h : History) → state.poisoned ≡ false → 0 < state.count → state.windows.start ≡ begun h → state.waiting ≡ [] → TicksAlone h → BatchRepresents state h
+pub fresh_represents : (state : BatchState) (h : History) → state.poisoned ≡ false → 0 < state.count
+    → state.windows.start ≡ begun h → state.waiting ≡ [] → TicksAlone h → BatchRepresents state h
 fresh_represents state h sound positive start nothing alone = record {
   sound = sound;
   positive = positive;
   start = start;
-  waiting = nothing ∙ sym (last_nothing state.count (events_now state.windows.secs h) (alone_events state.windows.secs (window_of state.windows.secs h) h alone));
+  waiting =
+      nothing
+      ∙ sym (last_nothing state.count (events_now state.windows.secs h)
+      (alone_events state.windows.secs (window_of state.windows.secs h) h alone));
   window = λ some. let none = ap length nothing in absurd (omega arith);
 }
 
 -- an event comes
-module _ (old : BatchState) (h : History) (event : Event) (now : ℕ) (before : BatchRepresents old h) (moment : moment_of h ≡ now) where
+module _ (old : BatchState) (h : History) (event : Event) (now : ℕ) (before : BatchRepresents old h)
+    (moment : moment_of h ≡ now) where
   abbrev es : List Event
   es = events_now old.windows.secs h
 
-  pushed_is : (pushed : List Event) → pushed ≡ old.waiting ++ event ∷ [] → pushed ≡ last_of (length es % old.count) es ++ event ∷ []
+  pushed_is : (pushed : List Event) → pushed ≡ old.waiting ++ event ∷ []
+      → pushed ≡ last_of (length es % old.count) es ++ event ∷ []
   pushed_is pushed is = is ∙ ap (λ l. l ++ event ∷ []) before.waiting
 
   pub item_passes : (pushed : List Event) → pushed ≡ old.waiting ++ event ∷ [] →
       cond (nat_le old.count (length pushed)) (vector pushed) [] ≡ batch_passes old (h ▸ In (One event))
   item_passes pushed is =
-      ap (λ l. cond (nat_le old.count (length l)) (vector l) []) (pushed_is pushed is) ∙ sends old.count es event before.positive
+      ap (λ l. cond (nat_le old.count (length l)) (vector l) []) (pushed_is pushed is)
+      ∙ sends old.count es event before.positive
 
-  pub item_represents : (pushed : List Event) (window : ℕ) → pushed ≡ old.waiting ++ event ∷ [] → window ≡ number_at old.windows now →
-      BatchRepresents (record old { window = window; waiting = cond (nat_le old.count (length pushed)) [] pushed; poisoned = false }) (h ▸ In (One event))
+  pub item_represents : (pushed : List Event) (window : ℕ) → pushed ≡ old.waiting ++ event ∷ [] →
+      window ≡ number_at old.windows now →
+      BatchRepresents
+      (record old { window = window; waiting = cond (nat_le old.count (length pushed)) [] pushed; poisoned = false })
+      (h ▸ In (One event))
   item_represents pushed window is here = record {
     sound = refl;
     positive = before.positive;
     start = before.start;
     waiting =
-        ap (λ l. cond (nat_le old.count (length l)) [] l) (pushed_is pushed is) ∙ keeps old.count es event before.positive
+        ap (λ l. cond (nat_le old.count (length l)) [] l) (pushed_is pushed is)
+        ∙ keeps old.count es event before.positive
         ∙ sym (ap (λ l. last_of (length l % old.count) l) (now_more old.windows.secs h event));
     window = λ some. here ∙ number_now old.windows h now before.start moment;
   }
 
 -- a tick comes
-module _ (old : BatchState) (h : History) (now : ℕ) (before : BatchRepresents old h) (moment : moment_of h + 1 ≡ now) where
+module _ (old : BatchState) (h : History) (now : ℕ) (before : BatchRepresents old h)
+    (moment : moment_of h + 1 ≡ now) where
   abbrev secs : ℕ
   secs = old.windows.secs
 
@@ -142,22 +165,28 @@ module _ (old : BatchState) (h : History) (now : ℕ) (before : BatchRepresents 
 
   passes_later : window_of secs h < window_of secs (h ▸ Tick) → batch_passes old (h ▸ Tick) ≡ vector old.waiting
   passes_later later =
-      ap (λ t. cond t [] (vector (last_of (length came % old.count) came))) (let apart : (window_of secs (h ▸ Tick) == window_of secs h) ≡ false = grind (arith, nat_tests) in apart)
+      ap (λ t. cond t [] (vector (last_of (length came % old.count) came)))
+      (let apart : (window_of secs (h ▸ Tick) == window_of secs h) ≡ false = grind (arith, nat_tests) in apart)
       ∙ ap vector (sym before.waiting)
 
-  nothing_later : window_of secs h < window_of secs (h ▸ Tick) → last_of (length (events_now secs (h ▸ Tick)) % old.count) (events_now secs (h ▸ Tick)) ≡ []
-  nothing_later later = last_nothing old.count (events_now secs (h ▸ Tick)) (no_later_events secs (window_of secs (h ▸ Tick)) h old.windows.positive later)
+  nothing_later : window_of secs h < window_of secs (h ▸ Tick)
+      → last_of (length (events_now secs (h ▸ Tick)) % old.count) (events_now secs (h ▸ Tick)) ≡ []
+  nothing_later later =
+      last_nothing old.count (events_now secs (h ▸ Tick))
+      (no_later_events secs (window_of secs (h ▸ Tick)) h old.windows.positive later)
 
   represents_same : window_of secs (h ▸ Tick) ≡ window_of secs h → BatchRepresents old (h ▸ Tick)
   represents_same same = record {
     sound = before.sound;
     positive = before.positive;
     start = before.start;
-    waiting = before.waiting ∙ ap (λ w. last_of (length (events_in secs w h) % old.count) (events_in secs w h)) (sym same);
+    waiting =
+        before.waiting ∙ ap (λ w. last_of (length (events_in secs w h) % old.count) (events_in secs w h)) (sym same);
     window = λ some. before.window some ∙ sym same;
   }
 
-  represents_later : (state : BatchState) → state ≡ record old { waiting = [] } → window_of secs h < window_of secs (h ▸ Tick) → BatchRepresents state (h ▸ Tick)
+  represents_later : (state : BatchState) → state ≡ record old { waiting = [] }
+      → window_of secs h < window_of secs (h ▸ Tick) → BatchRepresents state (h ▸ Tick)
   represents_later state is later = subst (λ (s : BatchState). BatchRepresents s (h ▸ Tick)) (sym is) (record {
     sound = before.sound;
     positive = before.positive;
@@ -168,12 +197,16 @@ module _ (old : BatchState) (h : History) (now : ℕ) (before : BatchRepresents 
 
   none_waits : is_batch_due old now ≡ false → window_of secs h < window_of secs (h ▸ Tick) → old.waiting ≡ []
   none_waits idle later =
-      let still : 0 < length old.waiting → number_at old.windows now ≡ old.window = not_due (length old.waiting) (number_at old.windows now) old.window idle in
+      let still : 0 < length old.waiting → number_at old.windows now ≡ old.window =
+      not_due (length old.waiting) (number_at old.windows now) old.window idle in
       let here = before.window in
       let there = ahead in
-      nil_from_length old.waiting (none (length old.waiting) (number_at old.windows now) old.window (window_of secs h) (window_of secs (h ▸ Tick)) still here there later)
+      nil_from_length old.waiting
+      (none (length old.waiting) (number_at old.windows now) old.window (window_of secs h) (window_of secs (h ▸ Tick))
+      still here there later)
     where
-      none : (n number window w w' : ℕ) → (0 < n → number ≡ window) → (0 < n → window ≡ w) → number ≡ w' → w < w' → n ≡ 0
+      none : (n number window w w' : ℕ) → (0 < n → number ≡ window) → (0 < n → window ≡ w) → number ≡ w' → w < w'
+          → n ≡ 0
       none zero number window w w' still here there later = refl
       none (suc n) number window w w' still here there later =
           absurd (let a = still (omega arith) in let b = here (omega arith) in omega arith)
@@ -181,7 +214,8 @@ module _ (old : BatchState) (h : History) (now : ℕ) (before : BatchRepresents 
   pub quiet_represents : is_batch_due old now ≡ false → BatchRepresents old (h ▸ Tick)
   quiet_represents idle = elim (tick_ways old.windows h) [
     | inl same ↦ represents_same same
-    | inr later ↦ represents_later old (ap (λ (l : List Event). record old { waiting = l }) (none_waits idle later)) later
+    | inr later ↦
+        represents_later old (ap (λ (l : List Event). record old { waiting = l }) (none_waits idle later)) later
   ]
 
   turns : is_batch_due old now ≡ true → window_of secs h < window_of secs (h ▸ Tick)
@@ -197,24 +231,35 @@ module _ (old : BatchState) (h : History) (now : ℕ) (before : BatchRepresents 
   due_passes : is_batch_due old now ≡ true → batch_passes old (h ▸ Tick) ≡ vector old.waiting
   due_passes due = passes_later (turns due)
 
-  pub due_represents : is_batch_due old now ≡ true → BatchRepresents (record old { waiting = []; poisoned = false }) (h ▸ Tick)
-  due_represents due = represents_later (record old { waiting = []; poisoned = false }) (ap (λ (p : Bool). record old { waiting = []; poisoned = p }) (sym before.sound)) (turns due)
+  pub due_represents : is_batch_due old now ≡ true
+      → BatchRepresents (record old { waiting = []; poisoned = false }) (h ▸ Tick)
+  due_represents due =
+      represents_later (record old { waiting = []; poisoned = false })
+      (ap (λ (p : Bool). record old { waiting = []; poisoned = p }) (sym before.sound)) (turns due)
 
   due_loud : is_batch_due old now ≡ true → batch_passes old (h ▸ Tick) ≡ [] → ⊥
-  due_loud due none = vector_some old.waiting (due_parts (length old.waiting) (number_at old.windows now) old.window due).0 (sym (due_passes due) ∙ none)
+  due_loud due none =
+      vector_some old.waiting (due_parts (length old.waiting) (number_at old.windows now) old.window due).0
+      (sym (due_passes due) ∙ none)
 
-pub still_represents : (state : BatchState) (h : History) → BatchRepresents state h → batch_passes state (h ▸ Tick) ≡ [] → BatchRepresents state (h ▸ Tick)
+pub still_represents : (state : BatchState) (h : History) → BatchRepresents state h → batch_passes state (h ▸ Tick) ≡ []
+    → BatchRepresents state (h ▸ Tick)
 still_represents state h before none =
     by_test (is_batch_due state (moment_of h + 1)) (BatchRepresents state (h ▸ Tick))
     (λ due. absurd (due_loud state h (moment_of h + 1) before refl due none))
     (λ idle. quiet_represents state h (moment_of h + 1) before refl idle)
 
-pub due_at : (state : BatchState) (h : History) (due : ℕ) → BatchRepresents state h → moment_of h ≤ 2 ^ 40 → 0 < length state.waiting →
-    (end_at state.windows state.window < 2 ^ 64 → due ≡ end_at state.windows state.window) → Some due ≡ next_deadline (batch_kind state) h
+pub due_at : (state : BatchState) (h : History) (due : ℕ) → BatchRepresents state h → moment_of h ≤ 2 ^ 40 →
+    0 < length state.waiting →
+    (end_at state.windows state.window < 2 ^ 64 → due ≡ end_at state.windows state.window) →
+    Some due ≡ next_deadline (batch_kind state) h
 due_at state h due before bound some is =
     let here = before.window some in
     let es : List Event = events_now state.windows.secs h in
-    let rest : length es % state.count ≡ length state.waiting = sym (ap length before.waiting ∙ length_last (length es % state.count) es (mod-le (length es) state.count)) in
+    let rest : length es % state.count ≡ length state.waiting =
+    sym (ap length before.waiting ∙ length_last (length es % state.count) es (mod-le (length es) state.count)) in
     let loud : (length es % state.count == 0) ≡ false = ne-zero (length es % state.count) (omega arith) in
-    ap (λ (m : ℕ). Some m) (is (end_bound state.windows h state.window before.start here bound) ∙ end_now state.windows h state.window before.start here)
+    ap (λ (m : ℕ). Some m)
+    (is (end_bound state.windows h state.window before.start here bound)
+    ∙ end_now state.windows h state.window before.start here)
     ∙ sym (ap (λ t. some_if (not t) (next_window state.windows.secs h)) loud)

@@ -17,7 +17,9 @@ began_step false now began before = before
 began_before : (field : Field) (h : History) → run_began field h ≤ moment_of h
 began_before field (since start) = omega arith
 began_before field (h ▸ Tick) = let before = began_before field h in omega arith
-began_before field (h ▸ In (One event)) = began_step (differs_from field (last_value field None h) event) (moment_of h) (run_began field h) (began_before field h)
+began_before field (h ▸ In (One event)) =
+    began_step (differs_from field (last_value field None h) event) (moment_of h) (run_began field h)
+    (began_before field h)
 began_before field (h ▸ In (Many es)) = began_before field h
 
 alone_last : (field : Field) (h : History) → TicksAlone h → last_value field None h ≡ None
@@ -39,7 +41,8 @@ same_either : (t : Bool) → cond {A = List Event} t [] [] ≡ []
 same_either true = refl
 same_either false = refl
 
-pub fresh_represents : (state : StableState) (h : History) → state.poisoned ≡ false → 0 < state.secs → state.last ≡ None → state.began ≡ begun h → state.waiting ≡ [] → TicksAlone h → StableRepresents state h
+pub fresh_represents : (state : StableState) (h : History) → state.poisoned ≡ false → 0 < state.secs → state.last ≡ None
+    → state.began ≡ begun h → state.waiting ≡ [] → TicksAlone h → StableRepresents state h
 fresh_represents state h sound positive last began nothing alone =
     let holds : Bool = nat_lt (moment_of h) (run_began state.field h + state.secs) in
     record {
@@ -56,12 +59,15 @@ some_wait true (event ∷ es) some = refl
 some_wait true [] some = absurd (omega arith)
 some_wait false es some = absurd (omega arith)
 
-pub due_at : (state : StableState) (h : History) (due : ℕ) → StableRepresents state h → moment_of h ≤ 2 ^ 40 → state.secs < 2 ^ 32 → 0 < length state.waiting →
-    (state.began + state.secs < 2 ^ 64 → due ≡ state.began + state.secs) → Some due ≡ next_deadline (stable_kind state) h
+pub due_at : (state : StableState) (h : History) (due : ℕ) → StableRepresents state h → moment_of h ≤ 2 ^ 40 →
+    state.secs < 2 ^ 32 → 0 < length state.waiting →
+    (state.began + state.secs < 2 ^ 64 → due ≡ state.began + state.secs) →
+    Some due ≡ next_deadline (stable_kind state) h
 due_at state h due before bound small some is =
     let deadline : ℕ = run_began state.field h + state.secs in
     let early = began_before state.field h in
     let began = before.began in
-    let waits : 0 < length (cond (nat_lt (moment_of h) deadline) (run state.field h) []) = subst (λ (es : List Event). 0 < length es) before.waiting some in
+    let waits : 0 < length (cond (nat_lt (moment_of h) deadline) (run state.field h) []) =
+    subst (λ (es : List Event). 0 < length es) before.waiting some in
     ap (λ (m : ℕ). Some m) (is (omega arith) ∙ ap (λ m. m + state.secs) began)
     ∙ sym (ap (λ t. some_if t deadline) (some_wait (nat_lt (moment_of h) deadline) (run state.field h) waits))

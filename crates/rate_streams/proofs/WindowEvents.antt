@@ -22,21 +22,27 @@ alone_events secs window (h ▸ Tick) alone = alone_events secs window h alone
 alone_events secs window (h ▸ In item) alone = absurd alone
 
 -- the window of a moment is that of the last entry
-pub number_now : (windows : Windows) (h : History) (now : ℕ) → windows.start ≡ begun h → moment_of h ≡ now → number_at windows now ≡ window_of windows.secs h
+pub number_now : (windows : Windows) (h : History) (now : ℕ) → windows.start ≡ begun h → moment_of h ≡ now
+    → number_at windows now ≡ window_of windows.secs h
 number_now windows h now start moment =
     ap (λ m. (m - windows.start) / windows.secs) (sym moment) ∙ ap (λ s. (moment_of h - s) / windows.secs) start
 
 -- an event that comes is the last of the present window
-pub now_more : (secs : ℕ) (h : History) (event : Event) → events_now secs (h ▸ In (One event)) ≡ events_now secs h ++ event ∷ []
+pub now_more : (secs : ℕ) (h : History) (event : Event)
+    → events_now secs (h ▸ In (One event)) ≡ events_now secs h ++ event ∷ []
 now_more secs h event =
-    ap (λ t. cond t (events_now secs h ++ event ∷ []) (events_now secs h)) (eq-eqb (window_of secs h) (window_of secs h) refl)
+    ap (λ t. cond t (events_now secs h ++ event ∷ []) (events_now secs h))
+    (eq-eqb (window_of secs h) (window_of secs h) refl)
 
 -- at a tick the window stays, or a later one begins
-pub tick_ways : (windows : Windows) (h : History) → (window_of windows.secs (h ▸ Tick) ≡ window_of windows.secs h) ⊎ (window_of windows.secs h < window_of windows.secs (h ▸ Tick))
+pub tick_ways : (windows : Windows) (h : History)
+    → (window_of windows.secs (h ▸ Tick) ≡ window_of windows.secs h)
+    ⊎ (window_of windows.secs h < window_of windows.secs (h ▸ Tick))
 tick_ways windows h = let up = window-≤ windows.secs h windows.positive in grind arith
 
 -- the end of the present window is far below 2^64
-pub end_bound : (windows : Windows) (h : History) (window : ℕ) → windows.start ≡ begun h → window ≡ window_of windows.secs h → moment_of h ≤ 2 ^ 40 → end_at windows window < 2 ^ 64
+pub end_bound : (windows : Windows) (h : History) (window : ℕ) → windows.start ≡ begun h
+    → window ≡ window_of windows.secs h → moment_of h ≤ 2 ^ 40 → end_at windows window < 2 ^ 64
 end_bound windows h window start here bound =
     let after = begun-≤ h in
     let parts = div-add-mod' (moment_of h - begun h) windows.secs in
@@ -45,7 +51,8 @@ end_bound windows h window start here bound =
     subst (λ (s : ℕ). s + (window + 1) * windows.secs < 2 ^ 64) (sym start)
     (subst (λ (w : ℕ). begun h + (w + 1) * windows.secs < 2 ^ 64) (sym here) all)
 
-pub end_now : (windows : Windows) (h : History) (window : ℕ) → windows.start ≡ begun h → window ≡ window_of windows.secs h → end_at windows window ≡ next_window windows.secs h
+pub end_now : (windows : Windows) (h : History) (window : ℕ) → windows.start ≡ begun h
+    → window ≡ window_of windows.secs h → end_at windows window ≡ next_window windows.secs h
 end_now windows h window start here =
     ap (λ s. s + (window + 1) * windows.secs) start ∙ ap (λ w. begun h + (w + 1) * windows.secs) here
 

@@ -50,7 +50,8 @@ pub lines_more : (text line rest : List ℕ)
     → lines_of text ≡ line ∷ lines_of rest
 unfolding lines_of
 lines_more text line rest h =
-    ap without_empty_last h ∙ more_parts line (slice_split (λ byte. byte == 10) rest) (some_split (λ byte. byte == 10) rest)
+    ap without_empty_last h
+    ∙ more_parts line (slice_split (λ byte. byte == 10) rest) (some_split (λ byte. byte == 10) rest)
 
 last_part : (line : List ℕ) → 0 < length line → without_empty_last (line ∷ []) ≡ line ∷ []
 last_part [] h = absurd (omega arith)

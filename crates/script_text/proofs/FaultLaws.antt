@@ -23,11 +23,13 @@ record FindsSteps (lines : List (List ℕ)) (number found : ℕ) : Type 0 where
   same : found ≡ number + place
   is_fault : StepsFault lines place
 
-with_step_err : (step : ScriptStep) (read : Result (List ScriptStep) ℕ) (number : ℕ) → with_step step read ≡ Err number → read ≡ Err number
+with_step_err : (step : ScriptStep) (read : Result (List ScriptStep) ℕ) (number : ℕ) → with_step step read ≡ Err number
+    → read ≡ Err number
 with_step_err step (Ok more) number h = cc
 with_step_err step (Err found) number h = cc
 
-with_start_err : (secs : ℕ) (read : Result (List ScriptStep) ℕ) (number : ℕ) → with_start secs read ≡ Err number → read ≡ Err number
+with_start_err : (secs : ℕ) (read : Result (List ScriptStep) ℕ) (number : ℕ) → with_start secs read ≡ Err number
+    → read ≡ Err number
 with_start_err secs (Ok more) number h = cc
 with_start_err secs (Err found) number h = cc
 
@@ -57,7 +59,9 @@ fault_in_steps number line lines (Some Skipped) found e h rest =
         bad = λ more steps s. elim (say_cases line (take (suc r.place) lines ++ more) (step_items steps) s) [
           | inl skipped ↦ f.bad more steps skipped.1
           | inr begun ↦ let parts = step_parts steps begun.first begun.more begun.whole in
-              let same : Some Skipped ≡ Some (Step parts.0) = sym e ∙ (begun.is_first ∙ ap (λ item. Some item) parts.2) in cc
+              let same : Some Skipped ≡ Some (Step parts.0) =
+              sym e ∙ (begun.is_first ∙ ap (λ item. Some item) parts.2) in
+              cc
         ];
       };
     }
@@ -106,7 +110,8 @@ fault_in_steps number line lines None found e h rest =
       };
     }
 
-steps_fault : (number : ℕ) (lines : List (List ℕ)) (found : ℕ) → steps_from number lines ≡ Err found → FindsSteps lines number found
+steps_fault : (number : ℕ) (lines : List (List ℕ)) (found : ℕ) → steps_from number lines ≡ Err found
+    → FindsSteps lines number found
 steps_fault number [] found h = cc
 steps_fault number (line ∷ lines) found h =
     fault_in_steps number line lines (line_of line) found refl h (λ i. steps_fault (number + 1) lines found i)
@@ -115,7 +120,8 @@ steps_fault number (line ∷ lines) found h =
 record LinesFault (lines : List (List ℕ)) (place : ℕ) : Type 0 where
   inside : place ≤ length lines
   before : Say (take place lines) [] ⊎ ((script : Script) × AreScript (take place lines) script)
-  bad : place < length lines → (more : List (List ℕ)) (script : Script) → AreScript (take (suc place) lines ++ more) script → ⊥
+  bad : place < length lines → (more : List (List ℕ)) (script : Script)
+      → AreScript (take (suc place) lines ++ more) script → ⊥
 
 record FindsFault (lines : List (List ℕ)) (number found : ℕ) : Type 0 where
   place : ℕ
@@ -150,18 +156,25 @@ fault_in_start number line lines (Some Skipped) found e h rest =
         bad = λ i more script s. elim (say_cases line (take (suc r.place) lines ++ more) (items_of script) s) [
           | inl skipped ↦ f.bad (omega arith) more script skipped.1
           | inr begun ↦ let first : begun.first ≡ Start script.start = (let w = begun.whole in cc) in
-              let same : Some Skipped ≡ Some (Start script.start) = sym e ∙ (begun.is_first ∙ ap (λ item. Some item) first) in cc
+              let same : Some Skipped ≡ Some (Start script.start) =
+              sym e ∙ (begun.is_first ∙ ap (λ item. Some item) first) in
+              cc
         ];
       };
     }
 fault_in_start number line lines (Some (Start secs)) found e h rest =
-    let r = steps_fault (number + 1) lines found (with_start_err secs (steps_from (number + 1) lines) found h) in let f = r.is_fault in
+    let r = steps_fault (number + 1) lines found (with_start_err secs (steps_from (number + 1) lines) found h) in
+    let f = r.is_fault in
     record {
       place = suc r.place;
       same = (let s = r.same in omega arith);
       is_fault = record {
         inside = (let i = f.inside in omega arith);
-        before = inr (record { start = secs; steps = f.steps }, say_start line (take r.place lines) (step_items f.steps) secs e f.before);
+        before =
+            inr (
+              record { start = secs; steps = f.steps },
+              say_start line (take r.place lines) (step_items f.steps) secs e f.before,
+            );
         bad = λ i more script s. elim (say_cases line (take (suc r.place) lines ++ more) (items_of script) s) [
           | inl skipped ↦ let same : Some (Start secs) ≡ Some Skipped = sym e ∙ skipped.0 in cc
           | inr begun ↦ let tail : begun.more ≡ step_items script.steps = (let w = begun.whole in cc) in
@@ -196,7 +209,8 @@ fault_in_start number line lines None found e h rest =
       };
     }
 
-lines_fault : (number : ℕ) (lines : List (List ℕ)) (found : ℕ) → script_from number lines ≡ Err found → FindsFault lines number found
+lines_fault : (number : ℕ) (lines : List (List ℕ)) (found : ℕ) → script_from number lines ≡ Err found
+    → FindsFault lines number found
 lines_fault number [] found h =
     let same : number ≡ found = cc in
     record {
@@ -219,7 +233,8 @@ start_zero = refl
 say_started : (lines : List (List ℕ)) → Say lines [] → Say (lines ++ codes "start 0" ∷ []) (Start 0 ∷ [])
 say_started [] s = say_start (codes "start 0") [] [] 0 start_zero say_none
 say_started (line ∷ lines) s = elim (say_cases line lines [] s) [
-  | inl skipped ↦ say_skipped line (lines ++ codes "start 0" ∷ []) (Start 0 ∷ []) skipped.0 (say_started lines skipped.1)
+  | inl skipped ↦
+      say_skipped line (lines ++ codes "start 0" ∷ []) (Start 0 ∷ []) skipped.0 (say_started lines skipped.1)
   | inr begun ↦ let w = begun.whole in cc
 ]
 
@@ -227,7 +242,8 @@ begin_script : (lines : List (List ℕ)) → Say lines [] ⊎ ((script : Script)
 begin_script lines (inl nothing) = (codes "start 0" ∷ [], record { start = 0; steps = [] }, say_started lines nothing)
 begin_script lines (inr some) = ([], some.0, rw append-nil some.1)
 
-first_fault : (lines : List (List ℕ)) (number : ℕ) → script_from 1 lines ≡ Err number → FindsFault lines 1 number → IsFirstFault lines number
+first_fault : (lines : List (List ℕ)) (number : ℕ) → script_from 1 lines ≡ Err number → FindsFault lines 1 number
+    → IsFirstFault lines number
 first_fault lines number h r =
     let f = r.is_fault in
     let same : number - 1 ≡ r.place = (let s = r.same in omega arith) in
@@ -237,7 +253,8 @@ first_fault lines number h r =
       within = (let i = f.inside in omega arith);
       before = rw same (begin_script (take r.place lines) f.before);
       fault = λ i begun. f.bad (omega arith) begun.0 begun.1 (rw next at begun.2);
-      missing = λ script s. let ok = lines_are_one 1 lines script s in let e : Ok script ≡ Err number = sym ok ∙ h in cc;
+      missing =
+          λ script s. let ok = lines_are_one 1 lines script s in let e : Ok script ≡ Err number = sym ok ∙ h in cc;
     }
 
 pub faults_are_first : (text : List ℕ) (number : ℕ) → script_of text ≡ Err number → IsFirstFault (lines_of text) number

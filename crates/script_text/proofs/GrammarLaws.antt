@@ -13,7 +13,8 @@ abbrev pub step_items : List ScriptStep → List Line
 step_items steps = map (λ step. Step step) steps
 
 -- a result that has a step more than the other
-with_step_ok : (step : ScriptStep) (read : Result (List ScriptStep) ℕ) (steps : List ScriptStep) → with_step step read ≡ Ok steps
+with_step_ok : (step : ScriptStep) (read : Result (List ScriptStep) ℕ) (steps : List ScriptStep)
+    → with_step step read ≡ Ok steps
     → (more : List ScriptStep) × (read ≡ Ok more) × (steps ≡ step ∷ more)
 with_step_ok step (Ok more) steps h = (more, refl, cc)
 with_step_ok step (Err number) steps h = cc
@@ -44,13 +45,15 @@ steps_found number (line ∷ lines) steps h =
     first_step number line lines (line_of line) steps refl h (λ more i. steps_found (number + 1) lines more i)
 
 first_start : (number : ℕ) (line : List ℕ) (lines : List (List ℕ)) (said : Option Line) (script : Script)
-    → line_of line ≡ said → start_then number said (steps_from (number + 1) lines) (script_from (number + 1) lines) ≡ Ok script
+    → line_of line ≡ said
+    → start_then number said (steps_from (number + 1) lines) (script_from (number + 1) lines) ≡ Ok script
     → (script_from (number + 1) lines ≡ Ok script → AreScript lines script)
     → AreScript (line ∷ lines) script
 first_start number line lines (Some Skipped) script e h rest = say_skipped line lines (items_of script) e (rest h)
 first_start number line lines (Some (Start secs)) script e h rest =
     let parts = with_start_ok secs (steps_from (number + 1) lines) script h in
-    rw (← parts.1) (say_start line lines (step_items script.steps) secs e (steps_found (number + 1) lines script.steps parts.0))
+    rw (← parts.1)
+    (say_start line lines (step_items script.steps) secs e (steps_found (number + 1) lines script.steps parts.0))
 first_start number line lines (Some (Step step)) script e h rest = cc
 first_start number line lines None script e h rest = cc
 
@@ -62,7 +65,8 @@ lines_found number (line ∷ lines) script h =
 
 -- the other way
 pub step_parts : (steps : List ScriptStep) (first : Line) (more : List Line) → step_items steps ≡ first ∷ more
-    → (step : ScriptStep) × (rest : List ScriptStep) × (first ≡ Step step) × (more ≡ step_items rest) × (steps ≡ step ∷ rest)
+    → (step : ScriptStep) × (rest : List ScriptStep) × (first ≡ Step step) × (more ≡ step_items rest)
+    × (steps ≡ step ∷ rest)
 step_parts [] first more h = cc
 step_parts (step ∷ rest) first more h = (step, rest, cc, cc, refl)
 
@@ -72,11 +76,13 @@ steps_are_one number [] [] s = refl
 steps_are_one number [] (step ∷ steps) s = let none = say_nothing (step_items (step ∷ steps)) s in cc
 steps_are_one number (line ∷ lines) steps s = elim (say_cases line lines (step_items steps) s) [
   | inl skipped ↦
-      ap (λ said. step_then number said (steps_from (number + 1) lines)) skipped.0 ∙ steps_are_one (number + 1) lines steps skipped.1
+      ap (λ said. step_then number said (steps_from (number + 1) lines)) skipped.0
+      ∙ steps_are_one (number + 1) lines steps skipped.1
   | inr begun ↦
       let parts = step_parts steps begun.first begun.more begun.whole in
       let rest : Say lines (step_items parts.1) = rw parts.3 at begun.rest in
-      ap (λ said. step_then number said (steps_from (number + 1) lines)) (begun.is_first ∙ ap (λ item. Some item) parts.2)
+      ap (λ said. step_then number said (steps_from (number + 1) lines))
+      (begun.is_first ∙ ap (λ item. Some item) parts.2)
       ∙ (ap (with_step parts.0) (steps_are_one (number + 1) lines parts.1 rest) ∙ ap (λ steps. Ok steps) (sym parts.4))
 ]
 

@@ -21,11 +21,13 @@ number_decides word few = (
   λ h. let outer = and_parts _ _ h in let inner = and_parts _ _ outer.0 in let first = and_parts _ _ inner.0 in
       let some : 1 ≤ length word = leb-true 1 (length word) first.0 in
       (inner.1, omega arith, ltb-true (digits_value 10 word) (2 ^ 64) outer.1),
-  λ p. and_from _ _ (and_from _ _ (and_from _ _ (le-leb 1 (length word) (let some = p.1 in omega arith)) (le-leb (length word) 20 few)) p.0)
+  λ p. and_from _ _ (and_from _ _
+      (and_from _ _ (le-leb 1 (length word) (let some = p.1 in omega arith)) (le-leb (length word) 20 few)) p.0)
       (lt-ltb (digits_value 10 word) (2 ^ 64) p.2),
 )
 
-by_test : {E : Type 0} (r : Result ℕ E) (P : Type 0) (n : ℕ) (t : Bool) → OkIff r P n → Decides t P → result_ok r ≡ cond t (Some n) None
+by_test : {E : Type 0} (r : Result ℕ E) (P : Type 0) (n : ℕ) (t : Bool) → OkIff r P n → Decides t P
+    → result_ok r ≡ cond t (Some n) None
 by_test (Ok x) P n true h d = ap Some h.1
 by_test (Ok x) P n false h d = let e : false ≡ true = d.1 h.0 in cc
 by_test (Err e) P n true h d = absurd (h (d.0 refl))
@@ -35,12 +37,14 @@ pub parsed_number : {E : Type 0} (word : List ℕ) (r : Result ℕ E) → Parses
     → get_or word 0 0 ≢ 43 → result_ok r ≡ number_of word
 unfolding number_of
 parsed_number word r h few plus =
-    by_test r (IsNumber word) (digits_value 10 word) (is_number word) (parse_plain digits_model 64 word r h plus) (number_decides word few)
+    by_test r (IsNumber word) (digits_value 10 word) (is_number word) (parse_plain digits_model 64 word r h plus)
+    (number_decides word few)
 
 no_digits : (word : List ℕ) → all_ascii_digits word ≡ false → number_of word ≡ None
 unfolding number_of
 no_digits word e =
-    cond-false _ _ None (and_left _ (nat_lt (digits_value 10 word) (2 ^ 64)) (and_right (nat_le 1 (length word) && nat_le (length word) 20) _ e))
+    cond-false _ _ None (and_left _ (nat_lt (digits_value 10 word) (2 ^ 64))
+    (and_right (nat_le 1 (length word) && nat_le (length word) 20) _ e))
 
 pub number_is_utf8 : (word : List ℕ) → (IsUtf8 word → ⊥) → number_of word ≡ None
 number_is_utf8 word h = elim (cases_Bool (all_ascii_digits word)) [
@@ -61,5 +65,7 @@ pub number_of_many : (word : List ℕ) → 20 < length word → number_of word �
 unfolding number_of
 number_of_many word h = elim (cases_Bool (nat_le (length word) 20)) [
   | inl few ↦ absurd (let small : length word ≤ 20 = leb-true (length word) 20 few in omega arith)
-  | inr many ↦ cond-false _ _ None (and_left _ (nat_lt (digits_value 10 word) (2 ^ 64)) (and_left _ (all_ascii_digits word) (and_right (nat_le 1 (length word)) _ many)))
+  | inr many ↦
+      cond-false _ _ None (and_left _ (nat_lt (digits_value 10 word) (2 ^ 64))
+      (and_left _ (all_ascii_digits word) (and_right (nat_le 1 (length word)) _ many)))
 ]

@@ -12,13 +12,15 @@ small_none bytes h = grind (arith, nat_tests)
 large_none : (bytes : List ℕ) → 65536 < length bytes → within_piece (Ok bytes) ≡ None
 large_none bytes h = grind (arith, nat_tests)
 
-none_within : (word : List ℕ) (r : Result (List ℕ) FromHexError) → decode_of word ≡ r → length word ≡ 0 → within_piece r ≡ None
+none_within : (word : List ℕ) (r : Result (List ℕ) FromHexError) → decode_of word ≡ r → length word ≡ 0
+    → within_piece r ≡ None
 none_within word (Ok bytes) h none =
     let parts = decode_of-ok word bytes h in let twice : length word ≡ 2 * length bytes = parts.2 in
     small_none bytes (omega arith)
 none_within word (Err why) h none = refl
 
-many_within : (word : List ℕ) (r : Result (List ℕ) FromHexError) → decode_of word ≡ r → 131072 < length word → within_piece r ≡ None
+many_within : (word : List ℕ) (r : Result (List ℕ) FromHexError) → decode_of word ≡ r → 131072 < length word
+    → within_piece r ≡ None
 many_within word (Ok bytes) h many =
     let parts = decode_of-ok word bytes h in let twice : length word ≡ 2 * length bytes = parts.2 in
     large_none bytes (omega arith)

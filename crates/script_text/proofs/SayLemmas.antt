@@ -16,7 +16,8 @@ say_skipped line lines items h s = record {
   kept = s.kept;
 }
 
-pub say_start : (line : List ℕ) (lines : List (List ℕ)) (items : List Line) (secs : ℕ) → line_of line ≡ Some (Start secs)
+pub say_start : (line : List ℕ) (lines : List (List ℕ)) (items : List Line) (secs : ℕ)
+    → line_of line ≡ Some (Start secs)
     → Say lines items → Say (line ∷ lines) (Start secs ∷ items)
 say_start line lines items secs h s = record {
   said = Start secs ∷ s.said;

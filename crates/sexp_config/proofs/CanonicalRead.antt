@@ -13,4 +13,8 @@ unfolding canonical_text
 canonical_read config (text, is) limits =
     let written = config_written (bare_trees is.forms) config is.holds (read_writable text is.forms is.read).0 in
     let back = read_back (listed (config_forms config)) written.1 limits.shallow limits.short in
-    record { forms = back.forms; read = back.read; holds = subst (λ (row : BareTrees). AreConfig row config) (sym back.same) written.0 }
+    record {
+      forms = back.forms;
+      read = back.read;
+      holds = subst (λ (row : BareTrees). AreConfig row config) (sym back.same) written.0;
+    }

@@ -25,14 +25,20 @@ use Rattle.sexp_config.proofs.CanonicalTerms.{GoodEnv, literal_good, field_writt
 
 -- ---- arguments
 
-pub number_written : (least most : ℕ) (env : Env) → GoodEnv env → (form : BareTree) (n : ℕ) → IsRanged least most env form n → IsWritableTree form → IsRanged least most [] (number_form (pos n)) n × IsWritableTree (number_form (pos n))
-number_written least most env e form n (a_ranged is low high) w = (a_ranged a_number low high, literal_good env e form (bound.Number (pos n)) is w)
+pub number_written : (least most : ℕ) (env : Env) → GoodEnv env → (form : BareTree) (n : ℕ)
+    → IsRanged least most env form n → IsWritableTree form
+    → IsRanged least most [] (number_form (pos n)) n × IsWritableTree (number_form (pos n))
+number_written least most env e form n (a_ranged is low high) w =
+    (a_ranged a_number low high, literal_good env e form (bound.Number (pos n)) is w)
 
 init_written : (env : Env) → GoodEnv env → (row : BareTrees) (held : Value) → IsInit env row held → AreWritable row
-    → IsInit [] (listed (keyword_form init_text ∷ value_form held ∷ [])) held × AreWritable (listed (keyword_form init_text ∷ value_form held ∷ []))
-init_written env e _ _ (an_init {v = v} {held = held} key is) w = let held_is = value_written env e v held is w.1.0 in (an_init a_keyword held_is.0, (refl, (held_is.1, tt)))
+    → IsInit [] (listed (keyword_form init_text ∷ value_form held ∷ [])) held
+    × AreWritable (listed (keyword_form init_text ∷ value_form held ∷ []))
+init_written env e _ _ (an_init {v = v} {held = held} key is) w =
+    let held_is = value_written env e v held is w.1.0 in (an_init a_keyword held_is.0, (refl, (held_is.1, tt)))
 
-fold_written : (form : BareTree) (fold : Fold) → IsFold form fold → IsFold (symbol_form (fold_text fold)) fold × IsWritableTree (symbol_form (fold_text fold))
+fold_written : (form : BareTree) (fold : Fold) → IsFold form fold
+    → IsFold (symbol_form (fold_text fold)) fold × IsWritableTree (symbol_form (fold_text fold))
 fold_written _ _ sum = (sum, refl)
 fold_written _ _ minimum = (minimum, refl)
 fold_written _ _ maximum = (maximum, refl)
@@ -40,10 +46,13 @@ fold_written _ _ counted = (counted, refl)
 
 tags_written : (tags : List (List ℕ)) → AreWritable (listed (map text_form tags)) → RulesWritten (each_tag tags)
 tags_written [] w = (no_parts, tt)
-tags_written (tag ∷ tags) w = let more = tags_written tags w.1 in (more_parts (tagged_with a_text) more.0, ((refl, (w.0, tt)), more.1))
+tags_written (tag ∷ tags) w =
+    let more = tags_written tags w.1 in (more_parts (tagged_with a_text) more.0, ((refl, (w.0, tt)), more.1))
 
-both_written : (env : Env) → GoodEnv env → (n dt : BareTree) (count secs : ℕ) → IsCount env n count → AreSecs env dt secs → AreWritable (listed (n ∷ dt ∷ []))
-    → IsCount [] (number_form (pos count)) count × AreSecs [] (number_form (pos secs)) secs × AreWritable (listed (number_form (pos count) ∷ number_form (pos secs) ∷ []))
+both_written : (env : Env) → GoodEnv env → (n dt : BareTree) (count secs : ℕ) → IsCount env n count
+    → AreSecs env dt secs → AreWritable (listed (n ∷ dt ∷ []))
+    → IsCount [] (number_form (pos count)) count × AreSecs [] (number_form (pos secs)) secs
+    × AreWritable (listed (number_form (pos count) ∷ number_form (pos secs) ∷ []))
 both_written env e n dt count secs is are w =
     let n_is = number_written 1 MAX_COUNT env e n count is w.0 in
     let dt_is = number_written 1 MAX_SECS env e dt secs are w.1.0 in
@@ -60,28 +69,40 @@ record KindWritten (one : KindTree) : Type 0 where
   named : is_symbol name ≡ true
   writable : AreWritable own
 
-written : {name : List ℕ} {own : BareTrees} {one : KindTree} → IsKind [] name own one → ((forms : List BareTree) → kind_form one forms ≡ worded name (and_then own (listed forms))) → is_symbol name ≡ true → AreWritable own → KindWritten one
-written {name} {own} {one} is form_is named writable = record { name = name; own = own; is = is; form_is = form_is; named = named; writable = writable }
+written : {name : List ℕ} {own : BareTrees} {one : KindTree} → IsKind [] name own one
+    → ((forms : List BareTree) → kind_form one forms ≡ worded name (and_then own (listed forms)))
+    → is_symbol name ≡ true → AreWritable own → KindWritten one
+written {name} {own} {one} is form_is named writable =
+    record { name = name; own = own; is = is; form_is = form_is; named = named; writable = writable }
 
 where_written : (one : Tree) → RuleWritten one → KindWritten (plan.Where one)
 where_written one is = written (where_ is.0) (λ forms. refl) refl (is.1, tt)
 
-kind_written : (env : Env) → GoodEnv env → (name : List ℕ) (own : BareTrees) (one : KindTree) → IsKind env name own one → AreWritable own → KindWritten one
+kind_written : (env : Env) → GoodEnv env → (name : List ℕ) (own : BareTrees) (one : KindTree) → IsKind env name own one
+    → AreWritable own → KindWritten one
 kind_written env e _ _ _ sdo w = written sdo (λ forms. refl) refl tt
 kind_written env e _ _ _ (where_ {p = p} {rule = one} is) w = where_written one (rule_written env e p one is w.0)
 kind_written env e _ _ _ (with_one {f = f} {v = v} {one = one} means (a_set {held = held} is fitting)) w =
     let one_is = field_written env e f one means w.0 in
     let held_is = value_written env e v held is w.1.0 in
-    written (with_all (more_sets one_is.0 (a_set held_is.0 fitting) no_sets tt)) (λ forms. refl) refl ((one_is.1, (held_is.1, tt)), tt)
-kind_written env e _ _ _ (with_all {entries = entries} {sets = sets} are) w = let all = sets_written env e entries sets are w.0 in written (with_all all.0) (λ forms. refl) refl (all.1, tt)
+    written (with_all (more_sets one_is.0 (a_set held_is.0 fitting) no_sets tt)) (λ forms. refl) refl
+    ((one_is.1, (held_is.1, tt)), tt)
+kind_written env e _ _ _ (with_all {entries = entries} {sets = sets} are) w =
+    let all = sets_written env e entries sets are w.0 in written (with_all all.0) (λ forms. refl) refl (all.1, tt)
 kind_written env e _ _ _ (default_one {f = f} {v = v} {one = one} means (a_set {held = held} is fitting)) w =
     let one_is = field_written env e f one means w.0 in
     let held_is = value_written env e v held is w.1.0 in
-    written (default_all (more_sets one_is.0 (a_set held_is.0 fitting) no_sets tt)) (λ forms. refl) refl ((one_is.1, (held_is.1, tt)), tt)
-kind_written env e _ _ _ (default_all {entries = entries} {sets = sets} are) w = let all = sets_written env e entries sets are w.0 in written (default_all all.0) (λ forms. refl) refl (all.1, tt)
-kind_written env e _ _ _ (tagging {x = x} {tags = tags} are) w = let all = texts_written env e x tags are w.0 in written (tagging (text_vector all.0)) (λ forms. refl) refl (all.1, tt)
-kind_written env e _ _ _ (by {f = f} {fields = fields} are) w = let all = fields_written env e f fields are w.0 in written (by all.0) (λ forms. refl) refl (all.1, tt)
-kind_written env e _ _ _ (changed {f = f} {one = one} means) w = let one_is = field_written env e f one means w.0 in written (changed one_is.0) (λ forms. refl) refl (one_is.1, tt)
+    written (default_all (more_sets one_is.0 (a_set held_is.0 fitting) no_sets tt)) (λ forms. refl) refl
+    ((one_is.1, (held_is.1, tt)), tt)
+kind_written env e _ _ _ (default_all {entries = entries} {sets = sets} are) w =
+    let all = sets_written env e entries sets are w.0 in written (default_all all.0) (λ forms. refl) refl (all.1, tt)
+kind_written env e _ _ _ (tagging {x = x} {tags = tags} are) w =
+    let all = texts_written env e x tags are w.0 in
+    written (tagging (text_vector all.0)) (λ forms. refl) refl (all.1, tt)
+kind_written env e _ _ _ (by {f = f} {fields = fields} are) w =
+    let all = fields_written env e f fields are w.0 in written (by all.0) (λ forms. refl) refl (all.1, tt)
+kind_written env e _ _ _ (changed {f = f} {one = one} means) w =
+    let one_is = field_written env e f one means w.0 in written (changed one_is.0) (λ forms. refl) refl (one_is.1, tt)
 kind_written env e _ _ _ (changed_from {f = f} {entries = entries} {one = one} {held = held} means is) w =
     let one_is = field_written env e f one means w.0 in
     let init = init_written env e entries held is w.1.0 in
@@ -91,7 +112,8 @@ kind_written env e _ _ _ (runs {n = n} {f = f} {count = count} {one = one} is me
     let one_is = field_written env e f one means w.1.0 in
     written (runs n_is.0 one_is.0) (λ forms. refl) refl (n_is.1, (one_is.1, tt))
 kind_written env e _ _ _ (throttle {n = n} {dt = dt} {count = count} {secs = secs} is are) w =
-    let both = both_written env e n dt count secs is are w in written (throttle both.0 both.1) (λ forms. refl) refl both.2
+    let both = both_written env e n dt count secs is are w in
+    written (throttle both.0 both.1) (λ forms. refl) refl both.2
 kind_written env e _ _ _ (rollup {n = n} {dt = dt} {count = count} {secs = secs} is are) w =
     let both = both_written env e n dt count secs is are w in written (rollup both.0 both.1) (λ forms. refl) refl both.2
 kind_written env e _ _ _ (batch {n = n} {dt = dt} {count = count} {secs = secs} is are) w =
@@ -100,20 +122,39 @@ kind_written env e _ _ _ (stable {dt = dt} {f = f} {secs = secs} {one = one} are
     let dt_is = number_written 1 MAX_SECS env e dt secs are w.0 in
     let one_is = field_written env e f one means w.1.0 in
     written (stable dt_is.0 one_is.0) (λ forms. refl) refl (dt_is.1, (one_is.1, tt))
-kind_written env e _ _ _ (fixed_event {n = n} {count = count} is) w = let n_is = number_written 1 MAX_COUNT env e n count is w.0 in written (fixed_event n_is.0) (λ forms. refl) refl (n_is.1, tt)
-kind_written env e _ _ _ (moving_event {n = n} {count = count} is) w = let n_is = number_written 1 MAX_COUNT env e n count is w.0 in written (moving_event n_is.0) (λ forms. refl) refl (n_is.1, tt)
-kind_written env e _ _ _ (fixed_time {dt = dt} {secs = secs} are) w = let dt_is = number_written 1 MAX_SECS env e dt secs are w.0 in written (fixed_time dt_is.0) (λ forms. refl) refl (dt_is.1, tt)
-kind_written env e _ _ _ (moving_time {dt = dt} {secs = secs} are) w = let dt_is = number_written 1 MAX_SECS env e dt secs are w.0 in written (moving_time dt_is.0) (λ forms. refl) refl (dt_is.1, tt)
-kind_written env e _ _ _ coalesce w = written (coalesce_every (a_ranged a_number (omega arith) (omega arith))) (λ forms. refl) refl (omega arith, tt)
-kind_written env e _ _ _ (coalesce_every {dt = dt} {secs = secs} are) w = let dt_is = number_written 1 MAX_SECS env e dt secs are w.0 in written (coalesce_every dt_is.0) (λ forms. refl) refl (dt_is.1, tt)
-kind_written env e _ _ _ (smap {f = f} {fold = fold} is) w = let fold_is = fold_written f fold is in written (smap fold_is.0) (λ forms. refl) refl (fold_is.1, tt)
+kind_written env e _ _ _ (fixed_event {n = n} {count = count} is) w =
+    let n_is = number_written 1 MAX_COUNT env e n count is w.0 in
+    written (fixed_event n_is.0) (λ forms. refl) refl (n_is.1, tt)
+kind_written env e _ _ _ (moving_event {n = n} {count = count} is) w =
+    let n_is = number_written 1 MAX_COUNT env e n count is w.0 in
+    written (moving_event n_is.0) (λ forms. refl) refl (n_is.1, tt)
+kind_written env e _ _ _ (fixed_time {dt = dt} {secs = secs} are) w =
+    let dt_is = number_written 1 MAX_SECS env e dt secs are w.0 in
+    written (fixed_time dt_is.0) (λ forms. refl) refl (dt_is.1, tt)
+kind_written env e _ _ _ (moving_time {dt = dt} {secs = secs} are) w =
+    let dt_is = number_written 1 MAX_SECS env e dt secs are w.0 in
+    written (moving_time dt_is.0) (λ forms. refl) refl (dt_is.1, tt)
+kind_written env e _ _ _ coalesce w =
+    written (coalesce_every (a_ranged a_number (omega arith) (omega arith))) (λ forms. refl) refl (omega arith, tt)
+kind_written env e _ _ _ (coalesce_every {dt = dt} {secs = secs} are) w =
+    let dt_is = number_written 1 MAX_SECS env e dt secs are w.0 in
+    written (coalesce_every dt_is.0) (λ forms. refl) refl (dt_is.1, tt)
+kind_written env e _ _ _ (smap {f = f} {fold = fold} is) w =
+    let fold_is = fold_written f fold is in written (smap fold_is.0) (λ forms. refl) refl (fold_is.1, tt)
 kind_written env e _ _ _ expired w =
-    where_written (Equal field.State (value.Text (codes "expired"))) (equal_written field.State (value.Text (codes "expired")) state_tested (text_value a_text, symbol_is_utf8 (codes "expired") refl))
+    where_written (Equal field.State (value.Text (codes "expired")))
+    (equal_written field.State (value.Text (codes "expired")) state_tested
+    (text_value a_text, symbol_is_utf8 (codes "expired") refl))
 kind_written env e _ _ _ (tagged {x = x} {tag = tag} {tags = tags} are) w =
     let all = texts_written env e x (tag ∷ tags) are w.0 in
-    where_written (all_of (Tagged tag) (each_tag tags)) (all_written (Tagged tag) (each_tag tags) (tagged_with a_text, (refl, (all.1.0, tt))) (tags_written tags all.1.1))
-kind_written env e _ _ _ (over {k = k} {number = number} is) w = where_written _ (order_written Greater field.Metric number metric_tested (literal_good env e k (bound.Number number) is w.0))
-kind_written env e _ _ _ (under {k = k} {number = number} is) w = where_written _ (order_written Less field.Metric number metric_tested (literal_good env e k (bound.Number number) is w.0))
+    where_written (all_of (Tagged tag) (each_tag tags))
+    (all_written (Tagged tag) (each_tag tags) (tagged_with a_text, (refl, (all.1.0, tt))) (tags_written tags all.1.1))
+kind_written env e _ _ _ (over {k = k} {number = number} is) w =
+    where_written _
+    (order_written Greater field.Metric number metric_tested (literal_good env e k (bound.Number number) is w.0))
+kind_written env e _ _ _ (under {k = k} {number = number} is) w =
+    where_written _
+    (order_written Less field.Metric number metric_tested (literal_good env e k (bound.Number number) is w.0))
 
 -- ---- streams
 
@@ -125,11 +166,14 @@ abbrev pub AllWritten : StreamTrees → Type 0
 AllWritten none = Unit {0}
 AllWritten (also one streams) = StreamWritten one × AllWritten streams
 
-pub row_written : (streams : StreamTrees) → AllWritten streams → AreStreams [] (listed (stream_forms streams)) streams × AreWritable (listed (stream_forms streams))
+pub row_written : (streams : StreamTrees) → AllWritten streams
+    → AreStreams [] (listed (stream_forms streams)) streams × AreWritable (listed (stream_forms streams))
 row_written none all = (no_streams, tt)
-row_written (also one streams) all = let more = row_written streams all.1 in (more_streams all.0.0 more.0, (all.0.1, more.1))
+row_written (also one streams) all =
+    let more = row_written streams all.1 in (more_streams all.0.0 more.0, (all.0.1, more.1))
 
-pub joined_written : (streams others : StreamTrees) → AllWritten streams → AllWritten others → AllWritten (with_streams streams others)
+pub joined_written : (streams others : StreamTrees) → AllWritten streams → AllWritten others
+    → AllWritten (with_streams streams others)
 joined_written none others all more = more
 joined_written (also one streams) others all more = (all.0, joined_written streams others all.1 more)
 
@@ -145,40 +189,58 @@ listed_then : (forms others : List BareTree) → listed (forms ++ others) ≡ an
 listed_then [] others = refl
 listed_then (form ∷ forms) others = ap (and_trees form) (listed_then forms others)
 
-passing_written : (one : KindTree) (children : StreamTrees) → KindWritten one → AllWritten children → StreamWritten (stream one children none)
+passing_written : (one : KindTree) (children : StreamTrees) → KindWritten one → AllWritten children
+    → StreamWritten (stream one children none)
 passing_written one children known all =
     let row = row_written children all in
-    let form_is : stream_form (stream one children none) ≡ worded known.name (and_then known.own (listed (stream_forms children))) =
+    let form_is : stream_form (stream one children none)
+    ≡ worded known.name (and_then known.own (listed (stream_forms children))) =
     ap (kind_form one) (append-nil (stream_forms children)) ∙ known.form_is (stream_forms children) in (
       subst (λ (form : BareTree). IsStream [] form (stream one children none)) (sym form_is) (passing known.is row.0),
-      subst (λ (form : BareTree). IsWritableTree form) (sym form_is) (known.named, rows_writable known.own (listed (stream_forms children)) known.writable row.1),
+      subst (λ (form : BareTree). IsWritableTree form) (sym form_is)
+          (known.named, rows_writable known.own (listed (stream_forms children)) known.writable row.1),
     )
 
-else_written : (one : Tree) (children otherwise : StreamTrees) → RuleWritten one → AllWritten children → AllWritten otherwise → StreamWritten (stream (plan.Where one) children otherwise)
+else_written : (one : Tree) (children otherwise : StreamTrees) → RuleWritten one → AllWritten children
+    → AllWritten otherwise → StreamWritten (stream (plan.Where one) children otherwise)
 else_written one children none is all others = passing_written (plan.Where one) children (where_written one is) all
 else_written one children (also first streams) is all others =
     let row = row_written children all in
     let rest = row_written (also first streams) others in
     let last = listed (worded_form (stream_text word.Else) (stream_forms (also first streams)) ∷ []) in
-    let form_is : stream_form (stream (plan.Where one) children (also first streams)) ≡ worded (codes "where") (and_trees (rule_form one) (and_then (listed (stream_forms children)) last)) =
-    ap (λ (forms : BareTrees). worded (codes "where") (and_trees (rule_form one) forms)) (listed_then (stream_forms children) (else_forms (stream_forms (also first streams)))) in (
-      subst (λ (form : BareTree). IsStream [] form (stream (plan.Where one) children (also first streams))) (sym form_is) (where_else is.0 row.0 rest.0),
-      subst (λ (form : BareTree). IsWritableTree form) (sym form_is) (refl, (is.1, rows_writable (listed (stream_forms children)) last row.1 ((refl, rest.1), tt))),
+    let form_is : stream_form (stream (plan.Where one) children (also first streams))
+    ≡ worded (codes "where") (and_trees (rule_form one) (and_then (listed (stream_forms children)) last)) =
+    ap (λ (forms : BareTrees). worded (codes "where") (and_trees (rule_form one) forms))
+    (listed_then (stream_forms children) (else_forms (stream_forms (also first streams)))) in (
+      subst (λ (form : BareTree). IsStream [] form (stream (plan.Where one) children (also first streams)))
+          (sym form_is) (where_else is.0 row.0 rest.0),
+      subst (λ (form : BareTree). IsWritableTree form) (sym form_is)
+          (refl, (is.1, rows_writable (listed (stream_forms children)) last row.1 ((refl, rest.1), tt))),
     )
 
 mutual
-  stream_written : (env : Env) → GoodEnv env → (form : BareTree) (one : StreamTree) → IsStream env form one → IsWritableTree form → StreamWritten one
+  stream_written : (env : Env) → GoodEnv env → (form : BareTree) (one : StreamTree) → IsStream env form one
+      → IsWritableTree form → StreamWritten one
   stream_written env e _ _ (index_word is) w = (index_word refl, refl)
   stream_written env e _ _ (index_name is) w = (index_word refl, refl)
   stream_written env e _ _ index_list w = (index_word refl, refl)
-  stream_written env e _ _ (notice {x = x} {name = name} is) w = (notice a_text, (refl, (literal_good env e x (bound.Text name) is w.1.0, tt)))
-  stream_written env e _ _ (passing {word = name} {arguments = own} {forms = forms} {one = one} {children = children} is are) w =
+  stream_written env e _ _ (notice {x = x} {name = name} is) w =
+      (notice a_text, (refl, (literal_good env e x (bound.Text name) is w.1.0, tt)))
+  stream_written env e _ _
+      (passing {word = name} {arguments = own} {forms = forms} {one = one} {children = children} is are) w =
       let parts = rows_split own forms w.1 in
-      passing_written one children (kind_written env e name own one is parts.0) (streams_written env e forms children are parts.1)
-  stream_written env e _ _ (where_else {p = p} {rule = one} {forms = forms} {rest = rest} {children = children} {otherwise = otherwise} is are others) w =
+      passing_written one children (kind_written env e name own one is parts.0)
+      (streams_written env e forms children are parts.1)
+  stream_written env e _ _
+      (where_else {p = p} {rule = one} {forms = forms} {rest = rest} {children = children} {otherwise = otherwise} is
+      are others)
+      w =
       let parts = rows_split forms (listed (worded (codes "else") rest ∷ [])) w.1.1 in
-      else_written one children otherwise (rule_written env e p one is w.1.0) (streams_written env e forms children are parts.0) (streams_written env e rest otherwise others parts.1.0.1)
+      else_written one children otherwise (rule_written env e p one is w.1.0)
+      (streams_written env e forms children are parts.0) (streams_written env e rest otherwise others parts.1.0.1)
 
-  pub streams_written : (env : Env) → GoodEnv env → (forms : BareTrees) (streams : StreamTrees) → AreStreams env forms streams → AreWritable forms → AllWritten streams
+  pub streams_written : (env : Env) → GoodEnv env → (forms : BareTrees) (streams : StreamTrees)
+      → AreStreams env forms streams → AreWritable forms → AllWritten streams
   streams_written env e _ _ no_streams w = tt
-  streams_written env e _ _ (more_streams {form = form} {forms = forms} {one = one} {streams = streams} is others) w = (stream_written env e form one is w.0, streams_written env e forms streams others w.1)
+  streams_written env e _ _ (more_streams {form = form} {forms = forms} {one = one} {streams = streams} is others) w =
+      (stream_written env e form one is w.0, streams_written env e forms streams others w.1)

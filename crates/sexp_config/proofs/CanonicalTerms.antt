@@ -53,23 +53,29 @@ GoodEnv env = AllGood GoodBinding env
 all_reversed : (env : Env) → GoodEnv env → GoodEnv (reverse env)
 all_reversed [] all = tt
 all_reversed (binding ∷ env) all =
-    subst (λ (all : Env). GoodEnv all) (sym (reverse-append (binding ∷ []) env)) (all_both GoodBinding (reverse env) (binding ∷ []) (all_reversed env all.1) (all.0, tt))
+    subst (λ (all : Env). GoodEnv all) (sym (reverse-append (binding ∷ []) env))
+    (all_both GoodBinding (reverse env) (binding ∷ []) (all_reversed env all.1) (all.0, tt))
 
-found_good : (test : Binding → Bool) (env : Env) → GoodEnv env → SomeGood GoodBound (option_map (λ binding. binding.value) (find test env))
+found_good : (test : Binding → Bool) (env : Env) → GoodEnv env
+    → SomeGood GoodBound (option_map (λ binding. binding.value) (find test env))
 found_good test [] all = tt
 found_good test (binding ∷ env) all = found_if test binding env (test binding) all.0 (found_good test env all.1)
   where
-    found_if : (test : Binding → Bool) (binding : Binding) (env : Env) (passes : Bool) → GoodBound binding.value → SomeGood GoodBound (option_map (λ binding. binding.value) (find test env))
+    found_if : (test : Binding → Bool) (binding : Binding) (env : Env) (passes : Bool) → GoodBound binding.value
+        → SomeGood GoodBound (option_map (λ binding. binding.value) (find test env))
         → SomeGood GoodBound (option_map (λ binding. binding.value) (cond passes (Some binding) (find test env)))
     found_if test binding env true first others = first
     found_if test binding env false first others = others
 
-pub literal_good : (env : Env) → GoodEnv env → (form : BareTree) (literal : Bound) → IsLiteral env form literal → IsWritableTree form → GoodBound literal
+pub literal_good : (env : Env) → GoodEnv env → (form : BareTree) (literal : Bound) → IsLiteral env form literal
+    → IsWritableTree form → GoodBound literal
 literal_good env e _ _ a_text w = w
 literal_good env e _ _ a_pattern w = w
 literal_good env e _ _ a_number w = w
 literal_good env e _ _ a_keyword w = w
-literal_good env e _ literal (a_name {name = name} is) w = some_found GoodBound (bound_value name env) literal is (found_good (λ binding. bytes_eq binding.name name) (reverse env) (all_reversed env e))
+literal_good env e _ literal (a_name {name = name} is) w =
+    some_found GoodBound (bound_value name env) literal is
+    (found_good (λ binding. bytes_eq binding.name name) (reverse env) (all_reversed env e))
 
 -- ---- fields
 
@@ -134,7 +140,8 @@ bare_is name =
 abbrev pub FieldWritten : Field → Type 0
 FieldWritten one = IsField [] (field_form one) one × IsWritableTree (field_form one)
 
-pub field_written : (env : Env) → GoodEnv env → (form : BareTree) (one : Field) → IsField env form one → IsWritableTree form → FieldWritten one
+pub field_written : (env : Env) → GoodEnv env → (form : BareTree) (one : Field) → IsField env form one
+    → IsWritableTree form → FieldWritten one
 field_written env e form one (a_field {name = name} literal is) w =
     let good = named_good name one (literal_good env e form (bound.Keyword name) literal w) is in
     (a_field a_keyword good.means, good.named)
@@ -166,7 +173,8 @@ pub metric_tested : TestedWritten field.Metric
 metric_tested = tested_bare field.Metric tt
 
 tested_written : (form : BareTree) (one : Field) → IsTested form one → IsWritableTree form → TestedWritten one
-tested_written _ one (bare {name = name} is) w = tested_bare one (subst (λ (read : Option Field). Bare read) is (bare_is name))
+tested_written _ one (bare {name = name} is) w =
+    tested_bare one (subst (λ (read : Option Field). Bare read) is (bare_is name))
 tested_written _ one (keyed {name = name} is) w = tested_good one (named_good name one w is)
 
 -- ---- values
@@ -174,9 +182,12 @@ tested_written _ one (keyed {name = name} is) w = tested_good one (named_good na
 abbrev pub ValueWritten : Value → Type 0
 ValueWritten held = IsValue [] (value_form held) held × IsWritableTree (value_form held)
 
-pub value_written : (env : Env) → GoodEnv env → (form : BareTree) (held : Value) → IsValue env form held → IsWritableTree form → ValueWritten held
-value_written env e form _ (text_value {text = text} is) w = (text_value a_text, literal_good env e form (bound.Text text) is w)
-value_written env e form _ (number_value {number = number} is) w = (number_value a_number, literal_good env e form (bound.Number number) is w)
+pub value_written : (env : Env) → GoodEnv env → (form : BareTree) (held : Value) → IsValue env form held
+    → IsWritableTree form → ValueWritten held
+value_written env e form _ (text_value {text = text} is) w =
+    (text_value a_text, literal_good env e form (bound.Text text) is w)
+value_written env e form _ (number_value {number = number} is) w =
+    (number_value a_number, literal_good env e form (bound.Number number) is w)
 value_written env e _ _ (nil_value is) w = (nil_value refl, refl)
 
 -- ---- predicates
@@ -195,17 +206,21 @@ any_written : (one : Tree) (rules : Trees) → RuleWritten one → RulesWritten 
 any_written one pred.none first others = first
 any_written one (pred.also second rules) first others = (any_part first.0 others.0, (refl, (first.1, others.1)))
 
-pub order_written : (order : Ordering) (one : Field) (number : ℤ) → TestedWritten one → IsWithin64 number → RuleWritten (Order one order number)
+pub order_written : (order : Ordering) (one : Field) (number : ℤ) → TestedWritten one → IsWithin64 number
+    → RuleWritten (Order one order number)
 order_written Less one number test fits = (compared {order = Less} test.0 a_number, (refl, (test.1, (fits, tt))))
-order_written LessEqual one number test fits = (compared {order = LessEqual} test.0 a_number, (refl, (test.1, (fits, tt))))
+order_written LessEqual one number test fits =
+    (compared {order = LessEqual} test.0 a_number, (refl, (test.1, (fits, tt))))
 order_written Greater one number test fits = (compared {order = Greater} test.0 a_number, (refl, (test.1, (fits, tt))))
-order_written GreaterEqual one number test fits = (compared {order = GreaterEqual} test.0 a_number, (refl, (test.1, (fits, tt))))
+order_written GreaterEqual one number test fits =
+    (compared {order = GreaterEqual} test.0 a_number, (refl, (test.1, (fits, tt))))
 
 pub equal_written : (one : Field) (held : Value) → TestedWritten one → ValueWritten held → RuleWritten (Equal one held)
 equal_written one held test is = (equal test.0 is.0, (refl, (test.1, (is.1, tt))))
 
 mutual
-  pub rule_written : (env : Env) → GoodEnv env → (form : BareTree) (one : Tree) → IsPredicate env form one → IsWritableTree form → RuleWritten one
+  pub rule_written : (env : Env) → GoodEnv env → (form : BareTree) (one : Tree) → IsPredicate env form one
+      → IsWritableTree form → RuleWritten one
   rule_written env e _ _ always w = (always, refl)
   rule_written env e _ _ never w = (never, refl)
   rule_written env e _ _ never_nil w = (never, refl)
@@ -213,20 +228,29 @@ mutual
       all_written one rules (rule_written env e part one first w.1.0) (rules_written env e parts rules others w.1.1)
   rule_written env e _ _ (any_part {part = part} {parts = parts} {rule = one} {rules = rules} first others) w =
       any_written one rules (rule_written env e part one first w.1.0) (rules_written env e parts rules others w.1.1)
-  rule_written env e _ _ (negated {part = part} {rule = one} is) w = let part_is = rule_written env e part one is w.1.0 in (negated part_is.0, (refl, (part_is.1, tt)))
-  rule_written env e _ _ (tagged {x = x} {tag = tag} is) w = (tagged a_text, (refl, (literal_good env e x (bound.Text tag) is w.1.0, tt)))
-  rule_written env e _ _ (equal {g = g} {v = v} {field = one} {held = held} tests is) w = equal_written one held (tested_written g one tests w.1.0) (value_written env e v held is w.1.1.0)
+  rule_written env e _ _ (negated {part = part} {rule = one} is) w =
+      let part_is = rule_written env e part one is w.1.0 in (negated part_is.0, (refl, (part_is.1, tt)))
+  rule_written env e _ _ (tagged {x = x} {tag = tag} is) w =
+      (tagged a_text, (refl, (literal_good env e x (bound.Text tag) is w.1.0, tt)))
+  rule_written env e _ _ (equal {g = g} {v = v} {field = one} {held = held} tests is) w =
+      equal_written one held (tested_written g one tests w.1.0) (value_written env e v held is w.1.1.0)
   rule_written env e _ _ (unequal {g = g} {v = v} {field = one} {held = held} tests is) w =
-      let part = equal_written one held (tested_written g one tests w.1.0) (value_written env e v held is w.1.1.0) in (negated part.0, (refl, (part.1, tt)))
+      let part = equal_written one held (tested_written g one tests w.1.0) (value_written env e v held is w.1.1.0) in
+      (negated part.0, (refl, (part.1, tt)))
   rule_written env e _ _ (compared {g = g} {k = k} {field = one} {order = order} {number = number} tests is) w =
-      order_written order one number (tested_written g one tests w.1.0) (literal_good env e k (bound.Number number) is w.1.1.0)
+      order_written order one number (tested_written g one tests w.1.0)
+      (literal_good env e k (bound.Number number) is w.1.1.0)
   rule_written env e _ _ (like {g = g} {w = form} {field = one} {pattern = pattern} tests is) w =
-      let test = tested_written g one tests w.1.0 in (like test.0 a_text, (refl, (test.1, (literal_good env e form (bound.Text pattern) is w.1.1.0, tt))))
-  rule_written env e _ _ (holds {g = g} {v = v} {field = one} {held = held} tests is) w = equal_written one held (tested_written g one tests w.0) (value_written env e v held is w.1.0)
+      let test = tested_written g one tests w.1.0 in
+      (like test.0 a_text, (refl, (test.1, (literal_good env e form (bound.Text pattern) is w.1.1.0, tt))))
+  rule_written env e _ _ (holds {g = g} {v = v} {field = one} {held = held} tests is) w =
+      equal_written one held (tested_written g one tests w.0) (value_written env e v held is w.1.0)
   rule_written env e _ _ (found {g = g} {p = p} {field = one} {pattern = pattern} tests is) w =
-      let test = tested_written g one tests w.0 in (found test.0 a_pattern, (test.1, (literal_good env e p (bound.Pattern pattern) is w.1.0, tt)))
+      let test = tested_written g one tests w.0 in
+      (found test.0 a_pattern, (test.1, (literal_good env e p (bound.Pattern pattern) is w.1.0, tt)))
 
-  rules_written : (env : Env) → GoodEnv env → (forms : BareTrees) (rules : Trees) → ArePredicates env forms rules → AreWritable forms → RulesWritten rules
+  rules_written : (env : Env) → GoodEnv env → (forms : BareTrees) (rules : Trees) → ArePredicates env forms rules
+      → AreWritable forms → RulesWritten rules
   rules_written env e _ _ no_parts w = (no_parts, tt)
   rules_written env e _ _ (more_parts {part = part} {parts = parts} {rule = one} {rules = rules} first others) w =
       let one_is = rule_written env e part one first w.0 in
@@ -238,33 +262,46 @@ mutual
 abbrev pub TextsWritten : List (List ℕ) → Type 0
 TextsWritten texts = AreTexts [] (listed (map text_form texts)) texts × AreWritable (listed (map text_form texts))
 
-text_row : (env : Env) → GoodEnv env → (forms : BareTrees) (texts : List (List ℕ)) → AreTexts env forms texts → AreWritable forms → TextsWritten texts
+text_row : (env : Env) → GoodEnv env → (forms : BareTrees) (texts : List (List ℕ)) → AreTexts env forms texts
+    → AreWritable forms → TextsWritten texts
 text_row env e _ _ no_texts w = (no_texts, tt)
 text_row env e _ _ (more_texts {form = form} {forms = forms} {text = text} {texts = texts} is others) w =
-    let more = text_row env e forms texts others w.1 in (more_texts a_text more.0, (literal_good env e form (bound.Text text) is w.0, more.1))
+    let more = text_row env e forms texts others w.1 in
+    (more_texts a_text more.0, (literal_good env e form (bound.Text text) is w.0, more.1))
 
-pub texts_written : (env : Env) → GoodEnv env → (form : BareTree) (texts : List (List ℕ)) → IsTexts env form texts → IsWritableTree form → TextsWritten texts
-texts_written env e form _ (text_alone {text = text} is) w = (more_texts a_text no_texts, (literal_good env e form (bound.Text text) is w, tt))
+pub texts_written : (env : Env) → GoodEnv env → (form : BareTree) (texts : List (List ℕ)) → IsTexts env form texts
+    → IsWritableTree form → TextsWritten texts
+texts_written env e form _ (text_alone {text = text} is) w =
+    (more_texts a_text no_texts, (literal_good env e form (bound.Text text) is w, tt))
 texts_written env e _ texts (text_vector {forms = forms} are) w = text_row env e forms texts are w
 
 abbrev FieldsWritten : List Field → Type 0
-FieldsWritten fields = AreFields [] (listed (map field_form fields)) fields × AreWritable (listed (map field_form fields))
+FieldsWritten fields =
+    AreFields [] (listed (map field_form fields)) fields × AreWritable (listed (map field_form fields))
 
-field_row : (env : Env) → GoodEnv env → (forms : BareTrees) (fields : List Field) → AreFields env forms fields → AreWritable forms → FieldsWritten fields
+field_row : (env : Env) → GoodEnv env → (forms : BareTrees) (fields : List Field) → AreFields env forms fields
+    → AreWritable forms → FieldsWritten fields
 field_row env e _ _ no_fields w = (no_fields, tt)
 field_row env e _ _ (more_fields {form = form} {forms = forms} {field = one} {fields = fields} is others) w =
     let one_is = field_written env e form one is w.0 in
     let more = field_row env e forms fields others w.1 in
     (more_fields one_is.0 more.0, (one_is.1, more.1))
 
-pub fields_written : (env : Env) → GoodEnv env → (form : BareTree) (fields : List Field) → IsFields env form fields → IsWritableTree form
+pub fields_written : (env : Env) → GoodEnv env → (form : BareTree) (fields : List Field) → IsFields env form fields
+    → IsWritableTree form
     → IsFields [] (vector_form (map field_form fields)) fields × IsWritableTree (vector_form (map field_form fields))
-fields_written env e form _ (field_alone {field = one} is) w = let one_is = field_written env e form one is w in (field_vector (more_fields one_is.0 no_fields), (one_is.1, tt))
-fields_written env e _ _ (field_vector {forms = forms} {field = one} {fields = fields} are) w = let all = field_row env e forms (one ∷ fields) are w in (field_vector all.0, all.1)
+fields_written env e form _ (field_alone {field = one} is) w =
+    let one_is = field_written env e form one is w in (field_vector (more_fields one_is.0 no_fields), (one_is.1, tt))
+fields_written env e _ _ (field_vector {forms = forms} {field = one} {fields = fields} are) w =
+    let all = field_row env e forms (one ∷ fields) are w in (field_vector all.0, all.1)
 
-pub sets_written : (env : Env) → GoodEnv env → (forms : BareTrees) (sets : List Set) → AreSets env forms sets → AreWritable forms → AreSets [] (listed (set_forms sets)) sets × AreWritable (listed (set_forms sets))
+pub sets_written : (env : Env) → GoodEnv env → (forms : BareTrees) (sets : List Set) → AreSets env forms sets
+    → AreWritable forms → AreSets [] (listed (set_forms sets)) sets × AreWritable (listed (set_forms sets))
 sets_written env e _ _ no_sets w = (no_sets, tt)
-sets_written env e _ _ (more_sets {f = f} {v = v} {forms = forms} {one = one} {sets = sets} means (a_set {held = held} is fitting) others new) w =
+sets_written env e _ _
+    (more_sets {f = f} {v = v} {forms = forms} {one = one} {sets = sets} means (a_set {held = held} is fitting) others
+    new)
+    w =
     let one_is = field_written env e f one means w.0 in
     let held_is = value_written env e v held is w.1.0 in
     let more = sets_written env e forms sets others w.1.1 in

@@ -25,7 +25,8 @@ same_default (Some server) = refl
 
 -- ---- a configuration of the grammar is read
 
-steps_end : (forms : FormTrees) (draft : Draft) → run [] fresh_draft (tops_in forms) ≡ Ok draft → plan_fault draft.below.children ≡ None
+steps_end : (forms : FormTrees) (draft : Draft) → run [] fresh_draft (tops_in forms) ≡ Ok draft
+    → plan_fault draft.below.children ≡ None
     → config_of forms ≡ Ok (config_from draft (server_in draft.server) draft.below.children.streams)
 unfolding config_of
 steps_end forms draft ran none = rw (ran, none) refl
@@ -33,39 +34,69 @@ steps_end forms draft ran none = rw (ran, none) refl
 made : Server → Option Expiry → StreamTrees → Config
 made server expiry plan = record { host = server.host; port = server.port; expiry = expiry; plan = plan }
 
-config_is_read : (forms : FormTrees) (config : Config) → AreConfig (bare_trees forms) config → config_of forms ≡ Ok config
+config_is_read : (forms : FormTrees) (config : Config) → AreConfig (bare_trees forms) config
+    → config_of forms ≡ Ok config
 unfolding made
 config_is_read forms config are =
     let onto = tops_read [] (bare_trees forms) _ are.said forms refl fresh_draft are.server config.expiry refl refl in
     let draft = onto.after in
     let streams : config.plan ≡ draft.below.children.streams = sym onto.streams_are in
-    let known : Passes (preorder_of draft.below.children.streams) = subst (λ (plan : StreamTrees). Passes (preorder_of plan)) streams (record { few = are.few; taken = are.taken }) in
-    let server : server_in draft.server ≡ unwrap_or are.server (listening None None) = ap server_in onto.server_is ∙ same_default are.server in
+    let known : Passes (preorder_of draft.below.children.streams) =
+    subst (λ (plan : StreamTrees). Passes (preorder_of plan)) streams (record { few = are.few; taken = are.taken }) in
+    let server : server_in draft.server ≡ unwrap_or are.server (listening None None) =
+    ap server_in onto.server_is ∙ same_default are.server in
     steps_end forms draft onto.is (passes draft.below.children known)
     ∙ ap (λ (one : Server). Ok (made one draft.expiry draft.below.children.streams)) server
-    ∙ ap (λ (expiry : Option Expiry). Ok (made (unwrap_or are.server (listening None None)) expiry draft.below.children.streams)) onto.expiry_is
-    ∙ ap (λ (plan : StreamTrees). Ok (made (unwrap_or are.server (listening None None)) config.expiry plan)) (sym streams)
-    ∙ ap (λ (host : List ℕ). Ok (record { host = host; port = (unwrap_or are.server (listening None None)).port; expiry = config.expiry; plan = config.plan })) (sym are.host)
-    ∙ ap (λ (port : ℕ). Ok (record { host = config.host; port = port; expiry = config.expiry; plan = config.plan })) (sym are.port)
+    ∙ ap
+    (λ (expiry : Option Expiry).
+    Ok (made (unwrap_or are.server (listening None None)) expiry draft.below.children.streams))
+    onto.expiry_is
+    ∙ ap (λ (plan : StreamTrees). Ok (made (unwrap_or are.server (listening None None)) config.expiry plan))
+    (sym streams)
+    ∙ ap
+    (λ (host : List ℕ). Ok
+    (record {
+      host = host;
+      port = (unwrap_or are.server (listening None None)).port;
+      expiry = config.expiry;
+      plan = config.plan;
+    }))
+    (sym are.host)
+    ∙ ap (λ (port : ℕ). Ok (record { host = config.host; port = port; expiry = config.expiry; plan = config.plan }))
+    (sym are.port)
 
 -- ---- what is read is a configuration of the grammar
 
-checked_means : (located : Located) → OkGood (λ plan. (plan ≡ located.streams) × Passes (preorder_of located.streams)) (checked located)
+checked_means : (located : Located)
+    → OkGood (λ plan. (plan ≡ located.streams) × Passes (preorder_of located.streams)) (checked located)
 checked_means located = by (plan_fault located) refl
   where
-    by : (fault : Option Fault) → plan_fault located ≡ fault → OkGood (λ plan. (plan ≡ located.streams) × Passes (preorder_of located.streams)) (faultless located.streams fault)
+    by : (fault : Option Fault) → plan_fault located ≡ fault
+        → OkGood (λ plan. (plan ≡ located.streams) × Passes (preorder_of located.streams))
+        (faultless located.streams fault)
     by None is = (refl, passed located is)
     by (Some fault) is = tt
 
-config_of_draft : (row : BareTrees) (draft : Draft) → TopsMean [] row fresh_draft draft → (plan : StreamTrees) → plan ≡ draft.below.children.streams → Passes (preorder_of draft.below.children.streams)
+config_of_draft : (row : BareTrees) (draft : Draft) → TopsMean [] row fresh_draft draft → (plan : StreamTrees)
+    → plan ≡ draft.below.children.streams → Passes (preorder_of draft.below.children.streams)
     → AreConfig row (config_from draft (server_in draft.server) plan)
 config_of_draft row draft known plan is passing =
     let host_port = same_default draft.server in
     record {
       server = draft.server;
-      said = subst (λ (servers : List Server). AreTops [] row (record { servers = servers; expiries = option_to_list draft.expiry; streams = plan })) (sym known.more.servers)
-          (subst (λ (expiries : List Expiry). AreTops [] row (record { servers = known.said.servers; expiries = expiries; streams = plan })) (sym known.more.expiries)
-          (subst (λ (streams : StreamTrees). AreTops [] row (record { servers = known.said.servers; expiries = known.said.expiries; streams = streams })) (sym (is ∙ known.more.streams)) known.are));
+      said =
+          subst
+          (λ (servers : List Server).
+          AreTops [] row (record { servers = servers; expiries = option_to_list draft.expiry; streams = plan }))
+          (sym known.more.servers)
+          (subst
+          (λ (expiries : List Expiry).
+          AreTops [] row (record { servers = known.said.servers; expiries = expiries; streams = plan }))
+          (sym known.more.expiries)
+          (subst
+          (λ (streams : StreamTrees).
+          AreTops [] row (record { servers = known.said.servers; expiries = known.said.expiries; streams = streams }))
+          (sym (is ∙ known.more.streams)) known.are));
       host = ap (λ (server : Server). server.host) host_port;
       port = ap (λ (server : Server). server.port) host_port;
       few = (subst (λ (streams : StreamTrees). Passes (preorder_of streams)) (sym is) passing).few;
@@ -75,9 +106,13 @@ config_of_draft row draft known plan is passing =
 config_means : (forms : FormTrees) → OkGood (AreConfig (bare_trees forms)) (config_of forms)
 unfolding config_of
 config_means forms =
-    bind_good (TopsMean [] (bare_trees forms) fresh_draft) (AreConfig (bare_trees forms)) (run [] fresh_draft (tops_in forms)) (λ draft. finished draft) ((tops_mean forms).0 [] fresh_draft) (λ draft known.
-    bind_good (λ plan. (plan ≡ draft.below.children.streams) × Passes (preorder_of draft.below.children.streams)) (AreConfig (bare_trees forms)) (checked draft.below.children) (λ plan. Ok (config_from draft (server_in draft.server) plan))
-    (checked_means draft.below.children) (λ plan passing. config_of_draft (bare_trees forms) draft known plan passing.0 passing.1))
+    bind_good (TopsMean [] (bare_trees forms) fresh_draft) (AreConfig (bare_trees forms))
+    (run [] fresh_draft (tops_in forms)) (λ draft. finished draft) ((tops_mean forms).0 [] fresh_draft) (λ draft known.
+    bind_good (λ plan. (plan ≡ draft.below.children.streams) × Passes (preorder_of draft.below.children.streams))
+    (AreConfig (bare_trees forms)) (checked draft.below.children)
+    (λ plan. Ok (config_from draft (server_in draft.server) plan))
+    (checked_means draft.below.children)
+    (λ plan passing. config_of_draft (bare_trees forms) draft known plan passing.0 passing.1))
 
 pub configs_are_read : ConfigsAreRead
 configs_are_read forms config = (

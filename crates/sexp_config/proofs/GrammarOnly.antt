@@ -30,15 +30,18 @@ use Rattle.sexp_config.proofs.GrammarRead.{NotBoth, listens, same_server}
 
 -- ---- arguments
 
-ranged_means : (least most : ℕ) (env : Env) (f : FormTree) → OkGood (IsRanged least most env (bare_tree f)) (ranged_at least most env f)
+ranged_means : (least most : ℕ) (env : Env) (f : FormTree)
+    → OkGood (IsRanged least most env (bare_tree f)) (ranged_at least most env f)
 ranged_means least most env f = by (ranged_at least most env f) refl
   where
-    by : (read : Result ℕ Fault) → ranged_at least most env f ≡ read → OkGood (IsRanged least most env (bare_tree f)) read
+    by : (read : Result ℕ Fault) → ranged_at least most env f ≡ read
+        → OkGood (IsRanged least most env (bare_tree f)) read
     by (Ok n) is = (ranges_are_read least most env f n).1 is
     by (Err fault) is = tt
 
 -- no name is bound to a vector or a map
-no_vector : (P : FormTrees → Type 0) (name : List ℕ) (held : Option Bound) → SomeGood P (vector_in (bound_argument name held))
+no_vector : (P : FormTrees → Type 0) (name : List ℕ) (held : Option Bound)
+    → SomeGood P (vector_in (bound_argument name held))
 no_vector P name None = tt
 no_vector P name (Some (bound.Text text)) = tt
 no_vector P name (Some (bound.Pattern text)) = tt
@@ -65,7 +68,10 @@ unfolding vector_at argument_of
 vector_means env (Group Square forms start last) = refl
 vector_means env (Group Round forms start last) = tt
 vector_means env (Group Curly forms start last) = tt
-vector_means env (Single (atom.Symbol name) start last) = fitting_good (VectorIs (symbol name)) start (bound_argument name (bound_value name env)) (vector_in (bound_argument name (bound_value name env))) (no_vector (VectorIs (symbol name)) name (bound_value name env))
+vector_means env (Single (atom.Symbol name) start last) =
+    fitting_good (VectorIs (symbol name)) start (bound_argument name (bound_value name env))
+    (vector_in (bound_argument name (bound_value name env)))
+    (no_vector (VectorIs (symbol name)) name (bound_value name env))
 vector_means env (Single (atom.Text text) start last) = tt
 vector_means env (Single (atom.Pattern text) start last) = tt
 vector_means env (Single (atom.Number number) start last) = tt
@@ -76,7 +82,9 @@ unfolding map_at argument_of
 map_means env (Group Curly forms start last) = refl
 map_means env (Group Round forms start last) = tt
 map_means env (Group Square forms start last) = tt
-map_means env (Single (atom.Symbol name) start last) = fitting_good (MapIs (symbol name)) start (bound_argument name (bound_value name env)) (map_in (bound_argument name (bound_value name env))) (no_map (MapIs (symbol name)) name (bound_value name env))
+map_means env (Single (atom.Symbol name) start last) =
+    fitting_good (MapIs (symbol name)) start (bound_argument name (bound_value name env))
+    (map_in (bound_argument name (bound_value name env))) (no_map (MapIs (symbol name)) name (bound_value name env))
 map_means env (Single (atom.Text text) start last) = tt
 map_means env (Single (atom.Pattern text) start last) = tt
 map_means env (Single (atom.Number number) start last) = tt
@@ -84,7 +92,8 @@ map_means env (Single (atom.Keyword key) start last) = tt
 
 -- ---- names
 
-symbol_value : (env : Env) (f : FormTree) (name : List ℕ) (held : Option Bound) → bound_value name env ≡ held → OkGood (IsNamed env (symbol name)) (bound_by f (bound_argument name held))
+symbol_value : (env : Env) (f : FormTree) (name : List ℕ) (held : Option Bound) → bound_value name env ≡ held
+    → OkGood (IsNamed env (symbol name)) (bound_by f (bound_argument name held))
 symbol_value env f name None is = tt
 symbol_value env f name (Some (bound.Text text)) is = a_value (a_name is)
 symbol_value env f name (Some (bound.Pattern text)) is = a_value (a_name is)
@@ -92,13 +101,17 @@ symbol_value env f name (Some (bound.Number number)) is = a_value (a_name is)
 symbol_value env f name (Some (bound.Keyword key)) is = a_value (a_name is)
 symbol_value env f name (Some bound.Index) is = a_value (a_name is)
 
-index_means : (env : Env) (name : List ℕ) (start : ℕ) (forms : FormTrees) → OkGood (IsNamed env (worded name (bare_trees forms))) (index_by name start forms)
+index_means : (env : Env) (name : List ℕ) (start : ℕ) (forms : FormTrees)
+    → OkGood (IsNamed env (worded name (bare_trees forms))) (index_by name start forms)
 unfolding at_most
 index_means env name start none =
     ok_if (IsNamed env (worded name no_trees)) (bytes_eq name (stream_text word.Index)) (Ok bound.Index) (Err _)
-    (λ is. subst (λ (n : List ℕ). IsNamed env (worded n no_trees) bound.Index) (sym ((bytes_eq-Decides name (stream_text word.Index)).0 is)) the_index) (λ _. tt)
+    (λ is. subst (λ (n : List ℕ). IsNamed env (worded n no_trees) bound.Index)
+    (sym ((bytes_eq-Decides name (stream_text word.Index)).0 is)) the_index)
+    (λ _. tt)
 index_means env name start (also f forms) =
-    ok_if (IsNamed env (worded name (bare_trees (also f forms)))) (bytes_eq name (stream_text word.Index)) (Err _) (Err _) (λ _. tt) (λ _. tt)
+    ok_if (IsNamed env (worded name (bare_trees (also f forms)))) (bytes_eq name (stream_text word.Index)) (Err _)
+    (Err _) (λ _. tt) (λ _. tt)
 
 named_means : (env : Env) (f : FormTree) → OkGood (IsNamed env (bare_tree f)) (bound_at env f)
 unfolding bound_at argument_of
@@ -106,8 +119,10 @@ named_means env (Single (atom.Text text) start last) = a_value a_text
 named_means env (Single (atom.Pattern text) start last) = a_value a_pattern
 named_means env (Single (atom.Number number) start last) = a_value a_number
 named_means env (Single (atom.Keyword key) start last) = a_value a_keyword
-named_means env (Single (atom.Symbol name) start last) = symbol_value env (Single (atom.Symbol name) start last) name (bound_value name env) refl
-named_means env (Group Round (also (Single (atom.Symbol name) begin end) forms) start last) = index_means env name start forms
+named_means env (Single (atom.Symbol name) start last) =
+    symbol_value env (Single (atom.Symbol name) start last) name (bound_value name env) refl
+named_means env (Group Round (also (Single (atom.Symbol name) begin end) forms) start last) =
+    index_means env name start forms
 named_means env (Group Round (also (Single (atom.Text text) begin end) forms) start last) = tt
 named_means env (Group Round (also (Single (atom.Pattern text) begin end) forms) start last) = tt
 named_means env (Group Round (also (Single (atom.Number number) begin end) forms) start last) = tt
@@ -129,16 +144,22 @@ name_means (Single (atom.Number number) start last) = tt
 name_means (Single (atom.Keyword key) start last) = tt
 name_means (Group bracket forms start last) = tt
 
-names_mean : (place : ℕ) (env : Env) (forms : FormTrees) → OkGood (AreNames env (bare_trees forms)) (names_from place env forms)
+names_mean : (place : ℕ) (env : Env) (forms : FormTrees)
+    → OkGood (AreNames env (bare_trees forms)) (names_from place env forms)
 unfolding names_from
 names_mean place env none = no_names
-names_mean place env (also name none) = bind_good Any_ (AreNames env (bare_trees (also name none))) (name_at name) _ (any_good (name_at name)) (λ known _. tt)
+names_mean place env (also name none) =
+    bind_good Any_ (AreNames env (bare_trees (also name none))) (name_at name) _ (any_good (name_at name))
+    (λ known _. tt)
 names_mean place env (also name (also f forms)) =
     let Q = AreNames env (bare_trees (also name (also f forms))) in
     bind_good (SymbolIs (bare_tree name)) Q (name_at name) _ (name_means name) (λ known at.
     bind_good (IsNamed env (bare_tree f)) Q (bound_at env f) _ (named_means env f) (λ value is.
-    weaker (AreNames (env ++ record { name = known; value = value } ∷ []) (bare_trees forms)) Q (names_from place (env ++ record { name = known; value = value } ∷ []) forms)
-    (λ inner others. subst (λ (t : BareTree). AreNames env (and_trees t (and_trees (bare_tree f) (bare_trees forms))) inner) (sym at) (more_names is others))
+    weaker (AreNames (env ++ record { name = known; value = value } ∷ []) (bare_trees forms)) Q
+    (names_from place (env ++ record { name = known; value = value } ∷ []) forms)
+    (λ inner others. subst
+    (λ (t : BareTree). AreNames env (and_trees t (and_trees (bare_tree f) (bare_trees forms))) inner) (sym at)
+    (more_names is others))
     (names_mean place (env ++ record { name = known; value = value } ∷ []) forms)))
 
 -- the first form is a vector of names, after which these are bound
@@ -154,9 +175,11 @@ pub vector_names : (env : Env) (start : ℕ) (forms : FormTrees) → OkGood (Has
 unfolding argument
 vector_names env start none = tt
 vector_names env start (also first rest) =
-    bind_good (VectorIs (bare_tree first)) (HasNames env (also first rest)) (vector_at env first) (names_from (start_of first) env) (vector_means env first) (λ names is.
+    bind_good (VectorIs (bare_tree first)) (HasNames env (also first rest)) (vector_at env first)
+    (names_from (start_of first) env) (vector_means env first) (λ names is.
     weaker (AreNames env (bare_trees names)) (HasNames env (also first rest)) (names_from (start_of first) env names)
-    (λ inner are. record { first = first; rest = rest; names = bare_trees names; are = refl; is = is; bound = are }) (names_mean (start_of first) env names))
+    (λ inner are. record { first = first; rest = rest; names = bare_trees names; are = refl; is = is; bound = are })
+    (names_mean (start_of first) env names))
 
 -- ---- the server
 
@@ -169,19 +192,25 @@ pub once_means : {A : Type 0} (place : ℕ) (held : Option A) → OkGood (λ _. 
 once_means place None = refl
 once_means place (Some a) = tt
 
-key_means : (env : Env) (key : FormTree) (host : Option (List ℕ)) (port : Option ℕ) → OkGood (KeyMeans env (bare_tree key) host port) (listen_key_at env (listens host port) key)
+key_means : (env : Env) (key : FormTree) (host : Option (List ℕ)) (port : Option ℕ)
+    → OkGood (KeyMeans env (bare_tree key) host port) (listen_key_at env (listens host port) key)
 unfolding listen_key_at
 key_means env key host port =
     let P = KeyMeans env (bare_tree key) host port in
-    bind_good (KeyIs env (bare_tree key)) P (keyword_at env key) (listen_key (start_of key) (listens host port)) (keyword_means env key) (λ name is.
+    bind_good (KeyIs env (bare_tree key)) P (keyword_at env key) (listen_key (start_of key) (listens host port))
+    (keyword_means env key) (λ name is.
     ok_if P (bytes_eq name host_text) _ _
-    (λ same. bind_good (λ _. host ≡ None) P (once (start_of key) host) (λ new. Ok true) (once_means (start_of key) host) (λ _ new. (subst (KeyIs env (bare_tree key)) ((bytes_eq-Decides name host_text).0 same) is, new)))
+    (λ same. bind_good (λ _. host ≡ None) P (once (start_of key) host) (λ new. Ok true) (once_means (start_of key) host)
+    (λ _ new. (subst (KeyIs env (bare_tree key)) ((bytes_eq-Decides name host_text).0 same) is, new)))
     (λ _. ok_if P (bytes_eq name port_text) _ _
-    (λ same. bind_good (λ _. port ≡ None) P (once (start_of key) port) (λ new. Ok false) (once_means (start_of key) port) (λ _ new. (subst (KeyIs env (bare_tree key)) ((bytes_eq-Decides name port_text).0 same) is, new)))
+    (λ same. bind_good (λ _. port ≡ None) P (once (start_of key) port) (λ new. Ok false)
+    (once_means (start_of key) port)
+    (λ _ new. (subst (KeyIs env (bare_tree key)) ((bytes_eq-Decides name port_text).0 same) is, new)))
     (λ _. tt)))
 
 -- entries that are read onto others
-record Entries (env : Env) (row : BareTrees) (before : Option (List ℕ)) (earlier : Option ℕ) (found : Listens) : Type 0 where
+record Entries (env : Env) (row : BareTrees) (before : Option (List ℕ)) (earlier : Option ℕ)
+    (found : Listens) : Type 0 where
   host : Option (List ℕ)
   port : Option ℕ
   are : AreEntries env row host port
@@ -190,18 +219,39 @@ record Entries (env : Env) (row : BareTrees) (before : Option (List ℕ)) (earli
   new : NotBoth before host
   fresh : NotBoth earlier port
 
-host_first : (env : Env) (key h : BareTree) (row : BareTrees) (host : List ℕ) (earlier : Option ℕ) (found : Listens) → IsLiteral env key (bound.Keyword (codes "host")) → IsLiteral env h (bound.Text host)
-    → (more : Option (List ℕ)) (port : Option ℕ) → AreEntries env row more port → found.host ≡ option_or (Some host) more → found.port ≡ option_or earlier port → NotBoth (Some host) more → NotBoth earlier port
+host_first : (env : Env) (key h : BareTree) (row : BareTrees) (host : List ℕ) (earlier : Option ℕ) (found : Listens)
+    → IsLiteral env key (bound.Keyword (codes "host")) → IsLiteral env h (bound.Text host)
+    → (more : Option (List ℕ)) (port : Option ℕ) → AreEntries env row more port
+    → found.host ≡ option_or (Some host) more → found.port ≡ option_or earlier port → NotBoth (Some host) more
+    → NotBoth earlier port
     → Entries env (and_trees key (and_trees h row)) None earlier found
 host_first env key h row host earlier found is given None port are host_is port_is new fresh =
-    record { host = Some host; port = port; are = a_host is given are; host_is = host_is; port_is = port_is; new = tt; fresh = fresh }
+    record {
+      host = Some host;
+      port = port;
+      are = a_host is given are;
+      host_is = host_is;
+      port_is = port_is;
+      new = tt;
+      fresh = fresh;
+    }
 host_first env key h row host earlier found is given (Some more) port are host_is port_is new fresh = absurd new
 
-port_first : (env : Env) (key p : BareTree) (row : BareTrees) (port : ℕ) (before : Option (List ℕ)) (found : Listens) → IsLiteral env key (bound.Keyword (codes "port")) → IsRanged 0 65535 env p port
-    → (host : Option (List ℕ)) (more : Option ℕ) → AreEntries env row host more → found.host ≡ option_or before host → found.port ≡ option_or (Some port) more → NotBoth before host → NotBoth (Some port) more
+port_first : (env : Env) (key p : BareTree) (row : BareTrees) (port : ℕ) (before : Option (List ℕ)) (found : Listens)
+    → IsLiteral env key (bound.Keyword (codes "port")) → IsRanged 0 65535 env p port
+    → (host : Option (List ℕ)) (more : Option ℕ) → AreEntries env row host more → found.host ≡ option_or before host
+    → found.port ≡ option_or (Some port) more → NotBoth before host → NotBoth (Some port) more
     → Entries env (and_trees key (and_trees p row)) before None found
 port_first env key p row port before found is given host None are host_is port_is new fresh =
-    record { host = host; port = Some port; are = a_port is given are; host_is = host_is; port_is = port_is; new = new; fresh = tt }
+    record {
+      host = host;
+      port = Some port;
+      are = a_port is given are;
+      host_is = host_is;
+      port_is = port_is;
+      new = new;
+      fresh = tt;
+    }
 port_first env key p row port before found is given host (Some more) are host_is port_is new fresh = absurd fresh
 
 or_none : {A : Type 0} (held : Option A) → held ≡ option_or held None
@@ -209,25 +259,35 @@ or_none None = refl
 or_none (Some a) = refl
 
 abbrev MoreMeans : ℕ → Env → FormTrees → Type 0
-MoreMeans place env forms = (host : Option (List ℕ)) (port : Option ℕ) → OkGood (Entries env (bare_trees forms) host port) (listens_from place env (listens host port) forms)
+MoreMeans place env forms =
+    (host : Option (List ℕ)) (port : Option ℕ)
+    → OkGood (Entries env (bare_trees forms) host port) (listens_from place env (listens host port) forms)
 
-value_means : (place : ℕ) (env : Env) (host : Option (List ℕ)) (port : Option ℕ) (key f : FormTree) (forms : FormTrees) → MoreMeans place env forms → (is_host : Bool) → KeyMeans env (bare_tree key) host port is_host
-    → OkGood (Entries env (bare_trees (also key (also f forms))) host port) (with_entry env (listens host port) is_host f >>= λ more. listens_from place env more forms)
+value_means : (place : ℕ) (env : Env) (host : Option (List ℕ)) (port : Option ℕ) (key f : FormTree) (forms : FormTrees)
+    → MoreMeans place env forms → (is_host : Bool) → KeyMeans env (bare_tree key) host port is_host
+    → OkGood (Entries env (bare_trees (also key (also f forms))) host port)
+    (with_entry env (listens host port) is_host f >>= λ more. listens_from place env more forms)
 unfolding with_entry
 value_means place env None port key f forms others true means =
     let Q = Entries env (bare_trees (also key (also f forms))) None port in
-    bind_good (λ (more : Listens). OkGood Q (listens_from place env more forms)) Q (with_entry env (listens None port) true f) (λ more. listens_from place env more forms)
-    (bind_good (TextIs env (bare_tree f)) (λ (more : Listens). OkGood Q (listens_from place env more forms)) (text_at env f) (λ host. Ok (listens (Some host) port)) (text_means env f) (λ host given.
+    bind_good (λ (more : Listens). OkGood Q (listens_from place env more forms)) Q
+    (with_entry env (listens None port) true f) (λ more. listens_from place env more forms)
+    (bind_good (TextIs env (bare_tree f)) (λ (more : Listens). OkGood Q (listens_from place env more forms))
+    (text_at env f) (λ host. Ok (listens (Some host) port)) (text_means env f) (λ host given.
     weaker (Entries env (bare_trees forms) (Some host) port) Q (listens_from place env (listens (Some host) port) forms)
-    (λ found known. host_first env (bare_tree key) (bare_tree f) (bare_trees forms) host port found means.0 given known.host known.port known.are known.host_is known.port_is known.new known.fresh)
+    (λ found known. host_first env (bare_tree key) (bare_tree f) (bare_trees forms) host port found means.0 given
+    known.host known.port known.are known.host_is known.port_is known.new known.fresh)
     (others (Some host) port))) (λ more known. known)
 value_means place env (Some host) port key f forms others true means = let other = means.1 in cc
 value_means place env host None key f forms others false means =
     let Q = Entries env (bare_trees (also key (also f forms))) host None in
-    bind_good (λ (more : Listens). OkGood Q (listens_from place env more forms)) Q (with_entry env (listens host None) false f) (λ more. listens_from place env more forms)
-    (bind_good (IsRanged 0 65535 env (bare_tree f)) (λ (more : Listens). OkGood Q (listens_from place env more forms)) (ranged_at 0 65535 env f) (λ port. Ok (listens host (Some port))) (ranged_means 0 65535 env f) (λ port given.
+    bind_good (λ (more : Listens). OkGood Q (listens_from place env more forms)) Q
+    (with_entry env (listens host None) false f) (λ more. listens_from place env more forms)
+    (bind_good (IsRanged 0 65535 env (bare_tree f)) (λ (more : Listens). OkGood Q (listens_from place env more forms))
+    (ranged_at 0 65535 env f) (λ port. Ok (listens host (Some port))) (ranged_means 0 65535 env f) (λ port given.
     weaker (Entries env (bare_trees forms) host (Some port)) Q (listens_from place env (listens host (Some port)) forms)
-    (λ found known. port_first env (bare_tree key) (bare_tree f) (bare_trees forms) port host found means.0 given known.host known.port known.are known.host_is known.port_is known.new known.fresh)
+    (λ found known. port_first env (bare_tree key) (bare_tree f) (bare_trees forms) port host found means.0 given
+    known.host known.port known.are known.host_is known.port_is known.new known.fresh)
     (others host (Some port)))) (λ more known. known)
 value_means place env host (Some port) key f forms others false means = let other = means.1 in cc
 
@@ -237,41 +297,64 @@ not_both (Some a) = tt
 
 entries_mean : (place : ℕ) (env : Env) (forms : FormTrees) → MoreMeans place env forms
 unfolding listens_from
-entries_mean place env none host port = record { host = None; port = None; are = no_entries; host_is = or_none host; port_is = or_none port; new = not_both host; fresh = not_both port }
+entries_mean place env none host port = record {
+  host = None;
+  port = None;
+  are = no_entries;
+  host_is = or_none host;
+  port_is = or_none port;
+  new = not_both host;
+  fresh = not_both port;
+}
 entries_mean place env (also key none) host port =
-    bind_good Any_ (Entries env (bare_trees (also key none)) host port) (listen_key_at env (listens host port) key) _ (any_good (listen_key_at env (listens host port) key)) (λ is_host _. tt)
+    bind_good Any_ (Entries env (bare_trees (also key none)) host port) (listen_key_at env (listens host port) key) _
+    (any_good (listen_key_at env (listens host port) key)) (λ is_host _. tt)
 entries_mean place env (also key (also f forms)) host port =
-    bind_good (KeyMeans env (bare_tree key) host port) (Entries env (bare_trees (also key (also f forms))) host port) (listen_key_at env (listens host port) key) _ (key_means env key host port)
+    bind_good (KeyMeans env (bare_tree key) host port) (Entries env (bare_trees (also key (also f forms))) host port)
+    (listen_key_at env (listens host port) key) _ (key_means env key host port)
     (λ is_host means. value_means place env host port key f forms (entries_mean place env forms) is_host means)
 
-map_server : (env : Env) (entries : BareTrees) (found : Listens) → Entries env entries None None found → IsServer env (listed (map_of entries ∷ [])) (server_of found)
+map_server : (env : Env) (entries : BareTrees) (found : Listens) → Entries env entries None None found
+    → IsServer env (listed (map_of entries ∷ [])) (server_of found)
 map_server env entries found known =
-    let are : found ≡ listens known.host known.port = ap (λ (host : Option (List ℕ)). listens host found.port) known.host_is ∙ ap (λ (port : Option ℕ). listens known.host port) known.port_is in
-    subst (λ (server : Server). IsServer env (listed (map_of entries ∷ [])) server) (sym (ap server_of are ∙ same_server known.host known.port)) (by_map known.are)
+    let are : found ≡ listens known.host known.port =
+    ap (λ (host : Option (List ℕ)). listens host found.port) known.host_is
+    ∙ ap (λ (port : Option ℕ). listens known.host port) known.port_is in
+    subst (λ (server : Server). IsServer env (listed (map_of entries ∷ [])) server)
+    (sym (ap server_of are ∙ same_server known.host known.port)) (by_map known.are)
 
 server_at_means : (env : Env) (f : FormTree) → OkGood (IsServer env (listed (bare_tree f ∷ []))) (server_at env f)
 server_at_means env f =
     let Q = IsServer env (listed (bare_tree f ∷ [])) in
     bind_good (MapIs (bare_tree f)) Q (map_at env f) _ (map_means env f) (λ entries is.
-    bind_good (Entries env (bare_trees entries) None None) Q (listens_from (start_of f) env no_listens entries) (λ found. Ok (server_of found)) (entries_mean (start_of f) env entries None None)
-    (λ found known. subst (λ (t : BareTree). IsServer env (listed (t ∷ [])) (server_of found)) (sym is) (map_server env (bare_trees entries) found known)))
+    bind_good (Entries env (bare_trees entries) None None) Q (listens_from (start_of f) env no_listens entries)
+    (λ found. Ok (server_of found)) (entries_mean (start_of f) env entries None None)
+    (λ found known. subst (λ (t : BareTree). IsServer env (listed (t ∷ [])) (server_of found)) (sym is)
+    (map_server env (bare_trees entries) found known)))
 
 pub server_means : (env : Env) (forms : FormTrees) → OkGood (IsServer env (bare_trees forms)) (server_in env forms)
 unfolding server_in at_most
 server_means env none = by_default
-server_means env (also f none) = bind_good (IsServer env (listed (bare_tree f ∷ []))) (IsServer env (bare_trees (also f none))) (server_at env f) _ (server_at_means env f) (λ server is. is)
-server_means env (also f (also g forms)) = bind_good Any_ (IsServer env (bare_trees (also f (also g forms)))) (server_at env f) _ (any_good (server_at env f)) (λ server _. tt)
+server_means env (also f none) =
+    bind_good (IsServer env (listed (bare_tree f ∷ []))) (IsServer env (bare_trees (also f none))) (server_at env f) _
+    (server_at_means env f) (λ server is. is)
+server_means env (also f (also g forms)) =
+    bind_good Any_ (IsServer env (bare_trees (also f (also g forms)))) (server_at env f) _ (any_good (server_at env f))
+    (λ server _. tt)
 
 -- ---- the expiry
 
-named_key : (env : Env) (form : BareTree) (name : List ℕ) (found : Option Field) → IsLiteral env form (bound.Keyword name) → named_field name ≡ found → SomeGood (IsKey env form) (keep_field found)
+named_key : (env : Env) (form : BareTree) (name : List ℕ) (found : Option Field)
+    → IsLiteral env form (bound.Keyword name) → named_field name ≡ found → SomeGood (IsKey env form) (keep_field found)
 named_key env form name None is means = tt
 named_key env form name (Some field) is means = field_key (a_field is means)
 
-keep_in_means : (env : Env) (form : BareTree) (given : Argument) → Meaning env form given → SomeGood (IsKey env form) (keep_in given)
+keep_in_means : (env : Env) (form : BareTree) (given : Argument) → Meaning env form given
+    → SomeGood (IsKey env form) (keep_in given)
 keep_in_means env form (Keyword name) means =
     some_if (IsKey env form) (bytes_eq name tags_text) (Some keep.Tags) (keep_field (named_field name))
-    (λ is. tags_key (subst (KeyIs env form) ((bytes_eq-Decides name tags_text).0 is) means)) (λ _. named_key env form name (named_field name) means refl)
+    (λ is. tags_key (subst (KeyIs env form) ((bytes_eq-Decides name tags_text).0 is) means))
+    (λ _. named_key env form name (named_field name) means refl)
 keep_in_means env form (Text text) means = tt
 keep_in_means env form (Pattern text) means = tt
 keep_in_means env form (Number number) means = tt
@@ -295,18 +378,23 @@ record Keys (env : Env) (row : BareTrees) (before keys : List KeepKey) : Type 0 
   is : keys ≡ before ++ later
   are : AreKeys env row later
 
-keys_mean : (env : Env) (before : List KeepKey) (forms : FormTrees) → OkGood (Keys env (bare_trees forms) before) (each (with_keep env) before forms)
+keys_mean : (env : Env) (before : List KeepKey) (forms : FormTrees)
+    → OkGood (Keys env (bare_trees forms) before) (each (with_keep env) before forms)
 unfolding each
 keys_mean env before none = record { later = []; is = sym (append-nil before); are = no_keys }
 keys_mean env before (also f forms) =
     let Q = Keys env (bare_trees (also f forms)) before in
     let step = with_keep env before f in
     bind_good (NextKey env (bare_tree f) before) Q step (λ keys. each (with_keep env) keys forms)
-    (bind_good (IsKey env (bare_tree f)) (NextKey env (bare_tree f) before) (keep_at env f) (λ key. Ok (before ++ key ∷ [])) (keep_means env f) (λ key is. record { key = key; are = refl; is = is })) (λ keys next.
+    (bind_good (IsKey env (bare_tree f)) (NextKey env (bare_tree f) before) (keep_at env f)
+    (λ key. Ok (before ++ key ∷ [])) (keep_means env f) (λ key is. record { key = key; are = refl; is = is }))
+    (λ keys next.
     weaker (Keys env (bare_trees forms) keys) Q (each (with_keep env) keys forms)
     (λ all known. record {
       later = next.key ∷ known.later;
-      is = known.is ∙ ap (λ (front : List KeepKey). front ++ known.later) next.are ∙ append_assoc before (next.key ∷ []) known.later;
+      is =
+          known.is ∙ ap (λ (front : List KeepKey). front ++ known.later) next.are
+          ∙ append_assoc before (next.key ∷ []) known.later;
       are = more_keys next.is known.are;
     }) (keys_mean env keys forms))
 
@@ -319,9 +407,12 @@ record IsKeys (env : Env) (form : BareTree) (keys : List KeepKey) : Type 0 where
 keys_means : (env : Env) (f : FormTree) → OkGood (IsKeys env (bare_tree f)) (keys_at env f)
 unfolding keys_at
 keys_means env f =
-    bind_good (VectorIs (bare_tree f)) (IsKeys env (bare_tree f)) (vector_at env f) (each (with_keep env) []) (vector_means env f) (λ forms is.
+    bind_good (VectorIs (bare_tree f)) (IsKeys env (bare_tree f)) (vector_at env f) (each (with_keep env) [])
+    (vector_means env f) (λ forms is.
     weaker (Keys env (bare_trees forms) []) (IsKeys env (bare_tree f)) (each (with_keep env) [] forms)
-    (λ keys known. record { forms = bare_trees forms; is = is; are = subst (AreKeys env (bare_trees forms)) (sym known.is) known.are }) (keys_mean env [] forms))
+    (λ keys known.
+    record { forms = bare_trees forms; is = is; are = subst (AreKeys env (bare_trees forms)) (sym known.is) known.are })
+    (keys_mean env [] forms))
 
 -- a map of keep-keys
 record IsEntry (env : Env) (entries : BareTrees) (keys : List KeepKey) : Type 0 where
@@ -331,35 +422,48 @@ record IsEntry (env : Env) (entries : BareTrees) (keys : List KeepKey) : Type 0 
   is : IsLiteral env key (bound.Keyword (codes "keep-keys"))
   keys_are : IsKeys env f keys
 
-wanted_key : (env : Env) (key : FormTree) → OkGood (λ _. KeyIs env (bare_tree key) keep_text) (only_key_at keep_text false env key)
+wanted_key : (env : Env) (key : FormTree)
+    → OkGood (λ _. KeyIs env (bare_tree key) keep_text) (only_key_at keep_text false env key)
 unfolding only_key_at
 wanted_key env key =
-    bind_good (KeyIs env (bare_tree key)) (λ _. KeyIs env (bare_tree key) keep_text) (keyword_at env key) (only_key keep_text false (start_of key)) (keyword_means env key) (λ name is.
-    ok_if (λ _. KeyIs env (bare_tree key) keep_text) (bytes_eq name keep_text) _ _ (λ same. subst (KeyIs env (bare_tree key)) ((bytes_eq-Decides name keep_text).0 same) is) (λ _. tt))
+    bind_good (KeyIs env (bare_tree key)) (λ _. KeyIs env (bare_tree key) keep_text) (keyword_at env key)
+    (only_key keep_text false (start_of key)) (keyword_means env key) (λ name is.
+    ok_if (λ _. KeyIs env (bare_tree key) keep_text) (bytes_eq name keep_text) _ _
+    (λ same. subst (KeyIs env (bare_tree key)) ((bytes_eq-Decides name keep_text).0 same) is) (λ _. tt))
 
 -- the key does not come again
 never_again : (env : Env) (key : FormTree) → OkGood (λ _. ⊥) (only_key_at keep_text true env key)
 unfolding only_key_at
 never_again env key =
-    bind_good Any_ (λ _. ⊥) (keyword_at env key) (only_key keep_text true (start_of key)) (any_good (keyword_at env key)) (λ name _.
+    bind_good Any_ (λ _. ⊥) (keyword_at env key) (only_key keep_text true (start_of key))
+    (any_good (keyword_at env key)) (λ name _.
     ok_if (λ _. ⊥) (bytes_eq name keep_text) (Err _) (Err _) (λ _. tt) (λ _. tt))
 
 abbrev Ended : FormTrees → List KeepKey → List KeepKey → Type 0
 Ended forms keys all = (forms ≡ none) × (all ≡ keys)
 
-entry_ends : (place : ℕ) (env : Env) (keys : List KeepKey) (forms : FormTrees) → OkGood (Ended forms keys) (one_entry keep_text keys_at place env (Some keys) forms)
+entry_ends : (place : ℕ) (env : Env) (keys : List KeepKey) (forms : FormTrees)
+    → OkGood (Ended forms keys) (one_entry keep_text keys_at place env (Some keys) forms)
 unfolding one_entry
 entry_ends place env keys none = (refl, refl)
-entry_ends place env keys (also key none) = bind_good (λ _. ⊥) (Ended (also key none) keys) (only_key_at keep_text true env key) _ (never_again env key) (λ _ never. absurd never)
-entry_ends place env keys (also key (also f forms)) = bind_good (λ _. ⊥) (Ended (also key (also f forms)) keys) (only_key_at keep_text true env key) _ (never_again env key) (λ _ never. absurd never)
+entry_ends place env keys (also key none) =
+    bind_good (λ _. ⊥) (Ended (also key none) keys) (only_key_at keep_text true env key) _ (never_again env key)
+    (λ _ never. absurd never)
+entry_ends place env keys (also key (also f forms)) =
+    bind_good (λ _. ⊥) (Ended (also key (also f forms)) keys) (only_key_at keep_text true env key) _
+    (never_again env key) (λ _ never. absurd never)
 
-entry_means : (place : ℕ) (env : Env) (forms : FormTrees) → OkGood (IsEntry env (bare_trees forms)) (one_entry keep_text keys_at place env None forms)
+entry_means : (place : ℕ) (env : Env) (forms : FormTrees)
+    → OkGood (IsEntry env (bare_trees forms)) (one_entry keep_text keys_at place env None forms)
 unfolding one_entry
 entry_means place env none = tt
-entry_means place env (also key none) = bind_good Any_ (IsEntry env (bare_trees (also key none))) (only_key_at keep_text false env key) _ (any_good (only_key_at keep_text false env key)) (λ known _. tt)
+entry_means place env (also key none) =
+    bind_good Any_ (IsEntry env (bare_trees (also key none))) (only_key_at keep_text false env key) _
+    (any_good (only_key_at keep_text false env key)) (λ known _. tt)
 entry_means place env (also key (also f forms)) =
     let Q = IsEntry env (bare_trees (also key (also f forms))) in
-    bind_good (λ _. KeyIs env (bare_tree key) keep_text) Q (only_key_at keep_text false env key) _ (wanted_key env key) (λ _ is.
+    bind_good (λ _. KeyIs env (bare_tree key) keep_text) Q (only_key_at keep_text false env key) _ (wanted_key env key)
+    (λ _ is.
     bind_good (IsKeys env (bare_tree f)) Q (keys_at env f) _ (keys_means env f) (λ keys are.
     weaker (Ended forms keys) Q (one_entry keep_text keys_at place env (Some keys) forms)
     (λ all ended. record {
@@ -371,29 +475,42 @@ entry_means place env (also key (also f forms)) =
     }) (entry_ends place env keys forms)))
 
 -- the arguments of two forms
-two_given : (env : Env) (n g : BareTree) (secs : ℕ) (keys : List KeepKey) (entries : BareTrees) → IsRanged 1 604800 env n secs → g ≡ map_of entries → IsEntry env entries keys
+two_given : (env : Env) (n g : BareTree) (secs : ℕ) (keys : List KeepKey) (entries : BareTrees)
+    → IsRanged 1 604800 env n secs → g ≡ map_of entries → IsEntry env entries keys
     → IsExpiry env (listed (n ∷ g ∷ [])) (record { interval = secs; keep = keys })
 two_given env n g secs keys entries secs_are g_is known =
-    let given : IsExpiry env (listed (n ∷ map_of (listed (known.key ∷ vector_of known.keys_are.forms ∷ [])) ∷ [])) (record { interval = secs; keep = keys }) = keeping secs_are known.is known.keys_are.are in
-    let same : g ≡ map_of (listed (known.key ∷ vector_of known.keys_are.forms ∷ [])) = g_is ∙ ap map_of (known.are ∙ ap (λ (f : BareTree). listed (known.key ∷ f ∷ [])) known.keys_are.is) in
-    subst (λ (t : BareTree). IsExpiry env (listed (n ∷ t ∷ [])) (record { interval = secs; keep = keys })) (sym same) given
+    let given : IsExpiry env (listed (n ∷ map_of (listed (known.key ∷ vector_of known.keys_are.forms ∷ [])) ∷ []))
+    (record { interval = secs; keep = keys }) =
+    keeping secs_are known.is known.keys_are.are in
+    let same : g ≡ map_of (listed (known.key ∷ vector_of known.keys_are.forms ∷ [])) =
+    g_is ∙ ap map_of (known.are ∙ ap (λ (f : BareTree). listed (known.key ∷ f ∷ [])) known.keys_are.is) in
+    subst (λ (t : BareTree). IsExpiry env (listed (n ∷ t ∷ [])) (record { interval = secs; keep = keys })) (sym same)
+    given
 
 abbrev KeysOf : Env → BareTree → List KeepKey → Type 0
 KeysOf env form keys = (entries : BareTrees) × (form ≡ map_of entries) × IsEntry env entries keys
 
 keys_of_means : (env : Env) (f : FormTree) → OkGood (KeysOf env (bare_tree f)) (keys_of_map env f)
 keys_of_means env f =
-    bind_good (MapIs (bare_tree f)) (KeysOf env (bare_tree f)) (map_at env f) (one_entry keep_text keys_at (start_of f) env None) (map_means env f) (λ entries is.
-    weaker (IsEntry env (bare_trees entries)) (KeysOf env (bare_tree f)) (one_entry keep_text keys_at (start_of f) env None entries) (λ keys known. (bare_trees entries, is, known)) (entry_means (start_of f) env entries))
+    bind_good (MapIs (bare_tree f)) (KeysOf env (bare_tree f)) (map_at env f)
+    (one_entry keep_text keys_at (start_of f) env None) (map_means env f) (λ entries is.
+    weaker (IsEntry env (bare_trees entries)) (KeysOf env (bare_tree f))
+    (one_entry keep_text keys_at (start_of f) env None entries) (λ keys known. (bare_trees entries, is, known))
+    (entry_means (start_of f) env entries))
 
 pub expiry_means : (env : Env) (forms : FormTrees) → OkGood (IsExpiry env (bare_trees forms)) (expiry_in env forms)
 unfolding expiry_in at_most
 expiry_means env none = every_ten
-expiry_means env (also f none) = bind_good (IsRanged 1 604800 env (bare_tree f)) (IsExpiry env (bare_trees (also f none))) (ranged_at 1 604800 env f) _ (ranged_means 1 604800 env f) (λ secs is. every is)
+expiry_means env (also f none) =
+    bind_good (IsRanged 1 604800 env (bare_tree f)) (IsExpiry env (bare_trees (also f none))) (ranged_at 1 604800 env f)
+    _ (ranged_means 1 604800 env f) (λ secs is. every is)
 expiry_means env (also f (also g none)) =
     let Q = IsExpiry env (bare_trees (also f (also g none))) in
-    bind_good (IsRanged 1 604800 env (bare_tree f)) Q (ranged_at 1 604800 env f) _ (ranged_means 1 604800 env f) (λ secs is.
-    bind_good (KeysOf env (bare_tree g)) Q (keys_of_map env g) _ (keys_of_means env g) (λ keys known. two_given env (bare_tree f) (bare_tree g) secs keys known.0 is known.1 known.2))
+    bind_good (IsRanged 1 604800 env (bare_tree f)) Q (ranged_at 1 604800 env f) _ (ranged_means 1 604800 env f)
+    (λ secs is.
+    bind_good (KeysOf env (bare_tree g)) Q (keys_of_map env g) _ (keys_of_means env g)
+    (λ keys known. two_given env (bare_tree f) (bare_tree g) secs keys known.0 is known.1 known.2))
 expiry_means env (also f (also g (also h forms))) =
     let Q = IsExpiry env (bare_trees (also f (also g (also h forms)))) in
-    bind_good Any_ Q (ranged_at 1 604800 env f) _ (any_good (ranged_at 1 604800 env f)) (λ secs _. bind_good Any_ Q (keys_of_map env g) _ (any_good (keys_of_map env g)) (λ keys _. tt))
+    bind_good Any_ Q (ranged_at 1 604800 env f) _ (any_good (ranged_at 1 604800 env f))
+    (λ secs _. bind_good Any_ Q (keys_of_map env g) _ (any_good (keys_of_map env g)) (λ keys _. tt))

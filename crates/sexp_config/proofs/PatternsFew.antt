@@ -1,4 +1,5 @@
--- A plan that is read has no more patterns than its forms have brackets, and those are no more than the bytes of the text.
+-- A plan that is read has no more patterns than its forms have brackets, and those are no more than the bytes of the
+-- text.
 use Rattle.std.proofs.Common.{◌≡◌, ℕ, ◌+◌, ◌≤◌, codes, List, [], ◌∷◌, ◌++◌, length, refl, ap, arith, length-append}
 use Rattle.pred_eval.specs.Tree.{Tree, Trees, Tagged}
 use Rattle.pred_eval.specs.Tree as pred
@@ -33,11 +34,13 @@ abbrev mutual
 mutual
   form_spelled : (f : FormTree) → tree_brackets (bare_tree f) ≤ length (form_spelling f)
   form_spelled (Single a start last) = omega arith
-  form_spelled (Group bracket forms start last) = omega (arith, spelled forms, length-append (spelling forms) (Closed bracket last ∷ []))
+  form_spelled (Group bracket forms start last) =
+      omega (arith, spelled forms, length-append (spelling forms) (Closed bracket last ∷ []))
 
   spelled : (forms : FormTrees) → brackets (bare_trees forms) ≤ length (spelling forms)
   spelled tree.none = omega arith
-  spelled (tree.also f forms) = omega (arith, form_spelled f, spelled forms, length-append (form_spelling f) (spelling forms))
+  spelled (tree.also f forms) =
+      omega (arith, form_spelled f, spelled forms, length-append (form_spelling f) (spelling forms))
 
 few_brackets : (text : List ℕ) (forms : FormTrees) → IsForms text forms → brackets (bare_trees forms) ≤ longest
 few_brackets text forms read = omega (arith, spelled forms, tokens_few text, ap length read.read.spelled, read.short)
@@ -48,21 +51,26 @@ brackets_add (and_trees form row) others = omega (arith, brackets_add row others
 
 -- ---- rules
 
-all_add : (one : Tree) (rules : Trees) → length (searches (all_of one rules)) ≡ length (searches one) + length (searches_of rules)
+all_add : (one : Tree) (rules : Trees)
+    → length (searches (all_of one rules)) ≡ length (searches one) + length (searches_of rules)
 all_add one pred.none = omega arith
 all_add one (pred.also second rules) = length-append (searches one) (searches_of (pred.also second rules))
 
-any_add : (one : Tree) (rules : Trees) → length (searches (any_of one rules)) ≡ length (searches one) + length (searches_of rules)
+any_add : (one : Tree) (rules : Trees)
+    → length (searches (any_of one rules)) ≡ length (searches one) + length (searches_of rules)
 any_add one pred.none = omega arith
 any_add one (pred.also second rules) = length-append (searches one) (searches_of (pred.also second rules))
 
 mutual
-  rule_few : (env : Env) (form : BareTree) (one : Tree) → IsPredicate env form one → length (searches one) ≤ tree_brackets form
+  rule_few : (env : Env) (form : BareTree) (one : Tree) → IsPredicate env form one
+      → length (searches one) ≤ tree_brackets form
   rule_few env _ _ always = omega arith
   rule_few env _ _ never = omega arith
   rule_few env _ _ never_nil = omega arith
-  rule_few env _ _ (all_parts {part = part} {parts = parts} {rule = one} {rules = rules} first others) = omega (arith, all_add one rules, rule_few env part one first, rules_few env parts rules others)
-  rule_few env _ _ (any_part {part = part} {parts = parts} {rule = one} {rules = rules} first others) = omega (arith, any_add one rules, rule_few env part one first, rules_few env parts rules others)
+  rule_few env _ _ (all_parts {part = part} {parts = parts} {rule = one} {rules = rules} first others) =
+      omega (arith, all_add one rules, rule_few env part one first, rules_few env parts rules others)
+  rule_few env _ _ (any_part {part = part} {parts = parts} {rule = one} {rules = rules} first others) =
+      omega (arith, any_add one rules, rule_few env part one first, rules_few env parts rules others)
   rule_few env _ _ (negated {part = part} {rule = one} is) = omega (arith, rule_few env part one is)
   rule_few env _ _ (term.tagged is) = omega arith
   rule_few env _ _ (equal tests is) = omega arith
@@ -72,10 +80,16 @@ mutual
   rule_few env _ _ (holds tests is) = omega arith
   rule_few env _ _ (found tests is) = omega arith
 
-  rules_few : (env : Env) (forms : BareTrees) (rules : Trees) → ArePredicates env forms rules → length (searches_of rules) ≤ brackets forms
+  rules_few : (env : Env) (forms : BareTrees) (rules : Trees) → ArePredicates env forms rules
+      → length (searches_of rules) ≤ brackets forms
   rules_few env _ _ no_parts = omega arith
   rules_few env _ _ (more_parts {part = part} {parts = parts} {rule = one} {rules = rules} first others) =
-      omega (arith, rule_few env part one first, rules_few env parts rules others, length-append (searches one) (searches_of rules))
+      omega (
+        arith,
+        rule_few env part one first,
+        rules_few env parts rules others,
+        length-append (searches one) (searches_of rules),
+      )
 
 tags_none : (tags : List (List ℕ)) → length (searches_of (each_tag tags)) ≡ 0
 tags_none [] = refl
@@ -83,29 +97,48 @@ tags_none (tag ∷ tags) = tags_none tags
 
 -- ---- streams
 
-kind_few : (env : Env) (name : List ℕ) (own : BareTrees) (one : KindTree) → IsKind env name own one → length (kind_patterns one) ≤ brackets own
+kind_few : (env : Env) (name : List ℕ) (own : BareTrees) (one : KindTree) → IsKind env name own one
+    → length (kind_patterns one) ≤ brackets own
 kind_few env _ _ _ (where_ {p = p} {rule = one} is) = omega (arith, rule_few env p one is)
-kind_few env _ _ _ (tagged {tag = tag} {tags = tags} are) = omega (arith, all_add (Tagged tag) (each_tag tags), tags_none tags)
+kind_few env _ _ _ (tagged {tag = tag} {tags = tags} are) =
+    omega (arith, all_add (Tagged tag) (each_tag tags), tags_none tags)
 kind_few env _ _ _ sdo = omega arith
 kind_few env _ _ _ is = omega arith
 
-joined_add : (streams others : StreamTrees) → length (plan_patterns (with_streams streams others)) ≡ length (plan_patterns streams) + length (plan_patterns others)
+joined_add : (streams others : StreamTrees)
+    → length (plan_patterns (with_streams streams others))
+    ≡ length (plan_patterns streams) + length (plan_patterns others)
 unfolding stream_patterns plan_patterns
 joined_add none others = omega arith
 joined_add (also one streams) others =
-    omega (arith, joined_add streams others, length-append (stream_patterns one) (plan_patterns (with_streams streams others)), length-append (stream_patterns one) (plan_patterns streams))
+    omega (
+      arith,
+      joined_add streams others,
+      length-append (stream_patterns one) (plan_patterns (with_streams streams others)),
+      length-append (stream_patterns one) (plan_patterns streams),
+    )
 
 mutual
   unfolding stream_patterns plan_patterns
 
-  stream_few : (env : Env) (form : BareTree) (one : StreamTree) → IsStream env form one → length (stream_patterns one) ≤ tree_brackets form
+  stream_few : (env : Env) (form : BareTree) (one : StreamTree) → IsStream env form one
+      → length (stream_patterns one) ≤ tree_brackets form
   stream_few env _ _ (index_word is) = omega arith
   stream_few env _ _ (index_name is) = omega arith
   stream_few env _ _ index_list = omega arith
   stream_few env _ _ (notice is) = omega arith
-  stream_few env _ _ (passing {word = name} {arguments = own} {forms = forms} {one = one} {children = children} is are) =
-      omega (arith, length-append (kind_patterns one) (plan_patterns children ++ []), length-append (plan_patterns children) [], kind_few env name own one is, streams_few env forms children are, brackets_add own forms)
-  stream_few env _ _ (where_else {p = p} {rule = one} {forms = forms} {rest = rest} {children = children} {otherwise = otherwise} is are others) =
+  stream_few env _ _
+      (passing {word = name} {arguments = own} {forms = forms} {one = one} {children = children} is are) =
+      omega (
+        arith,
+        length-append (kind_patterns one) (plan_patterns children ++ []),
+        length-append (plan_patterns children) [],
+        kind_few env name own one is,
+        streams_few env forms children are,
+        brackets_add own forms,
+      )
+  stream_few env _ _ (where_else {p = p} {rule = one} {forms = forms} {rest = rest} {children = children}
+      {otherwise = otherwise} is are others) =
       omega (
         arith,
         length-append (searches one) (plan_patterns children ++ plan_patterns otherwise),
@@ -116,26 +149,38 @@ mutual
         brackets_add forms (listed (worded (codes "else") rest ∷ [])),
       )
 
-  streams_few : (env : Env) (forms : BareTrees) (streams : StreamTrees) → AreStreams env forms streams → length (plan_patterns streams) ≤ brackets forms
+  streams_few : (env : Env) (forms : BareTrees) (streams : StreamTrees) → AreStreams env forms streams
+      → length (plan_patterns streams) ≤ brackets forms
   streams_few env _ _ no_streams = omega arith
   streams_few env _ _ (more_streams {form = form} {forms = forms} {one = one} {streams = streams} is others) =
-      omega (arith, stream_few env form one is, streams_few env forms streams others, length-append (stream_patterns one) (plan_patterns streams))
+      omega (
+        arith,
+        stream_few env form one is,
+        streams_few env forms streams others,
+        length-append (stream_patterns one) (plan_patterns streams),
+      )
 
 -- ---- forms at the top
 
 mutual
   unfolding stream_patterns plan_patterns
 
-  top_few : (env : Env) (form : BareTree) (said : Said) → IsTop env form said → length (plan_patterns said.streams) ≤ tree_brackets form
+  top_few : (env : Env) (form : BareTree) (said : Said) → IsTop env form said
+      → length (plan_patterns said.streams) ≤ tree_brackets form
   top_few env _ _ (a_server is) = omega arith
   top_few env _ _ (an_expiry is) = omega arith
-  top_few env _ _ (some_streams {forms = forms} {streams = streams} are) = omega (arith, streams_few env forms streams are)
-  top_few env _ said (with_names {inner = inner} {forms = forms} known are) = omega (arith, tops_few inner forms said are)
+  top_few env _ _ (some_streams {forms = forms} {streams = streams} are) =
+      omega (arith, streams_few env forms streams are)
+  top_few env _ said (with_names {inner = inner} {forms = forms} known are) =
+      omega (arith, tops_few inner forms said are)
 
-  tops_few : (env : Env) (forms : BareTrees) (said : Said) → AreTops env forms said → length (plan_patterns said.streams) ≤ brackets forms
+  tops_few : (env : Env) (forms : BareTrees) (said : Said) → AreTops env forms said
+      → length (plan_patterns said.streams) ≤ brackets forms
   tops_few env _ _ no_tops = omega arith
   tops_few env _ _ (more_tops {form = form} {forms = forms} {said = said} {more = more} is others) =
       omega (arith, top_few env form said is, tops_few env forms more others, joined_add said.streams more.streams)
 
-pub patterns_few : (text : List ℕ) (config : Config) → IsConfigOf text config → length (plan_patterns config.plan) ≤ longest
-patterns_few text config is = omega (arith, tops_few [] (bare_trees is.forms) _ is.holds.said, few_brackets text is.forms is.read)
+pub patterns_few : (text : List ℕ) (config : Config) → IsConfigOf text config
+    → length (plan_patterns config.plan) ≤ longest
+patterns_few text config is =
+    omega (arith, tops_few [] (bare_trees is.forms) _ is.holds.said, few_brackets text is.forms is.read)

@@ -20,7 +20,9 @@ abbrev pub reported : PlanWhy → At → Option plan.Fault
 reported cause at = option_map (λ (s : plan.Placed). let f : plan.Fault = record { path = s.path; why = cause } in f) at
 
 abbrev pub first : At → At → At → At → At → Option plan.Fault
-first a b c d e = option_or (reported Many a) (option_or (reported Deep b) (option_or (reported Children c) (option_or (reported Range d) (reported Kind e))))
+first a b c d e =
+    option_or (reported Many a)
+    (option_or (reported Deep b) (option_or (reported Children c) (option_or (reported Range d) (reported Kind e))))
 
 abbrev located_fault : SourceTrees → ConfigWhy → At → Option Fault
 located_fault places cause at = option_map (λ (s : plan.Placed). (place_along 0 places s.path, cause)) at
@@ -47,11 +49,14 @@ no_fault places None None (Some s) d e none = cc
 no_fault places None None None (Some s) e none = cc
 no_fault places None None None None (Some s) none = cc
 
-a_fault : (places : SourceTrees) (streams : StreamTrees) (a b c d e : At) (path : List ℕ) (cause : PlanWhy) → first a b c d e ≡ one path cause → Fails (fault_by cause (place_along 0 places path)) (faultless streams (both places a e))
+a_fault : (places : SourceTrees) (streams : StreamTrees) (a b c d e : At) (path : List ℕ) (cause : PlanWhy)
+    → first a b c d e ≡ one path cause
+    → Fails (fault_by cause (place_along 0 places path)) (faultless streams (both places a e))
 a_fault places streams a b c d e path Deep is = tt
 a_fault places streams a b c d e path Children is = tt
 a_fault places streams a b c d e path Range is = tt
-a_fault places streams (Some s) b c d e path Many is = ap (λ (found : Option plan.Fault). at_path (path_reported path found)) is
+a_fault places streams (Some s) b c d e path Many is =
+    ap (λ (found : Option plan.Fault). at_path (path_reported path found)) is
   where
     at_path : List ℕ → Result StreamTrees Fault
     at_path p = Err (place_along 0 places p, why.Many)
@@ -64,7 +69,8 @@ a_fault places streams (Some s) b c d e path Kind is = let other : Many ≡ Kind
 a_fault places streams None (Some s) c d e path Kind is = let other : Deep ≡ Kind = ap why_reported is in cc
 a_fault places streams None None (Some s) d e path Kind is = let other : Children ≡ Kind = ap why_reported is in cc
 a_fault places streams None None None (Some s) e path Kind is = let other : Range ≡ Kind = ap why_reported is in cc
-a_fault places streams None None None None (Some s) path Kind is = ap (λ (found : Option plan.Fault). at_path (path_reported path found)) is
+a_fault places streams None None None None (Some s) path Kind is =
+    ap (λ (found : Option plan.Fault). at_path (path_reported path found)) is
   where
     at_path : List ℕ → Result StreamTrees Fault
     at_path p = Err (place_along 0 places p, why.Kind)
@@ -75,11 +81,20 @@ source_of cause located = plan.place_of cause (plan.preorder_of located.streams)
 
 pub sound_plan : (located : Located) → plan.first_fault located.streams ≡ None → checked located ≡ Ok located.streams
 unfolding plan.first_fault plan_fault
-sound_plan located none = ap (faultless located.streams) (no_fault located.places (source_of Many located) (source_of Deep located) (source_of Children located) (source_of Range located) (source_of Kind located) none)
+sound_plan located none =
+    ap (faultless located.streams)
+    (no_fault located.places (source_of Many located) (source_of Deep located) (source_of Children located)
+    (source_of Range located) (source_of Kind located) none)
 
-pub refused_plan : (located : Located) (path : List ℕ) (cause : PlanWhy) (fault : ConfigFault) (place : ℕ) → plan.first_fault located.streams ≡ one path cause → place ≡ place_along 0 located.places path → fault ≡ fault_by cause place →
+pub refused_plan : (located : Located) (path : List ℕ) (cause : PlanWhy) (fault : ConfigFault) (place : ℕ) →
+    plan.first_fault located.streams ≡ one path cause → place ≡ place_along 0 located.places path →
+    fault ≡ fault_by cause place →
     Fails fault (checked located)
 unfolding plan.first_fault plan_fault
 refused_plan located path cause fault place is at e =
-    subst (λ (f : ConfigFault). Fails f (faultless located.streams (both located.places (source_of Many located) (source_of Kind located)))) (sym (e ∙ ap (fault_by cause) at))
-    (a_fault located.places located.streams (source_of Many located) (source_of Deep located) (source_of Children located) (source_of Range located) (source_of Kind located) path cause is)
+    subst
+    (λ (f : ConfigFault).
+    Fails f (faultless located.streams (both located.places (source_of Many located) (source_of Kind located))))
+    (sym (e ∙ ap (fault_by cause) at))
+    (a_fault located.places located.streams (source_of Many located) (source_of Deep located)
+    (source_of Children located) (source_of Range located) (source_of Kind located) path cause is)

@@ -11,11 +11,13 @@ use Rattle.stream_plan.specs.Sound.{TakesWhatComes}
 use Rattle.config_streams.specs.Streams.{Located}
 use Rattle.sexp_config.specs.Config.{plan_fault}
 
-pub all_are : {A : Type 0} (P Q : A → Type 0) → ((x : A) → P x → Q x) → (xs : List A) → AllByRecursion P xs → AllByRecursion Q xs
+pub all_are : {A : Type 0} (P Q : A → Type 0) → ((x : A) → P x → Q x) → (xs : List A) → AllByRecursion P xs
+    → AllByRecursion Q xs
 all_are P Q turned [] all = tt
 all_are P Q turned (x ∷ xs) all = (turned x all.0, all_are P Q turned xs all.1)
 
-pub passes_none : {A : Type 0} (test : A → Bool) (xs : List A) → AllByRecursion (λ x. test x ≡ false) xs → slice_get (filter test xs) 0 ≡ None
+pub passes_none : {A : Type 0} (test : A → Bool) (xs : List A) → AllByRecursion (λ x. test x ≡ false) xs
+    → slice_get (filter test xs) 0 ≡ None
 passes_none test [] all = refl
 passes_none test (x ∷ xs) all = rw all.0 (passes_none test xs all.1)
 
@@ -26,12 +28,14 @@ filter-all : {A : Type 0} (xs : List A) → filter (λ x. true) xs ≡ xs
 filter-all [] = refl
 filter-all (x ∷ xs) = ap (λ ys. x ∷ ys) (filter-all xs)
 
-none_passes-at : {A : Type 0} (test : A → Bool) (x : A) (xs : List A) (b : Bool) → test x ≡ b → slice_get (filter test (x ∷ xs)) 0 ≡ None →
+none_passes-at : {A : Type 0} (test : A → Bool) (x : A) (xs : List A) (b : Bool) → test x ≡ b →
+    slice_get (filter test (x ∷ xs)) 0 ≡ None →
     (test x ≡ false) × (slice_get (filter test xs) 0 ≡ None)
 none_passes-at test x xs true is none = cc
 none_passes-at test x xs false is none = (is, rw is at none)
 
-none_passes : {A : Type 0} (test : A → Bool) (xs : List A) → slice_get (filter test xs) 0 ≡ None → AllByRecursion (λ x. test x ≡ false) xs
+none_passes : {A : Type 0} (test : A → Bool) (xs : List A) → slice_get (filter test xs) 0 ≡ None
+    → AllByRecursion (λ x. test x ≡ false) xs
 none_passes test [] none = tt
 none_passes test (x ∷ xs) none =
     let first = none_passes-at test x xs (test x) refl none in
@@ -56,10 +60,13 @@ none_few streams lacking =
 
 taken_none : (streams : List Placed) → AllByRecursion TakesWhatComes streams → place_of Kind streams ≡ None
 taken_none streams taken =
-    passes_none (counts Kind) streams (all_are TakesWhatComes (λ s. counts Kind s ≡ false) (λ s. not_true (takes (kind_of s.tree) s.flow)) streams taken)
+    passes_none (counts Kind) streams
+    (all_are TakesWhatComes (λ s. counts Kind s ≡ false) (λ s. not_true (takes (kind_of s.tree) s.flow)) streams taken)
 
 none_taken : (streams : List Placed) → place_of Kind streams ≡ None → AllByRecursion TakesWhatComes streams
-none_taken streams none = all_are (λ s. counts Kind s ≡ false) TakesWhatComes (λ s. true_from (takes (kind_of s.tree) s.flow)) streams (none_passes (counts Kind) streams none)
+none_taken streams none =
+    all_are (λ s. counts Kind s ≡ false) TakesWhatComes (λ s. true_from (takes (kind_of s.tree) s.flow)) streams
+    (none_passes (counts Kind) streams none)
 
 map_none : {A B : Type 0} (f : A → B) (found : Option A) → option_map f found ≡ None → found ≡ None
 map_none f None is = refl
@@ -71,11 +78,15 @@ both_none (Some a) second is = cc
 
 pub passes : (located : Located) → Passes (preorder_of located.streams) → plan_fault located ≡ None
 unfolding plan_fault
-passes located known = rw (few_none (preorder_of located.streams) known.few, taken_none (preorder_of located.streams) known.taken) refl
+passes located known =
+    rw (few_none (preorder_of located.streams) known.few, taken_none (preorder_of located.streams) known.taken) refl
 
 pub passed : (located : Located) → plan_fault located ≡ None → Passes (preorder_of located.streams)
 unfolding plan_fault
 passed located none =
     let all = preorder_of located.streams in
     let both = both_none _ _ none in
-    record { few = none_few all (map_none _ (place_of Many all) both.0); taken = none_taken all (map_none _ (place_of Kind all) both.1) }
+    record {
+      few = none_few all (map_none _ (place_of Many all) both.0);
+      taken = none_taken all (map_none _ (place_of Kind all) both.1);
+    }

@@ -28,7 +28,8 @@ use Rattle.sexp_config.proofs.GrammarTops.{TopsMean, tops_mean}
 abbrev Right : faults.Placed → Type 0
 Right s = IsShallow s × HasStreamsThatMayFollow s × IsInRange s
 
-both : {A : Type 0} (P : A → Type 0) (xs ys : List A) → AllByRecursion P xs → AllByRecursion P ys → AllByRecursion P (xs ++ ys)
+both : {A : Type 0} (P : A → Type 0) (xs ys : List A) → AllByRecursion P xs → AllByRecursion P ys
+    → AllByRecursion P (xs ++ ys)
 both P [] ys front back = back
 both P (x ∷ xs) ys front back = (front.0, both P xs ys front.1 back)
 
@@ -39,18 +40,23 @@ one_longer (m ∷ path) n = ap suc (one_longer path n)
 mutual
   unfolding preorder_at preorder_in
 
-  right_at : (path : List ℕ) (flow : _) (s : StreamTree) → FitsAt (length path) s → AllByRecursion Right (preorder_at path flow s)
+  right_at : (path : List ℕ) (flow : _) (s : StreamTree) → FitsAt (length path) s
+      → AllByRecursion Right (preorder_at path flow s)
   right_at path flow (stream kind children otherwise) holds = (
     (holds.0, holds.1, holds.2),
-    both Right (preorder_in path 0 (passes_on kind flow) children) (preorder_in path (count_of children) (passes_on kind flow) otherwise)
-        (right_in path 0 (passes_on kind flow) children holds.3) (right_in path (count_of children) (passes_on kind flow) otherwise holds.4),
+    both Right (preorder_in path 0 (passes_on kind flow) children)
+        (preorder_in path (count_of children) (passes_on kind flow) otherwise)
+        (right_in path 0 (passes_on kind flow) children holds.3)
+        (right_in path (count_of children) (passes_on kind flow) otherwise holds.4),
   )
 
-  right_in : (path : List ℕ) (number : ℕ) (flow : _) (streams : StreamTrees) → AllFitAt (suc (length path)) streams → AllByRecursion Right (preorder_in path number flow streams)
+  right_in : (path : List ℕ) (number : ℕ) (flow : _) (streams : StreamTrees) → AllFitAt (suc (length path)) streams
+      → AllByRecursion Right (preorder_in path number flow streams)
   right_in path number flow plan.none all = tt
   right_in path number flow (plan.also s streams) all =
       both Right (preorder_at (path ++ number ∷ []) flow s) (preorder_in path (number + 1) flow streams)
-      (right_at (path ++ number ∷ []) flow s (subst (λ (n : ℕ). FitsAt n s) (one_longer path number) all.0)) (right_in path (number + 1) flow streams all.1)
+      (right_at (path ++ number ∷ []) flow s (subst (λ (n : ℕ). FitsAt n s) (one_longer path number) all.0))
+      (right_in path (number + 1) flow streams all.1)
 
 well_built : (streams : StreamTrees) → AllFitAt 1 streams → IsWellBuilt streams
 well_built streams all =
@@ -62,10 +68,15 @@ well_built streams all =
     }
 
 -- the draft that the forms give
-pub read_is_built : (forms : FormTrees) (draft : Draft) → depth forms ≤ 64 → run [] fresh_draft (tops_in forms) ≡ Ok draft → IsWellBuilt draft.below.children.streams
+pub read_is_built : (forms : FormTrees) (draft : Draft) → depth forms ≤ 64
+    → run [] fresh_draft (tops_in forms) ≡ Ok draft → IsWellBuilt draft.below.children.streams
 read_is_built forms draft h is =
-    let known = ok_read (TopsMean [] (bare_trees forms) fresh_draft) (run [] fresh_draft (tops_in forms)) draft is ((tops_mean forms).0 [] fresh_draft) in
-    subst (λ (streams : StreamTrees). IsWellBuilt streams) (sym known.more.streams) (well_built known.said.streams (tops_fit [] (bare_trees forms) known.said known.are (omega (arith, h, depth_is forms))))
+    let known =
+    ok_read (TopsMean [] (bare_trees forms) fresh_draft) (run [] fresh_draft (tops_in forms)) draft is
+    ((tops_mean forms).0 [] fresh_draft) in
+    subst (λ (streams : StreamTrees). IsWellBuilt streams) (sym known.more.streams)
+    (well_built known.said.streams
+    (tops_fit [] (bare_trees forms) known.said known.are (omega (arith, h, depth_is forms))))
 
 -- ---- three of the causes have no place
 
@@ -78,13 +89,20 @@ has_none : (streams : StreamTrees) → IsWellBuilt streams → HasNone streams
 has_none streams built =
     let all = preorder_of streams in
     record {
-      deep = passes_none (counts Deep) all (all_are IsShallow (λ s. counts Deep s ≡ false) (λ s shallow. le-ltb 64 (length s.path) shallow) all built.shallow);
+      deep =
+          passes_none (counts Deep) all
+          (all_are IsShallow (λ s. counts Deep s ≡ false) (λ s shallow. le-ltb 64 (length s.path) shallow) all
+          built.shallow);
       children = passes_none (counts Children) all built.followed;
-      range = passes_none (counts Range) all (all_are IsInRange (λ s. counts Range s ≡ false) (λ s. not_true (is_in_range (faults.kind_of s.tree))) all built.in_range);
+      range =
+          passes_none (counts Range) all
+          (all_are IsInRange (λ s. counts Range s ≡ false) (λ s. not_true (is_in_range (faults.kind_of s.tree))) all
+          built.in_range);
     }
 
 -- a refusal is for one of the other two
-left_of : (a b c d e : At) (path : List ℕ) (cause : PlanWhy) → b ≡ None → c ≡ None → d ≡ None → first a b c d e ≡ one path cause → IsLeft cause
+left_of : (a b c d e : At) (path : List ℕ) (cause : PlanWhy) → b ≡ None → c ≡ None → d ≡ None
+    → first a b c d e ≡ one path cause → IsLeft cause
 left_of a b c d e path Many nb nc nd is = tt
 left_of a b c d e path Kind nb nc nd is = tt
 left_of (Some s) b c d e path Deep nb nc nd is = let other : Many ≡ Deep = ap why_reported is in cc
@@ -98,17 +116,28 @@ left_of None (Some s) c d e path cause nb nc nd is = cc
 left_of None None (Some s) d e path cause nb nc nd is = cc
 left_of None None None (Some s) e path cause nb nc nd is = cc
 
-pub is_left : (streams : StreamTrees) (path : List ℕ) (cause : PlanWhy) → IsWellBuilt streams → first_fault streams ≡ one path cause → IsLeft cause
+pub is_left : (streams : StreamTrees) (path : List ℕ) (cause : PlanWhy) → IsWellBuilt streams
+    → first_fault streams ≡ one path cause → IsLeft cause
 unfolding first_fault
 is_left streams path cause built is =
     let none = has_none streams built in
     let all = preorder_of streams in
-    left_of (faults.place_of Many all) (faults.place_of Deep all) (faults.place_of Children all) (faults.place_of Range all) (faults.place_of Kind all) path cause none.deep none.children none.range is
+    left_of (faults.place_of Many all) (faults.place_of Deep all) (faults.place_of Children all)
+    (faults.place_of Range all) (faults.place_of Kind all) path cause none.deep none.children none.range is
 
 -- ---- a plan that is few enough and takes what comes has no fault
 
 pub read_plans : ReadPlansHaveNoFault
 read_plans text config is =
     let shallow : depth is.forms ≤ 64 = is.read.shallow in
-    let built = well_built config.plan (tops_fit [] (bare_trees is.forms) _ is.holds.said (omega (arith, shallow, depth_is is.forms))) in
-    (faultless_is_sound config.plan).1 (record { few = is.holds.few; shallow = built.shallow; followed = built.followed; in_range = built.in_range; taken = is.holds.taken })
+    let built =
+    well_built config.plan
+    (tops_fit [] (bare_trees is.forms) _ is.holds.said (omega (arith, shallow, depth_is is.forms))) in
+    (faultless_is_sound config.plan).1
+    (record {
+      few = is.holds.few;
+      shallow = built.shallow;
+      followed = built.followed;
+      in_range = built.in_range;
+      taken = is.holds.taken;
+    })

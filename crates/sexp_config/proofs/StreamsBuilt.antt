@@ -1,5 +1,5 @@
--- Streams that forms represent are well built: their numbers and sets are in their ranges, no stream has streams but those
--- that may follow it, and none is deeper than its form.
+-- Streams that forms represent are well built: their numbers and sets are in their ranges, no stream has streams but
+-- those that may follow it, and none is deeper than its form.
 use Rattle.std.proofs.Common.{◌≡◌, ℕ, suc, ◌+◌, ◌≤◌, Bool, true, false, not, ◌&&◌, ◌||◌, codes, List, [], ◌∷◌, refl, arith}
 use Rattle.std.proofs.lemmas.Bool.{le-leb}
 use Rattle.ev_types.specs.declared.settings.Set.{Set}
@@ -27,21 +27,27 @@ secs_fit env form secs (a_ranged is low high) = rw (le-leb 1 secs low, le-leb se
 both_true : (a b : Bool) → a ≡ true → b ≡ true → (a && b) ≡ true
 both_true a b first second = rw (first, second) refl
 
-both_fit : (env : Env) (n dt : BareTree) (count secs : ℕ) → IsCount env n count → AreSecs env dt secs → (is_count count && is_secs secs) ≡ true
-both_fit env n dt count secs is are = both_true (is_count count) (is_secs secs) (count_fits env n count is) (secs_fit env dt secs are)
+both_fit : (env : Env) (n dt : BareTree) (count secs : ℕ) → IsCount env n count → AreSecs env dt secs
+    → (is_count count && is_secs secs) ≡ true
+both_fit env n dt count secs is are =
+    both_true (is_count count) (is_secs secs) (count_fits env n count is) (secs_fit env dt secs are)
 
 sets_fit : (env : Env) (forms : BareTrees) (sets : List Set) → AreSets env forms sets → all_fit sets ≡ true
 sets_fit env _ _ no_sets = refl
-sets_fit env _ _ (more_sets {forms = forms} {sets = sets} means (a_set is fitting) others new) = rw (fitting, sets_fit env forms sets others) refl
+sets_fit env _ _ (more_sets {forms = forms} {sets = sets} means (a_set is fitting) others new) =
+    rw (fitting, sets_fit env forms sets others) refl
 
-kind_fits : (env : Env) (name : List ℕ) (own : BareTrees) (one : KindTree) → IsKind env name own one → is_in_range one ≡ true
+kind_fits : (env : Env) (name : List ℕ) (own : BareTrees) (one : KindTree) → IsKind env name own one
+    → is_in_range one ≡ true
 kind_fits env _ _ _ (with_one means (a_set is fitting)) = rw fitting refl
 kind_fits env _ _ _ (with_all {entries = entries} {sets = sets} are) = sets_fit env entries sets are
 kind_fits env _ _ _ (default_one means (a_set is fitting)) = rw fitting refl
 kind_fits env _ _ _ (default_all {entries = entries} {sets = sets} are) = sets_fit env entries sets are
 kind_fits env _ _ _ (runs {n = n} {count = count} is means) = count_fits env n count is
-kind_fits env _ _ _ (throttle {n = n} {dt = dt} {count = count} {secs = secs} is are) = both_fit env n dt count secs is are
-kind_fits env _ _ _ (rollup {n = n} {dt = dt} {count = count} {secs = secs} is are) = both_fit env n dt count secs is are
+kind_fits env _ _ _ (throttle {n = n} {dt = dt} {count = count} {secs = secs} is are) =
+    both_fit env n dt count secs is are
+kind_fits env _ _ _ (rollup {n = n} {dt = dt} {count = count} {secs = secs} is are) =
+    both_fit env n dt count secs is are
 kind_fits env _ _ _ (batch {n = n} {dt = dt} {count = count} {secs = secs} is are) = both_fit env n dt count secs is are
 kind_fits env _ _ _ (stable {dt = dt} {secs = secs} are means) = secs_fit env dt secs are
 kind_fits env _ _ _ (fixed_event {n = n} {count = count} is) = count_fits env n count is
@@ -56,17 +62,20 @@ kind_fits env _ _ _ is = refl
 abbrev mutual
   pub FitsAt : ℕ → StreamTree → Type 0
   FitsAt n (stream kind children otherwise) =
-      (n ≤ 64) × (has_wrong_streams (stream kind children otherwise) ≡ false) × (is_in_range kind ≡ true) × AllFitAt (suc n) children × AllFitAt (suc n) otherwise
+      (n ≤ 64) × (has_wrong_streams (stream kind children otherwise) ≡ false) × (is_in_range kind ≡ true)
+      × AllFitAt (suc n) children × AllFitAt (suc n) otherwise
 
   pub AllFitAt : ℕ → StreamTrees → Type 0
   AllFitAt n none = Unit {0}
   AllFitAt n (also one streams) = FitsAt n one × AllFitAt n streams
 
-joined_fit : (n : ℕ) (streams others : StreamTrees) → AllFitAt n streams → AllFitAt n others → AllFitAt n (with_streams streams others)
+joined_fit : (n : ℕ) (streams others : StreamTrees) → AllFitAt n streams → AllFitAt n others
+    → AllFitAt n (with_streams streams others)
 joined_fit n none others all more = more
 joined_fit n (also one streams) others all more = (all.0, joined_fit n streams others all.1 more)
 
-right_streams : (may_children may_rest children : Bool) → may_children ≡ true → ((not may_children && children) || (not may_rest && false)) ≡ false
+right_streams : (may_children may_rest children : Bool) → may_children ≡ true
+    → ((not may_children && children) || (not may_rest && false)) ≡ false
 right_streams may_children true children may = rw may refl
 right_streams may_children false children may = rw may refl
 
@@ -79,19 +88,23 @@ rest_depth no_trees others = omega arith
 rest_depth (and_trees form row) others = omega (arith, rest_depth row others)
 
 mutual
-  stream_fits : (env : Env) (form : BareTree) (one : StreamTree) → IsStream env form one → (n : ℕ) → n + bare_tree_depth form ≤ 64 → FitsAt n one
+  stream_fits : (env : Env) (form : BareTree) (one : StreamTree) → IsStream env form one → (n : ℕ)
+      → n + bare_tree_depth form ≤ 64 → FitsAt n one
   stream_fits env _ _ (index_word is) n h = (omega (arith, h), refl, refl, tt, tt)
   stream_fits env _ _ (index_name is) n h = (omega (arith, h), refl, refl, tt, tt)
   stream_fits env _ _ index_list n h = (omega (arith, h), refl, refl, tt, tt)
   stream_fits env _ _ (notice is) n h = (omega (arith, h), refl, refl, tt, tt)
-  stream_fits env _ _ (passing {word = name} {arguments = own} {forms = forms} {one = one} {children = children} is are) n h = (
-    omega (arith, h),
-    right_streams (may_have_children one) (may_have_otherwise one) (has_streams children) (kind_passes env name own one is),
-    kind_fits env name own one is,
-    streams_fit env forms children are (suc n) (omega (arith, h, rest_depth own forms)),
-    tt,
-  )
-  stream_fits env _ _ (where_else {forms = forms} {rest = rest} {children = children} {otherwise = otherwise} is are others) n h =
+  stream_fits env _ _ (passing {word = name} {arguments = own} {forms = forms} {one = one} {children = children} is are)
+      n h = (
+        omega (arith, h),
+        right_streams (may_have_children one) (may_have_otherwise one) (has_streams children)
+            (kind_passes env name own one is),
+        kind_fits env name own one is,
+        streams_fit env forms children are (suc n) (omega (arith, h, rest_depth own forms)),
+        tt,
+      )
+  stream_fits env _ _
+      (where_else {forms = forms} {rest = rest} {children = children} {otherwise = otherwise} is are others) n h =
       let last : BareTrees = listed (worded (codes "else") rest ∷ []) in (
         omega (arith, h),
         refl,
@@ -100,19 +113,25 @@ mutual
         streams_fit env rest otherwise others (suc n) (omega (arith, h, rest_depth forms last)),
       )
 
-  streams_fit : (env : Env) (forms : BareTrees) (streams : StreamTrees) → AreStreams env forms streams → (n : ℕ) → n + bare_depth forms ≤ 64 → AllFitAt n streams
+  streams_fit : (env : Env) (forms : BareTrees) (streams : StreamTrees) → AreStreams env forms streams → (n : ℕ)
+      → n + bare_depth forms ≤ 64 → AllFitAt n streams
   streams_fit env _ _ no_streams n h = tt
   streams_fit env _ _ (more_streams {form = form} {forms = forms} {one = one} {streams = streams} is others) n h =
       (stream_fits env form one is n (omega (arith, h)), streams_fit env forms streams others n (omega (arith, h)))
 
 mutual
-  top_fits : (env : Env) (form : BareTree) (said : Said) → IsTop env form said → bare_tree_depth form ≤ 64 → AllFitAt 1 said.streams
+  top_fits : (env : Env) (form : BareTree) (said : Said) → IsTop env form said → bare_tree_depth form ≤ 64
+      → AllFitAt 1 said.streams
   top_fits env _ _ (a_server is) h = tt
   top_fits env _ _ (an_expiry is) h = tt
-  top_fits env _ _ (some_streams {forms = forms} {streams = streams} are) h = streams_fit env forms streams are 1 (omega (arith, h))
-  top_fits env _ said (with_names {inner = inner} {forms = forms} known are) h = tops_fit inner forms said are (omega (arith, h))
+  top_fits env _ _ (some_streams {forms = forms} {streams = streams} are) h =
+      streams_fit env forms streams are 1 (omega (arith, h))
+  top_fits env _ said (with_names {inner = inner} {forms = forms} known are) h =
+      tops_fit inner forms said are (omega (arith, h))
 
-  pub tops_fit : (env : Env) (forms : BareTrees) (said : Said) → AreTops env forms said → bare_depth forms ≤ 64 → AllFitAt 1 said.streams
+  pub tops_fit : (env : Env) (forms : BareTrees) (said : Said) → AreTops env forms said → bare_depth forms ≤ 64
+      → AllFitAt 1 said.streams
   tops_fit env _ _ no_tops h = tt
   tops_fit env _ _ (more_tops {form = form} {forms = forms} {said = said} {more = more} is others) h =
-      joined_fit 1 said.streams more.streams (top_fits env form said is (omega (arith, h))) (tops_fit env forms more others (omega (arith, h)))
+      joined_fit 1 said.streams more.streams (top_fits env form said is (omega (arith, h)))
+      (tops_fit env forms more others (omega (arith, h)))

@@ -12,7 +12,8 @@ use Rattle.std.specs.Str.{IsUtf8, IsAscii, IsValidUpTo, bytes_eq}
 use Rattle.sexp_read.specs.Bytes.{is_letter, is_name_byte, is_symbol_byte, is_name, is_word, is_comparison, is_symbol, is_keyword}
 
 pub not_utf8 : (bytes : List ℕ) (place : ℕ) → IsValidUpTo bytes place → IsUtf8 bytes → ⊥
-not_utf8 bytes place h u = h.longest (length bytes) h.short (subst (λ (text : List ℕ). IsUtf8 text) (sym (take-length bytes)) u)
+not_utf8 bytes place h u =
+    h.longest (length bytes) h.short (subst (λ (text : List ℕ). IsUtf8 text) (sym (take-length bytes)) u)
 
 name_byte_small : (b : ℕ) → is_name_byte b ≡ true → b < 128
 name_byte_small b h = grind (arith, nat_tests)
@@ -23,7 +24,8 @@ symbol_byte_small b h = grind (arith, nat_tests)
 name_head_small : (b : ℕ) → (is_letter b || nat_eq b 95) ≡ true → b < 128
 name_head_small b h = grind (arith, nat_tests)
 
-all_small : (p : ℕ → Bool) → ((b : ℕ) → p b ≡ true → b < 128) → (bytes : List ℕ) → list_all p bytes ≡ true → IsAscii bytes
+all_small : (p : ℕ → Bool) → ((b : ℕ) → p b ≡ true → b < 128) → (bytes : List ℕ) → list_all p bytes ≡ true
+    → IsAscii bytes
 all_small p small [] h = IsAscii-nil
 all_small p small (b ∷ bytes) h =
     let parts = and_parts (p b) (list_all p bytes) h in
@@ -59,7 +61,8 @@ same_is_ascii run word known h = subst (λ (text : List ℕ). IsAscii text) (sym
 
 comparison_is_ascii : (run : List ℕ) → is_comparison run ≡ true → IsAscii run
 comparison_is_ascii run h =
-    let word_small : (word : List ℕ) → list_all small word ≡ true → IsAscii word = λ word e. all_small small (λ b low. ltb-true b 128 low) word e in
+    let word_small : (word : List ℕ) → list_all small word ≡ true → IsAscii word =
+    λ word e. all_small small (λ b low. ltb-true b 128 low) word e in
     elim (or_cases _ (bytes_eq run (codes ">=")) h) [
       | inr e ↦ same_is_ascii run (codes ">=") (word_small (codes ">=") refl) e
       | inl h ↦ elim (or_cases _ (bytes_eq run (codes ">")) h) [
@@ -78,4 +81,7 @@ comparison_is_ascii run h =
     ]
 
 pub symbol_is_utf8 : (run : List ℕ) → is_symbol run ≡ true → IsUtf8 run
-symbol_is_utf8 run h = IsUtf8-from_ascii run (elim (or_cases (is_word run) (is_comparison run) h) [ inl e ↦ word_is_ascii run e | inr e ↦ comparison_is_ascii run e ])
+symbol_is_utf8 run h =
+    IsUtf8-from_ascii run
+    (elim (or_cases (is_word run) (is_comparison run) h)
+    [ inl e ↦ word_is_ascii run e | inr e ↦ comparison_is_ascii run e ])

@@ -37,10 +37,13 @@ read_more text place last piece reading after so h more within e r =
           ∙ sym (append_assoc (read_tokens reading) (tokens_in place piece last) (rest text last).tokens)
           ∙ ap (λ tokens. tokens ++ (rest text last).tokens) (sym (piece_tokens reading place last piece after r));
       fault = so.fault ∙ ap (λ (l : Lexed). l.fault) step;
-      refused = so.refused ∙ ap (fault_after (brackets_of reading.stack)) step ∙ piece_fault reading place last piece after (rest text last) r;
+      refused =
+          so.refused ∙ ap (fault_after (brackets_of reading.stack)) step
+          ∙ piece_fault reading place last piece after (rest text last) r;
     }
 
-pub read_refused : (text : List ℕ) (place last : ℕ) (piece : Piece) (reading : Reading) (fault : Fault) → IsReadTo text place reading
+pub read_refused : (text : List ℕ) (place last : ℕ) (piece : Piece) (reading : Reading) (fault : Fault)
+    → IsReadTo text place reading
     → place < length text → place < last
     → piece_at place (get_or text place 0) (drop (place + 1) text) ≡ Ok (piece, last)
     → with_piece reading place piece last ≡ Err fault → forms_fault text ≡ Some fault
@@ -49,20 +52,25 @@ read_refused text place last piece reading fault so h more e r =
     ∙ piece_refused reading place last piece fault (rest text last) r
 
 pub read_faulty : (text : List ℕ) (place : ℕ) (reading : Reading) (fault : Fault) → IsReadTo text place reading
-    → place < length text → piece_at place (get_or text place 0) (drop (place + 1) text) ≡ Err fault → forms_fault text ≡ Some fault
+    → place < length text → piece_at place (get_or text place 0) (drop (place + 1) text) ≡ Err fault
+    → forms_fault text ≡ Some fault
 unfolding fault_after
-read_faulty text place reading fault so h e = so.refused ∙ ap (fault_after (brackets_of reading.stack)) (rest_fault text place fault h e)
+read_faulty text place reading fault so h e =
+    so.refused ∙ ap (fault_after (brackets_of reading.stack)) (rest_fault text place fault h e)
 
 pub read_to_end : (text : List ℕ) (place : ℕ) (reading : Reading) → IsReadTo text place reading → length text ≤ place
     → forms_fault text ≡ unclosed (brackets_of reading.stack)
 unfolding fault_after
 read_to_end text place reading so h = so.refused ∙ ap (fault_after (brackets_of reading.stack)) (rest_none text place h)
 
-pub read_all : (text : List ℕ) (place : ℕ) (reading : Reading) (forms : FormTrees) → IsReadTo text place reading → length text ≤ place
+pub read_all : (text : List ℕ) (place : ℕ) (reading : Reading) (forms : FormTrees) → IsReadTo text place reading
+    → length text ≤ place
     → reading.stack ≡ [] → forms ≡ reading.forms → AreRead (lexed text) forms
 read_all text place reading forms so h empty same =
     let none = rest_none text place h in
     record {
-      spelled = so.tokens ∙ ap (λ (l : Lexed). read_tokens reading ++ l.tokens) none ∙ append-nil (read_tokens reading) ∙ rw (empty, same) refl;
+      spelled =
+          so.tokens ∙ ap (λ (l : Lexed). read_tokens reading ++ l.tokens) none ∙ append-nil (read_tokens reading)
+          ∙ rw (empty, same) refl;
       faultless = so.fault ∙ ap (λ (l : Lexed). l.fault) none;
     }

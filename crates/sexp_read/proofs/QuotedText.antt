@@ -27,13 +27,15 @@ shorter front bytes b = omega (arith, length-append front (b ∷ bytes))
 pub before_ascii : (front bytes : List ℕ) (b : ℕ) → IsUtf8 (front ++ b ∷ bytes) → b < 128 → IsUtf8 front
 before_ascii front bytes b u low =
     let cut = IsUtf8-take (front ++ b ∷ bytes) (length front) u
-    (IsCharBoundary-before_ascii (front ++ b ∷ bytes) (length front) (shorter front bytes b) (omega (arith, at_seam front bytes b))) in
+    (IsCharBoundary-before_ascii (front ++ b ∷ bytes) (length front) (shorter front bytes b)
+    (omega (arith, at_seam front bytes b))) in
     subst (λ (text : List ℕ). IsUtf8 text) (take_at front (b ∷ bytes) (length front) refl) cut
 
 pub following_ascii : (front bytes : List ℕ) (b : ℕ) → IsUtf8 (front ++ b ∷ bytes) → b < 128 → IsUtf8 bytes
 following_ascii front bytes b u low =
     let cut = IsUtf8-drop (front ++ b ∷ bytes) (length front + 1) u
-    (IsCharBoundary-after_ascii (front ++ b ∷ bytes) (length front) u (shorter front bytes b) (omega (arith, at_seam front bytes b))) in
+    (IsCharBoundary-after_ascii (front ++ b ∷ bytes) (length front) u (shorter front bytes b)
+    (omega (arith, at_seam front bytes b))) in
     subst (λ (text : List ℕ). IsUtf8 text) (drop-append-add front (b ∷ bytes) 1) cut
 
 escape_small : (c e : ℕ) → escaped_byte c ≡ Some e → (c < 128) × (e < 128)
@@ -46,7 +48,8 @@ text_escape_keeps c front bytes more (Some e) low h u =
     let small = low e refl in
     let one : more ≡ e ∷ [] = cc in
     let before = before_ascii front (c ∷ bytes) 92 u (omega arith) in
-    let moved : IsUtf8 ((front ++ 92 ∷ []) ++ c ∷ bytes) = subst (λ (text : List ℕ). IsUtf8 text) (sym (append_assoc front (92 ∷ []) (c ∷ bytes))) u in
+    let moved : IsUtf8 ((front ++ 92 ∷ []) ++ c ∷ bytes) =
+    subst (λ (text : List ℕ). IsUtf8 text) (sym (append_assoc front (92 ∷ []) (c ∷ bytes))) u in
     let after = following_ascii (front ++ 92 ∷ []) bytes c moved small.0 in
     rw one (IsUtf8-append (front ++ e ∷ []) bytes
     (IsUtf8-append front (e ∷ []) before (IsUtf8-from_ascii (e ∷ []) (IsAscii-cons e [] small.1 IsAscii-nil))) after)
@@ -58,7 +61,8 @@ escape_keeps in_pattern c front bytes more h u =
     let two : more ≡ 92 ∷ c ∷ [] = cc in
     rw two (subst (λ (text : List ℕ). IsUtf8 text) (sym (append_assoc front (92 ∷ c ∷ []) bytes)) u)
 
-pub ok_parts : (x y : List ℕ × ℕ) → let read : Result (List ℕ × ℕ) Fault = Ok x in read ≡ Ok y → (y.0 ≡ x.0) × (y.1 ≡ x.1)
+pub ok_parts : (x y : List ℕ × ℕ)
+    → let read : Result (List ℕ × ℕ) Fault = Ok x in read ≡ Ok y → (y.0 ≡ x.0) × (y.1 ≡ x.1)
 ok_parts x y h = let same : y ≡ x = cc in (ap (λ p. p.0) same, ap (λ p. p.1) same)
 
 pub record Fronted (front text : List ℕ) (last : ℕ) (read : Result (List ℕ × ℕ) Fault) : Type 0 where
@@ -66,13 +70,15 @@ pub record Fronted (front text : List ℕ) (last : ℕ) (read : Result (List ℕ
   pub is : read ≡ Ok (rest, last)
   pub whole : text ≡ front ++ rest
 
-pub fronted : (front text : List ℕ) (last : ℕ) (read : Result (List ℕ × ℕ) Fault) → with_prefix front read ≡ Ok (text, last) → Fronted front text last read
+pub fronted : (front text : List ℕ) (last : ℕ) (read : Result (List ℕ × ℕ) Fault)
+    → with_prefix front read ≡ Ok (text, last) → Fronted front text last read
 fronted front text last (Ok read) h =
     let parts = ok_parts (front ++ read.0, read.1) (text, last) h in
     record { rest = read.0; is = ap (λ place. Ok (read.0, place)) (sym parts.1); whole = parts.0 }
 fronted front text last (Err fault) h = cc
 
-pub record Escaped (text : List ℕ) (last : ℕ) (escape : Option (List ℕ)) (read : Result (List ℕ × ℕ) Fault) : Type 0 where
+pub record Escaped (text : List ℕ) (last : ℕ) (escape : Option (List ℕ))
+    (read : Result (List ℕ × ℕ) Fault) : Type 0 where
   pub more : List ℕ
   pub some : escape ≡ Some more
   pub front : Fronted more text last read
@@ -82,7 +88,8 @@ pub escaped : (place : ℕ) (text : List ℕ) (last : ℕ) (escape : Option (Lis
 escaped place text last (Some more) read h = record { more = more; some = refl; front = fronted more text last read h }
 escaped place text last None read h = cc
 
-joined : (front more rest text : List ℕ) → text ≡ more ++ rest → IsUtf8 ((front ++ more) ++ rest) → IsUtf8 (front ++ text)
+joined : (front more rest text : List ℕ) → text ≡ more ++ rest → IsUtf8 ((front ++ more) ++ rest)
+    → IsUtf8 (front ++ text)
 joined front more rest text e u = rw e (subst (λ (bytes : List ℕ). IsUtf8 bytes) (append_assoc front more rest) u)
 
 quoted_utf8 : (kind : Quoted) (start place : ℕ) (front bytes text : List ℕ) (last : ℕ) → IsUtf8 (front ++ bytes)
@@ -95,14 +102,16 @@ quoted_utf8 kind start place front (b ∷ []) text last u h = elim (cases_Bool (
 ]
 quoted_utf8 kind start place front (b ∷ c ∷ bytes) text last u h = elim (cases_Bool (nat_eq b 34)) [
   | inl q ↦ let h' = rw q at h in let empty : text ≡ [] = (ok_parts ([], place + 1) (text, last) h').0 in
-      rw (empty, append-nil front) (before_ascii front (c ∷ bytes) b u (let e : b ≡ 34 = eqb-true b 34 q in omega arith))
+      rw (empty, append-nil front)
+      (before_ascii front (c ∷ bytes) b u (let e : b ≡ 34 = eqb-true b 34 q in omega arith))
   | inr q ↦ let h' = rw q at h in elim (cases_Bool (nat_eq b 92)) [
     | inl s ↦ let e : b ≡ 92 = eqb-true b 92 s in
         let h'' = rw s at h' in
         let known = escaped place text last (escape_of kind c) (quoted_from kind start (place + 2) bytes) h'' in
         joined front known.more known.front.rest text known.front.whole
         (quoted_utf8 kind start (place + 2) (front ++ known.more) bytes known.front.rest last
-        (escape_keeps kind c front bytes known.more known.some (subst (λ (x : ℕ). IsUtf8 (front ++ x ∷ c ∷ bytes)) e u)) known.front.is)
+        (escape_keeps kind c front bytes known.more known.some (subst (λ (x : ℕ). IsUtf8 (front ++ x ∷ c ∷ bytes)) e u))
+        known.front.is)
     | inr s ↦
         let h'' = rw s at h' in
         let known = fronted (b ∷ []) text last (quoted_from kind start (place + 1) (c ∷ bytes)) h'' in

@@ -8,7 +8,8 @@ use Rattle.sexp_read.specs.Grammar.{form_spelling, spelling, form_depth, depth, 
 use Rattle.sexp_read.proofs.ReadingLaws.{same_bracket_refl}
 
 -- the tokens inside a group, and those after it
-pub inside : (forms : FormTrees) (last : Token) (more : List Token) → (spelling forms ++ last ∷ []) ++ more ≡ spelling forms ++ last ∷ more
+pub inside : (forms : FormTrees) (last : Token) (more : List Token)
+    → (spelling forms ++ last ∷ []) ++ more ≡ spelling forms ++ last ∷ more
 inside forms last more = append_assoc (spelling forms) (last ∷ []) more
 
 closed_well : (bracket : Bracket) (start last : ℕ) (stack : Brackets) (more : List Token)
@@ -33,11 +34,13 @@ mutual
 
 -- forms that nest no deeper than is allowed have no fault of a bracket
 pub no_bracket_fault : (forms : FormTrees) → depth forms ≤ deepest → bracket_fault [] (spelling forms) ≡ None
-no_bracket_fault forms h = ap (bracket_fault []) (sym (append-nil (spelling forms))) ∙ forms_fault forms [] [] (omega arith)
+no_bracket_fault forms h =
+    ap (bracket_fault []) (sym (append-nil (spelling forms))) ∙ forms_fault forms [] [] (omega arith)
 
 mutual
   form_shallow : (form : FormTree) (stack : Brackets) (more : List Token) → length stack ≤ deepest
-      → bracket_fault stack (form_spelling form ++ more) ≡ None → (length stack + form_depth form ≤ deepest) × (bracket_fault stack more ≡ None)
+      → bracket_fault stack (form_spelling form ++ more) ≡ None
+      → (length stack + form_depth form ≤ deepest) × (bracket_fault stack more ≡ None)
   form_shallow (Single atom start last) stack more h e = (omega arith, e)
   form_shallow (Group bracket forms start last) stack more h e = elim (cases_Bool (nat_le deepest (length stack))) [
     | inl deep ↦ let e' = rw deep at e in cc
@@ -49,7 +52,8 @@ mutual
   ]
 
   forms_shallow : (forms : FormTrees) (stack : Brackets) (more : List Token) → length stack ≤ deepest
-      → bracket_fault stack (spelling forms ++ more) ≡ None → (length stack + depth forms ≤ deepest) × (bracket_fault stack more ≡ None)
+      → bracket_fault stack (spelling forms ++ more) ≡ None
+      → (length stack + depth forms ≤ deepest) × (bracket_fault stack more ≡ None)
   forms_shallow none stack more h e = (omega arith, e)
   forms_shallow (also form forms) stack more h e =
       let e' = rw (append_assoc (form_spelling form) (spelling forms) more) at e in
@@ -60,25 +64,31 @@ mutual
 -- and where there is none, they nest no deeper
 pub shallow_forms : (forms : FormTrees) → bracket_fault [] (spelling forms) ≡ None → depth forms ≤ deepest
 shallow_forms forms e =
-    let known = forms_shallow forms [] [] (omega arith) (ap (bracket_fault []) (append-nil (spelling forms)) ∙ e) in omega arith
+    let known = forms_shallow forms [] [] (omega arith) (ap (bracket_fault []) (append-nil (spelling forms)) ∙ e) in
+    omega arith
 
 mutual
-  form_opens : (form : FormTree) (stack : Brackets) (more : List Token) → open_after stack (form_spelling form ++ more) ≡ open_after stack more
+  form_opens : (form : FormTree) (stack : Brackets) (more : List Token)
+      → open_after stack (form_spelling form ++ more) ≡ open_after stack more
   form_opens (Single atom start last) stack more = refl
   form_opens (Group bracket forms start last) stack more =
-      ap (open_after ((bracket, start) ∷ stack)) (inside forms (Closed bracket last) more) ∙ forms_open forms ((bracket, start) ∷ stack) (Closed bracket last ∷ more)
+      ap (open_after ((bracket, start) ∷ stack)) (inside forms (Closed bracket last) more)
+      ∙ forms_open forms ((bracket, start) ∷ stack) (Closed bracket last ∷ more)
 
-  pub forms_open : (forms : FormTrees) (stack : Brackets) (more : List Token) → open_after stack (spelling forms ++ more) ≡ open_after stack more
+  pub forms_open : (forms : FormTrees) (stack : Brackets) (more : List Token)
+      → open_after stack (spelling forms ++ more) ≡ open_after stack more
   forms_open none stack more = refl
   forms_open (also form forms) stack more =
-      ap (open_after stack) (append_assoc (form_spelling form) (spelling forms) more) ∙ form_opens form stack (spelling forms ++ more) ∙ forms_open forms stack more
+      ap (open_after stack) (append_assoc (form_spelling form) (spelling forms) more)
+      ∙ form_opens form stack (spelling forms ++ more) ∙ forms_open forms stack more
 
 -- forms leave no bracket open
 pub none_open : (forms : FormTrees) → open_after [] (spelling forms) ≡ []
 none_open forms = ap (open_after []) (sym (append-nil (spelling forms))) ∙ forms_open forms [] []
 
 -- the first token of a form is no closing bracket
-closed_apart : (bracket : Bracket) (last : ℕ) (form : FormTree) (more rest : List Token) → Closed bracket last ∷ rest ≡ form_spelling form ++ more → ⊥
+closed_apart : (bracket : Bracket) (last : ℕ) (form : FormTree) (more rest : List Token)
+    → Closed bracket last ∷ rest ≡ form_spelling form ++ more → ⊥
 closed_apart bracket last (Single atom start after) more rest e = cc
 closed_apart bracket last (Group kind forms start after) more rest e = cc
 
@@ -108,11 +118,16 @@ mutual
   same_forms : (fs gs : FormTrees) (b b' : Bracket) (e e' : ℕ) (r q : List Token)
       → spelling fs ++ Closed b e ∷ r ≡ spelling gs ++ Closed b' e' ∷ q → SameForms fs gs e e' r q
   same_forms none none b b' e e' r q h = record { forms = refl; last = cc; rest = cc }
-  same_forms none (also g gs) b b' e e' r q h = absurd (closed_apart b e g (spelling gs ++ Closed b' e' ∷ q) r (h ∙ append_assoc (form_spelling g) (spelling gs) (Closed b' e' ∷ q)))
-  same_forms (also f fs) none b b' e e' r q h = absurd (closed_apart b' e' f (spelling fs ++ Closed b e ∷ r) q (sym h ∙ append_assoc (form_spelling f) (spelling fs) (Closed b e ∷ r)))
+  same_forms none (also g gs) b b' e e' r q h =
+      absurd (closed_apart b e g (spelling gs ++ Closed b' e' ∷ q) r
+      (h ∙ append_assoc (form_spelling g) (spelling gs) (Closed b' e' ∷ q)))
+  same_forms (also f fs) none b b' e e' r q h =
+      absurd (closed_apart b' e' f (spelling fs ++ Closed b e ∷ r) q
+      (sym h ∙ append_assoc (form_spelling f) (spelling fs) (Closed b e ∷ r)))
   same_forms (also f fs) (also g gs) b b' e e' r q h =
       let first = same_form f g (spelling fs ++ Closed b e ∷ r) (spelling gs ++ Closed b' e' ∷ q)
-      (sym (append_assoc (form_spelling f) (spelling fs) (Closed b e ∷ r)) ∙ h ∙ append_assoc (form_spelling g) (spelling gs) (Closed b' e' ∷ q)) in
+      (sym (append_assoc (form_spelling f) (spelling fs) (Closed b e ∷ r)) ∙ h
+      ∙ append_assoc (form_spelling g) (spelling gs) (Closed b' e' ∷ q)) in
       let others = same_forms fs gs b b' e e' r q first.rest in
       record { forms = cc (first.form, others.forms); last = others.last; rest = others.rest }
 

@@ -18,7 +18,8 @@ first_none : (a b : Option Fault) → or_else a b ≡ None → a ≡ None
 first_none (Some fault) b h = cc
 first_none None b h = refl
 
-pub are_forms : (text : List ℕ) (forms : FormTrees) → length text ≤ longest → IsUtf8 text → AreRead (lexed text) forms → forms_fault text ≡ None → IsForms text forms
+pub are_forms : (text : List ℕ) (forms : FormTrees) → length text ≤ longest → IsUtf8 text → AreRead (lexed text) forms
+    → forms_fault text ≡ None → IsForms text forms
 unfolding forms_fault fault_after
 are_forms text forms short utf8 read e = record {
   short = short;
@@ -30,12 +31,14 @@ are_forms text forms short utf8 read e = record {
 forms_no_fault : (text : List ℕ) (forms : FormTrees) → IsForms text forms → forms_fault text ≡ None
 unfolding forms_fault fault_after
 forms_no_fault text forms h =
-    ap (λ fault. or_else fault (or_else (lexed text).fault (unclosed (open_after [] (lexed text).tokens)))) (ap (bracket_fault []) h.read.spelled ∙ no_bracket_fault forms h.shallow)
+    ap (λ fault. or_else fault (or_else (lexed text).fault (unclosed (open_after [] (lexed text).tokens))))
+    (ap (bracket_fault []) h.read.spelled ∙ no_bracket_fault forms h.shallow)
     ∙ ap (λ fault. or_else fault (unclosed (open_after [] (lexed text).tokens))) h.read.faultless
     ∙ ap unclosed (ap (open_after []) h.read.spelled ∙ none_open forms)
 
 pub read_as : (text : List ℕ) (trees : FormTrees) (result : Result (Vec Form Global) SexpFault) → IsForms text trees
-    → IfOk result (λ forms. AreRead (lexed text) (form_trees forms.items)) → IfErr result (λ fault. IsFault fault (forms_fault text)) → IsReadAs trees result
+    → IfOk result (λ forms. AreRead (lexed text) (form_trees forms.items))
+    → IfErr result (λ fault. IsFault fault (forms_fault text)) → IsReadAs trees result
 read_as text trees (Ok forms) h ok err = one_reading (form_trees forms.items) trees (sym ok.spelled ∙ h.read.spelled)
 read_as text trees (Err Memory) h ok err = refl
 read_as text trees (Err (Refused place why)) h ok err = let none = forms_no_fault text trees h in cc
@@ -48,6 +51,9 @@ pub fault_of_length : (text : List ℕ) → longest < length text → text_fault
 unfolding text_fault
 fault_of_length text long = rw (lt-ltb longest (length text) long) refl
 
-pub fault_of_utf8 : (text : List ℕ) → length text ≤ longest → (IsUtf8 text → ⊥) → text_fault text ≡ Some (utf8_valid_len text, Utf8)
+pub fault_of_utf8 : (text : List ℕ) → length text ≤ longest → (IsUtf8 text → ⊥)
+    → text_fault text ≡ Some (utf8_valid_len text, Utf8)
 unfolding text_fault
-fault_of_utf8 text short never = rw (le-ltb longest (length text) short, false_from_ne_true (is_utf8 text) (λ e. never (IsUtf8-from_is_utf8 text e))) refl
+fault_of_utf8 text short never =
+    rw (le-ltb longest (length text) short, false_from_ne_true (is_utf8 text) (λ e. never (IsUtf8-from_is_utf8 text e)))
+    refl

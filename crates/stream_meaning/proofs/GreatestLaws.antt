@@ -22,7 +22,9 @@ greatest_reached first more =
     let bounds = fold-int_max_bounds first more (greatest first more) (as_fold first more) in
     record {
       among = elim (fold-int_max_reached first more (greatest first more) (as_fold first more)) [
-        | inl is ↦ subst (Contains (first ∷ more)) (sym is) (Contains-append_left (first ∷ []) more first (Contains-push [] first))
+        | inl is ↦
+            subst (Contains (first ∷ more)) (sym is)
+            (Contains-append_left (first ∷ []) more first (Contains-push [] first))
         | inr later ↦ Contains-append_right (first ∷ []) more (greatest first more) later
       ];
       bound = All-cons (λ number. number ≤ℤ greatest first more) first more bounds.0 bounds.1;
@@ -33,7 +35,8 @@ both_ways a b p q = omega (arith, ints)
 
 only_one : (numbers : List ℤ) (a b : ℤ) → IsGreatest numbers a → IsGreatest numbers b → a ≡ b
 only_one numbers a b p q =
-    both_ways a b (All-contains (λ number. number ≤ℤ b) numbers a q.bound p.among) (All-contains (λ number. number ≤ℤ a) numbers b p.bound q.among)
+    both_ways a b (All-contains (λ number. number ≤ℤ b) numbers a q.bound p.among)
+    (All-contains (λ number. number ≤ℤ a) numbers b p.bound q.among)
 
 moved : (first top : ℤ) (more : List ℤ) → IsGreatest (first ∷ more) top → IsGreatest (more ++ first ∷ []) top
 moved first top more is = record {
@@ -41,12 +44,18 @@ moved first top more is = record {
     | inl here ↦ Contains-append_right more (first ∷ []) top here
     | inr later ↦ Contains-append_left more (first ∷ []) top later
   ];
-  bound = All-push (λ number. number ≤ℤ top) more first (All-tail (λ number. number ≤ℤ top) first more is.bound) (All-head (λ number. number ≤ℤ top) first more is.bound);
+  bound =
+      All-push (λ number. number ≤ℤ top) more first (All-tail (λ number. number ≤ℤ top) first more is.bound)
+      (All-head (λ number. number ≤ℤ top) first more is.bound);
 }
 
-latest_is : (before : List Event) (event : Event) → IsGreatest (map time_of (before ++ event ∷ [])) (latest_time before event)
-latest_is before event = subst (λ (times : List ℤ). IsGreatest times (latest_time before event)) (sym (map-append time_of before (event ∷ [])))
-    (moved event.time (latest_time before event) (map time_of before) (greatest_reached event.time (map time_of before)))
+latest_is : (before : List Event) (event : Event)
+    → IsGreatest (map time_of (before ++ event ∷ [])) (latest_time before event)
+latest_is before event =
+    subst (λ (times : List ℤ). IsGreatest times (latest_time before event))
+    (sym (map-append time_of before (event ∷ [])))
+    (moved event.time (latest_time before event) (map time_of before)
+    (greatest_reached event.time (map time_of before)))
 
 pub moving_time_goes_by_the_greatest : MovingTimeGoesByTheGreatest
 moving_time_goes_by_the_greatest secs h event latest is =
@@ -60,13 +69,23 @@ vector_if false es = refl
 
 pub fixed_time_goes_by_the_greatest : FixedTimeGoesByTheGreatest
 fixed_time_goes_by_the_greatest secs h event first more latest came is =
-    let reached : IsGreatest (map (stretch_of secs first) (first ∷ more)) latest = subst (λ (es : List Event). IsGreatest (map (stretch_of secs first) es) latest) came is in
+    let reached : IsGreatest (map (stretch_of secs first) (first ∷ more)) latest =
+    subst (λ (es : List Event). IsGreatest (map (stretch_of secs first) es) latest) came is in
     let top : ℤ = greatest (stretch_of secs first first) (map (stretch_of secs first) more) in
-    let same : top ≡ latest = only_one (map (stretch_of secs first) (first ∷ more)) top latest (greatest_reached (stretch_of secs first first) (map (stretch_of secs first) more)) reached in
+    let same : top ≡ latest =
+    only_one (map (stretch_of secs first) (first ∷ more)) top latest
+    (greatest_reached (stretch_of secs first first) (map (stretch_of secs first) more)) reached in
     ap (λ (es : List Event). vector (stretch_before secs es event)) came
-    ∙ vector_if (int_lt top (stretch_of secs first event)) (filter (λ (other : Event). int_eq (stretch_of secs first other) top) (first ∷ more))
-    ∙ ap (λ (t : ℤ). cond (int_lt t (stretch_of secs first event)) (vector (filter (λ (other : Event). int_eq (stretch_of secs first other) t) (first ∷ more))) []) same
-    ∙ ap (λ (es : List Event). cond (int_lt latest (stretch_of secs first event)) (vector (filter (λ (other : Event). int_eq (stretch_of secs first other) latest) es)) []) (sym came)
+    ∙ vector_if (int_lt top (stretch_of secs first event))
+    (filter (λ (other : Event). int_eq (stretch_of secs first other) top) (first ∷ more))
+    ∙ ap
+    (λ (t : ℤ). cond (int_lt t (stretch_of secs first event))
+    (vector (filter (λ (other : Event). int_eq (stretch_of secs first other) t) (first ∷ more))) [])
+    same
+    ∙ ap
+    (λ (es : List Event). cond (int_lt latest (stretch_of secs first event))
+    (vector (filter (λ (other : Event). int_eq (stretch_of secs first other) latest) es)) [])
+    (sym came)
 
 -- ---- stretches
 

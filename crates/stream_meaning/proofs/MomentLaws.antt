@@ -22,7 +22,8 @@ given-moments : (t : Bool) (item : Item) (h : History) → SameMoments (cond t (
 given-moments true item h = record { begins = refl; ends = refl }
 given-moments false item h = record { begins = refl; ends = refl }
 
-pub after_emissions-moments : (branch : Branch) (es : List Emission) (h : History) → SameMoments (after_emissions branch es h) h
+pub after_emissions-moments : (branch : Branch) (es : List Emission) (h : History)
+    → SameMoments (after_emissions branch es h) h
 after_emissions-moments branch [] h = record { begins = refl; ends = refl }
 after_emissions-moments branch (emission ∷ more) h =
     let t = same_branch emission.branch branch in
@@ -56,7 +57,8 @@ within-parts q r secs h =
     let times : d / secs * secs ≡ q * secs = ap (λ k. k * secs) quotient in
     (quotient, omega arith)
 
-pub reached-parts : (q r secs : ℕ) → r + 1 ≡ secs → ((q * secs + r + 1) / secs ≡ q + 1) × ((q * secs + r + 1) % secs ≡ 0)
+pub reached-parts : (q r secs : ℕ) → r + 1 ≡ secs
+    → ((q * secs + r + 1) / secs ≡ q + 1) × ((q * secs + r + 1) % secs ≡ 0)
 reached-parts q r secs h =
     let d : ℕ = q * secs + r + 1 in
     let quotient : d / secs ≡ q + 1 = div-eq_of_lt-le secs (omega arith) (omega arith) in
@@ -65,10 +67,14 @@ reached-parts q r secs h =
     (quotient, omega arith)
 
 within : (q r secs : ℕ) → r + 1 < secs → (q * secs + r + 1) / secs ≡ cond ((q * secs + r + 1) % secs == 0) (q + 1) q
-within q r secs h = let parts = within-parts q r secs h in parts.0 ∙ sym (ap (λ t. cond t (q + 1) q) (ne-zero ((q * secs + r + 1) % secs) parts.1))
+within q r secs h =
+    let parts = within-parts q r secs h in
+    parts.0 ∙ sym (ap (λ t. cond t (q + 1) q) (ne-zero ((q * secs + r + 1) % secs) parts.1))
 
 reached : (q r secs : ℕ) → r + 1 ≡ secs → (q * secs + r + 1) / secs ≡ cond ((q * secs + r + 1) % secs == 0) (q + 1) q
-reached q r secs h = let parts = reached-parts q r secs h in parts.0 ∙ sym (ap (λ t. cond t (q + 1) q) (eq-zero ((q * secs + r + 1) % secs) parts.1))
+reached q r secs h =
+    let parts = reached-parts q r secs h in
+    parts.0 ∙ sym (ap (λ t. cond t (q + 1) q) (eq-zero ((q * secs + r + 1) % secs) parts.1))
 
 pub next_quotient : (d secs : ℕ) → 0 < secs → (d + 1) / secs ≡ cond ((d + 1) % secs == 0) (d / secs + 1) (d / secs)
 next_quotient d secs pos =
@@ -77,7 +83,8 @@ next_quotient d secs pos =
     let parts : q * secs + r + 1 ≡ d + 1 = ap (λ m. m + 1) (div-add-mod' d secs) in
     let bound : r < secs = mod-lt d pos in
     let way : (r + 1 < secs) ⊎ (r + 1 ≡ secs) = grind arith in
-    subst (λ (m : ℕ). m / secs ≡ cond (m % secs == 0) (q + 1) q) parts (elim way [ inl h ↦ within q r secs h | inr h ↦ reached q r secs h ])
+    subst (λ (m : ℕ). m / secs ≡ cond (m % secs == 0) (q + 1) q) parts
+    (elim way [ inl h ↦ within q r secs h | inr h ↦ reached q r secs h ])
 
 pub windows : WindowsAreMultiples
 windows secs h pos =

@@ -63,17 +63,22 @@ begin_emit kind start = refl
 
 pub ticks_emit : (kind : KindTree) (h : History) → TicksAlone h → emissions kind h ≡ []
 ticks_emit (Rollup n secs) (h ▸ Tick) alone =
-    not_rolled (window_of secs (h ▸ Tick) == window_of secs h) (rolls_into n secs (suc (window_of secs h)) h) (vector (drop (allowed n secs (window_of secs h) h) (events_now secs h)))
+    not_rolled (window_of secs (h ▸ Tick) == window_of secs h) (rolls_into n secs (suc (window_of secs h)) h)
+    (vector (drop (allowed n secs (window_of secs h) h) (events_now secs h)))
     (rolls_into-ticks n secs (suc (window_of secs h)) h alone)
 ticks_emit (Batch n secs) (h ▸ Tick) alone =
-    ap (λ es. to_children (cond (window_of secs (h ▸ Tick) == window_of secs h) [] (vector (last_of (length es % n) es)))) (events_in-ticks secs (window_of secs h) h alone)
+    ap
+    (λ es. to_children (cond (window_of secs (h ▸ Tick) == window_of secs h) [] (vector (last_of (length es % n) es))))
+    (events_in-ticks secs (window_of secs h) h alone)
     ∙ not_batched (window_of secs (h ▸ Tick) == window_of secs h) (0 % n)
 ticks_emit (Stable secs field) (h ▸ Tick) alone =
-    ap (λ es. to_children (cond (moment_of (h ▸ Tick) == run_began field h + secs) (each es) [])) (run-ticks field h alone)
+    ap (λ es. to_children (cond (moment_of (h ▸ Tick) == run_began field h + secs) (each es) []))
+    (run-ticks field h alone)
     ∙ not_stable (moment_of (h ▸ Tick) == run_began field h + secs)
 ticks_emit (Coalesce secs) (h ▸ Tick) alone =
     let now = moment_of (h ▸ Tick) in
-    ap (λ came. to_children (cond ((now - begun h) % secs == 0) (vector (coalesced secs now came)) [])) (timed-ticks h alone)
+    ap (λ came. to_children (cond ((now - begun h) % secs == 0) (vector (coalesced secs now came)) []))
+    (timed-ticks h alone)
     ∙ not_coalesced ((now - begun h) % secs == 0) secs now
 ticks_emit kind (since start) alone = begin_emit kind start
 ticks_emit kind (h ▸ Tick) alone = refl
@@ -82,7 +87,8 @@ ticks_emit kind (h ▸ In item) alone = absurd alone
 pub ticks_handed_on : (kind : KindTree) (branch : Branch) (h : History) → TicksAlone h → child_history kind branch h ≡ h
 ticks_handed_on kind branch (since start) alone = refl
 ticks_handed_on kind branch (h ▸ Tick) alone =
-    ap (λ es. after_emissions branch es (child_history kind branch h ▸ Tick)) (ticks_emit kind (h ▸ Tick) alone) ∙ ap (λ g. g ▸ Tick) (ticks_handed_on kind branch h alone)
+    ap (λ es. after_emissions branch es (child_history kind branch h ▸ Tick)) (ticks_emit kind (h ▸ Tick) alone)
+    ∙ ap (λ g. g ▸ Tick) (ticks_handed_on kind branch h alone)
 ticks_handed_on kind branch (h ▸ In item) alone = absurd alone
 
 none_came : (idle : Option ℕ) (fields : List Field) (h : History) → TicksAlone h → forks_that_came idle fields h ≡ []
@@ -90,7 +96,8 @@ none_came idle fields (since start) alone = refl
 none_came idle fields (h ▸ Tick) alone = none_came idle fields h alone
 none_came idle fields (h ▸ In item) alone = absurd alone
 
-pub ticks_make_no_fork : (idle : Option ℕ) (fields : List Field) (h : History) → TicksAlone h → live_forks idle fields h ≡ []
+pub ticks_make_no_fork : (idle : Option ℕ) (fields : List Field) (h : History) → TicksAlone h
+    → live_forks idle fields h ≡ []
 ticks_make_no_fork idle fields h alone = ap (filter (is_live idle fields h)) (none_came idle fields h alone)
 
 marked-nothing : (branch : Branch) → marked branch [] ≡ []
@@ -98,7 +105,8 @@ marked-nothing Children = refl
 marked-nothing Otherwise = refl
 marked-nothing (Fork fork) = refl
 
-flat-nothing : (f : Branch → List Effect) → ((branch : Branch) → f branch ≡ []) → (bs : List Branch) → flat_map f bs ≡ []
+flat-nothing : (f : Branch → List Effect) → ((branch : Branch) → f branch ≡ []) → (bs : List Branch)
+    → flat_map f bs ≡ []
 flat-nothing f e [] = refl
 flat-nothing f e (branch ∷ bs) = ap (λ l. l ++ flat_map f bs) (e branch) ∙ flat-nothing f e bs
 
@@ -106,7 +114,8 @@ flat-nothing f e (branch ∷ bs) = ap (λ l. l ++ flat_map f bs) (e branch) ∙ 
 abbrev IsQuiet : (History → List Effect) → Type 0
 IsQuiet below = (h : History) → TicksAlone h → below h ≡ []
 
-effects_in-quiet : (children otherwise : History → List Effect) → IsQuiet children → IsQuiet otherwise → (branch : Branch) → IsQuiet (branch_effects children otherwise branch)
+effects_in-quiet : (children otherwise : History → List Effect) → IsQuiet children → IsQuiet otherwise
+    → (branch : Branch) → IsQuiet (branch_effects children otherwise branch)
 effects_in-quiet children otherwise p q Children = p
 effects_in-quiet children otherwise p q Otherwise = q
 effects_in-quiet children otherwise p q (Fork fork) = p
@@ -117,12 +126,18 @@ mutual
   stream_quiet (stream kind children otherwise) (h ▸ Tick) alone =
       let effects_in = branch_effects (plan_effects children) (plan_effects otherwise) in
       let received = λ (branch : Branch). child_history kind branch h in
-      ap (λ es. emits_if_any es ++ at_tick Tick effects_in received (branches kind h) ++ at_emissions effects_in (λ branch. received branch ▸ Tick) es) (ticks_emit kind (h ▸ Tick) alone)
+      ap
+      (λ es. emits_if_any es ++ at_tick Tick effects_in received (branches kind h)
+      ++ at_emissions effects_in (λ branch. received branch ▸ Tick) es)
+      (ticks_emit kind (h ▸ Tick) alone)
       ∙ ap (λ l. l ++ []) (flat-nothing (λ branch. marked branch (effects_in branch (received branch ▸ Tick)))
-      (λ branch. ap (marked branch) (effects_in-quiet (plan_effects children) (plan_effects otherwise) (plan_quiet children) (plan_quiet otherwise) branch (received branch ▸ Tick)
+      (λ branch. ap (marked branch)
+      (effects_in-quiet (plan_effects children) (plan_effects otherwise) (plan_quiet children) (plan_quiet otherwise)
+      branch (received branch ▸ Tick)
       (subst TicksAlone (sym (ticks_handed_on kind branch h alone)) alone)) ∙ marked-nothing branch) (branches kind h))
   stream_quiet (stream kind children otherwise) (h ▸ In item) alone = absurd alone
 
   pub plan_quiet : (plan : StreamTrees) (h : History) → TicksAlone h → plan_effects plan h ≡ []
   plan_quiet none h alone = refl
-  plan_quiet (also first more) h alone = ap (λ l. l ++ plan_effects more h) (stream_quiet first h alone) ∙ plan_quiet more h alone
+  plan_quiet (also first more) h alone =
+      ap (λ l. l ++ plan_effects more h) (stream_quiet first h alone) ∙ plan_quiet more h alone

@@ -22,7 +22,8 @@ not_empty-one : (folded : Option Event) → AreNotEmpty (one_of folded)
 not_empty-one None = tt
 not_empty-one (Some event) = (tt, tt)
 
-not_empty-if : (t : Bool) (items other : List Item) → AreNotEmpty (to_children items) → AreNotEmpty (to_children other) → AreNotEmpty (to_children (cond t items other))
+not_empty-if : (t : Bool) (items other : List Item) → AreNotEmpty (to_children items) → AreNotEmpty (to_children other)
+    → AreNotEmpty (to_children (cond t items other))
 not_empty-if true items other h k = h
 not_empty-if false items other h k = k
 
@@ -59,7 +60,8 @@ vectors_not_empty (Throttle n secs) (h ▸ In (One event)) well = one_if_true _ 
 vectors_not_empty (Rollup n secs) (h ▸ In (One event)) well = vector_if_true _ (event ∷ [])
 vectors_not_empty (Rollup n secs) (h ▸ Tick) well =
     let window = window_of secs h in
-    vector_if_both (window_of secs (h ▸ Tick) == window) (rolls_into n secs (suc window) h) (drop (allowed n secs window h) (events_in secs window h))
+    vector_if_both (window_of secs (h ▸ Tick) == window) (rolls_into n secs (suc window) h)
+    (drop (allowed n secs window h) (events_in secs window h))
 vectors_not_empty (Batch n secs) (h ▸ In (One event)) well = vector_if_true _ _
 vectors_not_empty (Batch n secs) (h ▸ Tick) well = vector_if_false _ _
 vectors_not_empty (Stable secs field) (h ▸ In (One event)) well = one_if_true _ event

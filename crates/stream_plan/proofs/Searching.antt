@@ -22,15 +22,20 @@ use Rattle.stream_plan.proofs.Trees.{count_of-list_trees, preorder_in-drop}
 
 pub passes_then : (found : Bool) (a b c : Search) (front streams : List Placed) →
     Searches false a b front → Searches found b c streams → Searches found a c (front ++ streams)
-passes_then true a b c front streams first second = λ later. ap (ends_at a) (append_assoc front streams later) ∙ first.ends_at (streams ++ later) ∙ second later
+passes_then true a b c front streams first second =
+    λ later. ap (ends_at a) (append_assoc front streams later) ∙ first.ends_at (streams ++ later) ∙ second later
 passes_then false a b c front streams first second = record {
   path = second.path ∙ first.path;
   why = second.why ∙ first.why;
-  ends_at = λ later. ap (ends_at a) (append_assoc front streams later) ∙ first.ends_at (streams ++ later) ∙ second.ends_at later;
+  ends_at =
+      λ later.
+      ap (ends_at a) (append_assoc front streams later) ∙ first.ends_at (streams ++ later) ∙ second.ends_at later;
 }
 
-pub found_first : (a b : Search) (front streams : List Placed) → Searches true a b front → Searches true a b (front ++ streams)
-found_first a b front streams found = λ later. ap (ends_at a) (append_assoc front streams later) ∙ found (streams ++ later)
+pub found_first : (a b : Search) (front streams : List Placed) → Searches true a b front
+    → Searches true a b (front ++ streams)
+found_first a b front streams found =
+    λ later. ap (ends_at a) (append_assoc front streams later) ∙ found (streams ++ later)
 
 -- ---- a stream and those below it
 
@@ -38,11 +43,14 @@ abbrev here : Search → Flow → Stream → Placed
 here a flow s = record { path = a.path.items; flow = flow; tree = opened s }
 
 abbrev below : Search → Flow → Stream → List Placed
-below a flow s = preorder_in a.path.items 0 (passes_on (kind_tree (out-Stream s).kind) flow) (list_trees (out-Stream s).children.items)
+below a flow s =
+    preorder_in a.path.items 0 (passes_on (kind_tree (out-Stream s).kind) flow)
+    (list_trees (out-Stream s).children.items)
 
 abbrev beside : Search → Flow → Stream → List Placed
 beside a flow s =
-    preorder_in a.path.items (length (out-Stream s).children.items) (passes_on (kind_tree (out-Stream s).kind) flow) (list_trees (out-Stream s).otherwise.items)
+    preorder_in a.path.items (length (out-Stream s).children.items) (passes_on (kind_tree (out-Stream s).kind) flow)
+    (list_trees (out-Stream s).otherwise.items)
 
 preorder_at-opened : (a : Search) (flow : Flow) (s : Stream) →
     preorder_at a.path.items flow (opened s) ≡ (here a flow s ∷ []) ++ (below a flow s ++ beside a flow s)
@@ -51,30 +59,40 @@ preorder_at-opened a flow s = rw (count_of-list_trees (out-Stream s).children.it
 
 pub ends_here : (a b : Search) (flow : Flow) (s : Stream) →
     Searches true a b (here a flow s ∷ []) → Searches true a b (preorder_at a.path.items flow (opened s))
-ends_here a b flow s found = rw (preorder_at-opened a flow s) (found_first a b (here a flow s ∷ []) (below a flow s ++ beside a flow s) found)
+ends_here a b flow s found =
+    rw (preorder_at-opened a flow s) (found_first a b (here a flow s ∷ []) (below a flow s ++ beside a flow s) found)
 
-module _ (a b c : Search) (flow passed : Flow) (s : Stream) (children : List Stream) (passed_is : passed ≡ passes_on (kind_tree (out-Stream s).kind) flow) (children_is : children ≡ (out-Stream s).children.items) where
+module _ (a b c : Search) (flow passed : Flow) (s : Stream) (children : List Stream)
+    (passed_is : passed ≡ passes_on (kind_tree (out-Stream s).kind) flow)
+    (children_is : children ≡ (out-Stream s).children.items) where
   -- the streams below were searched from the path where the search came to them
-  lies_below : (found : Bool) → b.path.items ≡ a.path.items → Searches found b c (preorder_in b.path.items 0 passed (list_trees children)) →
+  lies_below : (found : Bool) → b.path.items ≡ a.path.items →
+      Searches found b c (preorder_in b.path.items 0 passed (list_trees children)) →
       Searches found b c (below a flow s)
   lies_below found same second =
-      let here : Searches found b c (preorder_in a.path.items 0 passed (list_trees children)) = subst (λ (path : List ℕ). Searches found b c (preorder_in path 0 passed (list_trees children))) same second in
+      let here : Searches found b c (preorder_in a.path.items 0 passed (list_trees children)) =
+      subst (λ (path : List ℕ). Searches found b c (preorder_in path 0 passed (list_trees children))) same second in
       rw (passed_is, children_is) at here
 
-  pub ends_below : Searches false a b (here a flow s ∷ []) → Searches true b c (preorder_in b.path.items 0 passed (list_trees children)) →
+  pub ends_below : Searches false a b (here a flow s ∷ []) →
+      Searches true b c (preorder_in b.path.items 0 passed (list_trees children)) →
       Searches true a c (preorder_at a.path.items flow (opened s))
   ends_below first second =
       rw (preorder_at-opened a flow s)
       (passes_then true a b c (here a flow s ∷ []) (below a flow s ++ beside a flow s) first
       (found_first b c (below a flow s) (beside a flow s) (lies_below true first.path second)))
 
-  pub goes_beside : (found : Bool) (d : Search) (before otherwise : List Stream) → before ≡ (out-Stream s).children.items → otherwise ≡ (out-Stream s).otherwise.items →
-      Searches false a b (here a flow s ∷ []) → Searches false b c (preorder_in b.path.items 0 passed (list_trees children)) →
+  pub goes_beside : (found : Bool) (d : Search) (before otherwise : List Stream) →
+      before ≡ (out-Stream s).children.items → otherwise ≡ (out-Stream s).otherwise.items →
+      Searches false a b (here a flow s ∷ []) →
+      Searches false b c (preorder_in b.path.items 0 passed (list_trees children)) →
       Searches found c d (preorder_in c.path.items (length before) passed (list_trees otherwise)) →
       Searches found a d (preorder_at a.path.items flow (opened s))
   goes_beside found d before otherwise before_is otherwise_is first second third =
       let gone : Searches false b c (below a flow s) = lies_below false first.path second in
-      let there : Searches found c d (preorder_in a.path.items (length before) passed (list_trees otherwise)) = subst (λ (path : List ℕ). Searches found c d (preorder_in path (length before) passed (list_trees otherwise))) (gone.path ∙ first.path) third in
+      let there : Searches found c d (preorder_in a.path.items (length before) passed (list_trees otherwise)) =
+      subst (λ (path : List ℕ). Searches found c d (preorder_in path (length before) passed (list_trees otherwise)))
+      (gone.path ∙ first.path) third in
       let last : Searches found c d (beside a flow s) = rw (passed_is, before_is, otherwise_is) at there in
       rw (preorder_at-opened a flow s)
       (passes_then found a b d (here a flow s ∷ []) (below a flow s ++ beside a flow s) first
@@ -99,37 +117,50 @@ next_at : (a b : Search) (number : ℕ) (flow : Flow) (streams : List Stream) (i
     from a number flow streams i ≡ at (moved b path) flow (get_or streams i s) ++ from a number flow streams (i + 1)
 next_at a b number flow streams i s path within same pushed =
     preorder_in-drop a.path.items number flow streams i s within
-    ∙ ap (λ (p : List ℕ). preorder_at p flow (opened (get_or streams i s)) ++ from a number flow streams (i + 1)) (sym (pushed ∙ ap (λ (p : List ℕ). p ++ (number + i) ∷ []) same))
+    ∙ ap (λ (p : List ℕ). preorder_at p flow (opened (get_or streams i s)) ++ from a number flow streams (i + 1))
+    (sym (pushed ∙ ap (λ (p : List ℕ). p ++ (number + i) ∷ []) same))
 
-pub ends_in : (a b c : Search) (whole : List Placed) (number : ℕ) (flow : Flow) (streams : List Stream) (i : ℕ) (s : Stream) (path : Vec ℕ Global) →
-    i < length streams → Passes a b whole (from a number flow streams i) → path.items ≡ b.path.items ++ (number + i) ∷ [] →
+pub ends_in : (a b c : Search) (whole : List Placed) (number : ℕ) (flow : Flow) (streams : List Stream) (i : ℕ)
+    (s : Stream) (path : Vec ℕ Global) →
+    i < length streams → Passes a b whole (from a number flow streams i) →
+    path.items ≡ b.path.items ++ (number + i) ∷ [] →
     s ≡ get_or streams i s → Searches true (moved b path) c (at (moved b path) flow s) →
     Searches true a c whole
 ends_in a b c whole number flow streams i s path within passed pushed is found =
-    let found' : Searches true (moved b path) c (at (moved b path) flow (get_or streams i s)) = subst (λ (t : Stream). Searches true (moved b path) c (at (moved b path) flow t)) is found in
-    let rest = found_first (moved b path) c (at (moved b path) flow (get_or streams i s)) (from a number flow streams (i + 1)) found' in
+    let found' : Searches true (moved b path) c (at (moved b path) flow (get_or streams i s)) =
+    subst (λ (t : Stream). Searches true (moved b path) c (at (moved b path) flow t)) is found in
+    let rest =
+    found_first (moved b path) c (at (moved b path) flow (get_or streams i s)) (from a number flow streams (i + 1))
+    found' in
     λ later. passed.ends_at later
-    ∙ ap (λ (left : List Placed). ends_at b (left ++ later)) (next_at a b number flow streams i s path within passed.path pushed)
+    ∙ ap (λ (left : List Placed). ends_at b (left ++ later))
+    (next_at a b number flow streams i s path within passed.path pushed)
     ∙ rest later
 
-pub goes_on : (a b c : Search) (whole : List Placed) (number : ℕ) (flow : Flow) (streams : List Stream) (i : ℕ) (s : Stream) (path popped : Vec ℕ Global) →
-    i < length streams → Passes a b whole (from a number flow streams i) → path.items ≡ b.path.items ++ (number + i) ∷ [] →
+pub goes_on : (a b c : Search) (whole : List Placed) (number : ℕ) (flow : Flow) (streams : List Stream) (i : ℕ)
+    (s : Stream) (path popped : Vec ℕ Global) →
+    i < length streams → Passes a b whole (from a number flow streams i) →
+    path.items ≡ b.path.items ++ (number + i) ∷ [] →
     s ≡ get_or streams i s → Searches false (moved b path) c (at (moved b path) flow s) →
     popped.items ≡ b.path.items →
     Passes a (moved c popped) whole (from a number flow streams (i + 1))
 goes_on a b c whole number flow streams i s path popped within passed pushed is second back =
-    let second' : Passes (moved b path) c (at (moved b path) flow (get_or streams i s)) [] = subst (λ (t : Stream). Searches false (moved b path) c (at (moved b path) flow t)) is second in
+    let second' : Passes (moved b path) c (at (moved b path) flow (get_or streams i s)) [] =
+    subst (λ (t : Stream). Searches false (moved b path) c (at (moved b path) flow t)) is second in
     record {
       path = back ∙ passed.path;
       why = second.why ∙ passed.why;
       ends_at = λ later. passed.ends_at later
-          ∙ ap (λ (left : List Placed). ends_at b (left ++ later)) (next_at a b number flow streams i s path within passed.path pushed)
-          ∙ ap (ends_at b) (append_assoc (at (moved b path) flow (get_or streams i s)) (from a number flow streams (i + 1)) later)
+          ∙ ap (λ (left : List Placed). ends_at b (left ++ later))
+          (next_at a b number flow streams i s path within passed.path pushed)
+          ∙ ap (ends_at b)
+          (append_assoc (at (moved b path) flow (get_or streams i s)) (from a number flow streams (i + 1)) later)
           ∙ second'.ends_at (from a number flow streams (i + 1) ++ later);
     }
 
 -- the number that was pushed last is popped
-pub popped_again : (before middle after : List ℕ) (n len : ℕ) → middle ≡ before ++ n ∷ [] → len ≡ length middle → after ≡ take (len - 1) middle → after ≡ before
+pub popped_again : (before middle after : List ℕ) (n len : ℕ) → middle ≡ before ++ n ∷ [] → len ≡ length middle
+    → after ≡ take (len - 1) middle → after ≡ before
 popped_again before middle after n len pushed is taken =
     let count : len - 1 ≡ length before = omega (arith, is ∙ ap length pushed, length-append before (n ∷ [])) in
     taken ∙ ap (λ (k : ℕ). take k middle) count ∙ ap (take (length before)) pushed ∙ take-append_seam before (n ∷ [])
@@ -138,26 +169,37 @@ pub goes_through : (a b : Search) (whole : List Placed) (number : ℕ) (flow : F
     length streams ≤ i → Passes a b whole (from a number flow streams i) → Searches false a b whole
 unfolding preorder_in
 goes_through a b whole number flow streams i past passed =
-    subst (λ (left : List Stream). Passes a b whole (preorder_in a.path.items (number + i) flow (list_trees left))) (drop_all i streams past) passed
+    subst (λ (left : List Stream). Passes a b whole (preorder_in a.path.items (number + i) flow (list_trees left)))
+    (drop_all i streams past) passed
 
 -- ---- a whole plan
 
 abbrev all_of : List Stream → List Placed
 all_of streams = preorder_of (list_trees streams)
 
-whole_at : (a : Search) (streams : List Stream) → a.path.items ≡ [] → preorder_in a.path.items 0 Event (list_trees streams) ≡ all_of streams
+whole_at : (a : Search) (streams : List Stream) → a.path.items ≡ []
+    → preorder_in a.path.items 0 Event (list_trees streams) ≡ all_of streams
 whole_at a streams top = ap (λ (path : List ℕ). preorder_in path 0 Event (list_trees streams)) top
 
-end_is : (a : Search) (streams : List Placed) → a.allowed ≡ allowed a.why → ends_at a streams ≡ option_map (λ s. s.path) (place_of a.why streams)
-end_is a streams is = ap (λ (n : ℕ). option_map (λ (s : Placed). s.path) (slice_get (filter (counts a.why) streams) n)) is
+end_is : (a : Search) (streams : List Placed) → a.allowed ≡ allowed a.why
+    → ends_at a streams ≡ option_map (λ s. s.path) (place_of a.why streams)
+end_is a streams is =
+    ap (λ (n : ℕ). option_map (λ (s : Placed). s.path) (slice_get (filter (counts a.why) streams) n)) is
 
-module _ (a b : Search) (streams held : List Stream) (held_is : held ≡ streams) (top : a.path.items ≡ []) (is : a.allowed ≡ allowed a.why) where
+module _ (a b : Search) (streams held : List Stream) (held_is : held ≡ streams) (top : a.path.items ≡ [])
+    (is : a.allowed ≡ allowed a.why) where
   pub found_whole : Searches true a b (preorder_in a.path.items 0 Event (list_trees held)) →
       Some b.path.items ≡ option_map (λ s. s.path) (place_of a.why (all_of streams))
   found_whole found =
-      sym (found []) ∙ ap (ends_at a) (append-nil (preorder_in a.path.items 0 Event (list_trees held)) ∙ whole_at a held top ∙ ap all_of held_is) ∙ end_is a (all_of streams) is
+      sym (found [])
+      ∙ ap (ends_at a)
+      (append-nil (preorder_in a.path.items 0 Event (list_trees held)) ∙ whole_at a held top ∙ ap all_of held_is)
+      ∙ end_is a (all_of streams) is
 
   pub passed_whole : Searches false a b (preorder_in a.path.items 0 Event (list_trees held)) →
       None ≡ option_map (λ s. s.path) (place_of a.why (all_of streams))
   passed_whole passed =
-      sym (passed.ends_at []) ∙ ap (ends_at a) (append-nil (preorder_in a.path.items 0 Event (list_trees held)) ∙ whole_at a held top ∙ ap all_of held_is) ∙ end_is a (all_of streams) is
+      sym (passed.ends_at [])
+      ∙ ap (ends_at a)
+      (append-nil (preorder_in a.path.items 0 Event (list_trees held)) ∙ whole_at a held top ∙ ap all_of held_is)
+      ∙ end_is a (all_of streams) is

@@ -12,24 +12,28 @@ use Rattle.stream_plan.specs.Kinds.{takes, is_in_range}
 use Rattle.stream_plan.specs.Sound.{IsSound, IsShallow, IsInRange, TakesWhatComes, SoundPlansHaveNoFault}
 use Rattle.stream_plan.specs.Tree.{StreamTrees}
 
-all_are : {A : Type 0} (P Q : A → Type 0) → ((x : A) → P x → Q x) → (xs : List A) → AllByRecursion P xs → AllByRecursion Q xs
+all_are : {A : Type 0} (P Q : A → Type 0) → ((x : A) → P x → Q x) → (xs : List A) → AllByRecursion P xs
+    → AllByRecursion Q xs
 all_are P Q turned [] all = tt
 all_are P Q turned (x ∷ xs) all = (turned x all.0, all_are P Q turned xs all.1)
 
 -- ---- the first that passes a test
 
-none_passes-at : {A : Type 0} (test : A → Bool) (x : A) (xs : List A) (b : Bool) → test x ≡ b → slice_get (filter test (x ∷ xs)) 0 ≡ None →
+none_passes-at : {A : Type 0} (test : A → Bool) (x : A) (xs : List A) (b : Bool) → test x ≡ b →
+    slice_get (filter test (x ∷ xs)) 0 ≡ None →
     (test x ≡ false) × (slice_get (filter test xs) 0 ≡ None)
 none_passes-at test x xs true is none = cc
 none_passes-at test x xs false is none = (is, rw is at none)
 
-none_passes : {A : Type 0} (test : A → Bool) (xs : List A) → slice_get (filter test xs) 0 ≡ None → AllByRecursion (λ x. test x ≡ false) xs
+none_passes : {A : Type 0} (test : A → Bool) (xs : List A) → slice_get (filter test xs) 0 ≡ None
+    → AllByRecursion (λ x. test x ≡ false) xs
 none_passes test [] none = tt
 none_passes test (x ∷ xs) none =
     let first = none_passes-at test x xs (test x) refl none in
     (first.0, none_passes test xs first.1)
 
-passes_none : {A : Type 0} (test : A → Bool) (xs : List A) → AllByRecursion (λ x. test x ≡ false) xs → slice_get (filter test xs) 0 ≡ None
+passes_none : {A : Type 0} (test : A → Bool) (xs : List A) → AllByRecursion (λ x. test x ≡ false) xs
+    → slice_get (filter test xs) 0 ≡ None
 passes_none test [] all = refl
 passes_none test (x ∷ xs) all = rw all.0 (passes_none test xs all.1)
 
@@ -42,7 +46,8 @@ filter-all (x ∷ xs) = ap (λ ys. x ∷ ys) (filter-all xs)
 abbrev Lacks : PlanWhy → List Placed → Type 0
 Lacks why streams = place_of why streams ≡ None
 
-none_among : (place : Option Placed) (why : PlanWhy) → option_map (λ (s : Placed). let f : Fault = record { path = s.path; why = why } in f) place ≡ None → place ≡ None
+none_among : (place : Option Placed) (why : PlanWhy)
+    → option_map (λ (s : Placed). let f : Fault = record { path = s.path; why = why } in f) place ≡ None → place ≡ None
 none_among None why is = refl
 none_among (Some s) why is = cc
 
@@ -89,10 +94,16 @@ sound_from streams none =
     let range = or_none (fault_for Range all) (fault_for Kind all) children.1 in
     record {
       few = few_from all (lacks Many all many.0);
-      shallow = all_are (λ s. counts Deep s ≡ false) IsShallow shallow_from all (none_passes (counts Deep) all (lacks Deep all deep.0));
+      shallow =
+          all_are (λ s. counts Deep s ≡ false) IsShallow shallow_from all
+          (none_passes (counts Deep) all (lacks Deep all deep.0));
       followed = none_passes (counts Children) all (lacks Children all children.0);
-      in_range = all_are (λ s. counts Range s ≡ false) IsInRange (λ s. true_from (is_in_range (kind_of s.tree))) all (none_passes (counts Range) all (lacks Range all range.0));
-      taken = all_are (λ s. counts Kind s ≡ false) TakesWhatComes (λ s. true_from (takes (kind_of s.tree) s.flow)) all (none_passes (counts Kind) all (lacks Kind all range.1));
+      in_range =
+          all_are (λ s. counts Range s ≡ false) IsInRange (λ s. true_from (is_in_range (kind_of s.tree))) all
+          (none_passes (counts Range) all (lacks Range all range.0));
+      taken =
+          all_are (λ s. counts Kind s ≡ false) TakesWhatComes (λ s. true_from (takes (kind_of s.tree) s.flow)) all
+          (none_passes (counts Kind) all (lacks Kind all range.1));
     }
 
 sound_lack : (streams : StreamTrees) → IsSound streams → first_fault streams ≡ None
@@ -100,10 +111,18 @@ unfolding first_fault
 sound_lack streams sound =
     let all = preorder_of streams in
     let many = no_fault Many all (few_lack all sound.few) in
-    let deep = no_fault Deep all (passes_none (counts Deep) all (all_are IsShallow (λ s. counts Deep s ≡ false) shallow_lack all sound.shallow)) in
+    let deep =
+    no_fault Deep all
+    (passes_none (counts Deep) all (all_are IsShallow (λ s. counts Deep s ≡ false) shallow_lack all sound.shallow)) in
     let children = no_fault Children all (passes_none (counts Children) all sound.followed) in
-    let range = no_fault Range all (passes_none (counts Range) all (all_are IsInRange (λ s. counts Range s ≡ false) (λ s. not_true (is_in_range (kind_of s.tree))) all sound.in_range)) in
-    let kind = no_fault Kind all (passes_none (counts Kind) all (all_are TakesWhatComes (λ s. counts Kind s ≡ false) (λ s. not_true (takes (kind_of s.tree) s.flow)) all sound.taken)) in
+    let range =
+    no_fault Range all (passes_none (counts Range) all
+    (all_are IsInRange (λ s. counts Range s ≡ false) (λ s. not_true (is_in_range (kind_of s.tree))) all
+    sound.in_range)) in
+    let kind =
+    no_fault Kind all (passes_none (counts Kind) all
+    (all_are TakesWhatComes (λ s. counts Kind s ≡ false) (λ s. not_true (takes (kind_of s.tree) s.flow)) all
+    sound.taken)) in
     rw (many, deep, children, range, kind) refl
 
 pub faultless_is_sound : SoundPlansHaveNoFault

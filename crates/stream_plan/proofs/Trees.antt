@@ -15,15 +15,23 @@ pub stream_trees-list : {m : _} (row : Row_of-Stream m) → stream_trees row ≡
 stream_trees-list end_of-Stream = refl
 stream_trees-list (more_of-Stream s streams) = ap (λ more. also (stream_tree s) more) (stream_trees-list streams)
 
-pub stream_trees-hidden : (streams : Vec Stream Global) → stream_trees (hidden-the_row-Stream-0 streams) ≡ list_trees streams.items
-stream_trees-hidden streams = stream_trees-list (hidden-the_row-Stream-0 streams) ∙ ap list_trees (items_hidden-the_row-Stream-0 streams)
+pub stream_trees-hidden : (streams : Vec Stream Global)
+    → stream_trees (hidden-the_row-Stream-0 streams) ≡ list_trees streams.items
+stream_trees-hidden streams =
+    stream_trees-list (hidden-the_row-Stream-0 streams) ∙ ap list_trees (items_hidden-the_row-Stream-0 streams)
 
 pub stream_tree-opened : (s : Stream) → stream_tree s ≡ opened s
 unfolding opened
 stream_tree-opened s =
     ap stream_tree (is-Stream' s)
-    ∙ ap (λ (children : StreamTrees). stream (kind_tree (out-Stream s).kind) children (stream_trees (hidden-the_row-Stream-0 (out-Stream s).otherwise))) (stream_trees-hidden (out-Stream s).children)
-    ∙ ap (λ (otherwise : StreamTrees). stream (kind_tree (out-Stream s).kind) (list_trees (out-Stream s).children.items) otherwise) (stream_trees-hidden (out-Stream s).otherwise)
+    ∙ ap
+    (λ (children : StreamTrees).
+    stream (kind_tree (out-Stream s).kind) children (stream_trees (hidden-the_row-Stream-0 (out-Stream s).otherwise)))
+    (stream_trees-hidden (out-Stream s).children)
+    ∙ ap
+    (λ (otherwise : StreamTrees).
+    stream (kind_tree (out-Stream s).kind) (list_trees (out-Stream s).children.items) otherwise)
+    (stream_trees-hidden (out-Stream s).otherwise)
 
 pub count_of-list_trees : (streams : List Stream) → count_of (list_trees streams) ≡ length streams
 count_of-list_trees [] = refl
@@ -37,7 +45,8 @@ has_streams-list_trees (s ∷ streams) = grind arith
 pub preorder_in-drop : (path : List ℕ) (number : ℕ) (flow : Flow) (streams : List Stream) (i : ℕ) (s : Stream) →
     i < length streams →
     preorder_in path (number + i) flow (list_trees (drop i streams))
-    ≡ preorder_at (path ++ (number + i) ∷ []) flow (opened (get_or streams i s)) ++ preorder_in path (number + (i + 1)) flow (list_trees (drop (i + 1) streams))
+    ≡ preorder_at (path ++ (number + i) ∷ []) flow (opened (get_or streams i s))
+    ++ preorder_in path (number + (i + 1)) flow (list_trees (drop (i + 1) streams))
 unfolding preorder_in
 preorder_in-drop path number flow streams i s within =
     let next : number + i + 1 ≡ number + suc i = omega arith in

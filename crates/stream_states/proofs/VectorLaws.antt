@@ -38,20 +38,25 @@ vectors_pass_nothing Sdo h es keeps = cc
 vectors_pass_nothing (Smap fold) h es keeps = cc
 vectors_pass_nothing kind h es keeps = refl
 
-rolls_same : (n secs window : ℕ) (h : History) (es : List Event) → rolls_into n secs window (h ▸ In (Many es)) ≡ rolls_into n secs window h
+rolls_same : (n secs window : ℕ) (h : History) (es : List Event)
+    → rolls_into n secs window (h ▸ In (Many es)) ≡ rolls_into n secs window h
 rolls_same n secs zero h es = refl
-rolls_same n secs (suc window) h es = ap (λ rolls. nat_lt n (count_in secs window h + one_if rolls)) (rolls_same n secs window h es)
+rolls_same n secs (suc window) h es =
+    ap (λ rolls. nat_lt n (count_in secs window h + one_if rolls)) (rolls_same n secs window h es)
 
-changed_same : (s : ChangedState) (h : History) (es : List Event) → ChangedRepresents s h → ChangedRepresents s (h ▸ In (Many es))
+changed_same : (s : ChangedState) (h : History) (es : List Event) → ChangedRepresents s h
+    → ChangedRepresents s (h ▸ In (Many es))
 changed_same s h es r = record { sound = r.sound; last = r.last }
 
 runs_same : (s : RunsState) (h : History) (es : List Event) → RunsRepresents s h → RunsRepresents s (h ▸ In (Many es))
 runs_same s h es r = record { sound = r.sound; last = r.last; length = r.length }
 
-throttle_same : (s : ThrottleState) (h : History) (es : List Event) → ThrottleRepresents s h → ThrottleRepresents s (h ▸ In (Many es))
+throttle_same : (s : ThrottleState) (h : History) (es : List Event) → ThrottleRepresents s h
+    → ThrottleRepresents s (h ▸ In (Many es))
 throttle_same s h es r = record { sound = r.sound; start = r.start; passed = r.passed }
 
-rollup_same : (s : RollupState) (h : History) (es : List Event) → RollupRepresents s h → RollupRepresents s (h ▸ In (Many es))
+rollup_same : (s : RollupState) (h : History) (es : List Event) → RollupRepresents s h
+    → RollupRepresents s (h ▸ In (Many es))
 rollup_same s h es r =
     let secs : ℕ = s.windows.secs in
     let rolls = rolls_same s.count secs (window_of secs h) h es in
@@ -65,28 +70,39 @@ rollup_same s h es r =
       window = r.window;
     }
 
-batch_same : (s : BatchState) (h : History) (es : List Event) → BatchRepresents s h → BatchRepresents s (h ▸ In (Many es))
-batch_same s h es r = record { sound = r.sound; positive = r.positive; start = r.start; waiting = r.waiting; window = r.window }
+batch_same : (s : BatchState) (h : History) (es : List Event) → BatchRepresents s h
+    → BatchRepresents s (h ▸ In (Many es))
+batch_same s h es r =
+    record { sound = r.sound; positive = r.positive; start = r.start; waiting = r.waiting; window = r.window }
 
-stable_same : (s : StableState) (h : History) (es : List Event) → StableRepresents s h → StableRepresents s (h ▸ In (Many es))
-stable_same s h es r = record { sound = r.sound; positive = r.positive; last = r.last; began = r.began; waiting = r.waiting }
+stable_same : (s : StableState) (h : History) (es : List Event) → StableRepresents s h
+    → StableRepresents s (h ▸ In (Many es))
+stable_same s h es r =
+    record { sound = r.sound; positive = r.positive; last = r.last; began = r.began; waiting = r.waiting }
 
-fixed_event_same : (s : FixedEventState) (h : History) (es : List Event) → FixedEventRepresents s h → FixedEventRepresents s (h ▸ In (Many es))
-fixed_event_same s h es r = record { sound = r.sound; passed = r.passed; whole = r.whole; waiting = r.waiting; short = r.short }
+fixed_event_same : (s : FixedEventState) (h : History) (es : List Event) → FixedEventRepresents s h
+    → FixedEventRepresents s (h ▸ In (Many es))
+fixed_event_same s h es r =
+    record { sound = r.sound; passed = r.passed; whole = r.whole; waiting = r.waiting; short = r.short }
 
-moving_event_same : (s : MovingEventState) (h : History) (es : List Event) → MovingEventRepresents s h → MovingEventRepresents s (h ▸ In (Many es))
+moving_event_same : (s : MovingEventState) (h : History) (es : List Event) → MovingEventRepresents s h
+    → MovingEventRepresents s (h ▸ In (Many es))
 moving_event_same s h es r = record { sound = r.sound; latest = r.latest }
 
-fixed_time_same : (s : FixedTimeState) (h : History) (es : List Event) → FixedTimeRepresents s h → FixedTimeRepresents s (h ▸ In (Many es))
+fixed_time_same : (s : FixedTimeState) (h : History) (es : List Event) → FixedTimeRepresents s h
+    → FixedTimeRepresents s (h ▸ In (Many es))
 fixed_time_same s h es r = record { sound = r.sound; first = r.first; latest = r.latest; waiting = r.waiting }
 
-moving_time_same : (s : MovingTimeState) (h : History) (es : List Event) → MovingTimeRepresents s h → MovingTimeRepresents s (h ▸ In (Many es))
+moving_time_same : (s : MovingTimeState) (h : History) (es : List Event) → MovingTimeRepresents s h
+    → MovingTimeRepresents s (h ▸ In (Many es))
 moving_time_same s h es r = record { sound = r.sound; latest = r.latest; recent = r.recent }
 
-coalesce_same : (s : CoalesceState) (h : History) (es : List Event) → CoalesceRepresents s h → CoalesceRepresents s (h ▸ In (Many es))
+coalesce_same : (s : CoalesceState) (h : History) (es : List Event) → CoalesceRepresents s h
+    → CoalesceRepresents s (h ▸ In (Many es))
 coalesce_same s h es r = record { sound = r.sound; start = r.start; last = r.last; boundary = r.boundary }
 
-history_same : (state : KeptState) (h : History) (es : List Event) → HasHistory state h → HasHistory state (h ▸ In (Many es))
+history_same : (state : KeptState) (h : History) (es : List Event) → HasHistory state h
+    → HasHistory state (h ▸ In (Many es))
 history_same (kept.Changed s) h es r = changed_same s h es r
 history_same (kept.Runs s) h es r = runs_same s h es r
 history_same (kept.Throttle s) h es r = throttle_same s h es r

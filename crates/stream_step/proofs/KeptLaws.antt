@@ -45,15 +45,20 @@ emitted_meant [] = refl
 emitted_meant (item ∷ items) = ap (λ es. emission_meant (record { branch = 0; item = item }) ∷ es) (emitted_meant items)
 
 -- what a state appends to an empty list is meant as its kind passes it on
-pub passes_meant : (before made : List CodeEmission) (meant : List Emission) → before ≡ [] → Passes before made meant → map emission_meant made ≡ meant
+pub passes_meant : (before made : List CodeEmission) (meant : List Emission) → before ≡ [] → Passes before made meant
+    → map emission_meant made ≡ meant
 passes_meant before made meant none passes =
-    ap (map emission_meant) (passes.appended ∙ ap (λ es. es ++ emitted passes.items) none) ∙ emitted_meant passes.items ∙ sym passes.passed
+    ap (map emission_meant) (passes.appended ∙ ap (λ es. es ++ emitted passes.items) none) ∙ emitted_meant passes.items
+    ∙ sym passes.passed
 
 -- and so it does of an event that was copied
-pub given_meant : (before made : List CodeEmission) (kind : KindTree) (h : History) (copied event : Event) → before ≡ [] → copied ≡ event →
-    Passes before made (emissions kind (h ▸ In (One copied))) → map emission_meant made ≡ emissions kind (h ▸ In (One event))
+pub given_meant : (before made : List CodeEmission) (kind : KindTree) (h : History) (copied event : Event) →
+    before ≡ [] → copied ≡ event →
+    Passes before made (emissions kind (h ▸ In (One copied))) →
+    map emission_meant made ≡ emissions kind (h ▸ In (One event))
 given_meant before made kind h copied event none same passes =
-    passes_meant before made (emissions kind (h ▸ In (One copied))) none passes ∙ ap (λ e. emissions kind (h ▸ In (One e))) same
+    passes_meant before made (emissions kind (h ▸ In (One copied))) none passes
+    ∙ ap (λ e. emissions kind (h ▸ In (One e))) same
 
 -- ---- a vector
 
@@ -62,10 +67,12 @@ kept_keeps (Changed state) = refl
 kept_keeps state = refl
 
 -- a stream whose state is kept passes nothing on at a vector
-pub vector_passes_nothing : (kind : KindTree) (state : KeptState) (h : History) (item : Item) (es : List Event) → item ≡ Many es → KeptRepresents kind state h →
+pub vector_passes_nothing : (kind : KindTree) (state : KeptState) (h : History) (item : Item) (es : List Event) →
+    item ≡ Many es → KeptRepresents kind state h →
     [] ≡ emissions kind (h ▸ In item)
 vector_passes_nothing kind state h item es is represents =
-    sym (vectors_pass_nothing kind h es (ap keeps (sym represents.same_kind) ∙ kept_keeps state)) ∙ ap (λ i. emissions kind (h ▸ In i)) (sym is)
+    sym (vectors_pass_nothing kind h es (ap keeps (sym represents.same_kind) ∙ kept_keeps state))
+    ∙ ap (λ i. emissions kind (h ▸ In i)) (sym is)
 
 -- and it represents the longer history
 pub vector_kept : (kind : KindTree) (state : KeptState) (h : History) (item : Item) (es : List Event) → item ≡ Many es →
@@ -76,9 +83,11 @@ vector_kept kind state h item es is represents =
 -- ---- the entry
 
 -- what holds of an entry holds of one that is equal
-pub kept_at : (kind : KindTree) (state : KeptState) (h : History) (x y : Entry) (now : ℕ) → x ≡ y → (moment_of (h ▸ y) ≡ now → KeptRepresents kind state (h ▸ y)) →
+pub kept_at : (kind : KindTree) (state : KeptState) (h : History) (x y : Entry) (now : ℕ) → x ≡ y →
+    (moment_of (h ▸ y) ≡ now → KeptRepresents kind state (h ▸ y)) →
     moment_of (h ▸ x) ≡ now → KeptRepresents kind state (h ▸ x)
-kept_at kind state h x y now is next = subst (λ (z : Entry). moment_of (h ▸ z) ≡ now → KeptRepresents kind state (h ▸ z)) (sym is) next
+kept_at kind state h x y now is next =
+    subst (λ (z : Entry). moment_of (h ▸ z) ≡ now → KeptRepresents kind state (h ▸ z)) (sym is) next
 
 -- ---- a quiet tick
 
@@ -88,16 +97,21 @@ changed_still state h r = record { sound = r.sound; last = r.last }
 runs_still : (state : RunsState) (h : History) → RunsRepresents state h → RunsRepresents state (h ▸ Tick)
 runs_still state h r = record { sound = r.sound; last = r.last; length = r.length }
 
-fixed_event_still : (state : FixedEventState) (h : History) → FixedEventRepresents state h → FixedEventRepresents state (h ▸ Tick)
-fixed_event_still state h r = record { sound = r.sound; passed = r.passed; whole = r.whole; waiting = r.waiting; short = r.short }
+fixed_event_still : (state : FixedEventState) (h : History) → FixedEventRepresents state h
+    → FixedEventRepresents state (h ▸ Tick)
+fixed_event_still state h r =
+    record { sound = r.sound; passed = r.passed; whole = r.whole; waiting = r.waiting; short = r.short }
 
-moving_event_still : (state : MovingEventState) (h : History) → MovingEventRepresents state h → MovingEventRepresents state (h ▸ Tick)
+moving_event_still : (state : MovingEventState) (h : History) → MovingEventRepresents state h
+    → MovingEventRepresents state (h ▸ Tick)
 moving_event_still state h r = record { sound = r.sound; latest = r.latest }
 
-fixed_time_still : (state : FixedTimeState) (h : History) → FixedTimeRepresents state h → FixedTimeRepresents state (h ▸ Tick)
+fixed_time_still : (state : FixedTimeState) (h : History) → FixedTimeRepresents state h
+    → FixedTimeRepresents state (h ▸ Tick)
 fixed_time_still state h r = record { sound = r.sound; first = r.first; latest = r.latest; waiting = r.waiting }
 
-moving_time_still : (state : MovingTimeState) (h : History) → MovingTimeRepresents state h → MovingTimeRepresents state (h ▸ Tick)
+moving_time_still : (state : MovingTimeState) (h : History) → MovingTimeRepresents state h
+    → MovingTimeRepresents state (h ▸ Tick)
 moving_time_still state h r = record { sound = r.sound; latest = r.latest; recent = r.recent }
 
 either_nothing : (test : Bool) → cond {A = List Event} test [] [] ≡ []
@@ -112,21 +126,27 @@ not_yet : (now due : ℕ) → (now + 1 == due) ≡ false → nat_lt now due ≡ 
 not_yet now due apart = grind (arith, nat_tests)
 
 -- where nothing passes at the next second, as many wait as before
-waits_on : (test : Bool) (waiting : List Event) (now due : ℕ) → (now + 1 == due) ≡ test → cond test (each waiting) [] ≡ [] →
+waits_on : (test : Bool) (waiting : List Event) (now due : ℕ) → (now + 1 == due) ≡ test →
+    cond test (each waiting) [] ≡ [] →
     cond (nat_lt now due) waiting [] ≡ cond (nat_lt (now + 1) due) waiting []
 waits_on true waiting now due at none = nothing_waits waiting (nat_lt now due) (nat_lt (now + 1) due) none
 waits_on false waiting now due apart none = ap (λ test. cond test waiting []) (not_yet now due apart)
 
-stable_still : (state : StableState) (h : History) → StableRepresents state h → stable_passes state (h ▸ Tick) ≡ [] → StableRepresents state (h ▸ Tick)
+stable_still : (state : StableState) (h : History) → StableRepresents state h → stable_passes state (h ▸ Tick) ≡ []
+    → StableRepresents state (h ▸ Tick)
 stable_still state h r none = record {
   sound = r.sound;
   positive = r.positive;
   last = r.last;
   began = r.began;
-  waiting = r.waiting ∙ waits_on (moment_of h + 1 == run_began state.field h + state.secs) (run state.field h) (moment_of h) (run_began state.field h + state.secs) refl none;
+  waiting =
+      r.waiting
+      ∙ waits_on (moment_of h + 1 == run_began state.field h + state.secs) (run state.field h) (moment_of h)
+      (run_began state.field h + state.secs) refl none;
 }
 
-history_still : (state : KeptState) (h : History) → emissions (kept_kind state) (h ▸ Tick) ≡ [] → HasHistory state h → HasHistory state (h ▸ Tick)
+history_still : (state : KeptState) (h : History) → emissions (kept_kind state) (h ▸ Tick) ≡ [] → HasHistory state h
+    → HasHistory state (h ▸ Tick)
 history_still (Changed state) h quiet r = changed_still state h r
 history_still (Runs state) h quiet r = runs_still state h r
 history_still (Throttle state) h quiet r = tick_represents state h r
@@ -138,11 +158,14 @@ history_still (MovingEvent state) h quiet r = moving_event_still state h r
 history_still (FixedTime state) h quiet r = fixed_time_still state h r
 history_still (MovingTime state) h quiet r = moving_time_still state h r
 history_still (Coalesce state) h quiet r =
-    (coalesce-waits state h r state.positive (coalesce-quiet state h r state.positive (ap emitted (none_passed _ quiet)))).1
+    (coalesce-waits state h r state.positive
+    (coalesce-quiet state h r state.positive (ap emitted (none_passed _ quiet)))).1
 
 -- a state of a kind that keeps something represents the longer history too
-pub kept_still : (kind : KindTree) (state : KeptState) (h : History) → KeptRepresents kind state h → emissions kind (h ▸ Tick) ≡ [] → KeptRepresents kind state (h ▸ Tick)
+pub kept_still : (kind : KindTree) (state : KeptState) (h : History) → KeptRepresents kind state h
+    → emissions kind (h ▸ Tick) ≡ [] → KeptRepresents kind state (h ▸ Tick)
 kept_still kind state h represents quiet = record {
   same_kind = represents.same_kind;
-  history = history_still state h (silent_as (kept_kind state) kind (h ▸ Tick) represents.same_kind quiet) represents.history;
+  history =
+      history_still state h (silent_as (kept_kind state) kind (h ▸ Tick) represents.same_kind quiet) represents.history;
 }

@@ -50,7 +50,8 @@ numbered_no_fork (suc number) = refl
 
 made_no_fork : (es : List CodeEmission) → some_fork (map emission_meant es) ≡ false
 made_no_fork [] = refl
-made_no_fork (emission ∷ es) = ap (λ fork. cond fork true (some_fork (map emission_meant es))) (numbered_no_fork emission.branch) ∙ made_no_fork es
+made_no_fork (emission ∷ es) =
+    ap (λ fork. cond fork true (some_fork (map emission_meant es))) (numbered_no_fork emission.branch) ∙ made_no_fork es
 
 routed_no_fork : (test : Bool) (item : Item) → some_fork (to (cond test children otherwise) item) ≡ false
 routed_no_fork true item = refl
@@ -100,7 +101,8 @@ no_fork (Smap fold) (h ▸ In (One event)) other = refl
 no_fork (Smap fold) (h ▸ In (Many es)) other = folded_no_fork (folded fold es)
 
 -- what goes to a fork comes from a `by`
-pub keyed_is_by : (kind : KindTree) (fork : KeyFork) (item : Item) (h : History) → to (Fork fork) item ≡ emissions kind h → is_by kind ≡ true
+pub keyed_is_by : (kind : KindTree) (fork : KeyFork) (item : Item) (h : History)
+    → to (Fork fork) item ≡ emissions kind h → is_by kind ≡ true
 keyed_is_by kind fork item h passes = by_test (is_by kind) refl
   where
     by_test : (test : Bool) → is_by kind ≡ test → is_by kind ≡ true
@@ -117,7 +119,8 @@ same_no_fork (Made es) x other = made_no_fork es
 same_no_fork (Keyed key) x other = cc
 
 -- where a `by` passes on to no fork it passes nothing on
-pub by_passes_nothing : (fields : List Field) (idle : Option ℕ) (passed : Passed) (h : History) (x : Entry) → is_keyed passed ≡ false →
+pub by_passes_nothing : (fields : List Field) (idle : Option ℕ) (passed : Passed) (h : History) (x : Entry) →
+    is_keyed passed ≡ false →
     emissions_meant passed x ≡ emissions (By fields idle) (h ▸ x) → emissions (By fields idle) (h ▸ x) ≡ []
 by_passes_nothing fields idle passed h Tick other passes = refl
 by_passes_nothing fields idle passed h (In (One event)) other passes =

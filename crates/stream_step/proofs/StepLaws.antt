@@ -30,30 +30,44 @@ use Rattle.stream_step.specs.declared.state.State.{State}
 use Rattle.stream_step.specs.declared.state.State.TheVariants.{Bare, Rule, Kept, Forks}
 use Rattle.stream_step.proofs.KeptLaws.{kept_still}
 
-module _ (own : List (List ℕ)) (first count : ℕ) (texts : List (List ℕ)) (regexes : List Regex) (at : AreAt own first count texts) (from : AreReadFrom texts regexes) where
+module _ (own : List (List ℕ)) (first count : ℕ) (texts : List (List ℕ)) (regexes : List Regex)
+    (at : AreAt own first count texts) (from : AreReadFrom texts regexes) where
   parts : AreReadFrom (at.before ++ (own ++ at.after)) regexes
   parts = subst (λ (ts : List (List ℕ)). AreReadFrom ts regexes) at.among from
 
   -- the regular expressions reach so far
   pub own_within : first + count ≤ length regexes
   own_within =
-      omega (arith, read_length (at.before ++ (own ++ at.after)) regexes parts, length-append at.before (own ++ at.after), length-append own at.after, at.begins, at.counted)
+      omega (
+        arith,
+        read_length (at.before ++ (own ++ at.after)) regexes parts,
+        length-append at.before (own ++ at.after),
+        length-append own at.after,
+        at.begins,
+        at.counted,
+      )
 
   -- those from the first number on are the own ones
   pub own_read : (part : List Regex) → part ≡ take count (drop first regexes) → AreReadFrom own part
   own_read part is =
-      let back : AreReadFrom (own ++ at.after) (drop (length at.before) regexes) = read_back at.before (own ++ at.after) regexes parts in
-      let front : AreReadFrom own (take (length own) (drop (length at.before) regexes)) = read_front own at.after (drop (length at.before) regexes) back in
+      let back : AreReadFrom (own ++ at.after) (drop (length at.before) regexes) =
+      read_back at.before (own ++ at.after) regexes parts in
+      let front : AreReadFrom own (take (length own) (drop (length at.before) regexes)) =
+      read_front own at.after (drop (length at.before) regexes) back in
       subst (λ (regexes : List Regex). AreReadFrom own regexes) (sym is)
       (subst (λ (n : ℕ). AreReadFrom own (take n (drop first regexes))) at.counted
       (subst (λ (n : ℕ). AreReadFrom own (take (length own) (drop n regexes))) at.begins front))
 
 -- what the state of a rule says of the regular expressions
-pub rule_read : (texts : List (List ℕ)) (rule : Tree) (state : State) (first count : ℕ) (regexes part : List Regex) → state ≡ Rule first count →
-    AreReadFrom texts regexes → HasNumbers texts (Where rule) state → (first + count ≤ length regexes → part ≡ take count (drop first regexes)) → AreReadFrom (searches rule) part
+pub rule_read : (texts : List (List ℕ)) (rule : Tree) (state : State) (first count : ℕ) (regexes part : List Regex) →
+    state ≡ Rule first count →
+    AreReadFrom texts regexes → HasNumbers texts (Where rule) state →
+    (first + count ≤ length regexes → part ≡ take count (drop first regexes)) → AreReadFrom (searches rule) part
 rule_read texts rule state first count regexes part is from keeps cut =
-    let at : AreAt (searches rule) first count texts = subst (λ (s : State). HasNumbers texts (Where rule) s) is keeps in
-    own_read (searches rule) first count texts regexes at from part (cut (own_within (searches rule) first count texts regexes at from))
+    let at : AreAt (searches rule) first count texts =
+    subst (λ (s : State). HasNumbers texts (Where rule) s) is keeps in
+    own_read (searches rule) first count texts regexes at from part
+    (cut (own_within (searches rule) first count texts regexes at from))
 
 pub to_children_if : (met test : Bool) → met ≡ test → met ≡ true → Children ≡ cond test Children Otherwise
 to_children_if met test is holds = ap (λ (b : Bool). cond b Children Otherwise) (sym holds ∙ is)
@@ -63,19 +77,26 @@ to_otherwise_if met test is fails = ap (λ (b : Bool). cond b Children Otherwise
 
 -- ---- states that hold nothing of what came
 
-pub numbers_of : (texts : List (List ℕ)) (kind : KindTree) (state : State) (h : History) → is_kept state ≡ false → Keeps texts kind state h → HasNumbers texts kind state
+pub numbers_of : (texts : List (List ℕ)) (kind : KindTree) (state : State) (h : History) → is_kept state ≡ false
+    → Keeps texts kind state h → HasNumbers texts kind state
 numbers_of texts kind Bare h bare keeps = keeps
 numbers_of texts kind (Rule first count) h bare keeps = keeps
 numbers_of texts kind (Kept kept) h bare keeps = cc
 numbers_of texts kind (Forks first) h bare keeps = keeps
 
 -- the next state of a kind that keeps something
-pub kept_holds : (texts : List (List ℕ)) (kind : KindTree) (state : State) (kept next : KeptState) (h after : History) → state ≡ Kept kept →
-    (KeptRepresents kind kept h → KeptRepresents kind next after) → StateRepresents texts kind state h → StateRepresents texts kind (Kept next) after
+pub kept_holds : (texts : List (List ℕ)) (kind : KindTree) (state : State) (kept next : KeptState) (h after : History) →
+    state ≡ Kept kept →
+    (KeptRepresents kind kept h → KeptRepresents kind next after) → StateRepresents texts kind state h →
+    StateRepresents texts kind (Kept next) after
 kept_holds texts kind state kept next h after is goes represents =
-    record { in_range = represents.in_range; keeps = goes (subst (λ (s : State). Keeps texts kind s h) is represents.keeps) }
+    record {
+      in_range = represents.in_range;
+      keeps = goes (subst (λ (s : State). Keeps texts kind s h) is represents.keeps);
+    }
 
-keeps_on : (texts : List (List ℕ)) (kind : KindTree) (state : State) (h : History) → emissions kind (h ▸ Tick) ≡ [] → Keeps texts kind state h → Keeps texts kind state (h ▸ Tick)
+keeps_on : (texts : List (List ℕ)) (kind : KindTree) (state : State) (h : History) → emissions kind (h ▸ Tick) ≡ []
+    → Keeps texts kind state h → Keeps texts kind state (h ▸ Tick)
 keeps_on texts kind Bare h quiet keeps = keeps
 keeps_on texts kind (Rule first count) h quiet keeps = keeps
 keeps_on texts kind (Kept kept) h quiet keeps = kept_still kind kept h keeps quiet
@@ -90,7 +111,8 @@ pub kept_patterns : (kind : KindTree) → keeps kind ≡ true → kind_patterns 
 kept_patterns (Where rule) kept = cc
 kept_patterns kind kept = refl
 
-numbers_never_due : (texts : List (List ℕ)) (kind : KindTree) (state : State) (h : History) → HasNumbers texts kind state → None ≡ next_deadline kind h
+numbers_never_due : (texts : List (List ℕ)) (kind : KindTree) (state : State) (h : History)
+    → HasNumbers texts kind state → None ≡ next_deadline kind h
 numbers_never_due texts (Rollup count secs) state h numbers = cc
 numbers_never_due texts (Batch count secs) state h numbers = cc
 numbers_never_due texts (Stable secs field) state h numbers = cc
@@ -98,8 +120,10 @@ numbers_never_due texts (Coalesce secs) state h numbers = cc
 numbers_never_due texts kind state h numbers = refl
 
 -- a stream that keeps nothing of what came is never due
-pub never_due : (texts : List (List ℕ)) (kind : KindTree) (state : State) (h : History) → is_kept state ≡ false → StateRepresents texts kind state h → None ≡ next_deadline kind h
-never_due texts kind state h bare represents = numbers_never_due texts kind state h (numbers_of texts kind state h bare represents.keeps)
+pub never_due : (texts : List (List ℕ)) (kind : KindTree) (state : State) (h : History) → is_kept state ≡ false
+    → StateRepresents texts kind state h → None ≡ next_deadline kind h
+never_due texts kind state h bare represents =
+    numbers_never_due texts kind state h (numbers_of texts kind state h bare represents.keeps)
 
 -- ---- what was put where the call ran out of memory
 
@@ -116,4 +140,5 @@ pub keyed : (fields : List Field) (key : List Value) (event : Event) (h : Histor
     emissions_meant (Keyed key) (In (One event)) ≡ emissions (By fields None) (h ▸ In (One event))
 keyed fields key event h is =
     ap (λ (k : List Value). to (Fork (first_fork k)) (One event)) is
-    ∙ ap (λ (number : ℕ). to (Fork (record { key = event_key event fields; number = number })) (One event)) (sym (never_ended fields (event_key event fields) h))
+    ∙ ap (λ (number : ℕ). to (Fork (record { key = event_key event fields; number = number })) (One event))
+    (sym (never_ended fields (event_key event fields) h))

@@ -53,39 +53,75 @@ otherwise_of-opened s = refl
 -- ---- the nodes of one branch
 
 module _ (texts : List (List ℕ)) (plan : StreamTrees) (first : ℕ) (Means Beside : Meaning) where
-  children_stand : (shape : Option (List Field)) (keys : List (List Value)) (received : Received) (below : Below) → FitsBranch shape Children →
+  children_stand : (shape : Option (List Field)) (keys : List (List Value)) (received : Received) (below : Below) →
+      FitsBranch shape Children →
       BelowRepresents texts plan first Means Beside shape keys received below → Means below.children (received Children)
   children_stand None keys received below fits represents = represents.children
   children_stand (Some fields) keys received below fits represents = absurd fits
 
-  otherwise_stand : (shape : Option (List Field)) (keys : List (List Value)) (received : Received) (below : Below) → FitsBranch shape Otherwise →
-      BelowRepresents texts plan first Means Beside shape keys received below → Beside below.otherwise (received Otherwise)
+  otherwise_stand : (shape : Option (List Field)) (keys : List (List Value)) (received : Received) (below : Below) →
+      FitsBranch shape Otherwise →
+      BelowRepresents texts plan first Means Beside shape keys received below →
+      Beside below.otherwise (received Otherwise)
   otherwise_stand None keys received below fits represents = represents.otherwise
   otherwise_stand (Some fields) keys received below fits represents = absurd fits
 
-  children_put : (shape : Option (List Field)) (keys : List (List Value)) (received : Received) (x : Entry) (children otherwise : List Node) (forks : ForkTable Forest) (children' : List Node) → FitsBranch shape Children →
-      BelowRepresents texts plan first Means Beside shape keys received (record { children = children; otherwise = otherwise; forks = forks }) → Means children' (received Children ▸ x) →
-      BelowRepresents texts plan first Means Beside shape keys (extended Children x received) (record { children = children'; otherwise = otherwise; forks = forks })
-  children_put None keys received x children otherwise forks children' fits represents now = record { children = now; otherwise = represents.otherwise; is_table = represents.is_table; no_forks = represents.no_forks }
+  children_put : (shape : Option (List Field)) (keys : List (List Value)) (received : Received) (x : Entry)
+      (children otherwise : List Node) (forks : ForkTable Forest) (children' : List Node) →
+      FitsBranch shape Children →
+      BelowRepresents texts plan first Means Beside shape keys received
+      (record { children = children; otherwise = otherwise; forks = forks }) →
+      Means children' (received Children ▸ x) →
+      BelowRepresents texts plan first Means Beside shape keys (extended Children x received)
+      (record { children = children'; otherwise = otherwise; forks = forks })
+  children_put None keys received x children otherwise forks children' fits represents now = record {
+    children = now;
+    otherwise = represents.otherwise;
+    is_table = represents.is_table;
+    no_forks = represents.no_forks;
+  }
   children_put (Some fields) keys received x children otherwise forks children' fits represents now = absurd fits
 
-  otherwise_put : (shape : Option (List Field)) (keys : List (List Value)) (received : Received) (x : Entry) (children otherwise : List Node) (forks : ForkTable Forest) (otherwise' : List Node) → FitsBranch shape Otherwise →
-      BelowRepresents texts plan first Means Beside shape keys received (record { children = children; otherwise = otherwise; forks = forks }) → Beside otherwise' (received Otherwise ▸ x) →
-      BelowRepresents texts plan first Means Beside shape keys (extended Otherwise x received) (record { children = children; otherwise = otherwise'; forks = forks })
-  otherwise_put None keys received x children otherwise forks otherwise' fits represents now = record { children = represents.children; otherwise = now; is_table = represents.is_table; no_forks = represents.no_forks }
+  otherwise_put : (shape : Option (List Field)) (keys : List (List Value)) (received : Received) (x : Entry)
+      (children otherwise : List Node) (forks : ForkTable Forest) (otherwise' : List Node) →
+      FitsBranch shape Otherwise →
+      BelowRepresents texts plan first Means Beside shape keys received
+      (record { children = children; otherwise = otherwise; forks = forks }) →
+      Beside otherwise' (received Otherwise ▸ x) →
+      BelowRepresents texts plan first Means Beside shape keys (extended Otherwise x received)
+      (record { children = children; otherwise = otherwise'; forks = forks })
+  otherwise_put None keys received x children otherwise forks otherwise' fits represents now = record {
+    children = represents.children;
+    otherwise = now;
+    is_table = represents.is_table;
+    no_forks = represents.no_forks;
+  }
   otherwise_put (Some fields) keys received x children otherwise forks otherwise' fits represents now = absurd fits
 
-  forks_represent : (shape : Option (List Field)) (keys : List (List Value)) (received : Received) (key : List Value) (below : Below) → FitsBranch shape (key_fork key) →
-      BelowRepresents texts plan first Means Beside shape keys received below → CanFork texts plan first × ForksRepresent Means (plan_deadline plan) keys (λ k. received (key_fork k)) below.forks
+  forks_represent : (shape : Option (List Field)) (keys : List (List Value)) (received : Received) (key : List Value)
+      (below : Below) →
+      FitsBranch shape (key_fork key) →
+      BelowRepresents texts plan first Means Beside shape keys received below →
+      CanFork texts plan first × ForksRepresent Means (plan_deadline plan) keys (λ k. received (key_fork k)) below.forks
   forks_represent None keys received key below fits represents = absurd fits
   forks_represent (Some fields) keys received key below fits represents = (represents.can_fork, represents.forks)
 
-  forks_put : (shape : Option (List Field)) (keys keys' : List (List Value)) (received received' : Received) (key : List Value) (children otherwise : List Node) (forks forks' : ForkTable Forest) → FitsBranch shape (key_fork key) →
-      BelowRepresents texts plan first Means Beside shape keys received (record { children = children; otherwise = otherwise; forks = forks }) → ForksRepresent Means (plan_deadline plan) keys' (λ k. received' (key_fork k)) forks' →
-      BelowRepresents texts plan first Means Beside shape keys' received' (record { children = children; otherwise = otherwise; forks = forks' })
+  forks_put : (shape : Option (List Field)) (keys keys' : List (List Value)) (received received' : Received)
+      (key : List Value) (children otherwise : List Node) (forks forks' : ForkTable Forest) →
+      FitsBranch shape (key_fork key) →
+      BelowRepresents texts plan first Means Beside shape keys received
+      (record { children = children; otherwise = otherwise; forks = forks }) →
+      ForksRepresent Means (plan_deadline plan) keys' (λ k. received' (key_fork k)) forks' →
+      BelowRepresents texts plan first Means Beside shape keys' received'
+      (record { children = children; otherwise = otherwise; forks = forks' })
   forks_put None keys keys' received received' key children otherwise forks forks' fits represents now = absurd fits
   forks_put (Some fields) keys keys' received received' key children otherwise forks forks' fits represents now =
-      record { can_fork = represents.can_fork; forks = now; no_children = represents.no_children; no_otherwise = represents.no_otherwise }
+      record {
+        can_fork = represents.can_fork;
+        forks = now;
+        no_children = represents.no_children;
+        no_otherwise = represents.no_otherwise;
+      }
 
 fit_front : (shape : Option (List Field)) (es more : List Emission) → FitAll shape (es ++ more) → FitAll shape es
 fit_front shape [] more fit = tt
@@ -95,68 +131,102 @@ fit_back : (shape : Option (List Field)) (es more : List Emission) → FitAll sh
 fit_back shape [] more fit = fit
 fit_back shape (emission ∷ es) more fit = fit_back shape es more fit.1
 
-keys-snoc : (es : List Emission) (emission : Emission) (keys : List (List Value)) → with_branches (es ++ emission ∷ []) keys ≡ with_branch emission.branch (with_branches es keys)
+keys-snoc : (es : List Emission) (emission : Emission) (keys : List (List Value))
+    → with_branches (es ++ emission ∷ []) keys ≡ with_branch emission.branch (with_branches es keys)
 keys-snoc [] emission keys = refl
 keys-snoc (first ∷ es) emission keys = keys-snoc es emission (with_branch first.branch keys)
 
 after_emissions-snoc : (branch : Branch) (es : List Emission) (emission : Emission) (h : History) →
-    after_emissions branch (es ++ emission ∷ []) h ≡ cond (same_branch emission.branch branch) (after_emissions branch es h ▸ In emission.item) (after_emissions branch es h)
+    after_emissions branch (es ++ emission ∷ []) h
+    ≡ cond (same_branch emission.branch branch) (after_emissions branch es h ▸ In emission.item)
+    (after_emissions branch es h)
 after_emissions-snoc branch [] emission h = refl
-after_emissions-snoc branch (first ∷ es) emission h = after_emissions-snoc branch es emission (cond (same_branch first.branch branch) (h ▸ In first.item) h)
+after_emissions-snoc branch (first ∷ es) emission h =
+    after_emissions-snoc branch es emission (cond (same_branch first.branch branch) (h ▸ In first.item) h)
 
 at_emissions-snoc : (effects_in : BranchEffects) (received : Received) (es : List Emission) (emission : Emission) →
-    at_emissions effects_in received (es ++ emission ∷ []) ≡ at_emissions effects_in received es ++ effects_in emission.branch (after_emissions emission.branch es (received emission.branch) ▸ In emission.item)
-at_emissions-snoc effects_in received [] emission = append-nil (effects_in emission.branch (received emission.branch ▸ In emission.item))
+    at_emissions effects_in received (es ++ emission ∷ [])
+    ≡ at_emissions effects_in received es
+    ++ effects_in emission.branch (after_emissions emission.branch es (received emission.branch) ▸ In emission.item)
+at_emissions-snoc effects_in received [] emission =
+    append-nil (effects_in emission.branch (received emission.branch ▸ In emission.item))
 at_emissions-snoc effects_in received (first ∷ es) emission =
     let said = effects_in first.branch (received first.branch ▸ In first.item) in
     let next = received_more first received in
     ap (λ (l : List Effect). said ++ l) (at_emissions-snoc effects_in next es emission)
-    ∙ sym (append_assoc said (at_emissions effects_in next es) (effects_in emission.branch (after_emissions emission.branch es (next emission.branch) ▸ In emission.item)))
+    ∙ sym (append_assoc said (at_emissions effects_in next es)
+    (effects_in emission.branch (after_emissions emission.branch es (next emission.branch) ▸ In emission.item)))
 
-at_emissions-append : (effects_in : BranchEffects) (received : Received) (es more : List Emission) → (rest : List Effect) × (at_emissions effects_in received (es ++ more) ≡ at_emissions effects_in received es ++ rest)
+at_emissions-append : (effects_in : BranchEffects) (received : Received) (es more : List Emission)
+    → (rest : List Effect)
+    × (at_emissions effects_in received (es ++ more) ≡ at_emissions effects_in received es ++ rest)
 at_emissions-append effects_in received [] more = (at_emissions effects_in received more, refl)
 at_emissions-append effects_in received (first ∷ es) more =
     let said = effects_in first.branch (received first.branch ▸ In first.item) in
-    let rest = at_emissions-append effects_in (received_more first received) es more in
-    (rest.0, ap (λ (l : List Effect). said ++ l) rest.1 ∙ sym (append_assoc said (at_emissions effects_in (received_more first received) es) rest.0))
+    let rest = at_emissions-append effects_in (received_more first received) es more in (
+      rest.0,
+      ap (λ (l : List Effect). said ++ l) rest.1
+          ∙ sym (append_assoc said (at_emissions effects_in (received_more first received) es) rest.0),
+    )
 
 -- what is not there still has ticks alone
-unseen_after : (shape : Option (List Field)) (es : List Emission) (keys : List (List Value)) (received : Received) → UnseenHaveTicks shape keys received →
+unseen_after : (shape : Option (List Field)) (es : List Emission) (keys : List (List Value)) (received : Received) →
+    UnseenHaveTicks shape keys received →
     UnseenHaveTicks shape (with_branches es keys) (λ branch. after_emissions branch es (received branch))
 unseen_after shape [] keys received unseen = unseen
 unseen_after shape (emission ∷ es) keys received unseen =
-    unseen_after shape es (with_branch emission.branch keys) (extended emission.branch (In emission.item) received) (unseen_goes_on shape emission.branch (In emission.item) keys received unseen)
+    unseen_after shape es (with_branch emission.branch keys) (extended emission.branch (In emission.item) received)
+    (unseen_goes_on shape emission.branch (In emission.item) keys received unseen)
 
 module _ (start moment : ℕ) where
-  comes_here : (received : Received) (branch : Branch) (item : Item) → AllAreAt start moment received → ComesAt start moment (received branch) (In item)
-  comes_here received branch item stand = record { begins = stand.begins branch; comes = stand.represents branch; small = stand.small }
+  comes_here : (received : Received) (branch : Branch) (item : Item) → AllAreAt start moment received
+      → ComesAt start moment (received branch) (In item)
+  comes_here received branch item stand =
+      record { begins = stand.begins branch; comes = stand.represents branch; small = stand.small }
 
-  stand_after : (es : List Emission) (received : Received) → AllAreAt start moment received → AllAreAt start moment (λ branch. after_emissions branch es (received branch))
+  stand_after : (es : List Emission) (received : Received) → AllAreAt start moment received
+      → AllAreAt start moment (λ branch. after_emissions branch es (received branch))
   stand_after es received stand = record {
     begins = λ branch. (after_emissions-moments branch es (received branch)).begins ∙ stand.begins branch;
     represents = λ branch. (after_emissions-moments branch es (received branch)).ends ∙ stand.represents branch;
     small = stand.small;
   }
 
-  module _ (s : Stream) (streams : List Stream) (is : streams ≡ (out-Stream s).children.items) (first : ℕ) (key : List Value) (x : Entry) (children otherwise : Forest) (forks found : ForkTable Forest) (number : ℕ)
+  module _ (s : Stream) (streams : List Stream) (is : streams ≡ (out-Stream s).children.items) (first : ℕ)
+      (key : List Value) (x : Entry) (children otherwise : Forest) (forks found : ForkTable Forest) (number : ℕ)
       (finds : IsFound (list_trees streams) first start key forks found number) where
     -- the fork of the key is found
-    fork_found : (texts : List (List ℕ)) (keys : List (List Value)) (received : Received) → FitsBranch (forked_by (kind_of (opened s))) (key_fork key) →
-        BelowIs texts (opened s) first keys received (below_of children otherwise forks) → UnseenHaveTicks (forked_by (kind_of (opened s))) keys received → ComesAt start moment (received (key_fork key)) x →
+    fork_found : (texts : List (List ℕ)) (keys : List (List Value)) (received : Received) →
+        FitsBranch (forked_by (kind_of (opened s))) (key_fork key) →
+        BelowIs texts (opened s) first keys received (below_of children otherwise forks) →
+        UnseenHaveTicks (forked_by (kind_of (opened s))) keys received →
+        ComesAt start moment (received (key_fork key)) x →
         FoundAt texts (children_of (opened s)) key keys (λ k. received (key_fork k)) found number
     fork_found texts keys received fits represents unseen comes =
         let plan = children_of (opened s) in
         let trees : list_trees streams ≡ children_of (opened s) = ap list_trees is ∙ sym (children_of-opened s) in
-        let here = forks_represent texts plan first (ForestRepresents texts plan) (ForestRepresents texts (otherwise_of (opened s))) (forked_by (kind_of (opened s))) keys received key (below_of children otherwise forks) fits represents in
-        subst (λ (trees : StreamTrees). IsFound trees first start key forks found number) trees finds texts keys (λ k. received (key_fork k)) here.0 here.1 (unseen_fits (forked_by (kind_of (opened s))) keys received key fits unseen) comes.begins
+        let here =
+        forks_represent texts plan first (ForestRepresents texts plan)
+        (ForestRepresents texts (otherwise_of (opened s))) (forked_by (kind_of (opened s))) keys received key
+        (below_of children otherwise forks) fits represents in
+        subst (λ (trees : StreamTrees). IsFound trees first start key forks found number) trees finds texts keys
+        (λ k. received (key_fork k)) here.0 here.1
+        (unseen_fits (forked_by (kind_of (opened s))) keys received key fits unseen) comes.begins
 
-    holds_there : (texts : List (List ℕ)) (keys : List (List Value)) (received : Received) → FoundAt texts (children_of (opened s)) key keys (λ k. received (key_fork k)) found number →
-        ComesAt start moment (received (key_fork key)) x → ForkComes start moment texts (children_of (opened s)) number found (received (key_fork key)) x
+    holds_there : (texts : List (List ℕ)) (keys : List (List Value)) (received : Received) →
+        FoundAt texts (children_of (opened s)) key keys (λ k. received (key_fork k)) found number →
+        ComesAt start moment (received (key_fork key)) x →
+        ForkComes start moment texts (children_of (opened s)) number found (received (key_fork key)) x
     holds_there texts keys received at comes = record {
       is_table = at.forks_represent.is_table;
-      within = let even = even_keys found (with_key key keys) at.forks_represent.is_table at.forks_represent.keys_are in omega (arith, even, at.within);
+      within =
+          let even = even_keys found (with_key key keys) at.forks_represent.is_table at.forks_represent.keys_are in
+          omega (arith, even, at.within);
       fork = λ other.
-          subst (λ (k : List Value). ForestRepresents texts (children_of (opened s)) (nodes_of (get_or (fork_list found) number other)) (received (key_fork k))) at.at_key
+          subst
+          (λ (k : List Value). ForestRepresents texts (children_of (opened s))
+          (nodes_of (get_or (fork_list found) number other)) (received (key_fork k)))
+          at.at_key
           (at.forks_represent.each number other at.within);
       comes = comes;
     }
@@ -164,246 +234,451 @@ module _ (start moment : ℕ) where
 module _ {G : Type 0} (patterns : List Regex) (start moment : ℕ) where
   -- ---- the entry comes to one branch
 
-  pub branch_children : (s : Stream) (streams : List Stream) (branch : CodeBranch) (x : Entry) (a b : List Output) (t u : StepCount G) (children otherwise children' : Forest) →
-      branch ≡ code.Children → streams ≡ (out-Stream s).children.items → ForestRuns patterns start moment a t b u x (list_trees streams) (nodes_of children) (nodes_of children') →
-      (first : ℕ) (forks : ForkTable Forest) → BranchRuns patterns start moment a t b u x (opened s) first (branch_meant branch) (below_of children otherwise forks) (below_of children' otherwise forks)
+  pub branch_children : (s : Stream) (streams : List Stream) (branch : CodeBranch) (x : Entry) (a b : List Output)
+      (t u : StepCount G) (children otherwise children' : Forest) →
+      branch ≡ code.Children → streams ≡ (out-Stream s).children.items →
+      ForestRuns patterns start moment a t b u x (list_trees streams) (nodes_of children) (nodes_of children') →
+      (first : ℕ) (forks : ForkTable Forest) →
+      BranchRuns patterns start moment a t b u x (opened s) first (branch_meant branch)
+      (below_of children otherwise forks) (below_of children' otherwise forks)
   branch_children s streams branch x a b t u children otherwise children' at is runs first forks =
-      subst (λ (other : CodeBranch). BranchRuns patterns start moment a t b u x (opened s) first (branch_meant other) (below_of children otherwise forks) (below_of children' otherwise forks)) (sym at)
+      subst
+      (λ (other : CodeBranch). BranchRuns patterns start moment a t b u x (opened s) first (branch_meant other)
+      (below_of children otherwise forks) (below_of children' otherwise forks))
+      (sym at)
       (λ texts keys received from fits represents unseen comes.
       let plan = children_of (opened s) in
       let Means = ForestRepresents texts plan in
       let Beside = ForestRepresents texts (otherwise_of (opened s)) in
       let shape = forked_by (kind_of (opened s)) in
       let trees : list_trees streams ≡ children_of (opened s) = ap list_trees is ∙ sym (children_of-opened s) in
-      let ran = subst (λ (trees : StreamTrees). ForestRuns patterns start moment a t b u x trees (nodes_of children) (nodes_of children')) trees runs texts (received Children) from
-      (children_stand texts plan first Means Beside shape keys received (below_of children otherwise forks) fits represents) comes in
-      (children_put texts plan first Means Beside shape keys received x (nodes_of children) (nodes_of otherwise) forks (nodes_of children') fits represents ran.0, ran.1))
+      let ran =
+      subst
+      (λ (trees : StreamTrees).
+      ForestRuns patterns start moment a t b u x trees (nodes_of children) (nodes_of children'))
+      trees runs texts (received Children) from
+      (children_stand texts plan first Means Beside shape keys received (below_of children otherwise forks) fits
+      represents)
+      comes in (
+        children_put texts plan first Means Beside shape keys received x (nodes_of children) (nodes_of otherwise) forks
+            (nodes_of children') fits represents ran.0,
+        ran.1,
+      ))
 
-  pub branch_otherwise : (s : Stream) (streams : List Stream) (branch : CodeBranch) (x : Entry) (a b : List Output) (t u : StepCount G) (children otherwise otherwise' : Forest) →
-      branch ≡ code.Otherwise → streams ≡ (out-Stream s).otherwise.items → ForestRuns patterns start moment a t b u x (list_trees streams) (nodes_of otherwise) (nodes_of otherwise') →
-      (first : ℕ) (forks : ForkTable Forest) → BranchRuns patterns start moment a t b u x (opened s) first (branch_meant branch) (below_of children otherwise forks) (below_of children otherwise' forks)
+  pub branch_otherwise : (s : Stream) (streams : List Stream) (branch : CodeBranch) (x : Entry) (a b : List Output)
+      (t u : StepCount G) (children otherwise otherwise' : Forest) →
+      branch ≡ code.Otherwise → streams ≡ (out-Stream s).otherwise.items →
+      ForestRuns patterns start moment a t b u x (list_trees streams) (nodes_of otherwise) (nodes_of otherwise') →
+      (first : ℕ) (forks : ForkTable Forest) →
+      BranchRuns patterns start moment a t b u x (opened s) first (branch_meant branch)
+      (below_of children otherwise forks) (below_of children otherwise' forks)
   branch_otherwise s streams branch x a b t u children otherwise otherwise' at is runs first forks =
-      subst (λ (other : CodeBranch). BranchRuns patterns start moment a t b u x (opened s) first (branch_meant other) (below_of children otherwise forks) (below_of children otherwise' forks)) (sym at)
+      subst
+      (λ (other : CodeBranch). BranchRuns patterns start moment a t b u x (opened s) first (branch_meant other)
+      (below_of children otherwise forks) (below_of children otherwise' forks))
+      (sym at)
       (λ texts keys received from fits represents unseen comes.
       let plan = children_of (opened s) in
       let Means = ForestRepresents texts plan in
       let Beside = ForestRepresents texts (otherwise_of (opened s)) in
       let shape = forked_by (kind_of (opened s)) in
       let trees : list_trees streams ≡ otherwise_of (opened s) = ap list_trees is ∙ sym (otherwise_of-opened s) in
-      let ran = subst (λ (trees : StreamTrees). ForestRuns patterns start moment a t b u x trees (nodes_of otherwise) (nodes_of otherwise')) trees runs texts (received Otherwise) from
-      (otherwise_stand texts plan first Means Beside shape keys received (below_of children otherwise forks) fits represents) comes in
-      (otherwise_put texts plan first Means Beside shape keys received x (nodes_of children) (nodes_of otherwise) forks (nodes_of otherwise') fits represents ran.0, ran.1))
+      let ran =
+      subst
+      (λ (trees : StreamTrees).
+      ForestRuns patterns start moment a t b u x trees (nodes_of otherwise) (nodes_of otherwise'))
+      trees runs texts (received Otherwise) from
+      (otherwise_stand texts plan first Means Beside shape keys received (below_of children otherwise forks) fits
+      represents)
+      comes in (
+        otherwise_put texts plan first Means Beside shape keys received x (nodes_of children) (nodes_of otherwise) forks
+            (nodes_of otherwise') fits represents ran.0,
+        ran.1,
+      ))
 
-  pub children_stop : (s : Stream) (streams : List Stream) (branch : CodeBranch) (x : Entry) (a b : List Output) (t u : StepCount G) (children otherwise : Forest) →
-      branch ≡ code.Children → streams ≡ (out-Stream s).children.items → ForestStops patterns start moment a t b u x (list_trees streams) (nodes_of children) →
-      (first : ℕ) (forks : ForkTable Forest) → BranchStops patterns start moment a t b u x (opened s) first (branch_meant branch) (below_of children otherwise forks)
+  pub children_stop : (s : Stream) (streams : List Stream) (branch : CodeBranch) (x : Entry) (a b : List Output)
+      (t u : StepCount G) (children otherwise : Forest) →
+      branch ≡ code.Children → streams ≡ (out-Stream s).children.items →
+      ForestStops patterns start moment a t b u x (list_trees streams) (nodes_of children) →
+      (first : ℕ) (forks : ForkTable Forest) →
+      BranchStops patterns start moment a t b u x (opened s) first (branch_meant branch)
+      (below_of children otherwise forks)
   children_stop s streams branch x a b t u children otherwise at is stops first forks =
-      subst (λ (other : CodeBranch). BranchStops patterns start moment a t b u x (opened s) first (branch_meant other) (below_of children otherwise forks)) (sym at)
+      subst
+      (λ (other : CodeBranch). BranchStops patterns start moment a t b u x (opened s) first (branch_meant other)
+      (below_of children otherwise forks))
+      (sym at)
       (λ texts keys received from fits represents unseen comes.
       let plan = children_of (opened s) in
       let trees : list_trees streams ≡ children_of (opened s) = ap list_trees is ∙ sym (children_of-opened s) in
-      (subst (λ (trees : StreamTrees). ForestStops patterns start moment a t b u x trees (nodes_of children)) trees stops texts (received Children) from
-      (children_stand texts plan first (ForestRepresents texts plan) (ForestRepresents texts (otherwise_of (opened s))) (forked_by (kind_of (opened s))) keys received (below_of children otherwise forks) fits represents) comes).part)
+      (subst (λ (trees : StreamTrees). ForestStops patterns start moment a t b u x trees (nodes_of children)) trees
+      stops texts (received Children) from
+      (children_stand texts plan first (ForestRepresents texts plan) (ForestRepresents texts (otherwise_of (opened s)))
+      (forked_by (kind_of (opened s))) keys received (below_of children otherwise forks) fits represents)
+      comes).part)
 
-  pub otherwise_stop : (s : Stream) (streams : List Stream) (branch : CodeBranch) (x : Entry) (a b : List Output) (t u : StepCount G) (children otherwise : Forest) →
-      branch ≡ code.Otherwise → streams ≡ (out-Stream s).otherwise.items → ForestStops patterns start moment a t b u x (list_trees streams) (nodes_of otherwise) →
-      (first : ℕ) (forks : ForkTable Forest) → BranchStops patterns start moment a t b u x (opened s) first (branch_meant branch) (below_of children otherwise forks)
+  pub otherwise_stop : (s : Stream) (streams : List Stream) (branch : CodeBranch) (x : Entry) (a b : List Output)
+      (t u : StepCount G) (children otherwise : Forest) →
+      branch ≡ code.Otherwise → streams ≡ (out-Stream s).otherwise.items →
+      ForestStops patterns start moment a t b u x (list_trees streams) (nodes_of otherwise) →
+      (first : ℕ) (forks : ForkTable Forest) →
+      BranchStops patterns start moment a t b u x (opened s) first (branch_meant branch)
+      (below_of children otherwise forks)
   otherwise_stop s streams branch x a b t u children otherwise at is stops first forks =
-      subst (λ (other : CodeBranch). BranchStops patterns start moment a t b u x (opened s) first (branch_meant other) (below_of children otherwise forks)) (sym at)
+      subst
+      (λ (other : CodeBranch). BranchStops patterns start moment a t b u x (opened s) first (branch_meant other)
+      (below_of children otherwise forks))
+      (sym at)
       (λ texts keys received from fits represents unseen comes.
       let plan = children_of (opened s) in
       let trees : list_trees streams ≡ otherwise_of (opened s) = ap list_trees is ∙ sym (otherwise_of-opened s) in
-      (subst (λ (trees : StreamTrees). ForestStops patterns start moment a t b u x trees (nodes_of otherwise)) trees stops texts (received Otherwise) from
-      (otherwise_stand texts plan first (ForestRepresents texts plan) (ForestRepresents texts (otherwise_of (opened s))) (forked_by (kind_of (opened s))) keys received (below_of children otherwise forks) fits represents) comes).part)
+      (subst (λ (trees : StreamTrees). ForestStops patterns start moment a t b u x trees (nodes_of otherwise)) trees
+      stops texts (received Otherwise) from
+      (otherwise_stand texts plan first (ForestRepresents texts plan) (ForestRepresents texts (otherwise_of (opened s)))
+      (forked_by (kind_of (opened s))) keys received (below_of children otherwise forks) fits represents)
+      comes).part)
 
   -- ---- a tick comes to both branches
 
-  both_case : (texts : List (List ℕ)) (plan beside : StreamTrees) (first : ℕ) (shape : Option (List Field)) (keys : List (List Value)) (received : Received) (a b c : List Output) (t u v : StepCount G)
+  both_case : (texts : List (List ℕ)) (plan beside : StreamTrees) (first : ℕ) (shape : Option (List Field))
+      (keys : List (List Value)) (received : Received) (a b c : List Output) (t u v : StepCount G)
       (children otherwise children' otherwise' : List Node) (forks : ForkTable Forest) → is_some shape ≡ false →
-      BelowRepresents texts plan first (ForestRepresents texts plan) (ForestRepresents texts beside) shape keys received (record { children = children; otherwise = otherwise; forks = forks }) →
-      (ForestRepresents texts plan children (received Children) → ForestRepresents texts plan children' (received Children ▸ Tick) × Performs a t b u (plan_effects plan (received Children ▸ Tick))) →
-      (ForestRepresents texts beside otherwise (received Otherwise) → ForestRepresents texts beside otherwise' (received Otherwise ▸ Tick) × Performs b u c v (plan_effects beside (received Otherwise ▸ Tick))) →
-      BelowRepresents texts plan first (ForestRepresents texts plan) (ForestRepresents texts beside) shape keys (λ branch. received branch ▸ Tick) (record { children = children'; otherwise = otherwise'; forks = forks })
-      × Performs a t c v (at_tick Tick (branch_effects (plan_effects plan) (plan_effects beside)) received (branches_by shape keys))
-  both_case texts plan beside first None keys received a b c t u v children otherwise children' otherwise' forks plain represents one two =
+      BelowRepresents texts plan first (ForestRepresents texts plan) (ForestRepresents texts beside) shape keys received
+      (record { children = children; otherwise = otherwise; forks = forks }) →
+      (ForestRepresents texts plan children (received Children) →
+      ForestRepresents texts plan children' (received Children ▸ Tick)
+      × Performs a t b u (plan_effects plan (received Children ▸ Tick))) →
+      (ForestRepresents texts beside otherwise (received Otherwise) →
+      ForestRepresents texts beside otherwise' (received Otherwise ▸ Tick)
+      × Performs b u c v (plan_effects beside (received Otherwise ▸ Tick))) →
+      BelowRepresents texts plan first (ForestRepresents texts plan) (ForestRepresents texts beside) shape keys
+      (λ branch. received branch ▸ Tick) (record { children = children'; otherwise = otherwise'; forks = forks })
+      × Performs a t c v
+      (at_tick Tick (branch_effects (plan_effects plan) (plan_effects beside)) received (branches_by shape keys))
+  both_case texts plan beside first None keys received a b c t u v children otherwise children' otherwise' forks plain
+      represents one two =
       let ran = one represents.children in
       let ran' = two represents.otherwise in
       let reported = plan_effects plan (received Children ▸ Tick) in
       let reported' = plan_effects beside (received Otherwise ▸ Tick) in (
         record { children = ran.0; otherwise = ran'.0; is_table = represents.is_table; no_forks = represents.no_forks },
-        subst (λ (hs : List Effect). Performs a t c v (reported ++ hs)) (sym (append-nil reported')) (grew_then a b c t u v reported reported' ran.1 ran'.1),
+        subst (λ (hs : List Effect). Performs a t c v (reported ++ hs)) (sym (append-nil reported'))
+            (grew_then a b c t u v reported reported' ran.1 ran'.1),
       )
-  both_case texts plan beside first (Some fields) keys received a b c t u v children otherwise children' otherwise' forks plain represents one two = absurd (cc)
+  both_case texts plan beside first (Some fields) keys received a b c t u v children otherwise children' otherwise'
+      forks plain represents one two =
+      absurd (cc)
 
-  pub both_run : (s : Stream) (children_streams otherwise_streams : List Stream) (x : Entry) (a b c : List Output) (t u v : StepCount G) (children otherwise children' otherwise' : Forest) (forks : ForkTable Forest) →
-      is_some (forked_by (kind_tree (out-Stream s).kind)) ≡ false → x ≡ Tick → children_streams ≡ (out-Stream s).children.items → otherwise_streams ≡ (out-Stream s).otherwise.items →
-      ForestRuns patterns start moment a t b u x (list_trees children_streams) (nodes_of children) (nodes_of children') →
-      ForestRuns patterns start moment b u c v x (list_trees otherwise_streams) (nodes_of otherwise) (nodes_of otherwise') →
-      (first : ℕ) → TickRuns patterns start moment a t c v x (opened s) first (below_of children otherwise forks) (below_of children' otherwise' forks)
-  both_run s children_streams otherwise_streams x a b c t u v children otherwise children' otherwise' forks plain is children_is otherwise_is one two first =
-      subst (λ (y : Entry). TickRuns patterns start moment a t c v y (opened s) first (below_of children otherwise forks) (below_of children' otherwise' forks)) (sym is)
+  pub both_run : (s : Stream) (children_streams otherwise_streams : List Stream) (x : Entry) (a b c : List Output)
+      (t u v : StepCount G) (children otherwise children' otherwise' : Forest) (forks : ForkTable Forest) →
+      is_some (forked_by (kind_tree (out-Stream s).kind)) ≡ false → x ≡ Tick →
+      children_streams ≡ (out-Stream s).children.items → otherwise_streams ≡ (out-Stream s).otherwise.items →
+      ForestRuns patterns start moment a t b u x (list_trees children_streams) (nodes_of children)
+      (nodes_of children') →
+      ForestRuns patterns start moment b u c v x (list_trees otherwise_streams) (nodes_of otherwise)
+      (nodes_of otherwise') →
+      (first : ℕ) →
+      TickRuns patterns start moment a t c v x (opened s) first (below_of children otherwise forks)
+      (below_of children' otherwise' forks)
+  both_run s children_streams otherwise_streams x a b c t u v children otherwise children' otherwise' forks plain is
+      children_is otherwise_is one two first =
+      subst
+      (λ (y : Entry). TickRuns patterns start moment a t c v y (opened s) first (below_of children otherwise forks)
+      (below_of children' otherwise' forks))
+      (sym is)
       (λ texts keys received from represents comes.
-      let trees : list_trees children_streams ≡ children_of (opened s) = ap list_trees children_is ∙ sym (children_of-opened s) in
-      let trees' : list_trees otherwise_streams ≡ otherwise_of (opened s) = ap list_trees otherwise_is ∙ sym (otherwise_of-opened s) in
-      let one' = subst (λ (trees : StreamTrees). ForestRuns patterns start moment a t b u Tick trees (nodes_of children) (nodes_of children')) trees
-      (subst (λ (y : Entry). ForestRuns patterns start moment a t b u y (list_trees children_streams) (nodes_of children) (nodes_of children')) is one) in
-      let two' = subst (λ (trees : StreamTrees). ForestRuns patterns start moment b u c v Tick trees (nodes_of otherwise) (nodes_of otherwise')) trees'
-      (subst (λ (y : Entry). ForestRuns patterns start moment b u c v y (list_trees otherwise_streams) (nodes_of otherwise) (nodes_of otherwise')) is two) in
-      both_case texts (children_of (opened s)) (otherwise_of (opened s)) first (forked_by (kind_of (opened s))) keys received a b c t u v
+      let trees : list_trees children_streams ≡ children_of (opened s) =
+      ap list_trees children_is ∙ sym (children_of-opened s) in
+      let trees' : list_trees otherwise_streams ≡ otherwise_of (opened s) =
+      ap list_trees otherwise_is ∙ sym (otherwise_of-opened s) in
+      let one' =
+      subst
+      (λ (trees : StreamTrees).
+      ForestRuns patterns start moment a t b u Tick trees (nodes_of children) (nodes_of children'))
+      trees
+      (subst
+      (λ (y : Entry).
+      ForestRuns patterns start moment a t b u y (list_trees children_streams) (nodes_of children) (nodes_of children'))
+      is one) in
+      let two' =
+      subst
+      (λ (trees : StreamTrees).
+      ForestRuns patterns start moment b u c v Tick trees (nodes_of otherwise) (nodes_of otherwise'))
+      trees'
+      (subst
+      (λ (y : Entry). ForestRuns patterns start moment b u c v y (list_trees otherwise_streams) (nodes_of otherwise)
+      (nodes_of otherwise'))
+      is two) in
+      both_case texts (children_of (opened s)) (otherwise_of (opened s)) first (forked_by (kind_of (opened s))) keys
+      received a b c t u v
       (nodes_of children) (nodes_of otherwise) (nodes_of children') (nodes_of otherwise') forks
       (ap (λ (kind : KindTree). is_some (forked_by kind)) (kind_of-opened s) ∙ plain) represents
-      (λ here. one' texts (received Children) from here (comes.each Children)) (λ here. two' texts (received Otherwise) from here (comes.each Otherwise)))
+      (λ here. one' texts (received Children) from here (comes.each Children))
+      (λ here. two' texts (received Otherwise) from here (comes.each Otherwise)))
 
-  one_stops_case : (texts : List (List ℕ)) (plan beside : StreamTrees) (first : ℕ) (shape : Option (List Field)) (keys : List (List Value)) (received : Received) (a b : List Output) (t u : StepCount G)
+  one_stops_case : (texts : List (List ℕ)) (plan beside : StreamTrees) (first : ℕ) (shape : Option (List Field))
+      (keys : List (List Value)) (received : Received) (a b : List Output) (t u : StepCount G)
       (below : Below) → is_some shape ≡ false →
-      BelowRepresents texts plan first (ForestRepresents texts plan) (ForestRepresents texts beside) shape keys received below →
-      (ForestRepresents texts plan below.children (received Children) → Stops a t b u Tick (plan_effects plan (received Children ▸ Tick))) →
-      Stops a t b u Tick (at_tick Tick (branch_effects (plan_effects plan) (plan_effects beside)) received (branches_by shape keys))
+      BelowRepresents texts plan first (ForestRepresents texts plan) (ForestRepresents texts beside) shape keys received
+      below →
+      (ForestRepresents texts plan below.children (received Children) →
+      Stops a t b u Tick (plan_effects plan (received Children ▸ Tick))) →
+      Stops a t b u Tick
+      (at_tick Tick (branch_effects (plan_effects plan) (plan_effects beside)) received (branches_by shape keys))
   one_stops_case texts plan beside first None keys received a b t u below plain represents one =
-      stops_more a b t u Tick (plan_effects plan (received Children ▸ Tick)) (plan_effects beside (received Otherwise ▸ Tick) ++ []) (one represents.children)
+      stops_more a b t u Tick (plan_effects plan (received Children ▸ Tick))
+      (plan_effects beside (received Otherwise ▸ Tick) ++ []) (one represents.children)
   one_stops_case texts plan beside first (Some fields) keys received a b t u below plain represents one = absurd (cc)
 
-  pub one_stops : (s : Stream) (streams : List Stream) (x : Entry) (a b : List Output) (t u : StepCount G) (children otherwise : Forest) (forks : ForkTable Forest) →
+  pub one_stops : (s : Stream) (streams : List Stream) (x : Entry) (a b : List Output) (t u : StepCount G)
+      (children otherwise : Forest) (forks : ForkTable Forest) →
       is_some (forked_by (kind_tree (out-Stream s).kind)) ≡ false → x ≡ Tick → streams ≡ (out-Stream s).children.items →
       ForestStops patterns start moment a t b u x (list_trees streams) (nodes_of children) →
       (first : ℕ) → TickStops patterns start moment a t b u x (opened s) first (below_of children otherwise forks)
   one_stops s streams x a b t u children otherwise forks plain is children_is one first =
-      subst (λ (y : Entry). TickStops patterns start moment a t b u y (opened s) first (below_of children otherwise forks)) (sym is)
+      subst
+      (λ (y : Entry). TickStops patterns start moment a t b u y (opened s) first (below_of children otherwise forks))
+      (sym is)
       (λ texts keys received from represents comes.
-      let trees : list_trees streams ≡ children_of (opened s) = ap list_trees children_is ∙ sym (children_of-opened s) in
-      let one' = subst (λ (trees : StreamTrees). ForestStops patterns start moment a t b u Tick trees (nodes_of children)) trees
-      (subst (λ (y : Entry). ForestStops patterns start moment a t b u y (list_trees streams) (nodes_of children)) is one) in
-      one_stops_case texts (children_of (opened s)) (otherwise_of (opened s)) first (forked_by (kind_of (opened s))) keys received a b t u (below_of children otherwise forks)
-      (ap (λ (kind : KindTree). is_some (forked_by kind)) (kind_of-opened s) ∙ plain) represents (λ here. one' texts (received Children) from here (comes.each Children)))
+      let trees : list_trees streams ≡ children_of (opened s) =
+      ap list_trees children_is ∙ sym (children_of-opened s) in
+      let one' =
+      subst (λ (trees : StreamTrees). ForestStops patterns start moment a t b u Tick trees (nodes_of children)) trees
+      (subst (λ (y : Entry). ForestStops patterns start moment a t b u y (list_trees streams) (nodes_of children)) is
+      one) in
+      one_stops_case texts (children_of (opened s)) (otherwise_of (opened s)) first (forked_by (kind_of (opened s)))
+      keys received a b t u (below_of children otherwise forks)
+      (ap (λ (kind : KindTree). is_some (forked_by kind)) (kind_of-opened s) ∙ plain) represents
+      (λ here. one' texts (received Children) from here (comes.each Children)))
 
-  two_stops_case : (texts : List (List ℕ)) (plan beside : StreamTrees) (first : ℕ) (shape : Option (List Field)) (keys : List (List Value)) (received : Received) (a b c : List Output) (t u v : StepCount G)
+  two_stops_case : (texts : List (List ℕ)) (plan beside : StreamTrees) (first : ℕ) (shape : Option (List Field))
+      (keys : List (List Value)) (received : Received) (a b c : List Output) (t u v : StepCount G)
       (below : Below) (children' : List Node) → is_some shape ≡ false →
-      BelowRepresents texts plan first (ForestRepresents texts plan) (ForestRepresents texts beside) shape keys received below →
-      (ForestRepresents texts plan below.children (received Children) → ForestRepresents texts plan children' (received Children ▸ Tick) × Performs a t b u (plan_effects plan (received Children ▸ Tick))) →
-      (ForestRepresents texts beside below.otherwise (received Otherwise) → Stops b u c v Tick (plan_effects beside (received Otherwise ▸ Tick))) →
-      Stops a t c v Tick (at_tick Tick (branch_effects (plan_effects plan) (plan_effects beside)) received (branches_by shape keys))
+      BelowRepresents texts plan first (ForestRepresents texts plan) (ForestRepresents texts beside) shape keys received
+      below →
+      (ForestRepresents texts plan below.children (received Children) →
+      ForestRepresents texts plan children' (received Children ▸ Tick)
+      × Performs a t b u (plan_effects plan (received Children ▸ Tick))) →
+      (ForestRepresents texts beside below.otherwise (received Otherwise) →
+      Stops b u c v Tick (plan_effects beside (received Otherwise ▸ Tick))) →
+      Stops a t c v Tick
+      (at_tick Tick (branch_effects (plan_effects plan) (plan_effects beside)) received (branches_by shape keys))
   two_stops_case texts plan beside first None keys received a b c t u v below children' plain represents one two =
       let reported = plan_effects plan (received Children ▸ Tick) in
       let reported' = plan_effects beside (received Otherwise ▸ Tick) in
-      subst (λ (hs : List Effect). Stops a t c v Tick (reported ++ hs)) (sym (append-nil reported')) (stops_then a b c t u v Tick reported reported' (one represents.children).1 (two represents.otherwise))
-  two_stops_case texts plan beside first (Some fields) keys received a b c t u v below children' plain represents one two = absurd (cc)
+      subst (λ (hs : List Effect). Stops a t c v Tick (reported ++ hs)) (sym (append-nil reported'))
+      (stops_then a b c t u v Tick reported reported' (one represents.children).1 (two represents.otherwise))
+  two_stops_case texts plan beside first (Some fields) keys received a b c t u v below children' plain represents one
+      two =
+      absurd (cc)
 
-  pub two_stops : (s : Stream) (children_streams otherwise_streams : List Stream) (x : Entry) (a b c : List Output) (t u v : StepCount G) (children otherwise children' : Forest) (forks : ForkTable Forest) →
-      is_some (forked_by (kind_tree (out-Stream s).kind)) ≡ false → x ≡ Tick → children_streams ≡ (out-Stream s).children.items → otherwise_streams ≡ (out-Stream s).otherwise.items →
-      ForestRuns patterns start moment a t b u x (list_trees children_streams) (nodes_of children) (nodes_of children') →
+  pub two_stops : (s : Stream) (children_streams otherwise_streams : List Stream) (x : Entry) (a b c : List Output)
+      (t u v : StepCount G) (children otherwise children' : Forest) (forks : ForkTable Forest) →
+      is_some (forked_by (kind_tree (out-Stream s).kind)) ≡ false → x ≡ Tick →
+      children_streams ≡ (out-Stream s).children.items → otherwise_streams ≡ (out-Stream s).otherwise.items →
+      ForestRuns patterns start moment a t b u x (list_trees children_streams) (nodes_of children)
+      (nodes_of children') →
       ForestStops patterns start moment b u c v x (list_trees otherwise_streams) (nodes_of otherwise) →
       (first : ℕ) → TickStops patterns start moment a t c v x (opened s) first (below_of children otherwise forks)
-  two_stops s children_streams otherwise_streams x a b c t u v children otherwise children' forks plain is children_is otherwise_is one two first =
-      subst (λ (y : Entry). TickStops patterns start moment a t c v y (opened s) first (below_of children otherwise forks)) (sym is)
+  two_stops s children_streams otherwise_streams x a b c t u v children otherwise children' forks plain is children_is
+      otherwise_is one two first =
+      subst
+      (λ (y : Entry). TickStops patterns start moment a t c v y (opened s) first (below_of children otherwise forks))
+      (sym is)
       (λ texts keys received from represents comes.
-      let trees : list_trees children_streams ≡ children_of (opened s) = ap list_trees children_is ∙ sym (children_of-opened s) in
-      let trees' : list_trees otherwise_streams ≡ otherwise_of (opened s) = ap list_trees otherwise_is ∙ sym (otherwise_of-opened s) in
-      let one' = subst (λ (trees : StreamTrees). ForestRuns patterns start moment a t b u Tick trees (nodes_of children) (nodes_of children')) trees
-      (subst (λ (y : Entry). ForestRuns patterns start moment a t b u y (list_trees children_streams) (nodes_of children) (nodes_of children')) is one) in
-      let two' = subst (λ (trees : StreamTrees). ForestStops patterns start moment b u c v Tick trees (nodes_of otherwise)) trees'
-      (subst (λ (y : Entry). ForestStops patterns start moment b u c v y (list_trees otherwise_streams) (nodes_of otherwise)) is two) in
-      two_stops_case texts (children_of (opened s)) (otherwise_of (opened s)) first (forked_by (kind_of (opened s))) keys received a b c t u v (below_of children otherwise forks) (nodes_of children')
+      let trees : list_trees children_streams ≡ children_of (opened s) =
+      ap list_trees children_is ∙ sym (children_of-opened s) in
+      let trees' : list_trees otherwise_streams ≡ otherwise_of (opened s) =
+      ap list_trees otherwise_is ∙ sym (otherwise_of-opened s) in
+      let one' =
+      subst
+      (λ (trees : StreamTrees).
+      ForestRuns patterns start moment a t b u Tick trees (nodes_of children) (nodes_of children'))
+      trees
+      (subst
+      (λ (y : Entry).
+      ForestRuns patterns start moment a t b u y (list_trees children_streams) (nodes_of children) (nodes_of children'))
+      is one) in
+      let two' =
+      subst (λ (trees : StreamTrees). ForestStops patterns start moment b u c v Tick trees (nodes_of otherwise)) trees'
+      (subst
+      (λ (y : Entry). ForestStops patterns start moment b u c v y (list_trees otherwise_streams) (nodes_of otherwise))
+      is two) in
+      two_stops_case texts (children_of (opened s)) (otherwise_of (opened s)) first (forked_by (kind_of (opened s)))
+      keys received a b c t u v (below_of children otherwise forks) (nodes_of children')
       (ap (λ (kind : KindTree). is_some (forked_by kind)) (kind_of-opened s) ∙ plain) represents
-      (λ here. one' texts (received Children) from here (comes.each Children)) (λ here. two' texts (received Otherwise) from here (comes.each Otherwise)))
+      (λ here. one' texts (received Children) from here (comes.each Children))
+      (λ here. two' texts (received Otherwise) from here (comes.each Otherwise)))
 
   -- ---- a tick comes to the forks
 
-  due_case : (texts : List (List ℕ)) (plan beside : StreamTrees) (first : ℕ) (shape : Option (List Field)) (keys : List (List Value)) (received : Received) (a b : List Output) (t u : StepCount G)
-      (children otherwise : List Node) (forks forks' : ForkTable Forest) → is_some shape ≡ true → AreReadFrom texts patterns →
-      BelowRepresents texts plan first (ForestRepresents texts plan) (ForestRepresents texts beside) shape keys received (record { children = children; otherwise = otherwise; forks = forks }) →
-      ((branch : Branch) → ComesAt start moment (received branch) Tick) → DueRuns patterns start moment a t b u plan forks forks' →
-      BelowRepresents texts plan first (ForestRepresents texts plan) (ForestRepresents texts beside) shape keys (λ branch. received branch ▸ Tick) (record { children = children; otherwise = otherwise; forks = forks' })
-      × Performs a t b u (at_tick Tick (branch_effects (plan_effects plan) (plan_effects beside)) received (branches_by shape keys))
-  due_case texts plan beside first None keys received a b t u children otherwise forks forks' forked from represents comes runs = absurd (cc)
-  due_case texts plan beside first (Some fields) keys received a b t u children otherwise forks forks' forked from represents comes runs =
-      let ran = runs texts keys (λ key. received (key_fork key)) from represents.can_fork.in_range represents.forks (λ key. comes (key_fork key)) in (
-        record { can_fork = represents.can_fork; forks = ran.0; no_children = represents.no_children; no_otherwise = represents.no_otherwise },
-        subst (λ (hs : List Effect). Performs a t b u hs) (sym (forks_tick (plan_effects plan) (plan_effects beside) received keys)) ran.1,
+  due_case : (texts : List (List ℕ)) (plan beside : StreamTrees) (first : ℕ) (shape : Option (List Field))
+      (keys : List (List Value)) (received : Received) (a b : List Output) (t u : StepCount G)
+      (children otherwise : List Node) (forks forks' : ForkTable Forest) → is_some shape ≡ true →
+      AreReadFrom texts patterns →
+      BelowRepresents texts plan first (ForestRepresents texts plan) (ForestRepresents texts beside) shape keys received
+      (record { children = children; otherwise = otherwise; forks = forks }) →
+      ((branch : Branch) → ComesAt start moment (received branch) Tick) →
+      DueRuns patterns start moment a t b u plan forks forks' →
+      BelowRepresents texts plan first (ForestRepresents texts plan) (ForestRepresents texts beside) shape keys
+      (λ branch. received branch ▸ Tick) (record { children = children; otherwise = otherwise; forks = forks' })
+      × Performs a t b u
+      (at_tick Tick (branch_effects (plan_effects plan) (plan_effects beside)) received (branches_by shape keys))
+  due_case texts plan beside first None keys received a b t u children otherwise forks forks' forked from represents
+      comes runs =
+      absurd (cc)
+  due_case texts plan beside first (Some fields) keys received a b t u children otherwise forks forks' forked from
+      represents comes runs =
+      let ran =
+      runs texts keys (λ key. received (key_fork key)) from represents.can_fork.in_range represents.forks
+      (λ key. comes (key_fork key)) in (
+        record {
+          can_fork = represents.can_fork;
+          forks = ran.0;
+          no_children = represents.no_children;
+          no_otherwise = represents.no_otherwise;
+        },
+        subst (λ (hs : List Effect). Performs a t b u hs)
+            (sym (forks_tick (plan_effects plan) (plan_effects beside) received keys)) ran.1,
       )
 
-  pub due_run : (s : Stream) (x : Entry) (a b : List Output) (t u : StepCount G) (children otherwise : Forest) (forks forks' : ForkTable Forest) →
-      is_some (forked_by (kind_tree (out-Stream s).kind)) ≡ true → x ≡ Tick → DueRuns patterns start moment a t b u (children_of (opened s)) forks forks' →
-      (first : ℕ) → TickRuns patterns start moment a t b u x (opened s) first (below_of children otherwise forks) (below_of children otherwise forks')
+  pub due_run : (s : Stream) (x : Entry) (a b : List Output) (t u : StepCount G) (children otherwise : Forest)
+      (forks forks' : ForkTable Forest) →
+      is_some (forked_by (kind_tree (out-Stream s).kind)) ≡ true → x ≡ Tick →
+      DueRuns patterns start moment a t b u (children_of (opened s)) forks forks' →
+      (first : ℕ) →
+      TickRuns patterns start moment a t b u x (opened s) first (below_of children otherwise forks)
+      (below_of children otherwise forks')
   due_run s x a b t u children otherwise forks forks' forked is runs first =
-      subst (λ (y : Entry). TickRuns patterns start moment a t b u y (opened s) first (below_of children otherwise forks) (below_of children otherwise forks')) (sym is)
+      subst
+      (λ (y : Entry). TickRuns patterns start moment a t b u y (opened s) first (below_of children otherwise forks)
+      (below_of children otherwise forks'))
+      (sym is)
       (λ texts keys received from represents comes.
-      due_case texts (children_of (opened s)) (otherwise_of (opened s)) first (forked_by (kind_of (opened s))) keys received a b t u (nodes_of children) (nodes_of otherwise) forks forks'
+      due_case texts (children_of (opened s)) (otherwise_of (opened s)) first (forked_by (kind_of (opened s))) keys
+      received a b t u (nodes_of children) (nodes_of otherwise) forks forks'
       (ap (λ (kind : KindTree). is_some (forked_by kind)) (kind_of-opened s) ∙ forked) from represents comes.each runs)
 
-  due_stops_case : (texts : List (List ℕ)) (plan beside : StreamTrees) (first : ℕ) (shape : Option (List Field)) (keys : List (List Value)) (received : Received) (a b : List Output) (t u : StepCount G)
+  due_stops_case : (texts : List (List ℕ)) (plan beside : StreamTrees) (first : ℕ) (shape : Option (List Field))
+      (keys : List (List Value)) (received : Received) (a b : List Output) (t u : StepCount G)
       (below : Below) → is_some shape ≡ true → AreReadFrom texts patterns →
-      BelowRepresents texts plan first (ForestRepresents texts plan) (ForestRepresents texts beside) shape keys received below →
-      ((branch : Branch) → ComesAt start moment (received branch) Tick) → DueStops patterns start moment a t b u plan below.forks →
-      Stops a t b u Tick (at_tick Tick (branch_effects (plan_effects plan) (plan_effects beside)) received (branches_by shape keys))
-  due_stops_case texts plan beside first None keys received a b t u below forked from represents comes stops = absurd (cc)
+      BelowRepresents texts plan first (ForestRepresents texts plan) (ForestRepresents texts beside) shape keys received
+      below →
+      ((branch : Branch) → ComesAt start moment (received branch) Tick) →
+      DueStops patterns start moment a t b u plan below.forks →
+      Stops a t b u Tick
+      (at_tick Tick (branch_effects (plan_effects plan) (plan_effects beside)) received (branches_by shape keys))
+  due_stops_case texts plan beside first None keys received a b t u below forked from represents comes stops =
+      absurd (cc)
   due_stops_case texts plan beside first (Some fields) keys received a b t u below forked from represents comes stops =
-      subst (λ (hs : List Effect). Stops a t b u Tick hs) (sym (forks_tick (plan_effects plan) (plan_effects beside) received keys))
-      (stops texts keys (λ key. received (key_fork key)) from represents.can_fork.in_range represents.forks (λ key. comes (key_fork key)))
+      subst (λ (hs : List Effect). Stops a t b u Tick hs)
+      (sym (forks_tick (plan_effects plan) (plan_effects beside) received keys))
+      (stops texts keys (λ key. received (key_fork key)) from represents.can_fork.in_range represents.forks
+      (λ key. comes (key_fork key)))
 
-  pub due_stops : (s : Stream) (x : Entry) (a b : List Output) (t u : StepCount G) (children otherwise : Forest) (forks : ForkTable Forest) →
-      is_some (forked_by (kind_tree (out-Stream s).kind)) ≡ true → x ≡ Tick → DueStops patterns start moment a t b u (children_of (opened s)) forks →
+  pub due_stops : (s : Stream) (x : Entry) (a b : List Output) (t u : StepCount G) (children otherwise : Forest)
+      (forks : ForkTable Forest) →
+      is_some (forked_by (kind_tree (out-Stream s).kind)) ≡ true → x ≡ Tick →
+      DueStops patterns start moment a t b u (children_of (opened s)) forks →
       (first : ℕ) → TickStops patterns start moment a t b u x (opened s) first (below_of children otherwise forks)
   due_stops s x a b t u children otherwise forks forked is stops first =
-      subst (λ (y : Entry). TickStops patterns start moment a t b u y (opened s) first (below_of children otherwise forks)) (sym is)
+      subst
+      (λ (y : Entry). TickStops patterns start moment a t b u y (opened s) first (below_of children otherwise forks))
+      (sym is)
       (λ texts keys received from represents comes.
-      due_stops_case texts (children_of (opened s)) (otherwise_of (opened s)) first (forked_by (kind_of (opened s))) keys received a b t u (below_of children otherwise forks)
+      due_stops_case texts (children_of (opened s)) (otherwise_of (opened s)) first (forked_by (kind_of (opened s)))
+      keys received a b t u (below_of children otherwise forks)
       (ap (λ (kind : KindTree). is_some (forked_by kind)) (kind_of-opened s) ∙ forked) from represents comes.each stops)
 
   -- an item is no tick
-  pub item_waits : (s : StreamTree) (x : Entry) (item : Item) (a : List Output) (t : StepCount G) (below : Below) → x ≡ In item → (first : ℕ) → TickRuns patterns start moment a t a t x s first below below
+  pub item_waits : (s : StreamTree) (x : Entry) (item : Item) (a : List Output) (t : StepCount G) (below : Below)
+      → x ≡ In item → (first : ℕ) → TickRuns patterns start moment a t a t x s first below below
   item_waits s x item a t below is first =
-      subst (λ (y : Entry). TickRuns patterns start moment a t a t y s first below below) (sym is) (λ texts keys received from represents comes. (represents, grew_none a t))
+      subst (λ (y : Entry). TickRuns patterns start moment a t a t y s first below below) (sym is)
+      (λ texts keys received from represents comes. (represents, grew_none a t))
 
   -- ---- an item comes to a fork
 
-  module _ (s : Stream) (streams : List Stream) (is : streams ≡ (out-Stream s).children.items) (first : ℕ) (key : List Value) (x : Entry) (children otherwise : Forest) (forks found : ForkTable Forest) (number : ℕ)
+  module _ (s : Stream) (streams : List Stream) (is : streams ≡ (out-Stream s).children.items) (first : ℕ)
+      (key : List Value) (x : Entry) (children otherwise : Forest) (forks found : ForkTable Forest) (number : ℕ)
       (finds : IsFound (list_trees streams) first start key forks found number) where
-    pub key_run : (a b : List Output) (t u : StepCount G) (forks' : ForkTable Forest) → ForkRuns patterns start moment a t b u x (children_of (opened s)) number found forks' →
-        BranchRuns patterns start moment a t b u x (opened s) first (key_fork key) (below_of children otherwise forks) (below_of children otherwise forks')
+    pub key_run : (a b : List Output) (t u : StepCount G) (forks' : ForkTable Forest) →
+        ForkRuns patterns start moment a t b u x (children_of (opened s)) number found forks' →
+        BranchRuns patterns start moment a t b u x (opened s) first (key_fork key) (below_of children otherwise forks)
+        (below_of children otherwise forks')
     key_run a b t u forks' runs texts keys received from fits represents unseen comes =
         let plan = children_of (opened s) in
-        let at = fork_found start moment s streams is first key x children otherwise forks found number finds texts keys received fits represents unseen comes in
-        let ran = runs texts (received (key_fork key)) from (holds_there start moment s streams is first key x children otherwise forks found number finds texts keys received at comes) in (
-          forks_put texts plan first (ForestRepresents texts plan) (ForestRepresents texts (otherwise_of (opened s))) (forked_by (kind_of (opened s))) keys (with_key key keys) received (extended (key_fork key) x received) key
-              (nodes_of children) (nodes_of otherwise) forks forks' fits represents (fork_goes_on texts plan x key keys received found forks' number at ran.0),
+        let at =
+        fork_found start moment s streams is first key x children otherwise forks found number finds texts keys received
+        fits represents unseen comes in
+        let ran =
+        runs texts (received (key_fork key)) from
+        (holds_there start moment s streams is first key x children otherwise forks found number finds texts keys
+        received at comes) in (
+          forks_put texts plan first (ForestRepresents texts plan) (ForestRepresents texts (otherwise_of (opened s)))
+              (forked_by (kind_of (opened s))) keys (with_key key keys) received (extended (key_fork key) x received)
+              key
+              (nodes_of children) (nodes_of otherwise) forks forks' fits represents
+              (fork_goes_on texts plan x key keys received found forks' number at ran.0),
           ran.1,
         )
 
-    pub key_stops : (a b : List Output) (t u : StepCount G) → ForkStops patterns start moment a t b u x (children_of (opened s)) number found →
+    pub key_stops : (a b : List Output) (t u : StepCount G) →
+        ForkStops patterns start moment a t b u x (children_of (opened s)) number found →
         BranchStops patterns start moment a t b u x (opened s) first (key_fork key) (below_of children otherwise forks)
     key_stops a b t u stops texts keys received from fits represents unseen comes =
-        let at = fork_found start moment s streams is first key x children otherwise forks found number finds texts keys received fits represents unseen comes in
-        stops texts (received (key_fork key)) from (holds_there start moment s streams is first key x children otherwise forks found number finds texts keys received at comes)
+        let at =
+        fork_found start moment s streams is first key x children otherwise forks found number finds texts keys received
+        fits represents unseen comes in
+        stops texts (received (key_fork key)) from
+        (holds_there start moment s streams is first key x children otherwise forks found number finds texts keys
+        received at comes)
 
   -- the fork was not found
-  pub key_missed : (s : StreamTree) (x : Entry) (first : ℕ) (branch : Branch) (a : List Output) (t : StepCount G) (below : Below) → BranchStops patterns start moment a t a t x s first branch below
-  key_missed s x first branch a t below texts keys received from fits represents unseen comes = part_none a t (entering (effects_below s) branch (received branch ▸ x))
+  pub key_missed : (s : StreamTree) (x : Entry) (first : ℕ) (branch : Branch) (a : List Output) (t : StepCount G)
+      (below : Below)
+      → BranchStops patterns start moment a t a t x s first branch below
+  key_missed s x first branch a t below texts keys received from fits represents unseen comes =
+      part_none a t (entering (effects_below s) branch (received branch ▸ x))
 
   -- ---- emissions
 
   -- no emission
-  pub none_run : (s : StreamTree) (first : ℕ) (a : List Output) (t : StepCount G) (below : Below) → EmissionsRun patterns start moment a t a t [] s first below below
+  pub none_run : (s : StreamTree) (first : ℕ) (a : List Output) (t : StepCount G) (below : Below)
+      → EmissionsRun patterns start moment a t a t [] s first below below
   none_run s first a t below texts keys received from fit represents unseen stand = (represents, grew_none a t)
 
   -- one emission alone
-  pub one_run : (s : StreamTree) (first : ℕ) (branch : Branch) (item : Item) (a b : List Output) (t u : StepCount G) (below below' : Below) →
-      BranchRuns patterns start moment a t b u (In item) s first branch below below' → EmissionsRun patterns start moment a t b u (record { branch = branch; item = item } ∷ []) s first below below'
+  pub one_run : (s : StreamTree) (first : ℕ) (branch : Branch) (item : Item) (a b : List Output) (t u : StepCount G)
+      (below below' : Below) →
+      BranchRuns patterns start moment a t b u (In item) s first branch below below' →
+      EmissionsRun patterns start moment a t b u (record { branch = branch; item = item } ∷ []) s first below below'
   one_run s first branch item a b t u below below' runs texts keys received from fit represents unseen stand =
-      let ran = runs texts keys received from fit.0 represents unseen (comes_here start moment received branch item stand) in
-      (ran.0, subst (λ (hs : List Effect). Performs a t b u hs) (sym (append-nil (entering (effects_below s) branch (received branch ▸ In item)))) ran.1)
+      let ran =
+      runs texts keys received from fit.0 represents unseen (comes_here start moment received branch item stand) in (
+        ran.0,
+        subst (λ (hs : List Effect). Performs a t b u hs)
+            (sym (append-nil (entering (effects_below s) branch (received branch ▸ In item)))) ran.1,
+      )
 
-  pub one_stop : (s : StreamTree) (first : ℕ) (branch : Branch) (item : Item) (a b : List Output) (t u : StepCount G) (below : Below) →
-      BranchStops patterns start moment a t b u (In item) s first branch below → EmissionsStop patterns start moment a t b u (record { branch = branch; item = item } ∷ []) s first below
+  pub one_stop : (s : StreamTree) (first : ℕ) (branch : Branch) (item : Item) (a b : List Output) (t u : StepCount G)
+      (below : Below) →
+      BranchStops patterns start moment a t b u (In item) s first branch below →
+      EmissionsStop patterns start moment a t b u (record { branch = branch; item = item } ∷ []) s first below
   one_stop s first branch item a b t u below stops texts keys received from fit represents unseen stand = (
-    part_more a b t u (entering (effects_below s) branch (received branch ▸ In item)) [] (stops texts keys received from fit.0 represents unseen (comes_here start moment received branch item stand)),
+    part_more a b t u (entering (effects_below s) branch (received branch ▸ In item)) []
+        (stops texts keys received from fit.0 represents unseen (comes_here start moment received branch item stand)),
     λ none. cc,
   )
 
   -- one more emission
-  emissions_more : (s : StreamTree) (first : ℕ) (a b c : List Output) (t u v : StepCount G) (below below' below'' : Below) (es : List Emission) (emission : Emission) →
-      EmissionsRun patterns start moment a t b u es s first below below' → BranchRuns patterns start moment b u c v (In emission.item) s first emission.branch below' below'' →
+  emissions_more : (s : StreamTree) (first : ℕ) (a b c : List Output) (t u v : StepCount G)
+      (below below' below'' : Below) (es : List Emission) (emission : Emission) →
+      EmissionsRun patterns start moment a t b u es s first below below' →
+      BranchRuns patterns start moment b u c v (In emission.item) s first emission.branch below' below'' →
       EmissionsRun patterns start moment a t c v (es ++ emission ∷ []) s first below below''
-  emissions_more s first a b c t u v below below' below'' es emission so_far more texts keys received from fit represents unseen stand =
+  emissions_more s first a b c t u v below below' below'' es emission so_far more texts keys received from fit
+      represents unseen stand =
       let plan = children_of s in
       let Means = ForestRepresents texts plan in
       let Beside = ForestRepresents texts (otherwise_of s) in
@@ -411,56 +686,83 @@ module _ {G : Type 0} (patterns : List Regex) (start moment : ℕ) where
       let one = so_far texts keys received from (fit_front shape es (emission ∷ []) fit) represents unseen stand in
       let so = λ (branch : Branch). after_emissions branch es (received branch) in
       let fits = (fit_back shape es (emission ∷ []) fit).0 in
-      let two = more texts (with_branches es keys) so from fits one.0 (unseen_after shape es keys received unseen) (comes_here start moment so emission.branch emission.item (stand_after start moment es received stand)) in
+      let two =
+      more texts (with_branches es keys) so from fits one.0 (unseen_after shape es keys received unseen)
+      (comes_here start moment so emission.branch emission.item (stand_after start moment es received stand)) in
       let reported = entering (effects_below s) emission.branch (so emission.branch ▸ In emission.item) in (
-        subst (λ (ks : List (List Value)). BelowRepresents texts plan first Means Beside shape ks (λ branch. after_emissions branch (es ++ emission ∷ []) (received branch)) below'') (sym (keys-snoc es emission keys))
-            (below_same texts plan first Means Beside shape (with_branch emission.branch (with_branches es keys)) (extended emission.branch (In emission.item) so) (λ branch. after_emissions branch (es ++ emission ∷ []) (received branch)) below''
+        subst
+            (λ (ks : List (List Value)). BelowRepresents texts plan first Means Beside shape ks
+            (λ branch. after_emissions branch (es ++ emission ∷ []) (received branch)) below'')
+            (sym (keys-snoc es emission keys))
+            (below_same texts plan first Means Beside shape (with_branch emission.branch (with_branches es keys))
+            (extended emission.branch (In emission.item) so)
+            (λ branch. after_emissions branch (es ++ emission ∷ []) (received branch)) below''
             (λ branch. sym (after_emissions-snoc branch es emission (received branch))) two.0),
-        subst (λ (hs : List Effect). Performs a t c v hs) (sym (at_emissions-snoc (entering (effects_below s)) received es emission))
+        subst (λ (hs : List Effect). Performs a t c v hs)
+            (sym (at_emissions-snoc (entering (effects_below s)) received es emission))
             (grew_then a b c t u v (at_emissions (entering (effects_below s)) received es) reported one.1 two.1),
       )
 
   -- one more of those that the code makes
-  pub one_more_emission : (s : StreamTree) (first : ℕ) (a b c : List Output) (t u v : StepCount G) (below below' below'' : Below) (made : List CodeEmission) (emission : CodeEmission) (branch : Branch) →
-      branch ≡ branch_numbered emission.branch → EmissionsRun patterns start moment a t b u (map emission_meant made) s first below below' →
+  pub one_more_emission : (s : StreamTree) (first : ℕ) (a b c : List Output) (t u v : StepCount G)
+      (below below' below'' : Below) (made : List CodeEmission) (emission : CodeEmission) (branch : Branch) →
+      branch ≡ branch_numbered emission.branch →
+      EmissionsRun patterns start moment a t b u (map emission_meant made) s first below below' →
       BranchRuns patterns start moment b u c v (In emission.item) s first branch below' below'' →
       EmissionsRun patterns start moment a t c v (map emission_meant (made ++ emission ∷ [])) s first below below''
   one_more_emission s first a b c t u v below below' below'' made emission branch is so_far more =
-      subst (λ (es : List Emission). EmissionsRun patterns start moment a t c v es s first below below'') (sym (map-append emission_meant made (emission ∷ [])))
-      (emissions_more s first a b c t u v below below' below'' (map emission_meant made) (emission_meant emission) so_far
-      (subst (λ (other : Branch). BranchRuns patterns start moment b u c v (In emission.item) s first other below' below'') is more))
+      subst (λ (es : List Emission). EmissionsRun patterns start moment a t c v es s first below below'')
+      (sym (map-append emission_meant made (emission ∷ [])))
+      (emissions_more s first a b c t u v below below' below'' (map emission_meant made) (emission_meant emission)
+      so_far
+      (subst
+      (λ (other : Branch). BranchRuns patterns start moment b u c v (In emission.item) s first other below' below'') is
+      more))
 
   -- the next emission stops
-  emissions_stop : (s : StreamTree) (first : ℕ) (a b c : List Output) (t u v : StepCount G) (below below' : Below) (es : List Emission) (emission : Emission) (rest : List Emission) →
-      EmissionsRun patterns start moment a t b u es s first below below' → BranchStops patterns start moment b u c v (In emission.item) s first emission.branch below' →
+  emissions_stop : (s : StreamTree) (first : ℕ) (a b c : List Output) (t u v : StepCount G) (below below' : Below)
+      (es : List Emission) (emission : Emission) (rest : List Emission) →
+      EmissionsRun patterns start moment a t b u es s first below below' →
+      BranchStops patterns start moment b u c v (In emission.item) s first emission.branch below' →
       EmissionsStop patterns start moment a t c v ((es ++ emission ∷ []) ++ rest) s first below
-  emissions_stop s first a b c t u v below below' es emission rest so_far stops texts keys received from fit represents unseen stand =
+  emissions_stop s first a b c t u v below below' es emission rest so_far stops texts keys received from fit represents
+      unseen stand =
       let shape = forked_by (kind_of s) in
       let fit' = fit_front shape (es ++ emission ∷ []) rest fit in
       let one = so_far texts keys received from (fit_front shape es (emission ∷ []) fit') represents unseen stand in
       let so = λ (branch : Branch). after_emissions branch es (received branch) in
       let fits = (fit_back shape es (emission ∷ []) fit').0 in
-      let two = stops texts (with_branches es keys) so from fits one.0 (unseen_after shape es keys received unseen) (comes_here start moment so emission.branch emission.item (stand_after start moment es received stand)) in
+      let two =
+      stops texts (with_branches es keys) so from fits one.0 (unseen_after shape es keys received unseen)
+      (comes_here start moment so emission.branch emission.item (stand_after start moment es received stand)) in
       let reported = entering (effects_below s) emission.branch (so emission.branch ▸ In emission.item) in
       let more = at_emissions-append (entering (effects_below s)) received (es ++ emission ∷ []) rest in (
         subst (λ (hs : List Effect). PerformsPart a t c v hs) (sym more.1)
             (part_more a c t v (at_emissions (entering (effects_below s)) received (es ++ emission ∷ [])) more.0
-            (subst (λ (hs : List Effect). PerformsPart a t c v hs) (sym (at_emissions-snoc (entering (effects_below s)) received es emission))
+            (subst (λ (hs : List Effect). PerformsPart a t c v hs)
+            (sym (at_emissions-snoc (entering (effects_below s)) received es emission))
             (part_then a b c t u v (at_emissions (entering (effects_below s)) received es) reported one.1 two))),
         nonempty es emission rest,
       )
     where
-      nonempty : (es : List Emission) (emission : Emission) (rest : List Emission) → (es ++ emission ∷ []) ++ rest ≡ [] → ⊥
+      nonempty : (es : List Emission) (emission : Emission) (rest : List Emission) → (es ++ emission ∷ []) ++ rest ≡ []
+          → ⊥
       nonempty [] emission rest e = cc
       nonempty (first ∷ es) emission rest e = cc
 
-  pub one_more_stops : (s : StreamTree) (first : ℕ) (a b c : List Output) (t u v : StepCount G) (below below' : Below) (made : List CodeEmission) (emission : CodeEmission) (rest all : List CodeEmission) (branch : Branch) →
-      branch ≡ branch_numbered emission.branch → all ≡ (made ++ emission ∷ []) ++ rest → EmissionsRun patterns start moment a t b u (map emission_meant made) s first below below' →
+  pub one_more_stops : (s : StreamTree) (first : ℕ) (a b c : List Output) (t u v : StepCount G) (below below' : Below)
+      (made : List CodeEmission) (emission : CodeEmission) (rest all : List CodeEmission) (branch : Branch) →
+      branch ≡ branch_numbered emission.branch → all ≡ (made ++ emission ∷ []) ++ rest →
+      EmissionsRun patterns start moment a t b u (map emission_meant made) s first below below' →
       BranchStops patterns start moment b u c v (In emission.item) s first branch below' →
       EmissionsStop patterns start moment a t c v (map emission_meant all) s first below
   one_more_stops s first a b c t u v below below' made emission rest all branch is whole so_far stops =
-      let meant : map emission_meant all ≡ (map emission_meant made ++ emission_meant emission ∷ []) ++ map emission_meant rest =
-      ap (map emission_meant) whole ∙ map-append emission_meant (made ++ emission ∷ []) rest ∙ ap (λ (l : List Emission). l ++ map emission_meant rest) (map-append emission_meant made (emission ∷ [])) in
+      let meant : map emission_meant all
+      ≡ (map emission_meant made ++ emission_meant emission ∷ []) ++ map emission_meant rest =
+      ap (map emission_meant) whole ∙ map-append emission_meant (made ++ emission ∷ []) rest
+      ∙ ap (λ (l : List Emission). l ++ map emission_meant rest) (map-append emission_meant made (emission ∷ [])) in
       subst (λ (es : List Emission). EmissionsStop patterns start moment a t c v es s first below) (sym meant)
-      (emissions_stop s first a b c t u v below below' (map emission_meant made) (emission_meant emission) (map emission_meant rest) so_far
-      (subst (λ (other : Branch). BranchStops patterns start moment b u c v (In emission.item) s first other below') is stops))
+      (emissions_stop s first a b c t u v below below' (map emission_meant made) (emission_meant emission)
+      (map emission_meant rest) so_far
+      (subst (λ (other : Branch). BranchStops patterns start moment b u c v (In emission.item) s first other below') is
+      stops))

@@ -40,14 +40,16 @@ positive n b h = let one : nat_le 1 n ≡ true = (both (nat_le 1 n) b h).0 in gr
 kind_range : (kind : KindTree) → is_in_range kind ≡ true → HasRange kind
 kind_range (By fields None) h = tt
 kind_range (By fields (Some secs)) h = positive secs _ h
-kind_range (Rollup n secs) h = let parts = both (is_count n) (is_secs secs) h in (positive n _ parts.0, positive secs _ parts.1)
+kind_range (Rollup n secs) h =
+    let parts = both (is_count n) (is_secs secs) h in (positive n _ parts.0, positive secs _ parts.1)
 kind_range (Batch n secs) h = let parts = both (is_count n) (is_secs secs) h in positive secs _ parts.1
 kind_range (Coalesce secs) h = positive secs _ h
 kind_range kind h = tt
 
 mutual
   stream_ranges : (s : StreamTree) → IsStreamInRange s → HasStreamRanges s
-  stream_ranges (stream kind children otherwise) ranges = (kind_range kind ranges.0, plan_ranges children ranges.1, plan_ranges otherwise ranges.2)
+  stream_ranges (stream kind children otherwise) ranges =
+      (kind_range kind ranges.0, plan_ranges children ranges.1, plan_ranges otherwise ranges.2)
 
   pub plan_ranges : (plan : StreamTrees) → AreInRange plan → HasRanges plan
   plan_ranges none ranges = tt
@@ -64,16 +66,19 @@ back-all P (x ∷ xs) ys all = back-all P xs ys all.1
 mutual
   unfolding preorder_at preorder_in
 
-  stream_in_range : (s : StreamTree) (path : List ℕ) (flow : _) → AllByRecursion IsInRange (preorder_at path flow s) → IsStreamInRange s
+  stream_in_range : (s : StreamTree) (path : List ℕ) (flow : _) → AllByRecursion IsInRange (preorder_at path flow s)
+      → IsStreamInRange s
   stream_in_range (stream kind children otherwise) path flow ranges =
       let first = preorder_in path 0 (passes_on kind flow) children in
       let second = preorder_in path (count_of children) (passes_on kind flow) otherwise in (
         ranges.0,
         plan_in_range children path 0 (passes_on kind flow) (front-all IsInRange first second ranges.1),
-        plan_in_range otherwise path (count_of children) (passes_on kind flow) (back-all IsInRange first second ranges.1),
+        plan_in_range otherwise path (count_of children) (passes_on kind flow)
+            (back-all IsInRange first second ranges.1),
       )
 
-  plan_in_range : (streams : StreamTrees) (path : List ℕ) (number : ℕ) (flow : _) → AllByRecursion IsInRange (preorder_in path number flow streams) → AreInRange streams
+  plan_in_range : (streams : StreamTrees) (path : List ℕ) (number : ℕ) (flow : _)
+      → AllByRecursion IsInRange (preorder_in path number flow streams) → AreInRange streams
   plan_in_range none path number flow ranges = tt
   plan_in_range (also s streams) path number flow ranges =
       let first = preorder_at (path ++ number ∷ []) flow s in
@@ -87,7 +92,8 @@ sound_in_range plan sound = plan_in_range plan [] 0 _ sound.in_range
 
 -- ---- branches
 
-pub branches_are : (kind : KindTree) (h : History) → IsEndless kind → branches kind h ≡ branches_by (forked_by kind) (keys_by (forked_by kind) h)
+pub branches_are : (kind : KindTree) (h : History) → IsEndless kind
+    → branches kind h ≡ branches_by (forked_by kind) (keys_by (forked_by kind) h)
 branches_are (By fields idle) h endless = branches_endless fields idle h endless
 branches_are kind h endless = refl
 
@@ -117,7 +123,8 @@ routed_fits rule Tick = tt
 routed_fits rule (In (One event)) = (test_fits (holds rule event), tt)
 routed_fits rule (In (Many es)) = tt
 
-forked_fits : (fields : List Field) (idle : Option ℕ) (h : History) (x : Entry) → FitAll (Some fields) (forked idle fields (h ▸ x))
+forked_fits : (fields : List Field) (idle : Option ℕ) (h : History) (x : Entry)
+    → FitAll (Some fields) (forked idle fields (h ▸ x))
 forked_fits fields idle h Tick = tt
 forked_fits fields idle h (In (One event)) = (tt, tt)
 forked_fits fields idle h (In (Many es)) = tt
@@ -148,10 +155,13 @@ branch_keys (Fork fork) keys fits = absurd fits
 
 fit_keys : (es : List Emission) (keys : List (List Value)) → FitAll None es → with_branches es keys ≡ keys
 fit_keys [] keys fit = refl
-fit_keys (emission ∷ es) keys fit = ap (λ (ks : List (List Value)). with_branches es ks) (branch_keys emission.branch keys fit.0) ∙ fit_keys es keys fit.1
+fit_keys (emission ∷ es) keys fit =
+    ap (λ (ks : List (List Value)). with_branches es ks) (branch_keys emission.branch keys fit.0)
+    ∙ fit_keys es keys fit.1
 
 -- the keys after one more entry
-pub keys_go_on : (kind : KindTree) (h : History) (x : Entry) → keys_by (forked_by kind) (h ▸ x) ≡ with_branches (emissions kind (h ▸ x)) (keys_by (forked_by kind) h)
+pub keys_go_on : (kind : KindTree) (h : History) (x : Entry)
+    → keys_by (forked_by kind) (h ▸ x) ≡ with_branches (emissions kind (h ▸ x)) (keys_by (forked_by kind) h)
 keys_go_on (By fields idle) h Tick = refl
 keys_go_on (By fields idle) h (In (One event)) = refl
 keys_go_on (By fields idle) h (In (Many es)) = refl
@@ -164,28 +174,36 @@ none_given Children fits = refl
 none_given Otherwise fits = refl
 none_given (Fork fork) fits = absurd fits
 
-plain_emissions : (effects_in : BranchEffects) (received : Received) (es : List Emission) → FitAll None es → at_emissions (entering effects_in) received es ≡ at_emissions effects_in received es
+plain_emissions : (effects_in : BranchEffects) (received : Received) (es : List Emission) → FitAll None es
+    → at_emissions (entering effects_in) received es ≡ at_emissions effects_in received es
 plain_emissions effects_in received [] fit = refl
 plain_emissions effects_in received (emission ∷ es) fit =
     let said = effects_in emission.branch (received emission.branch ▸ In emission.item) in
     let next = received_more emission received in
-    ap (λ (given : List Effect). (given ++ said) ++ at_emissions (entering effects_in) next es) (none_given emission.branch fit.0)
+    ap (λ (given : List Effect). (given ++ said) ++ at_emissions (entering effects_in) next es)
+    (none_given emission.branch fit.0)
     ∙ ap (λ (l : List Effect). said ++ l) (plain_emissions effects_in next es fit.1)
 
 -- what a stream performs itself, and then what is performed below it, is all that it brings about
-pub all_effects : (kind : KindTree) (h : History) (x : Entry) (effects_in : BranchEffects) (before after : Received) (bs : List Branch) →
-    acted (forked_by kind) (own_effects kind (h ▸ x)) ++ at_tick x effects_in before bs ++ at_emissions (entering effects_in) after (emissions kind (h ▸ x))
-    ≡ own_effects kind (h ▸ x) ++ at_tick x effects_in before bs ++ at_emissions effects_in after (emissions kind (h ▸ x))
+pub all_effects : (kind : KindTree) (h : History) (x : Entry) (effects_in : BranchEffects) (before after : Received)
+    (bs : List Branch) →
+    acted (forked_by kind) (own_effects kind (h ▸ x)) ++ at_tick x effects_in before bs
+    ++ at_emissions (entering effects_in) after (emissions kind (h ▸ x))
+    ≡ own_effects kind (h ▸ x) ++ at_tick x effects_in before bs
+    ++ at_emissions effects_in after (emissions kind (h ▸ x))
 all_effects (By fields idle) h Tick effects_in before after bs = refl
 all_effects (By fields idle) h (In (One event)) effects_in before after bs = refl
 all_effects (By fields idle) h (In (Many es)) effects_in before after bs = refl
 all_effects kind h x effects_in before after bs =
-    ap (λ (l : List Effect). own_effects kind (h ▸ x) ++ at_tick x effects_in before bs ++ l) (plain_emissions effects_in after (emissions kind (h ▸ x)) (emissions_fit kind h x))
+    ap (λ (l : List Effect). own_effects kind (h ▸ x) ++ at_tick x effects_in before bs ++ l)
+    (plain_emissions effects_in after (emissions kind (h ▸ x)) (emissions_fit kind h x))
 
 -- at a quiet tick nothing is passed on
-pub no_emission : (kind : KindTree) (h : History) (rest more : List Effect) → own_effects kind (h ▸ Tick) ++ rest ++ more ≡ [] → emissions kind (h ▸ Tick) ≡ []
+pub no_emission : (kind : KindTree) (h : History) (rest more : List Effect)
+    → own_effects kind (h ▸ Tick) ++ rest ++ more ≡ [] → emissions kind (h ▸ Tick) ≡ []
 no_emission kind h rest more quiet =
-    is_none (emissions kind (h ▸ Tick)) (nil_left (own_effects kind (h ▸ Tick)) rest (nil_left (own_effects kind (h ▸ Tick) ++ rest) more quiet))
+    is_none (emissions kind (h ▸ Tick))
+    (nil_left (own_effects kind (h ▸ Tick)) rest (nil_left (own_effects kind (h ▸ Tick) ++ rest) more quiet))
   where
     is_none : (es : List Emission) → emits_if_any es ≡ [] → es ≡ []
     is_none [] e = refl

@@ -36,8 +36,10 @@ pub extends_none : {A : Type 0} (a : List A) → IsPrefix a a
 extends_none a = ([], sym (append-nil a))
 
 -- one more item of what is left
-pub rest_more : {A : Type 0} (done items rest all : List A) (x : A) → done ++ items ≡ all → items ≡ x ∷ rest → all ≡ (done ++ x ∷ []) ++ rest
-rest_more {A} done items rest all x left next = sym left ∙ ap (λ (l : List A). done ++ l) next ∙ sym (append_assoc done (x ∷ []) rest)
+pub rest_more : {A : Type 0} (done items rest all : List A) (x : A) → done ++ items ≡ all → items ≡ x ∷ rest
+    → all ≡ (done ++ x ∷ []) ++ rest
+rest_more {A} done items rest all x left next =
+    sym left ∙ ap (λ (l : List A). done ++ l) next ∙ sym (append_assoc done (x ∷ []) rest)
 
 -- ---- counts
 
@@ -55,11 +57,13 @@ given-append (Due ∷ xs) ys = given-append xs ys
 given-append (Given ∷ xs) ys = omega (arith, given-append xs ys)
 given-append (Put output ∷ xs) ys = given-append xs ys
 
-emits-nothing : (es : List Emission) → (outputs_among (emits_if_any es) ≡ []) × (due_among (emits_if_any es) ≡ 0) × (given_among (emits_if_any es) ≡ 0)
+emits-nothing : (es : List Emission)
+    → (outputs_among (emits_if_any es) ≡ []) × (due_among (emits_if_any es) ≡ 0) × (given_among (emits_if_any es) ≡ 0)
 emits-nothing [] = (refl, refl, refl)
 emits-nothing (emission ∷ more) = (refl, refl, refl)
 
-own_said : (kind : KindTree) (h : History) (x : Entry) → outputs_among (own_effects kind (h ▸ x)) ≡ own_outputs kind (h ▸ x)
+own_said : (kind : KindTree) (h : History) (x : Entry)
+    → outputs_among (own_effects kind (h ▸ x)) ≡ own_outputs kind (h ▸ x)
 own_said kind h Tick = (emits-nothing (emissions kind (h ▸ Tick))).0
 own_said kind h (In item) = refl
 
@@ -67,7 +71,8 @@ abbrev CountsNothing : List Effect → Type 0
 CountsNothing effects = (due_among effects ≡ 0) × (given_among effects ≡ 0)
 
 -- by itself a stream without forks enters none
-item_counts : (kind : KindTree) (h : History) (x : Entry) → forked_by kind ≡ None → CountsNothing (own_effects kind (h ▸ x))
+item_counts : (kind : KindTree) (h : History) (x : Entry) → forked_by kind ≡ None
+    → CountsNothing (own_effects kind (h ▸ x))
 item_counts kind h Tick plain = let none = emits-nothing (emissions kind (h ▸ Tick)) in (none.1, none.2)
 item_counts Index h (In (One event)) plain = (refl, refl)
 item_counts Index h (In (Many es)) plain = (refl, refl)
@@ -82,11 +87,16 @@ acted (Some fields) effects = []
 
 module _ {G : Type 0} where
   pub grew_none : (out : List Output) (steps : StepCount G) → Performs out steps out steps []
-  grew_none out steps = record { outputs = sym (append-nil out); forks = omega arith; entries = omega arith; began = refl }
+  grew_none out steps =
+      record { outputs = sym (append-nil out); forks = omega arith; entries = omega arith; began = refl }
 
-  pub grew_then : (a b c : List Output) (s t u : StepCount G) (xs ys : List Effect) → Performs a s b t xs → Performs b t c u ys → Performs a s c u (xs ++ ys)
+  pub grew_then : (a b c : List Output) (s t u : StepCount G) (xs ys : List Effect) → Performs a s b t xs
+      → Performs b t c u ys → Performs a s c u (xs ++ ys)
   grew_then a b c s t u xs ys p q = record {
-    outputs = q.outputs ∙ ap (λ (l : List Output). l ++ outputs_among ys) p.outputs ∙ append_assoc a (outputs_among xs) (outputs_among ys) ∙ ap (λ (l : List Output). a ++ l) (sym (outputs_among-append xs ys));
+    outputs =
+        q.outputs ∙ ap (λ (l : List Output). l ++ outputs_among ys) p.outputs
+        ∙ append_assoc a (outputs_among xs) (outputs_among ys)
+        ∙ ap (λ (l : List Output). a ++ l) (sym (outputs_among-append xs ys));
     forks = omega (arith, p.forks, q.forks, due-append xs ys, given-append xs ys);
     entries = omega (arith, p.entries, q.entries, due-append xs ys);
     began = q.began ∙ p.began;
@@ -105,11 +115,15 @@ module _ {G : Type 0} where
     began = refl;
   }
 
-  pub part_more : (a b : List Output) (s t : StepCount G) (xs ys : List Effect) → PerformsPart a s b t xs → PerformsPart a s b t (xs ++ ys)
+  pub part_more : (a b : List Output) (s t : StepCount G) (xs ys : List Effect) → PerformsPart a s b t xs
+      → PerformsPart a s b t (xs ++ ys)
   part_more a b s t xs ys p = record {
     begins = p.begins;
-    within = extends_then b (a ++ outputs_among xs) (a ++ outputs_among (xs ++ ys)) p.within
-        (outputs_among ys, ap (λ (l : List Output). a ++ l) (outputs_among-append xs ys) ∙ sym (append_assoc a (outputs_among xs) (outputs_among ys)));
+    within = extends_then b (a ++ outputs_among xs) (a ++ outputs_among (xs ++ ys)) p.within (
+      outputs_among ys,
+      ap (λ (l : List Output). a ++ l) (outputs_among-append xs ys)
+          ∙ sym (append_assoc a (outputs_among xs) (outputs_among ys)),
+    );
     forks = omega (arith, p.forks, due-append xs ys, given-append xs ys);
     entries = omega (arith, p.entries, due-append xs ys);
     no_fewer_forks = p.no_fewer_forks;
@@ -117,11 +131,14 @@ module _ {G : Type 0} where
     began = p.began;
   }
 
-  pub part_then : (a b c : List Output) (s t u : StepCount G) (xs ys : List Effect) → Performs a s b t xs → PerformsPart b t c u ys → PerformsPart a s c u (xs ++ ys)
+  pub part_then : (a b c : List Output) (s t u : StepCount G) (xs ys : List Effect) → Performs a s b t xs
+      → PerformsPart b t c u ys → PerformsPart a s c u (xs ++ ys)
   part_then a b c s t u xs ys p q = record {
     begins = extends_then a b c (outputs_among xs, p.outputs) q.begins;
     within = let all : a ++ outputs_among (xs ++ ys) ≡ b ++ outputs_among ys =
-        ap (λ (l : List Output). a ++ l) (outputs_among-append xs ys) ∙ sym (append_assoc a (outputs_among xs) (outputs_among ys)) ∙ ap (λ (l : List Output). l ++ outputs_among ys) (sym p.outputs) in
+        ap (λ (l : List Output). a ++ l) (outputs_among-append xs ys)
+        ∙ sym (append_assoc a (outputs_among xs) (outputs_among ys))
+        ∙ ap (λ (l : List Output). l ++ outputs_among ys) (sym p.outputs) in
         (q.within.0, all ∙ q.within.1);
     forks = omega (arith, p.forks, q.forks, due-append xs ys, given-append xs ys);
     entries = omega (arith, p.entries, q.entries, due-append xs ys);
@@ -130,15 +147,21 @@ module _ {G : Type 0} where
     began = q.began ∙ p.began;
   }
 
-  pub stops_more : (a b : List Output) (s t : StepCount G) (x : Entry) (xs ys : List Effect) → Stops a s b t x xs → Stops a s b t x (xs ++ ys)
-  stops_more a b s t x xs ys p = record { part = part_more a b s t xs ys p.part; busy = λ tick none. p.busy tick (nil_left xs ys none) }
+  pub stops_more : (a b : List Output) (s t : StepCount G) (x : Entry) (xs ys : List Effect) → Stops a s b t x xs
+      → Stops a s b t x (xs ++ ys)
+  stops_more a b s t x xs ys p =
+      record { part = part_more a b s t xs ys p.part; busy = λ tick none. p.busy tick (nil_left xs ys none) }
 
-  pub stops_then : (a b c : List Output) (s t u : StepCount G) (x : Entry) (xs ys : List Effect) → Performs a s b t xs → Stops b t c u x ys → Stops a s c u x (xs ++ ys)
-  stops_then a b c s t u x xs ys p q = record { part = part_then a b c s t u xs ys p q.part; busy = λ tick none. q.busy tick (nil_right xs ys none) }
+  pub stops_then : (a b c : List Output) (s t u : StepCount G) (x : Entry) (xs ys : List Effect) → Performs a s b t xs
+      → Stops b t c u x ys → Stops a s c u x (xs ++ ys)
+  stops_then a b c s t u x xs ys p q =
+      record { part = part_then a b c s t u xs ys p q.part; busy = λ tick none. q.busy tick (nil_right xs ys none) }
 
   -- ---- what a stream does itself
 
-  pub own_grew : (kind : KindTree) (h : History) (x : Entry) (a b : List Output) (s : StepCount G) (shape : Option (List Field)) → forked_by kind ≡ shape → b ≡ a ++ own_outputs kind (h ▸ x) →
+  pub own_grew : (kind : KindTree) (h : History) (x : Entry) (a b : List Output) (s : StepCount G)
+      (shape : Option (List Field)) →
+      forked_by kind ≡ shape → b ≡ a ++ own_outputs kind (h ▸ x) →
       Performs a s b s (acted shape (own_effects kind (h ▸ x)))
   own_grew kind h x a b s None is said =
       let counts = item_counts kind h x is in record {
@@ -148,9 +171,11 @@ module _ {G : Type 0} where
         began = refl;
       }
   own_grew kind h x a b s (Some fields) is said =
-      subst (λ (out : List Output). Performs a s out s []) (sym (said ∙ ap (λ (l : List Output). a ++ l) (forks_say_nothing kind h x is) ∙ append-nil a)) (grew_none a s)
+      subst (λ (out : List Output). Performs a s out s [])
+      (sym (said ∙ ap (λ (l : List Output). a ++ l) (forks_say_nothing kind h x is) ∙ append-nil a)) (grew_none a s)
     where
-      forks_say_nothing : (kind : KindTree) (h : History) (x : Entry) → forked_by kind ≡ Some fields → own_outputs kind (h ▸ x) ≡ []
+      forks_say_nothing : (kind : KindTree) (h : History) (x : Entry) → forked_by kind ≡ Some fields
+          → own_outputs kind (h ▸ x) ≡ []
       forks_say_nothing kind h Tick is = refl
       forks_say_nothing Index h (In item) is = cc
       forks_say_nothing (Notice name) h (In item) is = cc
@@ -159,7 +184,8 @@ module _ {G : Type 0} where
       forks_say_nothing kind h (In item) is = refl
 
   -- a part of what it does
-  pub own_part : (kind : KindTree) (h : History) (x : Entry) (a b : List Output) (s : StepCount G) → IsPrefix a b → IsPrefix b (a ++ own_outputs kind (h ▸ x)) →
+  pub own_part : (kind : KindTree) (h : History) (x : Entry) (a b : List Output) (s : StepCount G) → IsPrefix a b →
+      IsPrefix b (a ++ own_outputs kind (h ▸ x)) →
       PerformsPart a s b s (own_effects kind (h ▸ x))
   own_part kind h x a b s begins within = record {
     begins = begins;

@@ -49,24 +49,33 @@ still_alone h Tick alone = alone
 still_alone h (In item) alone = alone
 
 -- a fork that is not there has received ticks alone, also after a tick
-unseen_ticked : (kind : KindTree) (h : History) (x : Entry) → IsEndless kind → UnseenHaveTicks (forked_by kind) (keys_by (forked_by kind) h) (λ branch. ticked x (child_history kind branch h))
-unseen_ticked (By fields idle) h x endless = λ key absent. still_alone (child_history (By fields idle) (key_fork key) h) x (unseen_endless fields idle key h endless absent)
+unseen_ticked : (kind : KindTree) (h : History) (x : Entry) → IsEndless kind
+    → UnseenHaveTicks (forked_by kind) (keys_by (forked_by kind) h) (λ branch. ticked x (child_history kind branch h))
+unseen_ticked (By fields idle) h x endless =
+    λ key absent.
+    still_alone (child_history (By fields idle) (key_fork key) h) x (unseen_endless fields idle key h endless absent)
 unseen_ticked kind h x endless = tt
 
 -- the state of a `by` has a number alone
-by_keeps_nothing : (texts : List (List ℕ)) (fields : List Field) (idle : Option ℕ) (state : State) (h : History) → StateRepresents texts (By fields idle) state h → is_kept state ≡ false
-by_keeps_nothing texts fields idle (variant.Kept held) h represents = absurd (true≢false (sym (kept_keeps held) ∙ ap keeps represents.keeps.same_kind))
+by_keeps_nothing : (texts : List (List ℕ)) (fields : List Field) (idle : Option ℕ) (state : State) (h : History)
+    → StateRepresents texts (By fields idle) state h → is_kept state ≡ false
+by_keeps_nothing texts fields idle (variant.Kept held) h represents =
+    absurd (true≢false (sym (kept_keeps held) ∙ ap keeps represents.keeps.same_kind))
 by_keeps_nothing texts fields idle state h represents = refl
 
 -- so the number stays
-below_first : (kind : KindTree) (texts : List (List ℕ)) (plan : StreamTrees) (Means Beside : Meaning) (keys : List (List Value)) (received : Branch → History) (below : Below) (state state' : State) (h : History) →
+below_first : (kind : KindTree) (texts : List (List ℕ)) (plan : StreamTrees) (Means Beside : Meaning)
+    (keys : List (List Value)) (received : Branch → History) (below : Below) (state state' : State) (h : History) →
     StateRepresents texts kind state h → (is_kept state ≡ false → state' ≡ state) →
-    BelowRepresents texts plan (first_of state) Means Beside (forked_by kind) keys received below → BelowRepresents texts plan (first_of state') Means Beside (forked_by kind) keys received below
+    BelowRepresents texts plan (first_of state) Means Beside (forked_by kind) keys received below →
+    BelowRepresents texts plan (first_of state') Means Beside (forked_by kind) keys received below
 below_first (By fields idle) texts plan Means Beside keys received below state state' h represents same here =
-    subst (λ (s : State). BelowRepresents texts plan (first_of s) Means Beside (Some fields) keys received below) (sym (same (by_keeps_nothing texts fields idle state h represents))) here
+    subst (λ (s : State). BelowRepresents texts plan (first_of s) Means Beside (Some fields) keys received below)
+    (sym (same (by_keeps_nothing texts fields idle state h represents))) here
 below_first kind texts plan Means Beside keys received below state state' h represents same here = here
 
-come : (start moment : ℕ) (kind : KindTree) (x : Entry) (h : History) → ComesAt start moment h x → AllCome start moment (λ branch. child_history kind branch h) x
+come : (start moment : ℕ) (kind : KindTree) (x : Entry) (h : History) → ComesAt start moment h x
+    → AllCome start moment (λ branch. child_history kind branch h) x
 come start moment kind x h comes = record {
   each = λ branch. record {
     begins = (branch_moments kind branch h).begins ∙ comes.begins;
@@ -75,46 +84,71 @@ come start moment kind x h comes = record {
   };
 }
 
-stand : (start moment : ℕ) (kind : KindTree) (x : Entry) (h : History) → ComesAt start moment h x → AllAreAt start moment (λ branch. ticked x (child_history kind branch h))
+stand : (start moment : ℕ) (kind : KindTree) (x : Entry) (h : History) → ComesAt start moment h x
+    → AllAreAt start moment (λ branch. ticked x (child_history kind branch h))
 stand start moment kind x h comes = record {
-  begins = λ branch. ticked_begun (child_history kind branch h) x ∙ (branch_moments kind branch h).begins ∙ comes.begins;
-  represents = λ branch. ticked_moment (child_history kind branch h) x ∙ same_moment (child_history kind branch h) h x (branch_moments kind branch h).ends ∙ comes.comes;
+  begins =
+      λ branch. ticked_begun (child_history kind branch h) x ∙ (branch_moments kind branch h).begins ∙ comes.begins;
+  represents =
+      λ branch. ticked_moment (child_history kind branch h) x
+      ∙ same_moment (child_history kind branch h) h x (branch_moments kind branch h).ends ∙ comes.comes;
   small = comes.small;
 }
 
 -- what a stream does, as its contract says it
 abbrev pub StateActs : List Regex → ℕ → KindTree → Entry → State → State → Passed → List Output → List Output → Type 0
-StateActs patterns moment kind x state state' passed a b = (texts : List (List ℕ)) (h : History) → AreReadFrom texts patterns → StateRepresents texts kind state h → moment_of (h ▸ x) ≡ moment → moment ≤ 2 ^ 40 →
+StateActs patterns moment kind x state state' passed a b =
+    (texts : List (List ℕ)) (h : History) → AreReadFrom texts patterns → StateRepresents texts kind state h →
+    moment_of (h ▸ x) ≡ moment → moment ≤ 2 ^ 40 →
     Acts texts kind state state' h x a b passed
 
-module _ {G : Type 0} (patterns : List Regex) (start moment : ℕ) (kind : KindTree) (children otherwise : StreamTrees) (x : Entry) where
+module _ {G : Type 0} (patterns : List Regex) (start moment : ℕ) (kind : KindTree) (children otherwise : StreamTrees)
+    (x : Entry) where
   -- the stream has acted, and a tick has gone on
-  pub record HalfRun (texts : List (List ℕ)) (h : History) (state state' : State) (passed : Passed) (below' : Below) (a c : List Output) (t u : StepCount G) : Type 0 where
+  pub record HalfRun (texts : List (List ℕ)) (h : History) (state state' : State) (passed : Passed) (below' : Below)
+      (a c : List Output) (t u : StepCount G) : Type 0 where
     pub represents : StateRepresents texts kind state' (h ▸ x)
     pub passes : emissions_meant passed x ≡ emissions kind (h ▸ x)
-    pub below : BelowRepresents texts children (first_of state') (ForestRepresents texts children) (ForestRepresents texts otherwise) (forked_by kind) (keys_by (forked_by kind) h) (λ branch. ticked x (child_history kind branch h)) below'
-    pub grew : Performs a t c u (acted (forked_by kind) (own_effects kind (h ▸ x)) ++ at_tick x (branch_effects (plan_effects children) (plan_effects otherwise)) (λ branch. child_history kind branch h) (branches kind h))
+    pub below : BelowRepresents texts children (first_of state') (ForestRepresents texts children)
+        (ForestRepresents texts otherwise) (forked_by kind) (keys_by (forked_by kind) h)
+        (λ branch. ticked x (child_history kind branch h)) below'
+    pub grew : Performs a t c u
+        (acted (forked_by kind) (own_effects kind (h ▸ x))
+        ++ at_tick x (branch_effects (plan_effects children) (plan_effects otherwise))
+        (λ branch. child_history kind branch h) (branches kind h))
 
-  half_run : (state state' : State) (passed : Passed) (a b c : List Output) (t u : StepCount G) (below below' : Below) → StateActs patterns moment kind x state state' passed a b → (is_kept state ≡ false → state' ≡ state) →
+  half_run : (state state' : State) (passed : Passed) (a b c : List Output) (t u : StepCount G) (below below' : Below) →
+      StateActs patterns moment kind x state state' passed a b → (is_kept state ≡ false → state' ≡ state) →
       TickRuns patterns start moment b t c u x (stream kind children otherwise) (first_of state') below below' →
-      (texts : List (List ℕ)) (h : History) → AreReadFrom texts patterns → PartsRepresent texts (stream kind children otherwise) state below h → ComesAt start moment h x → HalfRun texts h state state' passed below' a c t u
+      (texts : List (List ℕ)) (h : History) → AreReadFrom texts patterns →
+      PartsRepresent texts (stream kind children otherwise) state below h → ComesAt start moment h x →
+      HalfRun texts h state state' passed below' a c t u
   half_run state state' passed a b c t u below below' acts same ticks texts h from represents comes =
       let effects_in = branch_effects (plan_effects children) (plan_effects otherwise) in
       let received = λ (branch : Branch). child_history kind branch h in
       let acted_so = acts texts h from represents.0 comes.comes comes.small in
-      let here = below_first kind texts children (ForestRepresents texts children) (ForestRepresents texts otherwise) (keys_by (forked_by kind) h) received below state state' h represents.0 same represents.1 in
-      let tick = ticks texts (keys_by (forked_by kind) h) received from here (come start moment kind x h comes) in record {
+      let here =
+      below_first kind texts children (ForestRepresents texts children) (ForestRepresents texts otherwise)
+      (keys_by (forked_by kind) h) received below state state' h represents.0 same represents.1 in
+      let tick =
+      ticks texts (keys_by (forked_by kind) h) received from here (come start moment kind x h comes) in record {
         represents = acted_so.represents;
         passes = acted_so.passes;
         below = tick.0;
-        grew = grew_then a b c t t u (acted (forked_by kind) (own_effects kind (h ▸ x))) (at_tick x effects_in received (branches kind h))
+        grew =
+            grew_then a b c t t u (acted (forked_by kind) (own_effects kind (h ▸ x)))
+            (at_tick x effects_in received (branches kind h))
             (own_grew kind h x a b t (forked_by kind) refl acted_so.said)
-            (subst (λ (bs : List Branch). Performs b t c u (at_tick x effects_in received bs)) (sym (branches_are kind h (endless_of texts kind state h represents.0))) tick.1);
+            (subst (λ (bs : List Branch). Performs b t c u (at_tick x effects_in received bs))
+            (sym (branches_are kind h (endless_of texts kind state h represents.0))) tick.1);
       }
 
-  parts_run : (state state' : State) (passed : Passed) (a b c d : List Output) (t u v : StepCount G) (below below' below'' : Below) → StateActs patterns moment kind x state state' passed a b → (is_kept state ≡ false → state' ≡ state) →
+  parts_run : (state state' : State) (passed : Passed) (a b c d : List Output) (t u v : StepCount G)
+      (below below' below'' : Below) →
+      StateActs patterns moment kind x state state' passed a b → (is_kept state ≡ false → state' ≡ state) →
       TickRuns patterns start moment b t c u x (stream kind children otherwise) (first_of state') below below' →
-      EmissionsRun patterns start moment c u d v (emissions_meant passed x) (stream kind children otherwise) (first_of state') below' below'' →
+      EmissionsRun patterns start moment c u d v (emissions_meant passed x) (stream kind children otherwise)
+      (first_of state') below' below'' →
       StreamRuns patterns start moment a t d v x (stream kind children otherwise) state below state' below''
   parts_run state state' passed a b c d t u v below below' below'' acts same ticks runs texts h from represents comes =
       let effects_in = branch_effects (plan_effects children) (plan_effects otherwise) in
@@ -122,36 +156,56 @@ module _ {G : Type 0} (patterns : List Regex) (start moment : ℕ) (kind : KindT
       let after = λ (branch : Branch). ticked x (child_history kind branch h) in
       let half = half_run state state' passed a b c t u below below' acts same ticks texts h from represents comes in
       let es = emissions kind (h ▸ x) in
-      let passes : EmissionsRun patterns start moment c u d v es (stream kind children otherwise) (first_of state') below' below'' =
-      subst (λ (es : List Emission). EmissionsRun patterns start moment c u d v es (stream kind children otherwise) (first_of state') below' below'') half.passes runs in
-      let last = passes texts (keys_by (forked_by kind) h) after from (emissions_fit kind h x) half.below (unseen_ticked kind h x (endless_of texts kind state h represents.0)) (stand start moment kind x h comes) in (
+      let passes : EmissionsRun patterns start moment c u d v es (stream kind children otherwise) (first_of state')
+      below' below'' =
+      subst
+      (λ (es : List Emission).
+      EmissionsRun patterns start moment c u d v es (stream kind children otherwise) (first_of state') below' below'')
+      half.passes runs in
+      let last =
+      passes texts (keys_by (forked_by kind) h) after from (emissions_fit kind h x) half.below
+      (unseen_ticked kind h x (endless_of texts kind state h represents.0)) (stand start moment kind x h comes) in (
         (
           half.represents,
-          subst (λ (keys : List (List Value)). BelowRepresents texts children (first_of state') (ForestRepresents texts children) (ForestRepresents texts otherwise) (forked_by kind) keys (λ branch. child_history kind branch (h ▸ x)) below'')
+          subst (λ (keys : List (List Value)). BelowRepresents texts children (first_of state')
+              (ForestRepresents texts children) (ForestRepresents texts otherwise) (forked_by kind) keys
+              (λ branch. child_history kind branch (h ▸ x)) below'')
               (sym (keys_go_on kind h x)) last.0,
         ),
-        subst (λ (hs : List Effect). Performs a t d v hs) (all_effects kind h x effects_in received after (branches kind h))
-            (grew_then a c d t u v (acted (forked_by kind) (own_effects kind (h ▸ x)) ++ at_tick x effects_in received (branches kind h)) (at_emissions (entering effects_in) after es) half.grew last.1),
+        subst (λ (hs : List Effect). Performs a t d v hs)
+            (all_effects kind h x effects_in received after (branches kind h))
+            (grew_then a c d t u v
+            (acted (forked_by kind) (own_effects kind (h ▸ x)) ++ at_tick x effects_in received (branches kind h))
+            (at_emissions (entering effects_in) after es) half.grew last.1),
       )
 
   -- ---- where it stopped
 
-  act_stops : (state : State) (a b : List Output) (t : StepCount G) (below : Below) → IsPrefix a b → ((h : History) → moment_of (h ▸ x) ≡ moment → IsPrefix b (a ++ own_outputs kind (h ▸ x))) →
-      ((texts : List (List ℕ)) (h : History) → StateRepresents texts kind state h → x ≡ Tick → moment_of (h ▸ Tick) ≡ moment → emissions kind (h ▸ Tick) ≡ [] → ⊥) →
+  act_stops : (state : State) (a b : List Output) (t : StepCount G) (below : Below) → IsPrefix a b →
+      ((h : History) → moment_of (h ▸ x) ≡ moment → IsPrefix b (a ++ own_outputs kind (h ▸ x))) →
+      ((texts : List (List ℕ)) (h : History) → StateRepresents texts kind state h → x ≡ Tick →
+      moment_of (h ▸ Tick) ≡ moment → emissions kind (h ▸ Tick) ≡ [] → ⊥) →
       StreamStops patterns start moment a t b t x (stream kind children otherwise) state below
   act_stops state a b t below begins within quiet texts h from represents comes =
       let effects_in = branch_effects (plan_effects children) (plan_effects otherwise) in
       let received = λ (branch : Branch). child_history kind branch h in
       let own = own_effects kind (h ▸ x) in
       let tick = at_tick x effects_in received (branches kind h) in
-      let after = at_emissions effects_in (λ (branch : Branch). ticked x (received branch)) (emissions kind (h ▸ x)) in record {
-        part = part_more a b t t (own ++ tick) after (part_more a b t t own tick (own_part kind h x a b t begins (within h comes.comes)));
+      let after =
+      at_emissions effects_in (λ (branch : Branch). ticked x (received branch)) (emissions kind (h ▸ x)) in record {
+        part =
+            part_more a b t t (own ++ tick) after
+            (part_more a b t t own tick (own_part kind h x a b t begins (within h comes.comes)));
         busy = λ is none.
-            let none' : stream_effects (stream kind children otherwise) (h ▸ Tick) ≡ [] = subst (λ (y : Entry). stream_effects (stream kind children otherwise) (h ▸ y) ≡ []) is none in
-            quiet texts h represents.0 is (subst (λ (y : Entry). moment_of (h ▸ y) ≡ moment) is comes.comes) (no_emission kind h (at_tick Tick effects_in received (branches kind h)) (at_emissions effects_in (λ (branch : Branch). received branch ▸ Tick) (emissions kind (h ▸ Tick))) none');
+            let none' : stream_effects (stream kind children otherwise) (h ▸ Tick) ≡ [] =
+            subst (λ (y : Entry). stream_effects (stream kind children otherwise) (h ▸ y) ≡ []) is none in
+            quiet texts h represents.0 is (subst (λ (y : Entry). moment_of (h ▸ y) ≡ moment) is comes.comes)
+            (no_emission kind h (at_tick Tick effects_in received (branches kind h))
+            (at_emissions effects_in (λ (branch : Branch). received branch ▸ Tick) (emissions kind (h ▸ Tick))) none');
       }
 
-  tick_stops : (state state' : State) (passed : Passed) (a b c : List Output) (t u : StepCount G) (below : Below) → StateActs patterns moment kind x state state' passed a b → (is_kept state ≡ false → state' ≡ state) →
+  tick_stops : (state state' : State) (passed : Passed) (a b c : List Output) (t u : StepCount G) (below : Below) →
+      StateActs patterns moment kind x state state' passed a b → (is_kept state ≡ false → state' ≡ state) →
       TickStops patterns start moment b t c u x (stream kind children otherwise) (first_of state') below →
       StreamStops patterns start moment a t c u x (stream kind children otherwise) state below
   tick_stops state state' passed a b c t u below acts same stops texts h from represents comes =
@@ -159,18 +213,25 @@ module _ {G : Type 0} (patterns : List Regex) (start moment : ℕ) (kind : KindT
       let received = λ (branch : Branch). child_history kind branch h in
       let after = λ (branch : Branch). ticked x (child_history kind branch h) in
       let acted_so = acts texts h from represents.0 comes.comes comes.small in
-      let here = below_first kind texts children (ForestRepresents texts children) (ForestRepresents texts otherwise) (keys_by (forked_by kind) h) received below state state' h represents.0 same represents.1 in
+      let here =
+      below_first kind texts children (ForestRepresents texts children) (ForestRepresents texts otherwise)
+      (keys_by (forked_by kind) h) received below state state' h represents.0 same represents.1 in
       let stop = stops texts (keys_by (forked_by kind) h) received from here (come start moment kind x h comes) in
       let own = acted (forked_by kind) (own_effects kind (h ▸ x)) in
       let tick = at_tick x effects_in received (branches kind h) in
-      subst (λ (hs : List Effect). Stops a t c u x hs) (all_effects kind h x effects_in received after (branches kind h))
+      subst (λ (hs : List Effect). Stops a t c u x hs)
+      (all_effects kind h x effects_in received after (branches kind h))
       (stops_more a c t u x (own ++ tick) (at_emissions (entering effects_in) after (emissions kind (h ▸ x)))
       (stops_then a b c t t u x own tick (own_grew kind h x a b t (forked_by kind) refl acted_so.said)
-      (subst (λ (bs : List Branch). Stops b t c u x (at_tick x effects_in received bs)) (sym (branches_are kind h (endless_of texts kind state h represents.0))) stop)))
+      (subst (λ (bs : List Branch). Stops b t c u x (at_tick x effects_in received bs))
+      (sym (branches_are kind h (endless_of texts kind state h represents.0))) stop)))
 
-  passed_stops : (state state' : State) (passed : Passed) (a b c d : List Output) (t u v : StepCount G) (below below' : Below) → StateActs patterns moment kind x state state' passed a b → (is_kept state ≡ false → state' ≡ state) →
+  passed_stops : (state state' : State) (passed : Passed) (a b c d : List Output) (t u v : StepCount G)
+      (below below' : Below) →
+      StateActs patterns moment kind x state state' passed a b → (is_kept state ≡ false → state' ≡ state) →
       TickRuns patterns start moment b t c u x (stream kind children otherwise) (first_of state') below below' →
-      EmissionsStop patterns start moment c u d v (emissions_meant passed x) (stream kind children otherwise) (first_of state') below' →
+      EmissionsStop patterns start moment c u d v (emissions_meant passed x) (stream kind children otherwise)
+      (first_of state') below' →
       StreamStops patterns start moment a t d v x (stream kind children otherwise) state below
   passed_stops state state' passed a b c d t u v below below' acts same ticks stops texts h from represents comes =
       let effects_in = branch_effects (plan_effects children) (plan_effects otherwise) in
@@ -178,41 +239,74 @@ module _ {G : Type 0} (patterns : List Regex) (start moment : ℕ) (kind : KindT
       let after = λ (branch : Branch). ticked x (child_history kind branch h) in
       let half = half_run state state' passed a b c t u below below' acts same ticks texts h from represents comes in
       let es = emissions kind (h ▸ x) in
-      let passes : EmissionsStop patterns start moment c u d v es (stream kind children otherwise) (first_of state') below' =
-      subst (λ (es : List Emission). EmissionsStop patterns start moment c u d v es (stream kind children otherwise) (first_of state') below') half.passes stops in
-      let last = passes texts (keys_by (forked_by kind) h) after from (emissions_fit kind h x) half.below (unseen_ticked kind h x (endless_of texts kind state h represents.0)) (stand start moment kind x h comes) in record {
-        part = subst (λ (hs : List Effect). PerformsPart a t d v hs) (all_effects kind h x effects_in received after (branches kind h))
-            (part_then a c d t u v (acted (forked_by kind) (own_effects kind (h ▸ x)) ++ at_tick x effects_in received (branches kind h)) (at_emissions (entering effects_in) after es) half.grew last.0);
+      let passes : EmissionsStop patterns start moment c u d v es (stream kind children otherwise) (first_of state')
+      below' =
+      subst
+      (λ (es : List Emission).
+      EmissionsStop patterns start moment c u d v es (stream kind children otherwise) (first_of state') below')
+      half.passes stops in
+      let last =
+      passes texts (keys_by (forked_by kind) h) after from (emissions_fit kind h x) half.below
+      (unseen_ticked kind h x (endless_of texts kind state h represents.0))
+      (stand start moment kind x h comes) in record {
+        part =
+            subst (λ (hs : List Effect). PerformsPart a t d v hs)
+            (all_effects kind h x effects_in received after (branches kind h))
+            (part_then a c d t u v
+            (acted (forked_by kind) (own_effects kind (h ▸ x)) ++ at_tick x effects_in received (branches kind h))
+            (at_emissions (entering effects_in) after es) half.grew last.0);
         busy = λ is none.
-            let none' : stream_effects (stream kind children otherwise) (h ▸ Tick) ≡ [] = subst (λ (y : Entry). stream_effects (stream kind children otherwise) (h ▸ y) ≡ []) is none in
+            let none' : stream_effects (stream kind children otherwise) (h ▸ Tick) ≡ [] =
+            subst (λ (y : Entry). stream_effects (stream kind children otherwise) (h ▸ y) ≡ []) is none in
             last.1 (subst (λ (y : Entry). emissions kind (h ▸ y) ≡ []) (sym is)
-            (no_emission kind h (at_tick Tick effects_in received (branches kind h)) (at_emissions effects_in (λ (branch : Branch). received branch ▸ Tick) (emissions kind (h ▸ Tick))) none'));
+            (no_emission kind h (at_tick Tick effects_in received (branches kind h))
+            (at_emissions effects_in (λ (branch : Branch). received branch ▸ Tick) (emissions kind (h ▸ Tick))) none'));
       }
 
 module _ {G : Type 0} (patterns : List Regex) (start moment : ℕ) (s : Stream) (x : Entry) where
-  pub stream_runs : (state state' : State) (passed : Passed) (a b c d : List Output) (t u v : StepCount G) (below below' below'' : Below) → StateActs patterns moment (kind_tree (out-Stream s).kind) x state state' passed a b → (is_kept state ≡ false → state' ≡ state) →
+  pub stream_runs : (state state' : State) (passed : Passed) (a b c d : List Output) (t u v : StepCount G)
+      (below below' below'' : Below) →
+      StateActs patterns moment (kind_tree (out-Stream s).kind) x state state' passed a b →
+      (is_kept state ≡ false → state' ≡ state) →
       TickRuns patterns start moment b t c u x (opened s) (first_of state') below below' →
-      EmissionsRun patterns start moment c u d v (emissions_meant passed x) (opened s) (first_of state') below' below'' →
+      EmissionsRun patterns start moment c u d v (emissions_meant passed x) (opened s) (first_of state') below'
+      below'' →
       StreamRuns patterns start moment a t d v x (opened s) state below state' below''
   unfolding opened
-  stream_runs = parts_run patterns start moment (kind_tree (out-Stream s).kind) (list_trees (out-Stream s).children.items) (list_trees (out-Stream s).otherwise.items) x
+  stream_runs =
+      parts_run patterns start moment (kind_tree (out-Stream s).kind) (list_trees (out-Stream s).children.items)
+      (list_trees (out-Stream s).otherwise.items) x
 
   pub stream_act_stops : (state : State) (a b : List Output) (t : StepCount G) (below : Below) → IsPrefix a b →
-      ((h : History) → moment_of (h ▸ x) ≡ moment → IsPrefix b (a ++ own_outputs (kind_tree (out-Stream s).kind) (h ▸ x))) →
-      ((texts : List (List ℕ)) (h : History) → StateRepresents texts (kind_tree (out-Stream s).kind) state h → x ≡ Tick → moment_of (h ▸ Tick) ≡ moment → emissions (kind_tree (out-Stream s).kind) (h ▸ Tick) ≡ [] → ⊥) →
+      ((h : History) → moment_of (h ▸ x) ≡ moment →
+      IsPrefix b (a ++ own_outputs (kind_tree (out-Stream s).kind) (h ▸ x))) →
+      ((texts : List (List ℕ)) (h : History) → StateRepresents texts (kind_tree (out-Stream s).kind) state h →
+      x ≡ Tick → moment_of (h ▸ Tick) ≡ moment → emissions (kind_tree (out-Stream s).kind) (h ▸ Tick) ≡ [] → ⊥) →
       StreamStops patterns start moment a t b t x (opened s) state below
   unfolding opened
-  stream_act_stops = act_stops patterns start moment (kind_tree (out-Stream s).kind) (list_trees (out-Stream s).children.items) (list_trees (out-Stream s).otherwise.items) x
+  stream_act_stops =
+      act_stops patterns start moment (kind_tree (out-Stream s).kind) (list_trees (out-Stream s).children.items)
+      (list_trees (out-Stream s).otherwise.items) x
 
-  pub stream_tick_stops : (state state' : State) (passed : Passed) (a b c : List Output) (t u : StepCount G) (below : Below) → StateActs patterns moment (kind_tree (out-Stream s).kind) x state state' passed a b → (is_kept state ≡ false → state' ≡ state) →
+  pub stream_tick_stops : (state state' : State) (passed : Passed) (a b c : List Output) (t u : StepCount G)
+      (below : Below) →
+      StateActs patterns moment (kind_tree (out-Stream s).kind) x state state' passed a b →
+      (is_kept state ≡ false → state' ≡ state) →
       TickStops patterns start moment b t c u x (opened s) (first_of state') below →
       StreamStops patterns start moment a t c u x (opened s) state below
   unfolding opened
-  stream_tick_stops = tick_stops patterns start moment (kind_tree (out-Stream s).kind) (list_trees (out-Stream s).children.items) (list_trees (out-Stream s).otherwise.items) x
+  stream_tick_stops =
+      tick_stops patterns start moment (kind_tree (out-Stream s).kind) (list_trees (out-Stream s).children.items)
+      (list_trees (out-Stream s).otherwise.items) x
 
-  pub stream_passed_stops : (state state' : State) (passed : Passed) (a b c d : List Output) (t u v : StepCount G) (below below' : Below) → StateActs patterns moment (kind_tree (out-Stream s).kind) x state state' passed a b → (is_kept state ≡ false → state' ≡ state) →
+  pub stream_passed_stops : (state state' : State) (passed : Passed) (a b c d : List Output) (t u v : StepCount G)
+      (below below' : Below) →
+      StateActs patterns moment (kind_tree (out-Stream s).kind) x state state' passed a b →
+      (is_kept state ≡ false → state' ≡ state) →
       TickRuns patterns start moment b t c u x (opened s) (first_of state') below below' →
       EmissionsStop patterns start moment c u d v (emissions_meant passed x) (opened s) (first_of state') below' →
       StreamStops patterns start moment a t d v x (opened s) state below
   unfolding opened
-  stream_passed_stops = passed_stops patterns start moment (kind_tree (out-Stream s).kind) (list_trees (out-Stream s).children.items) (list_trees (out-Stream s).otherwise.items) x
+  stream_passed_stops =
+      passed_stops patterns start moment (kind_tree (out-Stream s).kind) (list_trees (out-Stream s).children.items)
+      (list_trees (out-Stream s).otherwise.items) x

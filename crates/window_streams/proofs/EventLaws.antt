@@ -18,6 +18,7 @@ module _ {A : Type 0} (p : A → Bool) where
   filter-more (first ∷ xs) x = by_test (p first) (filter-more xs x)
     where
       by_test : (t : Bool) → filter p (xs ++ x ∷ []) ≡ filter p xs ++ cond (p x) (x ∷ []) [] →
-          cond t (first ∷ filter p (xs ++ x ∷ [])) (filter p (xs ++ x ∷ [])) ≡ cond t (first ∷ filter p xs) (filter p xs) ++ cond (p x) (x ∷ []) []
+          cond t (first ∷ filter p (xs ++ x ∷ [])) (filter p (xs ++ x ∷ []))
+          ≡ cond t (first ∷ filter p xs) (filter p xs) ++ cond (p x) (x ∷ []) []
       by_test true e = ap (λ rest. first ∷ rest) e
       by_test false e = e

@@ -6,6 +6,7 @@ use Rattle.config_streams.proofs.kinds.init_of.Goals as goal
 pub returns : goal.returns
 returns c =
     rw (
-      init_is c.args.env.now (form_trees c.args.forms.now) (form_trees c.in-Some-map_of.entries.now) (form_tree c.in-Some.form.now) c.in-Some.ensures c.in-Some-map_of.ensures,
+      init_is c.args.env.now (form_trees c.args.forms.now) (form_trees c.in-Some-map_of.entries.now)
+          (form_tree c.in-Some.form.now) c.in-Some.ensures c.in-Some-map_of.ensures,
       start_of_form c.in-Some.form.now,
     ) c.some_init.ensures

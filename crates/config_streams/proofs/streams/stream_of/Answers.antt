@@ -9,5 +9,7 @@ pub returns : goal.returns
 returns c =
     let below = c.args.below in
     ap₂ One
-    (stream_is _ c.args.kind below.children.streams below.otherwise.streams (rw out-roll-Stream refl) (rw out-roll-Stream refl) (rw out-roll-Stream refl))
-    (source_is _ c.args.start below.children.places below.otherwise.places (rw out-roll-Source refl) (rw out-roll-Source refl) (rw out-roll-Source refl))
+    (stream_is _ c.args.kind below.children.streams below.otherwise.streams (rw out-roll-Stream refl)
+    (rw out-roll-Stream refl) (rw out-roll-Stream refl))
+    (source_is _ c.args.start below.children.places below.otherwise.places (rw out-roll-Source refl)
+    (rw out-roll-Source refl) (rw out-roll-Source refl))

@@ -9,7 +9,8 @@ returns-in-List c = rw (list_tree c.args.form.now c.in-List.forms c.in-List.is, 
 
 pub returns-in-Vector : goal.returns-in-Vector
 unfolding argument_of
-returns-in-Vector c = rw (vector_tree c.args.form.now c.in-Vector.forms c.in-Vector.is, c.deref-in-Vector.ensures.value) refl
+returns-in-Vector c =
+    rw (vector_tree c.args.form.now c.in-Vector.forms c.in-Vector.is, c.deref-in-Vector.ensures.value) refl
 
 pub returns-in-Map : goal.returns-in-Map
 unfolding argument_of

@@ -5,7 +5,8 @@ use Rattle.config_terms.specs.Arguments.{with_field}
 use Rattle.config_terms.proofs.lists.fields_in.Given as goal
 
 abbrev pub invariant-fields : goal.invariant-fields
-invariant-fields l = each (with_field l.env) l.fields (form_trees l.left) ≡ each (with_field l.env) [] (form_trees l.forms)
+invariant-fields l =
+    each (with_field l.env) l.fields (form_trees l.left) ≡ each (with_field l.env) [] (form_trees l.forms)
 
 abbrev pub decreases-fields : goal.decreases-fields
 decreases-fields l = length l.left

@@ -4,5 +4,6 @@ use Rattle.config_terms.proofs.lists.sets_from.Goals as goal
 
 pub sets-preserved : goal.sets-preserved
 sets-preserved c =
-    sym (sets_more _ _ _ _ _ _ _ _ _ _ _ c.in-Some.ensures.split c.in-Some-first.ensures.split c.in_ok-field.ensures c.in_ok-set.ensures c.in_ok-push.ensures.ok)
+    sym (sets_more _ _ _ _ _ _ _ _ _ _ _ c.in-Some.ensures.split c.in-Some-first.ensures.split c.in_ok-field.ensures
+    c.in_ok-set.ensures c.in_ok-push.ensures.ok)
     ∙ c.sets.invariant

@@ -21,7 +21,9 @@ abbrev pub decreases-rules_in : goal.decreases-rules_in
 decreases-rules_in l = 4 * weight (form_trees l.forms.now) + 1
 
 abbrev pub invariant-rules_in-rules : goal.invariant-rules_in-rules
-invariant-rules_in-rules l = (all_read (trees_in l.rules.items) (rules_in l.env (form_trees l.left)) ≡ all_read none (rules_in l.env (form_trees l.forms)))
+invariant-rules_in-rules l =
+    (all_read (trees_in l.rules.items) (rules_in l.env (form_trees l.left))
+    ≡ all_read none (rules_in l.env (form_trees l.forms)))
     × (weight (form_trees l.left) ≤ weight (form_trees l.forms))
 
 abbrev pub decreases-rules_in-rules : goal.decreases-rules_in-rules

@@ -19,11 +19,14 @@ loop-event-preserved c =
     let total = before +ℤ to_z w128 (of_z w128 c.from-sum.result) in
     let fits : SFits w128 total = omega (arith, ints) in
     let sum : to_z w128 (of_z w128 total) ≡ total = to_z-of_z w128 total fits in (
-      sum ∙ ap (λ m. before +ℤ m) (wide ∙ read ∙ c.metric_of.ensures) ∙ ap (λ s. s +ℤ metric_of event) c.loop-event.invariant.0 ∙ sym more,
+      sum ∙ ap (λ m. before +ℤ m) (wide ∙ read ∙ c.metric_of.ensures)
+          ∙ ap (λ s. s +ℤ metric_of event) c.loop-event.invariant.0 ∙ sym more,
       omega (arith, ints),
       omega (arith, ints),
     )
 
 pub returns : goal.returns
 returns c =
-    c.loop-event.invariant.0 ∙ ap sum_of_metrics (take_all c.loop-event.event-index c.args.events.now c.loop-event-test.false) ∙ sym (sum_of_measured c.args.events.now)
+    c.loop-event.invariant.0
+    ∙ ap sum_of_metrics (take_all c.loop-event.event-index c.args.events.now c.loop-event-test.false)
+    ∙ sym (sum_of_measured c.args.events.now)

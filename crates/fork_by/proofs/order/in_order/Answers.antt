@@ -10,7 +10,8 @@ use Rattle.fork_by.proofs.order.in_order.Goals as goal
 pub loop-number-preserved : goal.loop-number-preserved
 loop-number-preserved c =
     c.in_ok-put.ensures
-    ∙ ap (λ entries. put_one entries (slot_at c.in-Some.number.now c.args.slots.now.items) c.in-Some.number.now) c.loop-number.invariant
+    ∙ ap (λ entries. put_one entries (slot_at c.in-Some.number.now c.args.slots.now.items) c.in-Some.number.now)
+    c.loop-number.invariant
     ∙ sym (put-more c.args.slots.now.items [] (map deref c.loop-number.yielded) c.in-Some.number.now)
     ∙ ap (put_all c.args.slots.now.items []) (sym (map-append deref c.loop-number.yielded (c.in-Some.number ∷ [])))
 
@@ -18,4 +19,5 @@ pub returns : goal.returns
 returns c =
     c.loop-number.invariant
     ∙ ap (put_all c.args.slots.now.items [])
-    (iter_end deref c.args.numbers.now.keys c.loop-number.yielded _ _ _ _ c.into_iter-number-iterator.ensures.into_iter_gives.0 c.loop-number.yielded_by c.in-None.is c.next.ensures.steps).0
+    (iter_end deref c.args.numbers.now.keys c.loop-number.yielded _ _ _ _
+    c.into_iter-number-iterator.ensures.into_iter_gives.0 c.loop-number.yielded_by c.in-None.is c.next.ensures.steps).0

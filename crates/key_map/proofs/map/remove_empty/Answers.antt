@@ -11,13 +11,15 @@ use Rattle.key_map.proofs.map.remove_empty.Goals as goal
 
 pub returns-then-is_empty_at-clause-same : goal.returns-then-is_empty_at-clause-same
 returns-then-is_empty_at-clause-same c =
-    same-in c.args.hosts.now.entries c.remove.new.self.entries c.args.host.now c.remove.ensures.updates.0 (c.is_empty_at.ensures.empty c.if-is_empty_at.true)
+    same-in c.args.hosts.now.entries c.remove.new.self.entries c.args.host.now c.remove.ensures.updates.0
+    (c.is_empty_at.ensures.empty c.if-is_empty_at.true)
 
 pub returns-then-is_empty_at-clause-rising : goal.returns-then-is_empty_at-clause-rising
 returns-then-is_empty_at-clause-rising c = λ k. record {
   rising = c.remove.ensures.ordered;
   each = subst (λ es. All ServicesRise (values_of es)) (sym c.remove.ensures.entries)
-      (All-map-remove_entry (is_at (bytes_cmp c.args.host.now)) (λ e. e.1) ServicesRise c.args.hosts.now.entries k.each);
+      (All-map-remove_entry (is_at (bytes_cmp c.args.host.now)) (λ e. e.1) ServicesRise c.args.hosts.now.entries
+      k.each);
 }
 
 pub returns-then-is_empty_at-clause-full : goal.returns-then-is_empty_at-clause-full

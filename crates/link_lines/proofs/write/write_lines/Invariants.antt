@@ -6,6 +6,7 @@ use Rattle.link_lines.proofs.write.write_lines.Given as goal
 
 abbrev pub invariant-loop-number : goal.invariant-loop-number
 invariant-loop-number g l = record {
-  got : Got (g.O.Sink.report l.fn.out).text (flat_map (line_after l.links.log) (take l.number-index l.numbers)) (g.O.Sink.report l.out).text;
+  got : Got (g.O.Sink.report l.fn.out).text (flat_map (line_after l.links.log) (take l.number-index l.numbers))
+      (g.O.Sink.report l.out).text;
   faults : (g.O.Sink.report l.out).faults ≡ (g.O.Sink.report l.fn.out).faults;
 }

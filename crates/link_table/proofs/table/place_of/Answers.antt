@@ -8,5 +8,6 @@ use Rattle.link_table.proofs.table.place_of.Goals as goal
 pub returns : goal.returns
 returns c =
     let facts = c.binary_search_by_key.ensures in
-    let by_number = facts.position (λ (want : Want). want.link) (answers_always _ _ _ (λ f a r g called. search rules)) in
+    let by_number =
+    facts.position (λ (want : Want). want.link) (answers_always _ _ _ (λ f a r g called. search rules)) in
     searched _ c.requires c.args.number _ facts.bound by_number

@@ -9,7 +9,9 @@ returns-then-place-bytes c =
 
 pub returns-in-Ok : goal.returns-in-Ok
 returns-in-Ok c =
-    let is = reads_field c.args.bytes.now c.args.place c.in-Ok.number c.in-Ok.body c.in-Ok.after (sym c.in-Ok.is ∙ c.field_from.ensures) in
+    let is =
+    reads_field c.args.bytes.now c.args.place c.in-Ok.number c.in-Ok.body c.in-Ok.after
+    (sym c.in-Ok.is ∙ c.field_from.ensures) in
     record { answer = is.answer; moves = is.moves; within = is.within; steps = is.steps }
 
 pub returns-in-Err : goal.returns-in-Err

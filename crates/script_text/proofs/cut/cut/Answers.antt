@@ -7,4 +7,5 @@ pub returns-in-Some-clause-parts : goal.returns-in-Some-clause-parts
 returns-in-Some-clause-parts c =
     let bytes = c.args.bytes.now in let end = c.in-Some.end in
     cut_at _ bytes end (sym c.in-Some.ensures)
-    ∙ ap (λ (rest : List ℕ). take end bytes ∷ slice_split (λ byte. byte == c.args.separator) rest) (sym (take_rest (end + 1) bytes))
+    ∙ ap (λ (rest : List ℕ). take end bytes ∷ slice_split (λ byte. byte == c.args.separator) rest)
+    (sym (take_rest (end + 1) bytes))

@@ -5,5 +5,6 @@ use Rattle.sexp_config.proofs.expiry.keys_from.Goals as goal
 
 pub entries-preserved : goal.entries-preserved
 entries-preserved c =
-    sym (entry_more keep_text _ _ _ _ _ _ _ _ _ _ _ c.in-Some.ensures.split c.in-Some-first.ensures.split c.is_some.ensures c.in_ok-only_key_at.ensures c.in_ok-keys_at.ensures)
+    sym (entry_more keep_text _ _ _ _ _ _ _ _ _ _ _ c.in-Some.ensures.split c.in-Some-first.ensures.split
+    c.is_some.ensures c.in_ok-only_key_at.ensures c.in_ok-keys_at.ensures)
     ∙ c.entries.invariant

@@ -4,4 +4,6 @@ use Rattle.config_streams.specs.Made.{source_list}
 use Rattle.sexp_config.proofs.finish.place_along.Given as goal
 
 abbrev pub invariant-path : goal.invariant-path
-invariant-path l = place_along l.place (with_sources (source_list l.children) (source_list l.otherwise)) (drop l.number-index l.path) ≡ place_along 0 (source_list l.sources) l.path
+invariant-path l =
+    place_along l.place (with_sources (source_list l.children) (source_list l.otherwise)) (drop l.number-index l.path)
+    ≡ place_along 0 (source_list l.sources) l.path

@@ -2,4 +2,5 @@ use Rattle.sexp_config.proofs.AnswerLaws.{texts_are_answered, not_refused, confi
 use Rattle.sexp_config.proofs.law.texts_have_one_answer.Goals as goal
 
 pub returns : goal.returns
-returns c = record { answered = texts_are_answered; apart = not_refused; one = configs_are_one; one_refusal = refusals_are_one }
+returns c =
+    record { answered = texts_are_answered; apart = not_refused; one = configs_are_one; one_refusal = refusals_are_one }

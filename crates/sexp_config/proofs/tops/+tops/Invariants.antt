@@ -19,7 +19,8 @@ decreases-run l = 4 * weight (form_trees l.forms.now) + 1
 
 abbrev pub invariant-run-forms : goal.invariant-run-forms
 invariant-run-forms l = record {
-  read : run l.fn.env.items (draft_in l.draft) (tops_in (form_trees l.left)) ≡ run l.fn.env.items (draft_in l.fn.before) (tops_in (form_trees l.forms));
+  read : run l.fn.env.items (draft_in l.draft) (tops_in (form_trees l.left))
+      ≡ run l.fn.env.items (draft_in l.fn.before) (tops_in (form_trees l.forms));
   lighter : weight (form_trees l.left) ≤ weight (form_trees l.forms);
   same : l.env.items ≡ l.fn.env.items;
 }

@@ -14,16 +14,20 @@ returns-in-Err-clause-refused c = fault_of_utf8 c.args.text.now c.if-text-gt-LON
 
 pub returns-clause-forms : goal.returns-clause-forms
 returns-clause-forms c = IfOk-weaker c.read_pieces.result _ _
-    (λ forms known. are_forms c.args.text.now _ c.if-text-gt-LONGEST.false c.in_default.ensures.cases.1 known.0 known.1) c.read_pieces.ensures.forms
+    (λ forms known. are_forms c.args.text.now _ c.if-text-gt-LONGEST.false c.in_default.ensures.cases.1 known.0 known.1)
+    c.read_pieces.ensures.forms
 
 pub returns-clause-only : goal.returns-clause-only
 returns-clause-only c trees h = read_as c.args.text.now trees c.read_pieces.result h
-    (IfOk-weaker c.read_pieces.result _ _ (λ forms known. known.0) c.read_pieces.ensures.forms) c.read_pieces.ensures.refused
+    (IfOk-weaker c.read_pieces.result _ _ (λ forms known. known.0) c.read_pieces.ensures.forms)
+    c.read_pieces.ensures.refused
 
 pub returns-clause-faultless : goal.returns-clause-faultless
 returns-clause-faultless c = IfOk-weaker c.read_pieces.result _ _
-    (λ forms known. fault_of_forms c.args.text.now c.if-text-gt-LONGEST.false c.in_default.ensures.cases.1 ∙ known.1) c.read_pieces.ensures.forms
+    (λ forms known. fault_of_forms c.args.text.now c.if-text-gt-LONGEST.false c.in_default.ensures.cases.1 ∙ known.1)
+    c.read_pieces.ensures.forms
 
 pub returns-clause-refused : goal.returns-clause-refused
 returns-clause-refused c = same_fault c.read_pieces.result _ _
-    (fault_of_forms c.args.text.now c.if-text-gt-LONGEST.false c.in_default.ensures.cases.1) c.read_pieces.ensures.refused
+    (fault_of_forms c.args.text.now c.if-text-gt-LONGEST.false c.in_default.ensures.cases.1)
+    c.read_pieces.ensures.refused

@@ -18,27 +18,39 @@ loop-step-preserved g c =
     let next = c.match-step.counted in
     elim c.match-step.branch [
       | in-Fork w ↦
-          let more : count_by is_fork (take (i + 1) steps) ≡ count_by is_fork (take i steps) + 1 = count_by_more_yes is_fork steps i Fork c.loop-step-test.true (ap is_fork w.in-Fork.is) in
-          let same : count_by is_entry (take (i + 1) steps) ≡ count_by is_entry (take i steps) = count_by_more_no is_entry steps i Fork c.loop-step-test.true (ap is_entry w.in-Fork.is) in
+          let more : count_by is_fork (take (i + 1) steps) ≡ count_by is_fork (take i steps) + 1 =
+          count_by_more_yes is_fork steps i Fork c.loop-step-test.true (ap is_fork w.in-Fork.is) in
+          let same : count_by is_entry (take (i + 1) steps) ≡ count_by is_entry (take i steps) =
+          count_by_more_no is_entry steps i Fork c.loop-step-test.true (ap is_entry w.in-Fork.is) in
           let counted = w.enter_fork.ensures in
           record {
             forks = ap (λ s. s.forks) w.counted-is ∙ omega (arith, counted.forks, before.forks, more);
             entries = ap (λ s. s.entries) w.counted-is ∙ omega (arith, counted.entries, before.entries, same);
-            forks_reported = count_on (count_by is_fork (take i steps)) (count_by is_fork (take (i + 1) steps)) (forks start) (forks last) (forks next.ledger) more before.forks_reported
+            forks_reported =
+                count_on (count_by is_fork (take i steps)) (count_by is_fork (take (i + 1) steps)) (forks start)
+                (forks last) (forks next.ledger) more before.forks_reported
                 (ap (λ s. forks s.ledger) w.counted-is ∙ counted.forks_reported);
-            entries_reported = count_same (count_by is_entry (take i steps)) (count_by is_entry (take (i + 1) steps)) (entries start) (entries last) (entries next.ledger) same before.entries_reported
+            entries_reported =
+                count_same (count_by is_entry (take i steps)) (count_by is_entry (take (i + 1) steps)) (entries start)
+                (entries last) (entries next.ledger) same before.entries_reported
                 (ap (λ s. entries s.ledger) w.counted-is ∙ counted.entries_reported);
           }
       | in-Entry w ↦
-          let same : count_by is_fork (take (i + 1) steps) ≡ count_by is_fork (take i steps) = count_by_more_no is_fork steps i Fork c.loop-step-test.true (ap is_fork w.in-Entry.is) in
-          let more : count_by is_entry (take (i + 1) steps) ≡ count_by is_entry (take i steps) + 1 = count_by_more_yes is_entry steps i Fork c.loop-step-test.true (ap is_entry w.in-Entry.is) in
+          let same : count_by is_fork (take (i + 1) steps) ≡ count_by is_fork (take i steps) =
+          count_by_more_no is_fork steps i Fork c.loop-step-test.true (ap is_fork w.in-Entry.is) in
+          let more : count_by is_entry (take (i + 1) steps) ≡ count_by is_entry (take i steps) + 1 =
+          count_by_more_yes is_entry steps i Fork c.loop-step-test.true (ap is_entry w.in-Entry.is) in
           let counted = w.visit_entry.ensures in
           record {
             forks = ap (λ s. s.forks) w.counted-is ∙ omega (arith, counted.forks, before.forks, same);
             entries = ap (λ s. s.entries) w.counted-is ∙ omega (arith, counted.entries, before.entries, more);
-            forks_reported = count_same (count_by is_fork (take i steps)) (count_by is_fork (take (i + 1) steps)) (forks start) (forks last) (forks next.ledger) same before.forks_reported
+            forks_reported =
+                count_same (count_by is_fork (take i steps)) (count_by is_fork (take (i + 1) steps)) (forks start)
+                (forks last) (forks next.ledger) same before.forks_reported
                 (ap (λ s. forks s.ledger) w.counted-is ∙ counted.forks_reported);
-            entries_reported = count_on (count_by is_entry (take i steps)) (count_by is_entry (take (i + 1) steps)) (entries start) (entries last) (entries next.ledger) more before.entries_reported
+            entries_reported =
+                count_on (count_by is_entry (take i steps)) (count_by is_entry (take (i + 1) steps)) (entries start)
+                (entries last) (entries next.ledger) more before.entries_reported
                 (ap (λ s. entries s.ledger) w.counted-is ∙ counted.entries_reported);
           }
     ]

@@ -7,6 +7,8 @@ abbrev pub invariant-loop-step : goal.invariant-loop-step
 invariant-loop-step g l = record {
   forks : l.counted.forks ≡ l.fn.counted.forks + count_by is_fork (take l.step-index l.steps);
   entries : l.counted.entries ≡ l.fn.counted.entries + count_by is_entry (take l.step-index l.steps);
-  forks_reported : g.G.Ledger.forks l.counted.ledger ≡ more_by (count_by is_fork (take l.step-index l.steps)) (g.G.Ledger.forks l.fn.counted.ledger);
-  entries_reported : g.G.Ledger.entries l.counted.ledger ≡ more_by (count_by is_entry (take l.step-index l.steps)) (g.G.Ledger.entries l.fn.counted.ledger);
+  forks_reported : g.G.Ledger.forks l.counted.ledger
+      ≡ more_by (count_by is_fork (take l.step-index l.steps)) (g.G.Ledger.forks l.fn.counted.ledger);
+  entries_reported : g.G.Ledger.entries l.counted.ledger
+      ≡ more_by (count_by is_entry (take l.step-index l.steps)) (g.G.Ledger.entries l.fn.counted.ledger);
 }

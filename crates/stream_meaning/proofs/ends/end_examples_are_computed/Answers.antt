@@ -3,7 +3,8 @@ use Rattle.index_log.specs.IndexKey.{index_key_cmp}
 use Rattle.stream_meaning.proofs.ends.end_examples_are_computed.Goals as goal
 
 pub returns-clause-end_of_key : goal.returns-clause-end_of_key
-returns-clause-end_of_key c = record { moment = refl; before = refl; at = refl; after = refl; other = refl; unseen = refl }
+returns-clause-end_of_key c =
+    record { moment = refl; before = refl; at = refl; after = refl; other = refl; unseen = refl }
 
 pub returns-clause-end_of_fork : goal.returns-clause-end_of_fork
 returns-clause-end_of_fork c = record { before = refl; at = refl; without = refl }
@@ -26,7 +27,16 @@ returns-clause-new_fork c = record { new = refl; same = refl; counted = refl }
 
 pub returns-clause-last_tick : goal.returns-clause-last_tick
 unfolding index_key_cmp
-returns-clause-last_tick c = record { batch = refl; no_batch = refl; rollup = refl; no_rollup = refl; stable = refl; no_stable = refl; coalesce = refl; no_coalesce = refl }
+returns-clause-last_tick c = record {
+  batch = refl;
+  no_batch = refl;
+  rollup = refl;
+  no_rollup = refl;
+  stable = refl;
+  no_stable = refl;
+  coalesce = refl;
+  no_coalesce = refl;
+}
 
 pub returns-clause-last_deadline : goal.returns-clause-last_deadline
 unfolding index_key_cmp

@@ -36,4 +36,11 @@ returns-clause-negative_stretch c = refl
 
 pub returns-clause-stretch_numbers : goal.returns-clause-stretch_numbers
 unfolding index_key_cmp
-returns-clause-stretch_numbers c = record { last_of_second_before = refl; first_before = refl; last_before = refl; first = refl; last = refl; next = refl }
+returns-clause-stretch_numbers c = record {
+  last_of_second_before = refl;
+  first_before = refl;
+  last_before = refl;
+  first = refl;
+  last = refl;
+  next = refl;
+}

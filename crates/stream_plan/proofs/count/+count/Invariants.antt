@@ -6,6 +6,7 @@ use Rattle.stream_plan.proofs.count.+count.Given as goal
 
 abbrev pub invariant-stream_pattern_count-loop-stream : goal.invariant-stream_pattern_count-loop-stream
 invariant-stream_pattern_count-loop-stream l = record {
-  counted : min (l.count + length (plan_patterns (list_trees (drop l.stream-index l.streams)))) greatest ≡ min (length (plan_patterns (list_trees l.streams))) greatest;
+  counted : min (l.count + length (plan_patterns (list_trees (drop l.stream-index l.streams)))) greatest
+      ≡ min (length (plan_patterns (list_trees l.streams))) greatest;
   small : l.count ≤ greatest;
 }

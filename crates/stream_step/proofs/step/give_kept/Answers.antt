@@ -10,7 +10,9 @@ returns-in_ok-enter_kept-in-One-clause-represents c kind h represents moment bou
     (λ m. c.in_ok-enter_kept-in-One.ensures.represents kind h represents m bound) moment
 
 pub returns-in-Many-clause-represents : goal.returns-in-Many-clause-represents
-returns-in-Many-clause-represents c kind h represents moment bound = vector_kept kind c.args.kept.now h c.args.item.now _ c.in-Many.is represents
+returns-in-Many-clause-represents c kind h represents moment bound =
+    vector_kept kind c.args.kept.now h c.args.item.now _ c.in-Many.is represents
 
 pub returns-in-Many-clause-passes : goal.returns-in-Many-clause-passes
-returns-in-Many-clause-passes c kind h represents moment bound = vector_passes_nothing kind c.args.kept.now h c.args.item.now _ c.in-Many.is represents
+returns-in-Many-clause-passes c kind h represents moment bound =
+    vector_passes_nothing kind c.args.kept.now h c.args.item.now _ c.in-Many.is represents

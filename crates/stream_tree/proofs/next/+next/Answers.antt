@@ -8,19 +8,27 @@ use Rattle.stream_tree.proofs.next.+next.Goals as goal
 
 pub forest_due-loop-i-preserved : goal.forest_due-loop-i-preserved
 forest_due-loop-i-preserved t c =
-    due_more c.args.streams.now (nodes_of c.args.forest.now) c.loop-i.i c.loop-i.due c.node_due.result c.earlier_of-due.result c.index-streams-i.result c.index.result.now c.index.result.now
+    due_more c.args.streams.now (nodes_of c.args.forest.now) c.loop-i.i c.loop-i.due c.node_due.result
+    c.earlier_of-due.result c.index-streams-i.result c.index.result.now c.index.result.now
     (omega arith) c.index-streams-i.is c.index.ensures c.loop-i.invariant c.node_due.ensures c.earlier_of-due.ensures
 
 pub forest_due-returns : goal.forest_due-returns
-forest_due-returns t c = due_all c.args.streams.now (nodes_of c.args.forest.now) c.loop-i.i c.loop-i.due (omega (arith, c.min-count.ensures, c.len.ensures, c.loop-i-test.false, (out-Forest c.args.forest.now).nodes.ok.0)) c.loop-i.invariant
+forest_due-returns t c =
+    due_all c.args.streams.now (nodes_of c.args.forest.now) c.loop-i.i c.loop-i.due
+    (omega (arith, c.min-count.ensures, c.len.ensures, c.loop-i-test.false, (out-Forest c.args.forest.now).nodes.ok.0))
+    c.loop-i.invariant
 
 pub node_due-returns-then-is_by : goal.node_due-returns-then-is_by
 node_due-returns-then-is_by t c = λ texts h represents small.
     c.earlier_of.ensures
-    ∙ node_forked c.args.stream.now (out-Node c.args.node.now).state (node_below c.args.node.now) c.due-own.result c.next_due.result (sym c.is_by.ensures ∙ c.if-is_by.true) c.due-own.ensures c.next_due.ensures texts h represents small
+    ∙ node_forked c.args.stream.now (out-Node c.args.node.now).state (node_below c.args.node.now) c.due-own.result
+    c.next_due.result (sym c.is_by.ensures ∙ c.if-is_by.true) c.due-own.ensures c.next_due.ensures texts h represents
+    small
 
 pub node_due-returns : goal.node_due-returns
 node_due-returns t c = λ texts h represents small.
     c.earlier_of-3.ensures ∙ ap (earlier c.due-own.result) c.earlier_of-2.ensures
-    ∙ node_plain c.args.stream.now c.deref.result.now c.deref-2.result.now (out-Node c.args.node.now).state (node_below c.args.node.now) c.due-own.result c.forest_due-children.result c.forest_due-otherwise.result
-    (sym c.is_by.ensures ∙ c.if-is_by.false) c.deref.ensures.value c.deref-2.ensures.value c.due-own.ensures c.forest_due-children.ensures c.forest_due-otherwise.ensures texts h represents small
+    ∙ node_plain c.args.stream.now c.deref.result.now c.deref-2.result.now (out-Node c.args.node.now).state
+    (node_below c.args.node.now) c.due-own.result c.forest_due-children.result c.forest_due-otherwise.result
+    (sym c.is_by.ensures ∙ c.if-is_by.false) c.deref.ensures.value c.deref-2.ensures.value c.due-own.ensures
+    c.forest_due-children.ensures c.forest_due-otherwise.ensures texts h represents small

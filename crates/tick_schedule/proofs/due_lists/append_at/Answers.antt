@@ -8,7 +8,8 @@ returns-in_ok-extend_from_slice c =
     c.in_ok-extend_from_slice.ensures.items
     ∙ ap (λ ids. c.args.out.now.items ++ ids) (c.as_slice.ensures
     ∙ sym (ap (λ (known : Option (List ℕ)). unwrap_or known [])
-    (list-with c.args.moment c.in-Some.number.now (Some c.in-Some-get.list.now) c.args.numbers.now.entries c.args.lists.now.slots
+    (list-with c.args.moment c.in-Some.number.now (Some c.in-Some-get.list.now) c.args.numbers.now.entries
+    c.args.lists.now.slots
     (sym c.in-Some.ensures.value) (sym c.in-Some-get.ensures))))
 
 pub returns-in_default-get : goal.returns-in_default-get

@@ -13,4 +13,5 @@ loop-key-preserved c =
     c.in_ok-keep_attribute.ensures
     ∙ ap (with_key event (attribute_key key)) c.loop-key.invariant
     ∙ kept_attributes-append event (take i keep) key
-    ∙ ap (λ keys. kept_attributes keys event) (ap (λ last. take i keep ++ last ∷ []) c.key-item.is ∙ sym (take_more keep i key c.loop-key-test.true))
+    ∙ ap (λ keys. kept_attributes keys event)
+    (ap (λ last. take i keep ++ last ∷ []) c.key-item.is ∙ sym (take_more keep i key c.loop-key-test.true))

@@ -3,4 +3,5 @@ use Rattle.flow_streams.proofs.KeptLaws.{last_value-ticks}
 use Rattle.flow_streams.proofs.changed.ChangedState.fresh.Goals as goal
 
 pub returns-clause-represents : goal.returns-clause-represents
-returns-clause-represents c h alone begins = record { sound = refl; last = sym (last_value-ticks c.args.params.field c.args.params.init h alone) }
+returns-clause-represents c h alone begins =
+    record { sound = refl; last = sym (last_value-ticks c.args.params.field c.args.params.init h alone) }

@@ -9,6 +9,8 @@ returns-clause-emits c h rep now =
     let s = c.args.self.now in
     let n = c.follow.new.self.length in
     c.in_ok-emit_if.ensures.ok
-    ∙ ap (λ p. c.args.out.now ++ emitted (cond (n == p.count) (each (c.args.event ∷ [])) [])) c.in_ok-follow.ensures.params
+    ∙ ap (λ p. c.args.out.now ++ emitted (cond (n == p.count) (each (c.args.event ∷ [])) []))
+    c.in_ok-follow.ensures.params
     ∙ ap (λ items. c.args.out.now ++ emitted items)
-    (full-passes s.params.count s.params.field h c.args.event s.last s.length n rep.last rep.length c.in_ok-follow.ensures.length)
+    (full-passes s.params.count s.params.field h c.args.event s.last s.length n rep.last rep.length
+    c.in_ok-follow.ensures.length)

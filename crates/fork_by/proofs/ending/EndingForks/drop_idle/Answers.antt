@@ -7,16 +7,22 @@ use Rattle.fork_by.proofs.EndingLaws.{dropped-even, dropped-later, drops-fewer, 
 use Rattle.fork_by.proofs.ending.EndingForks.drop_idle.Goals as goal
 
 pub loop-index-smaller : goal.loop-index-smaller
-loop-index-smaller g c = drops-fewer c.loop-index.self.labels c.take_idle.new.self c.args.upto c.in-Some.index c.in-Some.ensures.dropped
+loop-index-smaller g c =
+    drops-fewer c.loop-index.self.labels c.take_idle.new.self c.args.upto c.in-Some.index c.in-Some.ensures.dropped
 
 pub loop-index-preserved : goal.loop-index-preserved
 loop-index-preserved g c = record {
   table = λ first. (let table = c.loop-index.invariant.table first in record {
-    even = dropped-even c.loop-index.self.forks.items c.take_fork.new.forks.items c.loop-index.self.labels c.take_idle.new.self c.args.upto c.in-Some.index table.sound table.even c.in-Some.ensures.dropped c.take_fork.ensures;
+    even =
+        dropped-even c.loop-index.self.forks.items c.take_fork.new.forks.items c.loop-index.self.labels
+        c.take_idle.new.self c.args.upto c.in-Some.index table.sound table.even c.in-Some.ensures.dropped
+        c.take_fork.ensures;
     sound = c.take_idle.ensures.sound;
   });
   same = λ first. (let table = c.loop-index.invariant.table first in
-      dropped-later c.loop-index.self.forks.items c.take_fork.new.forks.items c.loop-index.self.labels c.take_idle.new.self c.args.upto c.in-Some.index table.sound table.even c.in-Some.ensures.dropped c.take_fork.ensures
+      dropped-later c.loop-index.self.forks.items c.take_fork.new.forks.items c.loop-index.self.labels
+      c.take_idle.new.self c.args.upto c.in-Some.index table.sound table.even c.in-Some.ensures.dropped
+      c.take_fork.ensures
       ∙ c.loop-index.invariant.same first);
 }
 

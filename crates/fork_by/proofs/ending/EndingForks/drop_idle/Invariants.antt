@@ -5,7 +5,8 @@ use Rattle.fork_by.proofs.ending.EndingForks.drop_idle.Given as goal
 abbrev pub invariant-loop-index : goal.invariant-loop-index
 invariant-loop-index g l = record {
   table : IsEndingTable l.initial.self → IsEndingTable l.self;
-  same : IsEndingTable l.initial.self → later_than l.upto (kept_forks l.self) ≡ later_than l.upto (kept_forks l.initial.self);
+  same : IsEndingTable l.initial.self
+      → later_than l.upto (kept_forks l.self) ≡ later_than l.upto (kept_forks l.initial.self);
 }
 
 abbrev pub decreases-loop-index : goal.decreases-loop-index

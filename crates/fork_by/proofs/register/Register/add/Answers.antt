@@ -9,49 +9,92 @@ use Rattle.fork_by.proofs.KeptLaws.{absent, find_is, numbers-added, sound}
 use Rattle.fork_by.proofs.register.Register.add.Goals as goal
 
 pub returns-then-self-clause-sound : goal.returns-then-self-clause-sound
-returns-then-self-clause-sound c = subst AreSound c.self.view_is (sound c.self.inside.numbers.entries c.self.inside.slots.items c.self.inside.moments.lists c.self.inside.due c.self.inside.next (numbers_after c.self.inside.changes.items) c.self.invariant)
+returns-then-self-clause-sound c =
+    subst AreSound c.self.view_is
+    (sound c.self.inside.numbers.entries c.self.inside.slots.items c.self.inside.moments.lists c.self.inside.due
+    c.self.inside.next (numbers_after c.self.inside.changes.items) c.self.invariant)
 
 pub link-requires-clause-key : goal.link-requires-clause-key
-link-requires-clause-key c = find_is c.self.inside.numbers.entries c.self.inside.slots.items c.self.inside.moments.lists c.self.inside.due c.self.inside.next (numbers_after c.self.inside.changes.items) c.self.invariant c.args.key ∙ ap (number_of c.args.key) c.self.view_is ∙ c.requires
+link-requires-clause-key c =
+    find_is c.self.inside.numbers.entries c.self.inside.slots.items c.self.inside.moments.lists c.self.inside.due
+    c.self.inside.next (numbers_after c.self.inside.changes.items) c.self.invariant c.args.key
+    ∙ ap (number_of c.args.key) c.self.view_is ∙ c.requires
 
 pub invariant_of-self : goal.invariant_of-self
 invariant_of-self c =
-    same-kept c.self.inside.numbers.entries c.self.inside.slots.items c.self.inside.moments.lists c.self.inside.due c.self.inside.next (numbers_after c.self.inside.changes.items) c.self.invariant c.link.new.numbers.entries c.link.new.slots.items c.link.new.moments.lists c.in_err-number.ensures.same c.in_err-number.ensures.err c.link.ensures.slots
+    same-kept c.self.inside.numbers.entries c.self.inside.slots.items c.self.inside.moments.lists c.self.inside.due
+    c.self.inside.next (numbers_after c.self.inside.changes.items) c.self.invariant c.link.new.numbers.entries
+    c.link.new.slots.items c.link.new.moments.lists c.in_err-number.ensures.same c.in_err-number.ensures.err
+    c.link.ensures.slots
 
 pub returns-in_err-number-clause-sound : goal.returns-in_err-number-clause-sound
 returns-in_err-number-clause-sound c =
-    sound c.link.new.numbers.entries c.link.new.slots.items c.link.new.moments.lists c.self.inside.due c.self.inside.next (numbers_after c.self.inside.changes.items) (invariant_of-self c)
+    sound c.link.new.numbers.entries c.link.new.slots.items c.link.new.moments.lists c.self.inside.due
+    c.self.inside.next (numbers_after c.self.inside.changes.items) (invariant_of-self c)
 
 -- the slot of the number that is added
-slots_are : (c : goal.After-self-2-1) → SetsSlot c.self.inside.slots.items c.set_slot.new.slots.items c.in_ok-number.number
+slots_are : (c : goal.After-self-2-1)
+    → SetsSlot c.self.inside.slots.items c.set_slot.new.slots.items c.in_ok-number.number
     (Some (slot_with (length c.self.inside.numbers.entries) c.self.inside.next c.max-moment.result))
 slots_are c = λ other.
     c.set_slot.ensures.set other
-    ∙ ap (λ (i : ℕ). cond (eqb other c.in_ok-number.number) (Some (slot_with i c.self.inside.next c.max-moment.result)) (slot_at other c.link.new.slots.items)) c.len-index.ensures.len
-    ∙ ap (λ (o : Option Slot). cond (eqb other c.in_ok-number.number) (Some (slot_with (length c.self.inside.numbers.entries) c.self.inside.next c.max-moment.result)) o) (c.link.ensures.slots other)
+    ∙ ap
+    (λ (i : ℕ). cond (eqb other c.in_ok-number.number) (Some (slot_with i c.self.inside.next c.max-moment.result))
+    (slot_at other c.link.new.slots.items))
+    c.len-index.ensures.len
+    ∙ ap
+    (λ (o : Option Slot). cond (eqb other c.in_ok-number.number)
+    (Some (slot_with (length c.self.inside.numbers.entries) c.self.inside.next c.max-moment.result)) o)
+    (c.link.ensures.slots other)
 
 pub invariant_of-self-2 : goal.invariant_of-self-2
 invariant_of-self-2 c =
-    subst (λ (numbers : List ℕ). AreKept c.link.new.numbers.entries c.set_slot.new.slots.items c.link.new.moments.lists c.self.inside.due (c.self.inside.next + 1) numbers)
-    (sym (ap numbers_after c.and-self-inside.ensures ∙ numbers-added [] c.self.inside.changes.items c.in_ok-number.number))
-    (added-kept c.self.inside.numbers.entries c.self.inside.slots.items c.self.inside.moments.lists c.self.inside.due c.self.inside.next (numbers_after c.self.inside.changes.items) c.self.invariant c.args.key c.in_ok-number.number c.max-moment.result c.link.new.numbers.entries c.set_slot.new.slots.items c.link.new.moments.lists
-    c.in_ok-number.ensures.vacant c.in_ok-number.ensures.entries c.link.ensures.keys c.in_ok-number.ensures.lists (slots_are c)
-    (late-max c.max-moment.result c.args.now c.latest.result (latest_of c.self.inside.slots.items (last_of (list_at c.self.inside.moments.lists 0))) c.max-moment.ensures c.latest.ensures))
+    subst (λ (numbers : List ℕ). AreKept c.link.new.numbers.entries c.set_slot.new.slots.items c.link.new.moments.lists
+    c.self.inside.due (c.self.inside.next + 1) numbers)
+    (sym
+    (ap numbers_after c.and-self-inside.ensures ∙ numbers-added [] c.self.inside.changes.items c.in_ok-number.number))
+    (added-kept c.self.inside.numbers.entries c.self.inside.slots.items c.self.inside.moments.lists c.self.inside.due
+    c.self.inside.next (numbers_after c.self.inside.changes.items) c.self.invariant c.args.key c.in_ok-number.number
+    c.max-moment.result c.link.new.numbers.entries c.set_slot.new.slots.items c.link.new.moments.lists
+    c.in_ok-number.ensures.vacant c.in_ok-number.ensures.entries c.link.ensures.keys c.in_ok-number.ensures.lists
+    (slots_are c)
+    (late-max c.max-moment.result c.args.now c.latest.result
+    (latest_of c.self.inside.slots.items (last_of (list_at c.self.inside.moments.lists 0))) c.max-moment.ensures
+    c.latest.ensures))
 
 pub returns-clause-ok : goal.returns-clause-ok
 returns-clause-ok c = record {
   moment = c.max-moment.result;
-  vacant = ap (label_at c.in_ok-number.number) (sym c.self.view_is) ∙ absent c.self.inside.numbers.entries c.self.inside.slots.items c.self.inside.moments.lists c.self.inside.due c.self.inside.next (numbers_after c.self.inside.changes.items) c.self.invariant c.in_ok-number.number (no_number c.self.inside.numbers.entries c.self.inside.slots.items c.self.inside.moments.lists c.self.inside.due c.self.inside.next (numbers_after c.self.inside.changes.items) c.self.invariant c.in_ok-number.number c.in_ok-number.ensures.vacant);
+  vacant =
+      ap (label_at c.in_ok-number.number) (sym c.self.view_is)
+      ∙ absent c.self.inside.numbers.entries c.self.inside.slots.items c.self.inside.moments.lists c.self.inside.due
+      c.self.inside.next (numbers_after c.self.inside.changes.items) c.self.invariant c.in_ok-number.number
+      (no_number c.self.inside.numbers.entries c.self.inside.slots.items c.self.inside.moments.lists c.self.inside.due
+      c.self.inside.next (numbers_after c.self.inside.changes.items) c.self.invariant c.in_ok-number.number
+      c.in_ok-number.ensures.vacant);
   added =
-      ap (labels_of c.link.new.numbers.entries c.set_slot.new.slots.items c.self.inside.due) (ap numbers_after c.and-self-inside.ensures ∙ numbers-added [] c.self.inside.changes.items c.in_ok-number.number)
-      ∙ added-labels c.self.inside.numbers.entries c.self.inside.slots.items c.self.inside.moments.lists c.self.inside.due c.self.inside.next (numbers_after c.self.inside.changes.items) c.self.invariant c.args.key c.in_ok-number.number c.max-moment.result c.link.new.numbers.entries c.set_slot.new.slots.items c.link.new.moments.lists
-      c.in_ok-number.ensures.vacant c.in_ok-number.ensures.entries c.link.ensures.keys c.in_ok-number.ensures.lists (slots_are c)
-      (late-max c.max-moment.result c.args.now c.latest.result (latest_of c.self.inside.slots.items (last_of (list_at c.self.inside.moments.lists 0))) c.max-moment.ensures c.latest.ensures)
-      ∙ ap (λ (labels : List Label). labels ++ label_from c.args.key c.in_ok-number.number (length labels) c.max-moment.result None ∷ []) c.self.view_is;
+      ap (labels_of c.link.new.numbers.entries c.set_slot.new.slots.items c.self.inside.due)
+      (ap numbers_after c.and-self-inside.ensures ∙ numbers-added [] c.self.inside.changes.items c.in_ok-number.number)
+      ∙ added-labels c.self.inside.numbers.entries c.self.inside.slots.items c.self.inside.moments.lists
+      c.self.inside.due c.self.inside.next (numbers_after c.self.inside.changes.items) c.self.invariant c.args.key
+      c.in_ok-number.number c.max-moment.result c.link.new.numbers.entries c.set_slot.new.slots.items
+      c.link.new.moments.lists
+      c.in_ok-number.ensures.vacant c.in_ok-number.ensures.entries c.link.ensures.keys c.in_ok-number.ensures.lists
+      (slots_are c)
+      (late-max c.max-moment.result c.args.now c.latest.result
+      (latest_of c.self.inside.slots.items (last_of (list_at c.self.inside.moments.lists 0))) c.max-moment.ensures
+      c.latest.ensures)
+      ∙ ap
+      (λ (labels : List Label).
+      labels ++ label_from c.args.key c.in_ok-number.number (length labels) c.max-moment.result None ∷ [])
+      c.self.view_is;
   is_now = λ latest. c.max-moment.ensures ∙ ap (max c.args.now) c.latest.ensures
-      ∙ is_now c.self.inside.numbers.entries c.self.inside.slots.items c.self.inside.moments.lists c.self.inside.due c.self.inside.next (numbers_after c.self.inside.changes.items) c.self.invariant c.args.now (subst (λ (labels : List Label). IsLatest c.args.now labels) (sym c.self.view_is) latest);
+      ∙ is_now c.self.inside.numbers.entries c.self.inside.slots.items c.self.inside.moments.lists c.self.inside.due
+      c.self.inside.next (numbers_after c.self.inside.changes.items) c.self.invariant c.args.now
+      (subst (λ (labels : List Label). IsLatest c.args.now labels) (sym c.self.view_is) latest);
 }
 
 pub returns-clause-sound : goal.returns-clause-sound
 returns-clause-sound c =
-    sound c.link.new.numbers.entries c.set_slot.new.slots.items c.link.new.moments.lists c.self.inside.due (c.self.inside.next + 1) (numbers_after c.and-self-inside.result.items) (invariant_of-self-2 c)
+    sound c.link.new.numbers.entries c.set_slot.new.slots.items c.link.new.moments.lists c.self.inside.due
+    (c.self.inside.next + 1) (numbers_after c.and-self-inside.result.items) (invariant_of-self-2 c)

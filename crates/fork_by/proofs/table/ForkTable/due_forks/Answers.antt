@@ -11,5 +11,6 @@ returns-clause-table g c table = record {
   rising = c.take_due.ensures.rising;
   within = let P : List (ℕ × ℕ) → Type 0 = λ dues. All (λ n. n < length c.args.self.now.forks.items) (keys_of dues) in
       subst P (sym c.in_ok-take_due.ensures.later)
-      (within_some (length c.args.self.now.forks.items) (λ e. not (nat_le e.1 c.args.now)) c.args.self.now.due table.within);
+      (within_some (length c.args.self.now.forks.items) (λ e. not (nat_le e.1 c.args.now)) c.args.self.now.due
+      table.within);
 }

@@ -7,7 +7,9 @@ returns-in_ok-set-in-Some-clause-table g c table = record {
   even = table.even;
   distinct = table.distinct;
   rising = c.in_ok-set-in-Some.ensures.rising;
-  within = within_set c.args.self.now.due c.set.new.self c.args.number (length c.args.self.now.forks.items) (Some c.in-Some.due)
+  within =
+      within_set c.args.self.now.due c.set.new.self c.args.number (length c.args.self.now.forks.items)
+      (Some c.in-Some.due)
       c.in_ok-set-in-Some.ensures.ok c.requires table.within;
 }
 

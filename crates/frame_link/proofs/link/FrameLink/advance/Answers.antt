@@ -12,7 +12,8 @@ later_is c =
 pub returns-clause-removes : goal.returns-clause-removes
 returns-clause-removes c =
     let whole = rw (← c.self.view_is) at c.requires.whole in
-    link_hands_out c.args.self.now _ (first_body c.args.self.now.bytes) c.requires.whole refl (later_is c) (stays_open c.self.inside.buffer c.self.inside.stopped whole c.self.invariant)
+    link_hands_out c.args.self.now _ (first_body c.args.self.now.bytes) c.requires.whole refl (later_is c)
+    (stays_open c.self.inside.buffer c.self.inside.stopped whole c.self.invariant)
 
 pub returns-clause-keeps : goal.returns-clause-keeps
 returns-clause-keeps c handed came old =

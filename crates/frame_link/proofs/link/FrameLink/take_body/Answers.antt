@@ -4,7 +4,8 @@ use Rattle.frame_link.proofs.link.FrameLink.take_body.Goals as goal
 
 body_is : (c : goal.After-advance) → c.in-Ok.body ≡ first_body c.args.self.now.bytes
 body_is c =
-    let seen : c.as_slice.result.now ≡ c.args.self.now.bytes = c.as_slice.ensures ∙ ap (λ held. held.bytes) c.self.view_is in
+    let seen : c.as_slice.result.now ≡ c.args.self.now.bytes =
+    c.as_slice.ensures ∙ ap (λ held. held.bytes) c.self.view_is in
     let size : (4 + c.args.length) - 4 ≡ length_at c.args.self.now.bytes = omega arith in
     c.in-Ok.ensures ∙ rw (size, seen) refl
 

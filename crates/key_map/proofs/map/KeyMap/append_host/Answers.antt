@@ -13,7 +13,8 @@ returns-in-Some c =
     (λ more. more c.self.invariant.sections
     ∙ ap (λ ids. c.args.out.now ++ ids)
     (sym (values-of_host c.self.inside.without_host c.self.inside.hosts.entries c.in-Some.host.now)
-    ∙ ap (λ h. values_of (of_host h (numbers_of c.self.inside.without_host c.self.inside.hosts.entries))) (sym (ap option_copied c.in-Some.is))
+    ∙ ap (λ h. values_of (of_host h (numbers_of c.self.inside.without_host c.self.inside.hosts.entries)))
+    (sym (ap option_copied c.in-Some.is))
     ∙ ap (λ numbers. values_of (of_host (option_copied c.args.host) numbers)) c.self.view_is))
     c.append_at.ensures
 
@@ -23,6 +24,7 @@ returns-in-None c =
     (λ more. more
     ∙ ap (λ ids. c.args.out.now ++ ids)
     (sym (values-of_absent c.self.inside.without_host c.self.inside.hosts.entries)
-    ∙ ap (λ h. values_of (of_host h (numbers_of c.self.inside.without_host c.self.inside.hosts.entries))) (sym (ap option_copied c.in-None.is))
+    ∙ ap (λ h. values_of (of_host h (numbers_of c.self.inside.without_host c.self.inside.hosts.entries)))
+    (sym (ap option_copied c.in-None.is))
     ∙ ap (λ numbers. values_of (of_host (option_copied c.args.host) numbers)) c.self.view_is))
     c.append_numbers.ensures.ok

@@ -8,11 +8,13 @@ pub returns-in-Some : goal.returns-in-Some
 returns-in-Some c =
     c.copied.ensures ∙ c.get.ensures.value
     ∙ sym (services-at c.self.inside.absent c.self.inside.present.entries (Some c.in-Some.service.now))
-    ∙ ap (λ s. service_at s (services_of c.self.inside.absent c.self.inside.present.entries)) (sym (ap option_copied c.in-Some.is))
+    ∙ ap (λ s. service_at s (services_of c.self.inside.absent c.self.inside.present.entries))
+    (sym (ap option_copied c.in-Some.is))
     ∙ ap (service_at (option_copied c.args.service)) c.self.view_is
 
 pub returns-in-None : goal.returns-in-None
 returns-in-None c =
     sym (services-at c.self.inside.absent c.self.inside.present.entries None)
-    ∙ ap (λ s. service_at s (services_of c.self.inside.absent c.self.inside.present.entries)) (sym (ap option_copied c.in-None.is))
+    ∙ ap (λ s. service_at s (services_of c.self.inside.absent c.self.inside.present.entries))
+    (sym (ap option_copied c.in-None.is))
     ∙ ap (service_at (option_copied c.args.service)) c.self.view_is

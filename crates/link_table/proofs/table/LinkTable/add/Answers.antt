@@ -11,7 +11,10 @@ invariant_of-self-2 g c =
     let newer = subst (λ (n : Option ℕ). is_newer c.args.want.link n ≡ true) (sym newest) c.requires in
     let is : c.push.new.self ≡ c.self.inside.wants ++ c.args.want ∷ [] = c.in_ok-push.ensures.ok in
     let count = length_more c.self.inside.wants c.args.want in (
-      subst AreRising (sym is) (added_rising c.self.inside.newest c.self.inside.wants c.args.want c.self.invariant.0 c.self.invariant.1 newer),
-      subst (AreOld (Some c.args.want.link)) (sym is) (added_old c.self.inside.newest c.self.inside.wants c.args.want c.self.invariant.1 newer),
+      subst AreRising (sym is)
+          (added_rising c.self.inside.newest c.self.inside.wants c.args.want c.self.invariant.0 c.self.invariant.1
+          newer),
+      subst (AreOld (Some c.args.want.link)) (sym is)
+          (added_old c.self.inside.newest c.self.inside.wants c.args.want c.self.invariant.1 newer),
       grind (arith, common_steps),
     )

@@ -9,4 +9,5 @@ pub returns-in-Some-clause-absent : goal.returns-in-Some-clause-absent
 returns-in-Some-clause-absent g c = λ newer.
     let wants = ap (λ (table : Kept g.row.T.Denot). table.wants) c.self.view_is in
     let old = subst (λ (n : Option ℕ). AreOld n c.self.inside.wants) c.in-Some.is c.self.invariant.1 in
-    new_is_absent (Some c.in-Some.newest) c.args.self.now.wants c.args.number (subst (AreOld (Some c.in-Some.newest)) wants old) newer
+    new_is_absent (Some c.in-Some.newest) c.args.self.now.wants c.args.number
+    (subst (AreOld (Some c.in-Some.newest)) wants old) newer

@@ -8,5 +8,8 @@ use Rattle.link_table.proofs.table.LinkTable.note.Goals as goal
 pub invariant_of-self : goal.invariant_of-self
 invariant_of-self g c =
     let newest = ap (λ (table : Kept g.row.T.Denot). table.newest) c.self.view_is in
-    let newer = subst (λ (n : Option ℕ). is_newer c.args.number n ≡ true) (sym newest) c.requires in
-    (c.self.invariant.0, noted_old c.self.inside.newest c.self.inside.wants c.args.number c.self.invariant.1 newer, c.self.invariant.2)
+    let newer = subst (λ (n : Option ℕ). is_newer c.args.number n ≡ true) (sym newest) c.requires in (
+      c.self.invariant.0,
+      noted_old c.self.inside.newest c.self.inside.wants c.args.number c.self.invariant.1 newer,
+      c.self.invariant.2,
+    )

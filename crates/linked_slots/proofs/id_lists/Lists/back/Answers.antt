@@ -13,6 +13,7 @@ returns-clause-back c =
     let is : lists ≡ c.args.self.now.lists = ap (λ (v : IdLists). v.lists) c.self.view_is in
     let within : list < length lists = number-in list lists c.args.self.now.lists is c.requires in
     c.id_before.ensures
-    ∙ ap (λ x. id_of (kind_at slots (previous_at slots x)) (previous_at slots x)) (head-is heads lists list c.index.result.now c.self.invariant.linked.count within c.index.ensures)
+    ∙ ap (λ x. id_of (kind_at slots (previous_at slots x)) (previous_at slots x))
+    (head-is heads lists list c.index.result.now c.self.invariant.linked.count within c.index.ensures)
     ∙ last-is lists slots heads c.self.invariant.linked list within
     ∙ ap (λ x. last_of (list_at x list)) is

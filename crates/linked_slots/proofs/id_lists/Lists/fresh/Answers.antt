@@ -4,7 +4,9 @@ use Rattle.linked_slots.proofs.id_lists.Lists.fresh.Goals as goal
 
 pub loop-init : goal.loop-init
 loop-init c = record {
-  linked = linked-nothing c.new-nodes.result.slots c.new-heads.result.items c.new-nodes.ensures.empty c.new-heads.ensures.items;
+  linked =
+      linked-nothing c.new-nodes.result.slots c.new-heads.result.items c.new-nodes.ensures.empty
+      c.new-heads.ensures.items;
   count = ap length c.new-heads.ensures.items;
 }
 
@@ -17,5 +19,6 @@ invariant_of-result c = record {
 
 pub returns : goal.returns
 returns c =
-    let all : length c.loop.heads.items ≡ c.args.lists = omega (arith, c.loop.invariant.count, c.loop-test.false, c.loop.auto.counter-end) in
+    let all : length c.loop.heads.items ≡ c.args.lists =
+    omega (arith, c.loop.invariant.count, c.loop-test.false, c.loop.auto.counter-end) in
     rw (c.new.ensures, all) refl

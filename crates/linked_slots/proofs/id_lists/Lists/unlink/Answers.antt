@@ -11,7 +11,9 @@ invariant_of-self c =
     let lists = lists_after heads c.self.inside.changes.items in
     let is : lists ≡ c.args.self.now.lists = ap (λ (v : IdLists). v.lists) c.self.view_is in
     record {
-      linked = rw (removed-more heads c.self.inside.changes.items c.and-self-inside.result.items id c.and-self-inside.ensures)
+      linked =
+          rw
+          (removed-more heads c.self.inside.changes.items c.and-self-inside.result.items id c.and-self-inside.ensures)
           (linked-unlinked lists c.self.inside.nodes c.cut.new.nodes c.remove.new.self heads id c.self.invariant.linked
           (listed-in id lists c.args.self.now.lists is c.requires) c.cut.ensures c.remove.ensures.updates);
       count = omega (arith, c.remove.ensures.len, c.cut.ensures.rest.len, c.self.invariant.count);

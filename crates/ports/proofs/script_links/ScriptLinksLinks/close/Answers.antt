@@ -9,5 +9,6 @@ invariant_of-self c = rw c.closed.ensures (playing_closed _ _ _ _ _ _ _ _ c.self
 
 pub returns-clause-adds : goal.returns-clause-adds
 returns-clause-adds c =
-    played_calls c.args.self.now (record { script = c.self.inside.state.script; log = c.closed.new.self; poisoned = c.self.inside.poisoned })
+    played_calls c.args.self.now
+    (record { script = c.self.inside.state.script; log = c.closed.new.self; poisoned = c.self.inside.poisoned })
     (Close c.args.link ∷ []) (search rules) (search rules) (plays_some _ _ (invariant_of-self c).run)

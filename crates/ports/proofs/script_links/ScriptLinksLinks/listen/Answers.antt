@@ -11,5 +11,7 @@ invariant_of-self c =
 
 pub returns-clause-adds : goal.returns-clause-adds
 returns-clause-adds c =
-    played_calls c.args.self.now (record { script = c.self.inside.state.script; log = c.listened.new.self; poisoned = c.self.inside.poisoned })
-    (Listen c.args.address.now (Ready c.self.inside.state.secs) ∷ []) (search rules) (search rules) (plays_some _ _ (invariant_of-self c).run)
+    played_calls c.args.self.now
+    (record { script = c.self.inside.state.script; log = c.listened.new.self; poisoned = c.self.inside.poisoned })
+    (Listen c.args.address.now (Ready c.self.inside.state.secs) ∷ []) (search rules) (search rules)
+    (plays_some _ _ (invariant_of-self c).run)

@@ -15,5 +15,7 @@ returns-clause-emits c h before moment =
 
 pub returns-clause-represents : goal.returns-clause-represents
 returns-clause-represents c h before moment =
-    subst (λ (s : BatchState). BatchRepresents (record s { poisoned = false }) (h ▸ In (One c.args.event))) (sym c.in_ok-send_if_full.ensures.kept)
-    (item_represents c.args.self.now h c.args.event c.args.now before moment _ _ c.in_ok-push.ensures.ok c.number-self.ensures)
+    subst (λ (s : BatchState). BatchRepresents (record s { poisoned = false }) (h ▸ In (One c.args.event)))
+    (sym c.in_ok-send_if_full.ensures.kept)
+    (item_represents c.args.self.now h c.args.event c.args.now before moment _ _ c.in_ok-push.ensures.ok
+    c.number-self.ensures)

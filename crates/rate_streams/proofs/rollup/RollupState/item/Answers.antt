@@ -11,10 +11,17 @@ use Rattle.rate_streams.proofs.rollup.RollupState.item.Goals as goal
 pub returns-clause-emits : goal.returns-clause-emits
 returns-clause-emits c h before moment =
     c.in_ok-send_or_keep.ensures.sent ∙ ap (λ items. c.args.out.now ++ emitted items)
-    (item_passes c.args.self.now h c.args.event c.args.now before moment c.admit-passes.result c.admit-passes.ensures.test)
+    (item_passes c.args.self.now h c.args.event c.args.now before moment c.admit-passes.result
+    c.admit-passes.ensures.test)
 
 pub returns-clause-represents : goal.returns-clause-represents
 returns-clause-represents c h before moment =
-    subst (λ (s : RollupState). RollupRepresents (record s { poisoned = false }) (h ▸ In (One c.args.event))) (sym c.in_ok-send_or_keep.ensures.kept)
-    (subst (λ (s : RollupState). RollupRepresents (record s { waiting = cond c.admit-passes.result s.waiting (s.waiting ++ c.args.event ∷ []); poisoned = false }) (h ▸ In (One c.args.event))) (sym c.admit-passes.ensures.counted)
-    (item_represents c.args.self.now h c.args.event c.args.now before moment c.admit-passes.result c.admit-passes.ensures.test))
+    subst (λ (s : RollupState). RollupRepresents (record s { poisoned = false }) (h ▸ In (One c.args.event)))
+    (sym c.in_ok-send_or_keep.ensures.kept)
+    (subst
+    (λ (s : RollupState). RollupRepresents
+    (record s { waiting = cond c.admit-passes.result s.waiting (s.waiting ++ c.args.event ∷ []); poisoned = false })
+    (h ▸ In (One c.args.event)))
+    (sym c.admit-passes.ensures.counted)
+    (item_represents c.args.self.now h c.args.event c.args.now before moment c.admit-passes.result
+    c.admit-passes.ensures.test))

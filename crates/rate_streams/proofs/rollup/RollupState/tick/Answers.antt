@@ -14,5 +14,6 @@ returns-then-not-is_due-clause-represents c h before moment =
 pub returns-clause-represents : goal.returns-clause-represents
 returns-clause-represents c h before moment =
     let due : is_rollup_due c.args.self.now c.args.now ≡ true = sym c.is_due.ensures ∙ c.if-not-is_due.false in
-    subst (λ (s : RollupState). RollupRepresents (record s { poisoned = false }) (h ▸ Tick)) (sym c.roll-waiting.ensures.turned)
+    subst (λ (s : RollupState). RollupRepresents (record s { poisoned = false }) (h ▸ Tick))
+    (sym c.roll-waiting.ensures.turned)
     (due_represents c.args.self.now h c.args.now before moment due)

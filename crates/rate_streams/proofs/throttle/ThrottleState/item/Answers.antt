@@ -11,9 +11,12 @@ use Rattle.rate_streams.proofs.throttle.ThrottleState.item.Goals as goal
 pub returns-clause-emits : goal.returns-clause-emits
 returns-clause-emits c h before moment =
     c.in_ok-send_if.ensures.ok ∙ ap (λ items. c.args.out.now ++ emitted items)
-    (item_passes c.args.self.now h c.args.event c.args.now before moment c.admit-passes.result c.admit-passes.ensures.test)
+    (item_passes c.args.self.now h c.args.event c.args.now before moment c.admit-passes.result
+    c.admit-passes.ensures.test)
 
 pub returns-clause-represents : goal.returns-clause-represents
 returns-clause-represents c h before moment =
-    subst (λ (s : ThrottleState). ThrottleRepresents (record s { poisoned = false }) (h ▸ In (One c.args.event))) (sym c.admit-passes.ensures.counted)
-    (item_represents c.args.self.now h c.args.event c.args.now before moment c.admit-passes.result c.admit-passes.ensures.test)
+    subst (λ (s : ThrottleState). ThrottleRepresents (record s { poisoned = false }) (h ▸ In (One c.args.event)))
+    (sym c.admit-passes.ensures.counted)
+    (item_represents c.args.self.now h c.args.event c.args.now before moment c.admit-passes.result
+    c.admit-passes.ensures.test)

@@ -10,7 +10,8 @@ returns-clause-forks g c = λ began n count.
     let after = c.args.later.now in
     let was = subst (IsCounted forks g.G.Ledger.entries) c.self.view_is c.self.invariant in
     let is = subst (IsCounted forks g.G.Ledger.entries) c.later.view_is c.later.invariant in
-    between n before.forks after.forks (counted_by forks before.began) (forks before.ledger) (forks after.ledger) was.forks
+    between n before.forks after.forks (counted_by forks before.began) (forks before.ledger) (forks after.ledger)
+    was.forks
     (is.forks ∙ ap (λ start. more_by after.forks (counted_by forks start)) began) count
 
 pub returns-clause-entries : goal.returns-clause-entries
@@ -20,5 +21,6 @@ returns-clause-entries g c = λ began n count.
     let after = c.args.later.now in
     let was = subst (IsCounted g.G.Ledger.forks entries) c.self.view_is c.self.invariant in
     let is = subst (IsCounted g.G.Ledger.forks entries) c.later.view_is c.later.invariant in
-    between n before.entries after.entries (counted_by entries before.began) (entries before.ledger) (entries after.ledger) was.entries
+    between n before.entries after.entries (counted_by entries before.began) (entries before.ledger)
+    (entries after.ledger) was.entries
     (is.entries ∙ ap (λ start. more_by after.entries (counted_by entries start)) began) count

@@ -19,5 +19,7 @@ returns-clause-ids c =
     (are-listed c.args.now c.in_ok-set_of.field-0.keys lists rising
     (λ q. c.in_ok-set_of.ensures.0 q
     ∙ ap (list_any (is_at (nat_cmp q)))
-    (c.in_ok-ids.ensures ∙ ap (flat_map (ids_of lists)) (c.in_ok-moments.ensures.moments ∙ ap (take_while (λ moment. nat_le moment c.args.now)) (sym keys))
+    (c.in_ok-ids.ensures
+    ∙ ap (flat_map (ids_of lists))
+    (c.in_ok-moments.ensures.moments ∙ ap (take_while (λ moment. nat_le moment c.args.now)) (sym keys))
     ∙ gathered c.args.now lists rising)))

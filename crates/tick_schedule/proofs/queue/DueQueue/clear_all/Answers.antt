@@ -24,4 +24,5 @@ pub returns : goal.returns
 returns c =
     c.loop-id.invariant
     ∙ ap (λ ids. filter (λ entry. not (list_any (is_at (nat_cmp entry.0)) ids)) c.args.self.now)
-    (iter_end deref c.args.ids.now.keys c.loop-id.yielded _ _ _ _ c.into_iter-id-iterator.ensures.into_iter_gives.0 c.loop-id.yielded_by c.in-None.is c.next.ensures.steps).0
+    (iter_end deref c.args.ids.now.keys c.loop-id.yielded _ _ _ _ c.into_iter-id-iterator.ensures.into_iter_gives.0
+    c.loop-id.yielded_by c.in-None.is c.next.ensures.steps).0

@@ -8,5 +8,7 @@ use Rattle.tick_schedule.proofs.queue.DueQueue.due_ids.Goals as goal
 pub returns : goal.returns
 returns c =
     if_ok_both c.ids_until.result
-    (λ (ids : BTreeSet ℕ) are sorted. due-set c.args.now c.self.inside.places c.self.inside.lists ids c.self.invariant sorted are ∙ ap (due_ids c.args.now) c.self.view_is)
+    (λ (ids : BTreeSet ℕ) are sorted. due-set c.args.now c.self.inside.places c.self.inside.lists ids c.self.invariant
+    sorted are
+    ∙ ap (due_ids c.args.now) c.self.view_is)
     c.ids_until.ensures.ids c.ids_until.ensures.rising

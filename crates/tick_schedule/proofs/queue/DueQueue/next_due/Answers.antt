@@ -6,4 +6,5 @@ use Rattle.tick_schedule.proofs.queue.DueQueue.next_due.Goals as goal
 pub returns : goal.returns
 returns c =
     let P : List (ℕ × ℕ) → Type 0 = λ queue. IsNext queue c.first.result in
-    subst P c.self.view_is (next-first c.self.inside.places c.self.inside.lists c.first.result c.self.invariant c.first.ensures)
+    subst P c.self.view_is
+    (next-first c.self.inside.places c.self.inside.lists c.first.result c.self.invariant c.first.ensures)

@@ -8,7 +8,8 @@ use Rattle.tick_schedule.specs.Queue.{IsRising}
 use Rattle.tick_schedule.proofs.queue.DueQueue.take_due.Goals as goal
 
 pub returns-then-not-is_due-clause-later : goal.returns-then-not-is_due-clause-later
-returns-then-not-is_due-clause-later g c = sym (none-later c.args.now c.args.self.now (c.is_due.ensures.none c.if-not-is_due.true))
+returns-then-not-is_due-clause-later g c =
+    sym (none-later c.args.now c.args.self.now (c.is_due.ensures.none c.if-not-is_due.true))
 
 pub returns-clause-rising : goal.returns-clause-rising
 returns-clause-rising g c =

@@ -53,7 +53,8 @@ returns-clause-emits c = λ h represents now.
     let some : 0 < length state.last = grind (arith, nat_tests) in
     c.in_ok-send.ensures.ok
     ∙ ap (λ es. c.args.out.now ++ emitted (vector es)) c.in_ok-events.ensures.passed
-    ∙ ap (λ items. c.args.out.now ++ emitted items) (sym (coalesce-emits state h represents state.positive some (now ∙ c.if-now-self.false)))
+    ∙ ap (λ items. c.args.out.now ++ emitted items)
+    (sym (coalesce-emits state h represents state.positive some (now ∙ c.if-now-self.false)))
 
 pub returns-clause-represents : goal.returns-clause-represents
 returns-clause-represents c = λ h represents now small.
@@ -61,6 +62,7 @@ returns-clause-represents c = λ h represents now small.
     let some : 0 < length state.last = grind (arith, nat_tests) in
     let fits : state.secs < 2 ^ 32 = search rules in
     let least : c.min.result ≡ moment_of h + 1 = omega (arith, c.min.ensures) in
-    let sum : c.saturating_add-self.result ≡ moment_of h + 1 + state.secs = omega (arith, c.saturating_add-self.ensures, c.from.ensures) in
+    let sum : c.saturating_add-self.result ≡ moment_of h + 1 + state.secs =
+    omega (arith, c.saturating_add-self.ensures, c.from.ensures) in
     coalesce-passed state _ h represents state.positive some (now ∙ c.if-now-self.false) refl refl refl
     (c.in_ok-events.ensures.kept ∙ ap (λ m. filter (λ event. not (is_expired m event)) state.last) least) sum

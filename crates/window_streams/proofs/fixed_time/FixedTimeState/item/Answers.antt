@@ -15,8 +15,10 @@ returns-clause-emits c = λ h represents now.
     let first_fits : SFits w64 c.unwrap_or-first.result = search rules in
     let time = to_z-of_z w64 c.args.event.time fits in
     let start = to_z w64 (of_z w64 c.unwrap_or-first.result) in
-    let from : start ≡ unwrap_or state.first c.args.event.time = to_z-of_z w64 c.unwrap_or-first.result first_fits ∙ c.unwrap_or-first.ensures ∙ ap (unwrap_or state.first) time in
-    let stretch : c.stretch_of-stretch.result ≡ stretch_from (floor_div (c.args.event.time -ℤ start) state.secs) = c.stretch_of-stretch.ensures ∙ ap (λ z. stretch_from (floor_div (z -ℤ start) state.secs)) time in
+    let from : start ≡ unwrap_or state.first c.args.event.time =
+    to_z-of_z w64 c.unwrap_or-first.result first_fits ∙ c.unwrap_or-first.ensures ∙ ap (unwrap_or state.first) time in
+    let stretch : c.stretch_of-stretch.result ≡ stretch_from (floor_div (c.args.event.time -ℤ start) state.secs) =
+    c.stretch_of-stretch.ensures ∙ ap (λ z. stretch_from (floor_div (z -ℤ start) state.secs)) time in
     c.in_ok-enter.ensures.sent
     ∙ ap (λ s. c.args.out.now ++ emitted (cond (is_later s state.latest) (vector state.waiting) [])) stretch
     ∙ ap (λ items. c.args.out.now ++ emitted items) (fixed_time-emits state c.args.event h start represents from)
@@ -28,8 +30,14 @@ returns-clause-represents c = λ h represents now.
     let first_fits : SFits w64 c.unwrap_or-first.result = search rules in
     let time = to_z-of_z w64 c.args.event.time fits in
     let start = to_z w64 (of_z w64 c.unwrap_or-first.result) in
-    let from : start ≡ unwrap_or state.first c.args.event.time = to_z-of_z w64 c.unwrap_or-first.result first_fits ∙ c.unwrap_or-first.ensures ∙ ap (unwrap_or state.first) time in
-    let stretch : c.stretch_of-stretch.result ≡ stretch_from (floor_div (c.args.event.time -ℤ start) state.secs) = c.stretch_of-stretch.ensures ∙ ap (λ z. stretch_from (floor_div (z -ℤ start) state.secs)) time in
+    let from : start ≡ unwrap_or state.first c.args.event.time =
+    to_z-of_z w64 c.unwrap_or-first.result first_fits ∙ c.unwrap_or-first.ensures ∙ ap (unwrap_or state.first) time in
+    let stretch : c.stretch_of-stretch.result ≡ stretch_from (floor_div (c.args.event.time -ℤ start) state.secs) =
+    c.stretch_of-stretch.ensures ∙ ap (λ z. stretch_from (floor_div (z -ℤ start) state.secs)) time in
     fixed_time-represents state _ c.args.event h start represents from refl refl refl
     (c.in_ok-enter.ensures.latest ∙ ap (λ s. later_of s state.latest) stretch)
-    (c.in_ok-enter.ensures.waiting ∙ ap (λ s. cond (is_later s state.latest) (c.args.event ∷ []) (cond (is_same s state.latest) (state.waiting ++ c.args.event ∷ []) state.waiting)) stretch)
+    (c.in_ok-enter.ensures.waiting
+    ∙ ap
+    (λ s. cond (is_later s state.latest) (c.args.event ∷ [])
+    (cond (is_same s state.latest) (state.waiting ++ c.args.event ∷ []) state.waiting))
+    stretch)

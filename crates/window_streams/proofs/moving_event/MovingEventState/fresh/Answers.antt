@@ -7,5 +7,7 @@ use Rattle.window_streams.proofs.moving_event.MovingEventState.fresh.Goals as go
 pub returns-clause-represents : goal.returns-clause-represents
 returns-clause-represents c = λ h alone start. record {
   sound = refl;
-  latest = c.fresh.ensures ∙ sym (ap (last_of c.args.params.count) (events-ticks h alone) ∙ drop-nil (0 - c.args.params.count));
+  latest =
+      c.fresh.ensures
+      ∙ sym (ap (last_of c.args.params.count) (events-ticks h alone) ∙ drop-nil (0 - c.args.params.count));
 }

@@ -14,8 +14,10 @@ returns-clause-emits c = λ h represents now.
     let latest_fits : SFits w64 c.latest_with-latest.result = search rules in
     let latest = to_z w64 (of_z w64 c.latest_with-latest.result) in
     let own : latest ≡ int_max (unwrap_or state.latest time) time
-    = to_z-of_z w64 c.latest_with-latest.result latest_fits ∙ c.latest_with-latest.ensures ∙ ap (λ z. int_max (unwrap_or state.latest z) z) (to_z-of_z w64 time fits) in
-    c.in_ok-enter.ensures.sent ∙ ap (λ items. c.args.out.now ++ emitted items) (moving_time-emits state c.args.event h latest represents own)
+    = to_z-of_z w64 c.latest_with-latest.result latest_fits ∙ c.latest_with-latest.ensures
+    ∙ ap (λ z. int_max (unwrap_or state.latest z) z) (to_z-of_z w64 time fits) in
+    c.in_ok-enter.ensures.sent
+    ∙ ap (λ items. c.args.out.now ++ emitted items) (moving_time-emits state c.args.event h latest represents own)
 
 pub returns-clause-represents : goal.returns-clause-represents
 returns-clause-represents c = λ h represents now.
@@ -25,5 +27,7 @@ returns-clause-represents c = λ h represents now.
     let latest_fits : SFits w64 c.latest_with-latest.result = search rules in
     let latest = to_z w64 (of_z w64 c.latest_with-latest.result) in
     let own : latest ≡ int_max (unwrap_or state.latest time) time
-    = to_z-of_z w64 c.latest_with-latest.result latest_fits ∙ c.latest_with-latest.ensures ∙ ap (λ z. int_max (unwrap_or state.latest z) z) (to_z-of_z w64 time fits) in
-    moving_time-represents state _ c.args.event h latest represents state.positive own refl refl refl c.in_ok-enter.ensures.recent
+    = to_z-of_z w64 c.latest_with-latest.result latest_fits ∙ c.latest_with-latest.ensures
+    ∙ ap (λ z. int_max (unwrap_or state.latest z) z) (to_z-of_z w64 time fits) in
+    moving_time-represents state _ c.args.event h latest represents state.positive own refl refl refl
+    c.in_ok-enter.ensures.recent
