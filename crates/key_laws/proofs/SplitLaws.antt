@@ -1,6 +1,5 @@
 -- What a `by` that has the fields of a key does for this key, also if its forks end.
-use Rattle.std.proofs.Common.{◌≡◌, ℕ, Bool, true, false, not, ◌||◌, cond, List, [], ◌∷◌, ◌++◌, map, Option, refl, sym, ap, ◌∙◌, subst}
-use mathlib.Core.Bool.{true≢false}
+use Rattle.std.proofs.Common.{◌≡◌, ℕ, Bool, true, false, not, cond, List, [], ◌∷◌, ◌++◌, map, Option, refl, sym, ap, ◌∙◌, subst}
 use Rattle.std.specs.List.{AllByRecursion, filter, flat_map, list_any}
 use Rattle.std.proofs.lemmas.List.{append-nil}
 use Rattle.std.proofs.lemmas.List.Elements.{filter-append}
@@ -14,7 +13,7 @@ use Rattle.index_log.specs.OfKey.{are_index_fields, event_has}
 use Rattle.stream_plan.specs.Tree.{By, StreamTrees, stream, none, also}
 use Rattle.stream_meaning.specs.declared.entry.Entry.TheVariants.{Tick, Item as In}
 use Rattle.stream_meaning.specs.History.{History, since, ◌▸◌}
-use Rattle.stream_meaning.specs.Ends.{ends_next, KeyFork, same_fork, fork_at, fork_of, with_fork, live_forks}
+use Rattle.stream_meaning.specs.Ends.{ends_next, KeyFork, same_fork, fork_of, with_fork, live_forks}
 use Rattle.stream_meaning.specs.Emission.{Fork}
 use Rattle.stream_meaning.specs.Branches.{child_history, fork_history}
 use Rattle.stream_meaning.specs.Outputs.{outputs_at}
