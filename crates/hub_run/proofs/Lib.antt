@@ -5,3 +5,4 @@ pub mod LoopLaws
 pub mod EndLaws
 pub use Rattle.conn_core.proofs.HubMeaningLinkLaws
 pub use Rattle.conn_core.proofs.HubMeaningPrefixLaws
+pub mod QuietLaws

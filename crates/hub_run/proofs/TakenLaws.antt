@@ -38,7 +38,7 @@ pub all_more : {X : Type 0} (P : X → Type 0) (xs : List X) (last : X) → AllB
 all_more P [] last all one = (one, tt)
 all_more P (x ∷ xs) last all one = (all.0, all_more P xs last all.1 one)
 
-steps_more : (turns : List TakenTurn) (last : TakenTurn)
+pub steps_more : (turns : List TakenTurn) (last : TakenTurn)
     → steps_of (turns ++ last ∷ [])
     ≡ longer (steps_of turns) (turn_step last.wants last.turn last.piece last.verdicts) last.calls
 steps_more turns last =
@@ -73,7 +73,7 @@ puts_both (Some count) i j = ap Some (puts_more i j count)
 puts_then : (a b c : Option ℕ) (i j : ℕ) → CountedPuts a i b → CountedPuts b j c → CountedPuts a (i + j) c
 puts_then a b c i j one two = two ∙ ap (option_map (puts_after j)) one ∙ puts_both a i j
 
-lines_then : (a b c : SinkReport) (first second : List Notice) → GotLines a first b → GotLines b second c
+pub lines_then : (a b c : SinkReport) (first second : List Notice) → GotLines a first b → GotLines b second c
     → GotLines a (first ++ second) c
 lines_then a b c first second one two = record {
   text = subst (λ (bytes : List ℕ). Got a.text bytes c.text) (sym (flat_map-append notice_line first second))

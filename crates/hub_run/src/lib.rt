@@ -2,6 +2,7 @@
 #![tactic(auto)]
 
 mod fault;
+mod quiet;
 mod server;
 mod setup;
 mod start;
@@ -10,5 +11,6 @@ mod turn;
 pub use conn_core;
 pub use conn_core::{event_core, hub_meaning};
 pub use fault::RunFault;
+pub use quiet::run_quietly;
 pub use server::run;
 pub use setup::Setup;

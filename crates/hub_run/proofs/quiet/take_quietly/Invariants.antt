@@ -1,0 +1,14 @@
+use Rattle.std.proofs.Common.{◌≡◌, length}
+use Rattle.hub_run.specs.Runs.{run_report}
+use Rattle.hub_run.proofs.QuietLaws.{QuietSoFar}
+use Rattle.hub_run.proofs.quiet.take_quietly.Given as goal
+
+abbrev pub invariant-loop-taken : goal.invariant-loop-taken
+invariant-loop-taken g l = record {
+  whole : length l.buf ≡ 65536;
+  so_far : QuietSoFar (g.L.Links.report l.fn.links) (g.L.Links.report l.links) l.fn.quiet l.fn.hub l.hub
+      (run_report (g.P.Patterns.report l.fn.patterns) l.fn.steps.forks (g.O.Sink.report l.fn.sink))
+      (run_report (g.P.Patterns.report l.patterns) l.steps.forks (g.O.Sink.report l.sink)) l.taken;
+  links_still : (g.L.Links.report l.links).faults ≡ (g.L.Links.report l.fn.links).faults;
+  sink_still : (g.O.Sink.report l.sink).faults ≡ (g.O.Sink.report l.fn.sink).faults;
+}
