@@ -1,4 +1,4 @@
--- The keys of forks are those of the events that came, each after those that came before it.
+-- The keys that came are those of the events, each after those that came before it.
 use Rattle.std.proofs.Common.{◌≡◌, ◌⊎◌, inl, inr, Bool, true, false, cond, List, [], ◌∷◌, ◌++◌, refl, sym, ap, subst, ◌∙◌, append_assoc}
 use Rattle.std.specs.Prelude.{Contains}
 use Rattle.std.proofs.lemmas.List.{map-append, append-nil}

@@ -1,4 +1,4 @@
--- Which keys the forks of a `by` have, and in which order.
+-- Which keys came to a `by`, and in which order. If no fork ends, these are the keys of its forks.
 use Rattle.std.specs.Prelude.{◌≡◌, ◌↔◌, List, [], ◌∷◌, ◌++◌, map, Contains}
 use Rattle.ev_types.specs.declared.field.Field.{Field}
 use Rattle.ev_types.specs.declared.value.Value.{Value}

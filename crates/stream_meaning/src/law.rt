@@ -58,8 +58,8 @@ pub fn outputs_are_in_order()
     ensures history { OutputsGrow }
 {}
 
-/// A fork's history has all ticks and the events of its key. No key has two forks, and one that has not come yet has
-/// ticks alone.
+/// A fork's history has all ticks and the events that go to it, so ticks alone before the first of these. No key is twice
+/// among those that came.
 pub fn forks_have_their_events()
     ensures apart { ForkKeysAreApart }
     ensures events { ForksHaveTheirEvents }
@@ -138,8 +138,9 @@ pub fn windows_go_by_the_greatest()
     ensures stretch { EventsLieInTheirStretch }
 {}
 
-/// The keys of forks are those of the events that came, each once. They stand in the order in which they first came:
-/// those of a longer history begin with those of the shorter one.
+/// The keys that came are those of the events, each once. They stand in the order in which they first came: those of a
+/// longer history begin with those of the shorter one. If no fork ends, each of them has a fork
+/// (`nothing_ends_without_idle`).
 pub fn keys_come_in_order()
     ensures came { KeysAreThoseThatCame }
     ensures apart { ForkKeysAreApart }
