@@ -8,6 +8,7 @@ use Rattle.stream_meaning.specs.History.{since}
 use Rattle.stream_meaning.specs.Ends.{KeyFork, end_of, ends_next, times_ended, live_forks}
 use Rattle.stream_meaning.specs.Outputs.{due_forks}
 use Rattle.stream_meaning.specs.Deadlines.{plan_deadline}
+use Rattle.stream_meaning.specs.ForkExamples.{of_both}
 use Rattle.stream_meaning.specs.Small.{Step, Wait, Comes, followed, above, alone, noticing, Gives, of_one, of_many, a, b}
 
 -- the fork of a host that had ended this often
@@ -92,3 +93,19 @@ pub record LastDeadlineExample : Type 0 where
   pub other : plan_deadline (idle_by 6 (Batch 10 8)) (followed (since 100) (Wait 1 ∷ Comes (a 101) ∷ Wait 1 ∷ Comes (b 102) ∷ [])) ≡ Some 108
   pub due : due_forks (idle_by 7 (Batch 10 8)) (followed (since 100) (Wait 1 ∷ Comes (a 101) ∷ Wait 7 ∷ [])) ≡ 1
   pub ended : due_forks (idle_by 6 (Batch 10 8)) (followed (since 100) (Wait 1 ∷ Comes (a 101) ∷ Wait 7 ∷ [])) ≡ 0
+
+-- below it a stream of this kind for each state, whose fork goes when that of its host does
+abbrev pub idle_nested : ℕ → KindTree → StreamTrees
+idle_nested secs kind = alone (above (By (Host ∷ []) (Some secs)) (alone (above (By (State ∷ []) None) (noticing kind))))
+
+-- a state of which nothing comes has its fork as long as its host has, with all that it held
+pub record NestedEndExample : Type 0 where
+  pub kept : Gives (idle_nested 5 (FixedEvent 2)) 100 (Comes (of_both "a" "ok" 100) ∷ Wait 4 ∷ Comes (of_both "a" "bad" 104) ∷ Wait 4 ∷ Comes (of_both "a" "ok" 108) ∷ [])
+      (of_many 108 (of_both "a" "ok" 100 ∷ of_both "a" "ok" 108 ∷ []) ∷ [])
+  pub gone : Gives (idle_nested 5 (FixedEvent 2)) 100 (Comes (of_both "a" "ok" 100) ∷ Wait 5 ∷ Comes (of_both "a" "ok" 105) ∷ []) []
+  pub last_tick : Gives (idle_nested 7 (Batch 10 8)) 100 (Wait 1 ∷ Comes (of_both "a" "ok" 101) ∷ Wait 20 ∷ []) (of_many 108 (of_both "a" "ok" 101 ∷ []) ∷ [])
+  pub no_last_tick : Gives (idle_nested 6 (Batch 10 8)) 100 (Wait 1 ∷ Comes (of_both "a" "ok" 101) ∷ Wait 20 ∷ []) []
+  pub due : due_forks (idle_nested 7 (Batch 10 8)) (followed (since 100) (Wait 1 ∷ Comes (of_both "a" "ok" 101) ∷ Wait 7 ∷ [])) ≡ 2
+  pub ended : due_forks (idle_nested 6 (Batch 10 8)) (followed (since 100) (Wait 1 ∷ Comes (of_both "a" "ok" 101) ∷ Wait 7 ∷ [])) ≡ 0
+  pub deadline : plan_deadline (idle_nested 7 (Batch 10 8)) (followed (since 100) (Wait 1 ∷ Comes (of_both "a" "ok" 101) ∷ [])) ≡ Some 108
+  pub no_deadline : plan_deadline (idle_nested 6 (Batch 10 8)) (followed (since 100) (Wait 1 ∷ Comes (of_both "a" "ok" 101) ∷ [])) ≡ None

@@ -9,6 +9,7 @@ ghost use Rattle.stream_meaning.specs.EndExamples.{
   NewForkWindowExample,
   LastTickExample,
   LastDeadlineExample,
+  NestedEndExample,
 };
 ghost use Rattle.stream_meaning.specs.EndLaws.{
   LastMomentsAreLast,
@@ -40,6 +41,7 @@ pub fn end_examples_are_computed()
     ensures new_fork_window { NewForkWindowExample }
     ensures last_tick { LastTickExample }
     ensures last_deadline { LastDeadlineExample }
+    ensures nested_end { NestedEndExample }
 {}
 
 /// A key ends at a tick exactly if its last event came `idle` seconds before, so an event of it comes between two of its
@@ -61,8 +63,8 @@ pub fn nothing_ends_without_idle()
     ensures { NothingEndsWithoutIdle }
 {}
 
-/// No key has two live forks. Exactly the keys have one whose last event came less than `idle` seconds ago, and its
-/// number is how often the key ended.
+/// No key has two live forks, and the number of a live fork is how often its key ended. If `idle` is there and not 0,
+/// exactly the keys have a live fork whose last event came less than `idle` seconds ago.
 pub fn live_forks_are_recent()
     ensures apart { LiveKeysAreApart }
     ensures latest { LiveForksAreTheLatest }
