@@ -1,0 +1,126 @@
+//! Forks that end.
+
+use crate::steps::{counter, is_counted};
+use ev_types::{Key, Value};
+use fork_by::EndingForks;
+use list_laws::{Ids, Memory};
+use std::alloc::{AllocGlobal, Global};
+use std::process::Abort;
+use step_count::{CountLedger, Steps};
+
+fn key(alloc: Global, number: i64) -> Result<Key, Memory> {
+    let mut key = Key::fresh(alloc);
+    key.push(alloc, Value::Number(number))?;
+    Ok(key)
+}
+
+/// Adds a fork with the value under the key of the number, whose last item came at the moment, and gives its number, unless
+/// the key is there.
+fn added(
+    alloc: Global,
+    table: &mut EndingForks<u64>,
+    number: i64,
+    value: u64,
+    now: u64,
+) -> Result<Option<usize>, Memory> {
+    let key = key(alloc, number)?;
+    if table.find(&key).is_some() {
+        return Ok(None);
+    }
+    let number = table.add(alloc, key, value, now)?;
+    Ok(Some(number))
+}
+
+/// Whether the key of the number has this fork number.
+fn is_found(
+    alloc: Global,
+    table: &EndingForks<u64>,
+    number: i64,
+    fork: Option<usize>,
+) -> Result<bool, Memory> {
+    let key = key(alloc, number)?;
+    Ok(table.find(&key) == fork)
+}
+
+/// Sets when the fork of the number is due, if there is such a fork.
+fn set_due(
+    alloc: Global,
+    table: &mut EndingForks<u64>,
+    number: usize,
+    due: u64,
+) -> Result<(), Memory> {
+    if table.contains(number) {
+        table.set_due(alloc, number, Some(due))?;
+    }
+    Ok(())
+}
+
+/// Notes an item of the fork of the number, if there is such a fork.
+fn touch(table: &mut EndingForks<u64>, number: usize, now: u64) {
+    if table.contains(number) {
+        table.touch(number, now);
+    }
+}
+
+/// The value of the fork of the number, if there is such a fork.
+fn value(
+    table: &mut EndingForks<u64>,
+    number: usize,
+    steps: &mut Steps<CountLedger>,
+) -> Option<u64> {
+    if !table.contains(number) {
+        return None;
+    }
+    Some(*table.enter(number, steps))
+}
+
+/// Whether of the forks 10, 20 and 30, which begin at the moments 1, 2 and 3, the second ends at 2 if the first got an item
+/// at 3; and whether a fork that is added then has its number and comes last.
+fn ends_in_order(alloc: Global, table: &mut EndingForks<u64>) -> Result<bool, Memory> {
+    let mut steps = counter();
+    let first = added(alloc, table, 8, 10, 1)?;
+    let second = added(alloc, table, -9, 20, 2)?;
+    let third = added(alloc, table, 7, 30, 3)?;
+    let (Some(first), Some(second), Some(third)) = (first, second, third) else {
+        return Ok(false);
+    };
+    touch(table, first, 3);
+    table.drop_idle(2);
+    let ended = table.len() == 2
+        && is_found(alloc, table, -9, None)?
+        && is_found(alloc, table, 7, Some(third))?
+        && value(table, third, &mut steps) == Some(30)
+        && !table.contains(second);
+    let fourth = added(alloc, table, -9, 40, 4)?;
+    Ok(ended && fourth == Some(second) && are_due(alloc, table, first, second, third)?)
+}
+
+/// Whether the forks are given at moment 7 in the order in which they were added, once though it is asked twice.
+fn are_due(
+    alloc: Global,
+    table: &mut EndingForks<u64>,
+    first: usize,
+    second: usize,
+    third: usize,
+) -> Result<bool, Memory> {
+    let mut steps = counter();
+    set_due(alloc, table, second, 5)?;
+    set_due(alloc, table, third, 7)?;
+    set_due(alloc, table, first, 6)?;
+    let mut ids = Ids::fresh(alloc);
+    let next = table.next_due();
+    table.due_forks(alloc, 7, &mut ids, &mut steps)?;
+    table.due_forks(alloc, 7, &mut ids, &mut steps)?;
+    Ok(
+        next == Some(5)
+            && ids.as_slice() == [first, third, second].as_slice()
+            && table.next_due().is_none()
+            && is_counted(&steps, 0, 3),
+    )
+}
+
+#[test]
+fn a_fork_ends_and_its_number_is_used_again(rt: HostRuntime) {
+    let mut table: EndingForks<u64> = EndingForks::fresh(rt.alloc());
+    assert!(rt; matches!(ends_in_order(rt.alloc(), &mut table), Ok(true)));
+}
