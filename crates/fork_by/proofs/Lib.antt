@@ -5,5 +5,6 @@ pub mod KeptLaws
 pub mod LabelLaws
 pub mod ListLaws
 pub mod OrderLaws
+pub mod RenewLaws
 pub mod SlotLaws
 pub mod TableLaws

@@ -137,7 +137,7 @@ get-before xs x y i h =
     let apart : eqb i (length xs) ≡ false = grind (arith, nat_tests, within) in
     get-push xs x i ∙ ap (λ b. cond b (Some x) (slice_get xs i)) apart ∙ h
 
-taken : {X : Type 0} (m : ℕ) (zs : List X) → m ≤ length zs → length (take m zs) ≡ m
+pub taken : {X : Type 0} (m : ℕ) (zs : List X) → m ≤ length zs → length (take m zs) ≡ m
 taken zero zs h = refl
 taken (suc m) [] h = absurd (omega (arith, h))
 taken (suc m) (z ∷ zs) h = ap suc (taken m zs (omega (arith, h)))

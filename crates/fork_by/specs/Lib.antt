@@ -2,5 +2,6 @@ pub mod Ending
 pub mod Labels
 pub mod Order
 pub mod Register
+pub mod Renew
 pub mod Slots
 pub mod Table

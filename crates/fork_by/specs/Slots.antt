@@ -35,7 +35,7 @@ held (Some slot) = 1
 abbrev pub slot_with : ℕ → ℕ → ℕ → Slot
 slot_with index order moment = record { index = index; order = order; moment = moment }
 
--- the slot, with another index or another moment
+-- the slot, with another index, moment or order
 abbrev pub with_index : ℕ → Option Slot → Option Slot
 with_index index None = None
 with_index index (Some slot) = Some (slot_with index slot.order slot.moment)
@@ -43,3 +43,7 @@ with_index index (Some slot) = Some (slot_with index slot.order slot.moment)
 abbrev pub at_moment : ℕ → Option Slot → Option Slot
 at_moment moment None = None
 at_moment moment (Some slot) = Some (slot_with slot.index slot.order moment)
+
+abbrev pub with_order : ℕ → Option Slot → Option Slot
+with_order order None = None
+with_order order (Some slot) = Some (slot_with slot.index order slot.moment)

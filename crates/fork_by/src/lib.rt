@@ -5,6 +5,7 @@ mod ending;
 mod labels;
 mod order;
 mod register;
+mod renew;
 mod slots;
 mod table;
 

@@ -27,7 +27,7 @@ pub(crate) fn in_order(
 }
 
 /// Puts the number under its order, if it has one.
-fn put(
+pub(crate) fn put(
     map: &mut BTreeMap<u64, usize>,
     slots: &Vec<Option<Slot>>,
     number: usize,

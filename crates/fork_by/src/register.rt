@@ -12,6 +12,7 @@ ghost use Rattle.fork_by.specs.Slots.{slot_at};
 ghost use Rattle.indexmap.specs.IndexMap.{get};
 
 use crate::order::{in_order, push_all};
+use crate::renew::next_order;
 use crate::slots::{
     Change, Slot, clear_slot, index_of, moment_of, reach, set_index, set_moment, set_slot, slot_of,
 };
@@ -98,9 +99,8 @@ impl Register {
         ensures err { OnErr result (self.new ≡ self.old) }
         ensures sound { AreSound self.new }
     {
-        if self.next == u64::MAX {
-            return Err(Memory);
-        }
+        let order = next_order(alloc, &mut self.slots, &self.numbers, self.next)?;
+        self.next = order;
         let moment = now.max(latest(&self.slots, &self.moments));
         let index = self.numbers.len();
         let number = link(
@@ -110,7 +110,6 @@ impl Register {
             &mut self.moments,
             key,
         )?;
-        let order = self.next;
         set_slot(
             &mut self.slots,
             number,

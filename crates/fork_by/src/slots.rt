@@ -1,6 +1,6 @@
 //! What is kept of forks under their numbers.
 ghost use Rattle.std.specs.Prelude.{◌≡◌, ℕ, ◌<◌, length, None, Some, OnOk};
-ghost use Rattle.fork_by.specs.Slots.{slot_at, SetsSlot, at_moment, index_in, moment_in, with_index};
+ghost use Rattle.fork_by.specs.Slots.{slot_at, SetsSlot, at_moment, index_in, moment_in, with_index, with_order};
 
 use list_laws::Memory;
 
@@ -110,6 +110,26 @@ pub(crate) fn set_moment(slots: &mut Vec<Option<Slot>>, number: usize, moment: u
         return;
     };
     let Slot { index, order, .. } = slot;
+    set_slot(
+        slots,
+        number,
+        Slot {
+            index,
+            order,
+            moment,
+        },
+    );
+}
+
+/// Sets the order of the fork of the number.
+pub(crate) fn set_order(slots: &mut Vec<Option<Slot>>, number: usize, order: u64)
+    ensures { SetsSlot slots.old.items slots.new.items number
+        (with_order order (slot_at number slots.old.items)) }
+{
+    let Some(slot) = slot_of(slots, number) else {
+        return;
+    };
+    let Slot { index, moment, .. } = slot;
     set_slot(
         slots,
         number,
