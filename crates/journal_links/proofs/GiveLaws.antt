@@ -159,3 +159,16 @@ gives_turn test n records what some all gives =
     let at = next test n records some all in
     let is = gives at.entry at.later at.is in
     (ap is_memory_turn is ∙ not_memory at.entry.event, ap is_failed_turn is ∙ not_failed at.entry.event)
+
+-- ---- a turn that is lost
+
+pub failed_if : (what : What) → is_failed_turn what ≡ true → what ≡ Failed
+failed_if Idle is = absurd (cc is)
+failed_if (Opened link) is = absurd (cc is)
+failed_if (Read link count) is = absurd (cc is)
+failed_if (Ended link) is = absurd (cc is)
+failed_if (Broken link) is = absurd (cc is)
+failed_if (Room link) is = absurd (cc is)
+failed_if Stopped is = absurd (cc is)
+failed_if Failed is = refl
+failed_if Memory is = absurd (cc is)

@@ -9,7 +9,7 @@ ghost use Rattle.replayed_links.specs.Opened.{opened_after};
 ghost use Rattle.turn_replay.specs.Replaying.{GivesListen, GivesNext, what_of};
 
 use ev_types::Memory;
-use journal_format::{TurnEvent, TurnRecord};
+use journal_format::TurnEvent;
 use ports::{ListenAnswer, PIECE_LIMIT, Turn, What};
 use replayed_links::OpenLinks;
 use turn_replay::Replay;
@@ -118,10 +118,10 @@ fn note_event(event: &TurnEvent, opened: &mut OpenLinks) -> Result<(), Memory>
 }
 
 /// The second of the last record.
-pub(crate) fn last_secs(records: &[TurnRecord]) -> u64
-    ensures { result ≡ last_secs records.now }
+pub(crate) fn last_secs(replay: &Replay) -> u64
+    ensures { result ≡ last_secs replay.now.records }
 {
-    match records.last() {
+    match replay.records.as_slice().last() {
         Some(entry) => entry.secs,
         None => 0,
     }

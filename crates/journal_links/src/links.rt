@@ -30,23 +30,23 @@ pub struct JournalLinks<'a, L: Links, D: Disk> {
     /// The links that are lent, and the journal in which their turns are recorded.
     pub recorded: RecordedLinks<'a, L, D>,
     /// The turns that the journal had.
-    pub replay: Replay,
+    pub replay: &'a mut Replay,
     /// The links that were opened in the turns given again, and not closed since.
-    pub opened: OpenLinks,
+    pub opened: &'a mut OpenLinks,
     /// The calls so far, which only proofs see.
     pub log: CallLog,
     /// The configuration that the journal is of.
-    pub config: Blob,
+    pub config: &'a Blob,
     ghost passes: { Passes (first_after recorded.last) log recorded.log },
-    ghost before: { list_all (is_before (first_after recorded.last)) replay.records ≡ true },
+    ghost before: { list_all (is_before (first_after recorded.last)) replay.now.records ≡ true },
 }
 
 impl<'a, L: Links, D: Disk> JournalLinks<'a, L, D> {
     /// The configuration that the journal is of.
     pub fn config(&self) -> &Blob
-        ensures { result.now ≡ self.now.config }
+        ensures { result.now ≡ self.now.config.now }
     {
-        &self.config
+        self.config
     }
 
     /// Whether a call of the disk failed in the last call.
@@ -58,7 +58,7 @@ impl<'a, L: Links, D: Disk> JournalLinks<'a, L, D> {
 
     /// Whether the last turn was one of those that the journal had, and not the last of them.
     pub fn replayed(&self) -> bool
-        ensures { result ≡ is_replayed self.now.replay.records self.now.replay.given }
+        ensures { result ≡ is_replayed self.now.replay.now.records self.now.replay.now.given }
     {
         self.replay.given > 1 && !self.replay.is_over()
     }
@@ -83,21 +83,22 @@ impl<'a, L: Links, D: Disk> JournalLinks<'a, L, D> {
             (D.report self.old.recorded.recorder.journal.disk.now)
             self.old.recorded.recorder.journal.gate
             self.old.recorded.recorder.journal.has_record
-            self.old.recorded.recorder.sends.summaries.items self.old.recorded.spent)
+            self.old.recorded.recorder.sends.now.summaries.items self.old.recorded.spent)
             (seen (L.report self.new.recorded.inner.now) (first_after self.new.recorded.last)
             (D.report self.new.recorded.recorder.journal.disk.now)
             self.new.recorded.recorder.journal.gate
             self.new.recorded.recorder.journal.has_record
-            self.new.recorded.recorder.sends.summaries.items self.new.recorded.spent)
-            (progress_of self.old.replay.records self.old.replay.given self.old.replay.left.items
-            self.old.opened.numbers.keys)
-            (progress_of self.new.replay.records self.new.replay.given self.new.replay.left.items
-            self.new.opened.numbers.keys)
+            self.new.recorded.recorder.sends.now.summaries.items self.new.recorded.spent)
+            (progress_of self.old.replay.now.records self.old.replay.now.given self.old.replay.now.left.items
+            self.old.opened.now.numbers.keys)
+            (progress_of self.new.replay.now.records self.new.replay.now.given self.new.replay.now.left.items
+            self.new.opened.now.numbers.keys)
             address.now result }
         ensures failed { result ≡ ListenAnswer.Failed → self.new.recorded.disk_failed ≡ false →
             Rose (L.report self.old.recorded.inner.now).faults
             (L.report self.new.recorded.inner.now).faults }
         ensures memory { result ≡ ListenAnswer.Memory → self.new.recorded.spent ≡ true }
+        ensures lost { self.new.recorded.disk_failed ≡ true → result ≡ ListenAnswer.Failed }
         ensures fault { self.new.recorded.disk_failed ≡ true → self.new.recorded.spent ≡ true }
         ensures disk_failed { FailedIf self.new.recorded.disk_failed
             (D.report self.old.recorded.recorder.journal.disk.now).faults
@@ -105,7 +106,7 @@ impl<'a, L: Links, D: Disk> JournalLinks<'a, L, D> {
         ensures log { self.new.log ≡ self.old.log }
         ensures opened { (D.report self.new.recorded.recorder.journal.disk.now).opened
             ≡ (D.report self.old.recorded.recorder.journal.disk.now).opened }
-        ensures config { self.new.config ≡ self.old.config }
+        ensures config { self.new.config.now ≡ self.old.config.now }
         ensures last { self.new.recorded.last ≡ self.old.recorded.last }
         ensures inner_same { self.new.recorded.inner.ghost_name
             ≡ self.old.recorded.inner.ghost_name }
@@ -125,8 +126,8 @@ impl<'a, L: Links, D: Disk> JournalLinks<'a, L, D> {
 
     /// Asks the inner links to listen, and answers with the journal's first second. Nothing is recorded.
     fn listen_again(&mut self, alloc: Global, address: &Text) -> ListenAnswer
-        requires some { self.old.replay.given < length self.old.replay.records }
-        requires unbegun { self.old.replay.given ≡ 0 }
+        requires some { self.old.replay.now.given < length self.old.replay.now.records }
+        requires unbegun { self.old.replay.now.given ≡ 0 }
         requires unspent { self.old.recorded.spent ≡ false }
         requires unfailed { self.old.recorded.disk_failed ≡ false }
         ensures adds { (log : List Entry) → AddsCalls
@@ -147,16 +148,16 @@ impl<'a, L: Links, D: Disk> JournalLinks<'a, L, D> {
             (D.report self.old.recorded.recorder.journal.disk.now)
             self.old.recorded.recorder.journal.gate
             self.old.recorded.recorder.journal.has_record
-            self.old.recorded.recorder.sends.summaries.items self.old.recorded.spent)
+            self.old.recorded.recorder.sends.now.summaries.items self.old.recorded.spent)
             (seen (L.report self.new.recorded.inner.now) (first_after self.new.recorded.last)
             (D.report self.new.recorded.recorder.journal.disk.now)
             self.new.recorded.recorder.journal.gate
             self.new.recorded.recorder.journal.has_record
-            self.new.recorded.recorder.sends.summaries.items self.new.recorded.spent)
-            (progress_of self.old.replay.records self.old.replay.given self.old.replay.left.items
-            self.old.opened.numbers.keys)
-            (progress_of self.new.replay.records self.new.replay.given self.new.replay.left.items
-            self.new.opened.numbers.keys)
+            self.new.recorded.recorder.sends.now.summaries.items self.new.recorded.spent)
+            (progress_of self.old.replay.now.records self.old.replay.now.given self.old.replay.now.left.items
+            self.old.opened.now.numbers.keys)
+            (progress_of self.new.replay.now.records self.new.replay.now.given self.new.replay.now.left.items
+            self.new.opened.now.numbers.keys)
             address.now result }
         ensures failed { result ≡ ListenAnswer.Failed →
             Rose (L.report self.old.recorded.inner.now).faults
@@ -168,7 +169,7 @@ impl<'a, L: Links, D: Disk> JournalLinks<'a, L, D> {
         ensures log { self.new.log ≡ self.old.log }
         ensures opened { (D.report self.new.recorded.recorder.journal.disk.now).opened
             ≡ (D.report self.old.recorded.recorder.journal.disk.now).opened }
-        ensures config { self.new.config ≡ self.old.config }
+        ensures config { self.new.config.now ≡ self.old.config.now }
         ensures last { self.new.recorded.last ≡ self.old.recorded.last }
         ensures inner_same { self.new.recorded.inner.ghost_name
             ≡ self.old.recorded.inner.ghost_name }
@@ -176,7 +177,7 @@ impl<'a, L: Links, D: Disk> JournalLinks<'a, L, D> {
             ≡ self.old.recorded.recorder.journal.disk.ghost_name }
     {
         let asked = self.recorded.listen_again(alloc, address);
-        let answer = first_answer(&mut self.replay, asked);
+        let answer = first_answer(self.replay, asked);
         self.recorded.spent = answer == ListenAnswer::Memory;
         answer
     }
@@ -203,21 +204,22 @@ impl<'a, L: Links, D: Disk> JournalLinks<'a, L, D> {
             (D.report self.old.recorded.recorder.journal.disk.now)
             self.old.recorded.recorder.journal.gate
             self.old.recorded.recorder.journal.has_record
-            self.old.recorded.recorder.sends.summaries.items self.old.recorded.spent)
+            self.old.recorded.recorder.sends.now.summaries.items self.old.recorded.spent)
             (seen (L.report self.new.recorded.inner.now) (first_after self.new.recorded.last)
             (D.report self.new.recorded.recorder.journal.disk.now)
             self.new.recorded.recorder.journal.gate
             self.new.recorded.recorder.journal.has_record
-            self.new.recorded.recorder.sends.summaries.items self.new.recorded.spent)
-            (progress_of self.old.replay.records self.old.replay.given self.old.replay.left.items
-            self.old.opened.numbers.keys)
-            (progress_of self.new.replay.records self.new.replay.given self.new.replay.left.items
-            self.new.opened.numbers.keys)
+            self.new.recorded.recorder.sends.now.summaries.items self.new.recorded.spent)
+            (progress_of self.old.replay.now.records self.old.replay.now.given self.old.replay.now.left.items
+            self.old.opened.now.numbers.keys)
+            (progress_of self.new.replay.now.records self.new.replay.now.given self.new.replay.now.left.items
+            self.new.opened.now.numbers.keys)
             wants.now buf.new result }
         ensures failed { result.what ≡ What.Failed → self.new.recorded.disk_failed ≡ false →
             Rose (L.report self.old.recorded.inner.now).faults
             (L.report self.new.recorded.inner.now).faults }
         ensures memory { result.what ≡ What.Memory → self.new.recorded.spent ≡ true }
+        ensures lost { self.new.recorded.disk_failed ≡ true → result.what ≡ What.Failed }
         ensures fault { self.new.recorded.disk_failed ≡ true → self.new.recorded.spent ≡ true }
         ensures disk_failed { FailedIf self.new.recorded.disk_failed
             (D.report self.old.recorded.recorder.journal.disk.now).faults
@@ -225,7 +227,7 @@ impl<'a, L: Links, D: Disk> JournalLinks<'a, L, D> {
         ensures log { self.new.log ≡ self.old.log }
         ensures opened { (D.report self.new.recorded.recorder.journal.disk.now).opened
             ≡ (D.report self.old.recorded.recorder.journal.disk.now).opened }
-        ensures config { self.new.config ≡ self.old.config }
+        ensures config { self.new.config.now ≡ self.old.config.now }
         ensures last { self.new.recorded.last ≡ self.old.recorded.last }
         ensures inner_same { self.new.recorded.inner.ghost_name
             ≡ self.old.recorded.inner.ghost_name }
@@ -243,7 +245,7 @@ impl<'a, L: Links, D: Disk> JournalLinks<'a, L, D> {
 
     /// Gives the next turn of the journal again.
     fn turn_again(&mut self, buf: &mut [u8]) -> Turn
-        requires some { self.old.replay.given < length self.old.replay.records }
+        requires some { self.old.replay.now.given < length self.old.replay.now.records }
         requires whole { length buf.old ≡ PIECE_LIMIT }
         ensures within { IsPieceWithin PIECE_LIMIT result.what }
         ensures step { (wants : List Want) → NextOf
@@ -251,16 +253,16 @@ impl<'a, L: Links, D: Disk> JournalLinks<'a, L, D> {
             (D.report self.old.recorded.recorder.journal.disk.now)
             self.old.recorded.recorder.journal.gate
             self.old.recorded.recorder.journal.has_record
-            self.old.recorded.recorder.sends.summaries.items self.old.recorded.spent)
+            self.old.recorded.recorder.sends.now.summaries.items self.old.recorded.spent)
             (seen (L.report self.new.recorded.inner.now) (first_after self.new.recorded.last)
             (D.report self.new.recorded.recorder.journal.disk.now)
             self.new.recorded.recorder.journal.gate
             self.new.recorded.recorder.journal.has_record
-            self.new.recorded.recorder.sends.summaries.items self.new.recorded.spent)
-            (progress_of self.old.replay.records self.old.replay.given self.old.replay.left.items
-            self.old.opened.numbers.keys)
-            (progress_of self.new.replay.records self.new.replay.given self.new.replay.left.items
-            self.new.opened.numbers.keys)
+            self.new.recorded.recorder.sends.now.summaries.items self.new.recorded.spent)
+            (progress_of self.old.replay.now.records self.old.replay.now.given self.old.replay.now.left.items
+            self.old.opened.now.numbers.keys)
+            (progress_of self.new.replay.now.records self.new.replay.now.given self.new.replay.now.left.items
+            self.new.opened.now.numbers.keys)
             wants buf.new result }
         ensures before { opens_before (first_after self.new.recorded.last) result.what ≡ true }
         ensures unfailed { is_failed_turn result.what ≡ false }
@@ -274,7 +276,7 @@ impl<'a, L: Links, D: Disk> JournalLinks<'a, L, D> {
         ensures log { self.new.log ≡ self.old.log }
         ensures opened { (D.report self.new.recorded.recorder.journal.disk.now).opened
             ≡ (D.report self.old.recorded.recorder.journal.disk.now).opened }
-        ensures config { self.new.config ≡ self.old.config }
+        ensures config { self.new.config.now ≡ self.old.config.now }
         ensures last { self.new.recorded.last ≡ self.old.recorded.last }
         ensures inner_same { self.new.recorded.inner.ghost_name
             ≡ self.old.recorded.inner.ghost_name }
@@ -289,7 +291,7 @@ impl<'a, L: Links, D: Disk> JournalLinks<'a, L, D> {
                 what: What::Memory,
             };
         }
-        let turn = next_turn(&mut self.replay, &mut self.opened, buf);
+        let turn = next_turn(self.replay, self.opened, buf);
         self.recorded.spent = turn.what == What::Memory;
         turn
     }
@@ -302,17 +304,17 @@ impl<'a, L: Links, D: Disk> JournalLinks<'a, L, D> {
             (D.report self.old.recorded.recorder.journal.disk.now)
             self.old.recorded.recorder.journal.gate
             self.old.recorded.recorder.journal.has_record
-            self.old.recorded.recorder.sends.summaries.items self.old.recorded.spent)
+            self.old.recorded.recorder.sends.now.summaries.items self.old.recorded.spent)
             (seen (L.report self.new.recorded.inner.now) (first_after self.new.recorded.last)
             (D.report self.new.recorded.recorder.journal.disk.now)
             self.new.recorded.recorder.journal.gate
             self.new.recorded.recorder.journal.has_record
-            self.new.recorded.recorder.sends.summaries.items self.new.recorded.spent)
-            (record { secs = last_secs self.old.replay.records; what = Broken link }) result }
+            self.new.recorded.recorder.sends.now.summaries.items self.new.recorded.spent)
+            (record { secs = last_secs self.old.replay.now.records; what = Broken link }) result }
         ensures before { opens_before (first_after self.new.recorded.last) result.what ≡ true }
-        ensures opened_links { self.new.opened.numbers.keys
-            ≡ closed_after link self.old.opened.numbers.keys }
-        ensures replay { self.new.replay ≡ self.old.replay }
+        ensures opened_links { self.new.opened.now.numbers.keys
+            ≡ closed_after link self.old.opened.now.numbers.keys }
+        ensures replay { self.new.replay.now ≡ self.old.replay.now }
         ensures cause { HasNextCause
             (own_report self.old.log (L.report self.old.recorded.inner.now)
             (D.report self.old.recorded.recorder.journal.disk.now)).faults
@@ -320,6 +322,7 @@ impl<'a, L: Links, D: Disk> JournalLinks<'a, L, D> {
             (D.report self.new.recorded.recorder.journal.disk.now)).faults result.what }
         ensures failed { result.what ≡ What.Failed → self.new.recorded.disk_failed ≡ true }
         ensures memory { result.what ≡ What.Memory → self.new.recorded.spent ≡ true }
+        ensures lost { self.new.recorded.disk_failed ≡ true → result.what ≡ What.Failed }
         ensures fault { self.new.recorded.disk_failed ≡ true → self.new.recorded.spent ≡ true }
         ensures inner { L.report self.new.recorded.inner.now
             ≡ L.report self.old.recorded.inner.now }
@@ -330,14 +333,14 @@ impl<'a, L: Links, D: Disk> JournalLinks<'a, L, D> {
         ensures log { self.new.log ≡ self.old.log }
         ensures opened { (D.report self.new.recorded.recorder.journal.disk.now).opened
             ≡ (D.report self.old.recorded.recorder.journal.disk.now).opened }
-        ensures config { self.new.config ≡ self.old.config }
+        ensures config { self.new.config.now ≡ self.old.config.now }
         ensures last { self.new.recorded.last ≡ self.old.recorded.last }
         ensures inner_same { self.new.recorded.inner.ghost_name
             ≡ self.old.recorded.inner.ghost_name }
         ensures disk_same { self.new.recorded.recorder.journal.disk.ghost_name
             ≡ self.old.recorded.recorder.journal.disk.ghost_name }
     {
-        let secs = last_secs(self.replay.records.as_slice());
+        let secs = last_secs(self.replay);
         let broken = Turn {
             secs,
             what: What::Broken { link },
@@ -368,23 +371,23 @@ impl<'a, L: Links, D: Disk> JournalLinks<'a, L, D> {
             (D.report self.old.recorded.recorder.journal.disk.now)
             self.old.recorded.recorder.journal.gate
             self.old.recorded.recorder.journal.has_record
-            self.old.recorded.recorder.sends.summaries.items self.old.recorded.spent)
+            self.old.recorded.recorder.sends.now.summaries.items self.old.recorded.spent)
             (seen (L.report self.new.recorded.inner.now) (first_after self.new.recorded.last)
             (D.report self.new.recorded.recorder.journal.disk.now)
             self.new.recorded.recorder.journal.gate
             self.new.recorded.recorder.journal.has_record
-            self.new.recorded.recorder.sends.summaries.items self.new.recorded.spent)
-            (progress_of self.old.replay.records self.old.replay.given self.old.replay.left.items
-            self.old.opened.numbers.keys)
-            (progress_of self.new.replay.records self.new.replay.given self.new.replay.left.items
-            self.new.opened.numbers.keys)
+            self.new.recorded.recorder.sends.now.summaries.items self.new.recorded.spent)
+            (progress_of self.old.replay.now.records self.old.replay.now.given self.old.replay.now.left.items
+            self.old.opened.now.numbers.keys)
+            (progress_of self.new.replay.now.records self.new.replay.now.given self.new.replay.now.left.items
+            self.new.opened.now.numbers.keys)
             link bytes.now result }
         ensures spent { result ≡ SendAnswer.Memory → self.new.recorded.spent ≡ true }
         ensures disk_failed { self.new.recorded.disk_failed ≡ false }
         ensures log { self.new.log ≡ self.old.log }
         ensures opened { (D.report self.new.recorded.recorder.journal.disk.now).opened
             ≡ (D.report self.old.recorded.recorder.journal.disk.now).opened }
-        ensures config { self.new.config ≡ self.old.config }
+        ensures config { self.new.config.now ≡ self.old.config.now }
         ensures last { self.new.recorded.last ≡ self.old.recorded.last }
         ensures inner_same { self.new.recorded.inner.ghost_name
             ≡ self.old.recorded.inner.ghost_name }
@@ -422,16 +425,16 @@ impl<'a, L: Links, D: Disk> Links for JournalLinks<'a, L, D> {
             (D.report self.old.recorded.recorder.journal.disk.now)
             self.old.recorded.recorder.journal.gate
             self.old.recorded.recorder.journal.has_record
-            self.old.recorded.recorder.sends.summaries.items self.old.recorded.spent)
+            self.old.recorded.recorder.sends.now.summaries.items self.old.recorded.spent)
             (seen (L.report self.new.recorded.inner.now) (first_after self.new.recorded.last)
             (D.report self.new.recorded.recorder.journal.disk.now)
             self.new.recorded.recorder.journal.gate
             self.new.recorded.recorder.journal.has_record
-            self.new.recorded.recorder.sends.summaries.items self.new.recorded.spent)
-            (progress_of self.old.replay.records self.old.replay.given self.old.replay.left.items
-            self.old.opened.numbers.keys)
-            (progress_of self.new.replay.records self.new.replay.given self.new.replay.left.items
-            self.new.opened.numbers.keys)
+            self.new.recorded.recorder.sends.now.summaries.items self.new.recorded.spent)
+            (progress_of self.old.replay.now.records self.old.replay.now.given self.old.replay.now.left.items
+            self.old.opened.now.numbers.keys)
+            (progress_of self.new.replay.now.records self.new.replay.now.given self.new.replay.now.left.items
+            self.new.opened.now.numbers.keys)
             address.now result }
         ensures disk_failed { FailedIf self.new.recorded.disk_failed
             (D.report self.old.recorded.recorder.journal.disk.now).faults
@@ -440,11 +443,12 @@ impl<'a, L: Links, D: Disk> Links for JournalLinks<'a, L, D> {
             Rose (L.report self.old.recorded.inner.now).faults
             (L.report self.new.recorded.inner.now).faults }
         ensures memory { result ≡ ListenAnswer.Memory → self.new.recorded.spent ≡ true }
+        ensures lost { self.new.recorded.disk_failed ≡ true → result ≡ ListenAnswer.Failed }
         ensures fault { self.new.recorded.disk_failed ≡ true → self.new.recorded.spent ≡ true }
         ensures log { self.new.log ≡ self.old.log ++ listen_entries address.now result }
         ensures opened { (D.report self.new.recorded.recorder.journal.disk.now).opened
             ≡ (D.report self.old.recorded.recorder.journal.disk.now).opened }
-        ensures config { self.new.config ≡ self.old.config }
+        ensures config { self.new.config.now ≡ self.old.config.now }
         ensures last { self.new.recorded.last ≡ self.old.recorded.last }
         ensures inner_same { self.new.recorded.inner.ghost_name
             ≡ self.old.recorded.inner.ghost_name }
@@ -477,16 +481,16 @@ impl<'a, L: Links, D: Disk> Links for JournalLinks<'a, L, D> {
             (D.report self.old.recorded.recorder.journal.disk.now)
             self.old.recorded.recorder.journal.gate
             self.old.recorded.recorder.journal.has_record
-            self.old.recorded.recorder.sends.summaries.items self.old.recorded.spent)
+            self.old.recorded.recorder.sends.now.summaries.items self.old.recorded.spent)
             (seen (L.report self.new.recorded.inner.now) (first_after self.new.recorded.last)
             (D.report self.new.recorded.recorder.journal.disk.now)
             self.new.recorded.recorder.journal.gate
             self.new.recorded.recorder.journal.has_record
-            self.new.recorded.recorder.sends.summaries.items self.new.recorded.spent)
-            (progress_of self.old.replay.records self.old.replay.given self.old.replay.left.items
-            self.old.opened.numbers.keys)
-            (progress_of self.new.replay.records self.new.replay.given self.new.replay.left.items
-            self.new.opened.numbers.keys)
+            self.new.recorded.recorder.sends.now.summaries.items self.new.recorded.spent)
+            (progress_of self.old.replay.now.records self.old.replay.now.given self.old.replay.now.left.items
+            self.old.opened.now.numbers.keys)
+            (progress_of self.new.replay.now.records self.new.replay.now.given self.new.replay.now.left.items
+            self.new.opened.now.numbers.keys)
             wants.now buf.new result }
         ensures disk_failed { FailedIf self.new.recorded.disk_failed
             (D.report self.old.recorded.recorder.journal.disk.now).faults
@@ -495,11 +499,12 @@ impl<'a, L: Links, D: Disk> Links for JournalLinks<'a, L, D> {
             Rose (L.report self.old.recorded.inner.now).faults
             (L.report self.new.recorded.inner.now).faults }
         ensures memory { result.what ≡ What.Memory → self.new.recorded.spent ≡ true }
+        ensures lost { self.new.recorded.disk_failed ≡ true → result.what ≡ What.Failed }
         ensures fault { self.new.recorded.disk_failed ≡ true → self.new.recorded.spent ≡ true }
         ensures log { self.new.log ≡ self.old.log ++ next_entries wants.now buf.new result }
         ensures opened { (D.report self.new.recorded.recorder.journal.disk.now).opened
             ≡ (D.report self.old.recorded.recorder.journal.disk.now).opened }
-        ensures config { self.new.config ≡ self.old.config }
+        ensures config { self.new.config.now ≡ self.old.config.now }
         ensures last { self.new.recorded.last ≡ self.old.recorded.last }
         ensures inner_same { self.new.recorded.inner.ghost_name
             ≡ self.old.recorded.inner.ghost_name }
@@ -531,23 +536,23 @@ impl<'a, L: Links, D: Disk> Links for JournalLinks<'a, L, D> {
             (D.report self.old.recorded.recorder.journal.disk.now)
             self.old.recorded.recorder.journal.gate
             self.old.recorded.recorder.journal.has_record
-            self.old.recorded.recorder.sends.summaries.items self.old.recorded.spent)
+            self.old.recorded.recorder.sends.now.summaries.items self.old.recorded.spent)
             (seen (L.report self.new.recorded.inner.now) (first_after self.new.recorded.last)
             (D.report self.new.recorded.recorder.journal.disk.now)
             self.new.recorded.recorder.journal.gate
             self.new.recorded.recorder.journal.has_record
-            self.new.recorded.recorder.sends.summaries.items self.new.recorded.spent)
-            (progress_of self.old.replay.records self.old.replay.given self.old.replay.left.items
-            self.old.opened.numbers.keys)
-            (progress_of self.new.replay.records self.new.replay.given self.new.replay.left.items
-            self.new.opened.numbers.keys)
+            self.new.recorded.recorder.sends.now.summaries.items self.new.recorded.spent)
+            (progress_of self.old.replay.now.records self.old.replay.now.given self.old.replay.now.left.items
+            self.old.opened.now.numbers.keys)
+            (progress_of self.new.replay.now.records self.new.replay.now.given self.new.replay.now.left.items
+            self.new.opened.now.numbers.keys)
             link bytes.now result }
         ensures spent { result ≡ SendAnswer.Memory → self.new.recorded.spent ≡ true }
         ensures disk_failed { self.new.recorded.disk_failed ≡ false }
         ensures log { self.new.log ≡ self.old.log ++ send_entries link bytes.now result }
         ensures opened { (D.report self.new.recorded.recorder.journal.disk.now).opened
             ≡ (D.report self.old.recorded.recorder.journal.disk.now).opened }
-        ensures config { self.new.config ≡ self.old.config }
+        ensures config { self.new.config.now ≡ self.old.config.now }
         ensures last { self.new.recorded.last ≡ self.old.recorded.last }
         ensures inner_same { self.new.recorded.inner.ghost_name
             ≡ self.old.recorded.inner.ghost_name }
@@ -579,22 +584,22 @@ impl<'a, L: Links, D: Disk> Links for JournalLinks<'a, L, D> {
             (D.report self.old.recorded.recorder.journal.disk.now)
             self.old.recorded.recorder.journal.gate
             self.old.recorded.recorder.journal.has_record
-            self.old.recorded.recorder.sends.summaries.items self.old.recorded.spent)
+            self.old.recorded.recorder.sends.now.summaries.items self.old.recorded.spent)
             (seen (L.report self.new.recorded.inner.now) (first_after self.new.recorded.last)
             (D.report self.new.recorded.recorder.journal.disk.now)
             self.new.recorded.recorder.journal.gate
             self.new.recorded.recorder.journal.has_record
-            self.new.recorded.recorder.sends.summaries.items self.new.recorded.spent)
-            (progress_of self.old.replay.records self.old.replay.given self.old.replay.left.items
-            self.old.opened.numbers.keys)
-            (progress_of self.new.replay.records self.new.replay.given self.new.replay.left.items
-            self.new.opened.numbers.keys)
+            self.new.recorded.recorder.sends.now.summaries.items self.new.recorded.spent)
+            (progress_of self.old.replay.now.records self.old.replay.now.given self.old.replay.now.left.items
+            self.old.opened.now.numbers.keys)
+            (progress_of self.new.replay.now.records self.new.replay.now.given self.new.replay.now.left.items
+            self.new.opened.now.numbers.keys)
             link }
         ensures disk_failed { self.new.recorded.disk_failed ≡ false }
         ensures log { self.new.log ≡ self.old.log ++ Close link ∷ [] }
         ensures opened { (D.report self.new.recorded.recorder.journal.disk.now).opened
             ≡ (D.report self.old.recorded.recorder.journal.disk.now).opened }
-        ensures config { self.new.config ≡ self.old.config }
+        ensures config { self.new.config.now ≡ self.old.config.now }
         ensures last { self.new.recorded.last ≡ self.old.recorded.last }
         ensures inner_same { self.new.recorded.inner.ghost_name
             ≡ self.old.recorded.inner.ghost_name }

@@ -1,17 +1,12 @@
 //! What the inner links are asked, with their own numbers.
 
-ghost use Rattle.std.specs.Prelude.{◌≡◌, ◌<◌, ◌++◌, None, false, true, length, OnOk};
-ghost use Rattle.std.specs.Option.{ForSome};
-ghost use Rattle.ports.specs.Calls.{AddsCalls};
-ghost use Rattle.ports.specs.Links.{IsPieceWithin, IsWithin, send_entries};
-ghost use Rattle.ports.specs.declared.links.SendAnswer.TheVariants as send;
+ghost use Rattle.std.specs.Prelude.{◌≡◌, ◌++◌, length, OnOk};
+ghost use Rattle.ports.specs.Links.{IsPieceWithin};
 ghost use Rattle.recorded_links.specs.Numbers.{first_after, inner_number, inner_want, inner_wants, own_number, own_turn, own_what};
-ghost use Rattle.recorded_links.specs.Sending.{Fits, may_note, taken_by};
 ghost use Rattle.recorded_links.specs.Steps.{Asks};
 
-use crate::sends::Sends;
 use ev_types::Memory;
-use ports::{Links, PIECE_LIMIT, SendAnswer, Turn, Want, Wants, What};
+use ports::{Links, PIECE_LIMIT, Turn, Want, Wants, What};
 use std::alloc::Global;
 
 /// Asks the inner links for a turn, and gives it with the numbers here. `kept` is room for what is wanted of them.
@@ -140,36 +135,4 @@ fn own_what(last: Option<u64>, what: What) -> What
         },
         What::Idle | What::Stopped | What::Failed | What::Memory => what,
     }
-}
-
-/// Offers the bytes to the inner link, or holds them back: if the link is not an inner one, or what came of the send could
-/// not be noted.
-pub(crate) fn offer<L: Links>(
-    alloc: Global,
-    inner: &mut L,
-    last: Option<u64>,
-    sends: &Sends,
-    link: u64,
-    bytes: &[u8],
-) -> SendAnswer
-    requires { 0 < length bytes.now }
-    ensures within { IsWithin (length bytes.now) result }
-    ensures passed { ForSome (inner_number (first_after last) link) (λ number.
-        may_note link (length bytes.now) sends.now.summaries.items ≡ true →
-        AddsCalls (L.report inner.old) (L.report inner.new)
-        (send_entries number bytes.now result)) }
-    ensures own { inner_number (first_after last) link ≡ None →
-        (result ≡ send.Later) × (L.report inner.new ≡ L.report inner.old) }
-    ensures unnoted { may_note link (length bytes.now) sends.now.summaries.items ≡ false →
-        (result ≡ send.Later) × (L.report inner.new ≡ L.report inner.old) }
-    ensures fits { Fits link (taken_by result) sends.now.summaries.items }
-    ensures no_fault { (L.report inner.new).faults ≡ (L.report inner.old).faults }
-{
-    let Some(number) = inner_number(last, link) else {
-        return SendAnswer::Later;
-    };
-    if !sends.may_note(link, bytes.len()) {
-        return SendAnswer::Later;
-    }
-    inner.send(alloc, number, bytes)
 }

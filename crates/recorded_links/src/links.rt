@@ -10,9 +10,10 @@ ghost use Rattle.recorded_links.specs.Numbers.{Knows, first_after};
 ghost use Rattle.recorded_links.specs.Steps.{CloseStep, ListenStep, NextStep, SendStep, Unsent, own_report, seen};
 ghost use Rattle.turn_journal.specs.Beginning.{StandsBlank};
 
-use crate::ask::{ask, inner_number, offer};
+use crate::ask::{ask, inner_number};
 use crate::call_log::CallLog;
 use crate::recorder::TurnRecorder;
+use crate::room::{RecordRoom, TurnRoom};
 use disk_port::Disk;
 use ev_types::{Memory, Text};
 use journal_format::{JOURNAL_LIMIT, STEP_LIMIT};
@@ -20,8 +21,9 @@ use ports::{Links, ListenAnswer, PIECE_LIMIT, SendAnswer, Turn, Wants, What};
 use std::alloc::Global;
 use turn_journal::{JournalFault, JournalFile};
 
-/// Links that are lent, and whose answers to `listen` and `next` are recorded in a journal before they are handed out.
-/// Contracts see what calls were made of both, and whether these links may still be used.
+/// Links that are lent, and whose answers to `listen` and `next` are recorded in a journal before they are handed out. They
+/// hold references alone, so that a caller gets back all that it lent. Contracts see what calls were made of links and
+/// journal, and whether these links may still be used.
 #[derive(Drop)]
 pub struct RecordedLinks<'a, L: Links, D: Disk> {
     pub inner: &'a mut L,
@@ -35,7 +37,7 @@ pub struct RecordedLinks<'a, L: Links, D: Disk> {
     /// The calls so far, which only proofs see.
     pub log: CallLog,
     // room for what is wanted of the inner links
-    wants: Wants,
+    wants: &'a mut Wants,
     ghost sound: { spent ≡ false → recorder.journal.failed ≡ false },
     ghost room: { recorder.journal.has_record ≡ false →
         recorder.journal.gate + step_limit < journal_limit },
@@ -43,32 +45,33 @@ pub struct RecordedLinks<'a, L: Links, D: Disk> {
 }
 
 impl<'a, L: Links, D: Disk> RecordedLinks<'a, L, D> {
-    /// Links that record in this journal. It takes no memory.
+    /// Links that record in this journal, and note in this room.
     pub fn over(
-        alloc: Global,
         inner: &'a mut L,
         journal: JournalFile<'a, D>,
         last: Option<u64>,
+        room: &'a mut TurnRoom,
     ) -> RecordedLinks<'a, L, D>
         requires sound { journal.failed ≡ false }
         requires room { journal.has_record ≡ false → journal.gate + step_limit < journal_limit }
         ensures inner { result.inner.now ≡ inner.entry.now }
         ensures inner_same { result.inner.ghost_name ≡ inner.entry.ghost_name }
         ensures journal { result.recorder.journal ≡ journal.entry }
-        ensures sends { result.recorder.sends.summaries.items ≡ [] }
+        ensures sends { result.recorder.sends.now.summaries.items ≡ [] }
         ensures last { result.last ≡ last }
         ensures ready { result.spent ≡ false }
         ensures quiet { result.disk_failed ≡ false }
         ensures log { result.log ≡ [] }
     {
+        let recorder = TurnRecorder::over(journal, &mut room.sends, &mut room.record);
         RecordedLinks {
             inner,
-            recorder: TurnRecorder::over(alloc, journal),
+            recorder,
             last,
             spent: false,
             disk_failed: false,
             log: CallLog::fresh(),
-            wants: Wants::fresh(alloc),
+            wants: &mut room.wants,
         }
     }
 
@@ -78,6 +81,7 @@ impl<'a, L: Links, D: Disk> RecordedLinks<'a, L, D> {
         alloc: Global,
         inner: &'a mut L,
         disk: &'a mut D,
+        room: &'a mut RecordRoom,
         config: &[u8],
     ) -> Result<RecordedLinks<'a, L, D>, JournalFault>
         requires { length config.now ≤ config_limit }
@@ -98,14 +102,14 @@ impl<'a, L: Links, D: Disk> RecordedLinks<'a, L, D> {
         ensures opened { IfOk result (λ links.
             (D.report links.recorder.journal.disk.now).opened
             ≡ (D.report disk.entry.now).opened) }
-        ensures sends { IfOk result (λ links. links.recorder.sends.summaries.items ≡ []) }
+        ensures sends { IfOk result (λ links. links.recorder.sends.now.summaries.items ≡ []) }
         ensures last { IfOk result (λ links. links.last ≡ None) }
         ensures ready { IfOk result (λ links. links.spent ≡ false) }
         ensures log { IfOk result (λ links. links.log ≡ []) }
     {
-        match JournalFile::begin(alloc, disk, config) {
+        match JournalFile::begin(alloc, disk, &mut room.written, config) {
             Ok(journal) => {
-                let links = RecordedLinks::over(alloc, inner, journal, None);
+                let links = RecordedLinks::over(inner, journal, None, &mut room.turns);
                 Ok(links)
             }
             Err(fault) => Err(fault),
@@ -134,11 +138,11 @@ impl<'a, L: Links, D: Disk> Links for RecordedLinks<'a, L, D> {
         ensures step { ListenStep
             (seen (L.report self.old.inner.now) (first_after self.old.last)
             (D.report self.old.recorder.journal.disk.now) self.old.recorder.journal.gate
-            self.old.recorder.journal.has_record self.old.recorder.sends.summaries.items
+            self.old.recorder.journal.has_record self.old.recorder.sends.now.summaries.items
             self.old.spent)
             (seen (L.report self.new.inner.now) (first_after self.new.last)
             (D.report self.new.recorder.journal.disk.now) self.new.recorder.journal.gate
-            self.new.recorder.journal.has_record self.new.recorder.sends.summaries.items
+            self.new.recorder.journal.has_record self.new.recorder.sends.now.summaries.items
             self.new.spent)
             address.now result }
         ensures disk_failed { FailedIf self.new.disk_failed
@@ -192,11 +196,11 @@ impl<'a, L: Links, D: Disk> Links for RecordedLinks<'a, L, D> {
         ensures step { NextStep
             (seen (L.report self.old.inner.now) (first_after self.old.last)
             (D.report self.old.recorder.journal.disk.now) self.old.recorder.journal.gate
-            self.old.recorder.journal.has_record self.old.recorder.sends.summaries.items
+            self.old.recorder.journal.has_record self.old.recorder.sends.now.summaries.items
             self.old.spent)
             (seen (L.report self.new.inner.now) (first_after self.new.last)
             (D.report self.new.recorder.journal.disk.now) self.new.recorder.journal.gate
-            self.new.recorder.journal.has_record self.new.recorder.sends.summaries.items
+            self.new.recorder.journal.has_record self.new.recorder.sends.now.summaries.items
             self.new.spent)
             wants.now buf.new result }
         ensures disk_failed { FailedIf self.new.disk_failed
@@ -232,7 +236,7 @@ impl<'a, L: Links, D: Disk> Links for RecordedLinks<'a, L, D> {
             return turn;
         }
         self.spent = true;
-        let asked = ask(alloc, self.inner, self.last, &mut self.wants, wants, buf);
+        let asked = ask(alloc, self.inner, self.last, self.wants, wants, buf);
         let count = count_read(asked.what);
         let turn = self.recorder.keep_turn(alloc, asked, &buf[..count]);
         self.disk_failed = is_lost(asked.what, turn.what);
@@ -260,21 +264,21 @@ impl<'a, L: Links, D: Disk> Links for RecordedLinks<'a, L, D> {
         ensures step { result ≢ SendAnswer.Memory → SendStep
             (seen (L.report self.old.inner.now) (first_after self.old.last)
             (D.report self.old.recorder.journal.disk.now) self.old.recorder.journal.gate
-            self.old.recorder.journal.has_record self.old.recorder.sends.summaries.items
+            self.old.recorder.journal.has_record self.old.recorder.sends.now.summaries.items
             self.old.spent)
             (seen (L.report self.new.inner.now) (first_after self.new.last)
             (D.report self.new.recorder.journal.disk.now) self.new.recorder.journal.gate
-            self.new.recorder.journal.has_record self.new.recorder.sends.summaries.items
+            self.new.recorder.journal.has_record self.new.recorder.sends.now.summaries.items
             self.new.spent)
             link bytes.now result }
         ensures unsent { result ≡ SendAnswer.Memory → Unsent
             (seen (L.report self.old.inner.now) (first_after self.old.last)
             (D.report self.old.recorder.journal.disk.now) self.old.recorder.journal.gate
-            self.old.recorder.journal.has_record self.old.recorder.sends.summaries.items
+            self.old.recorder.journal.has_record self.old.recorder.sends.now.summaries.items
             self.old.spent)
             (seen (L.report self.new.inner.now) (first_after self.new.last)
             (D.report self.new.recorder.journal.disk.now) self.new.recorder.journal.gate
-            self.new.recorder.journal.has_record self.new.recorder.sends.summaries.items
+            self.new.recorder.journal.has_record self.new.recorder.sends.now.summaries.items
             self.new.spent) }
         ensures spent { result ≡ SendAnswer.Memory → self.new.spent ≡ true }
         ensures disk_failed { self.new.disk_failed ≡ false }
@@ -287,13 +291,14 @@ impl<'a, L: Links, D: Disk> Links for RecordedLinks<'a, L, D> {
             ≡ self.old.recorder.journal.disk.ghost_name }
     {
         self.disk_failed = false;
-        if self.recorder.sends.reserve().is_err() {
+        if self.recorder.reserve().is_err() {
             self.spent = true;
             return SendAnswer::Memory;
         }
-        let sends = &self.recorder.sends;
-        let answer = offer(alloc, self.inner, self.last, sends, link, bytes);
-        self.recorder.sends.note(link, answer);
+        let answer = self
+            .recorder
+            .offer(alloc, self.inner, self.last, link, bytes);
+        self.recorder.note(link, answer);
         log_send(&mut self.log, link, bytes, answer);
         if answer == SendAnswer::Memory {
             self.spent = true;
@@ -319,11 +324,11 @@ impl<'a, L: Links, D: Disk> Links for RecordedLinks<'a, L, D> {
         ensures step { CloseStep
             (seen (L.report self.old.inner.now) (first_after self.old.last)
             (D.report self.old.recorder.journal.disk.now) self.old.recorder.journal.gate
-            self.old.recorder.journal.has_record self.old.recorder.sends.summaries.items
+            self.old.recorder.journal.has_record self.old.recorder.sends.now.summaries.items
             self.old.spent)
             (seen (L.report self.new.inner.now) (first_after self.new.last)
             (D.report self.new.recorder.journal.disk.now) self.new.recorder.journal.gate
-            self.new.recorder.journal.has_record self.new.recorder.sends.summaries.items
+            self.new.recorder.journal.has_record self.new.recorder.sends.now.summaries.items
             self.new.spent) link }
         ensures disk_failed { self.new.disk_failed ≡ false }
         ensures log { self.new.log ≡ self.old.log ++ Close link ∷ [] }

@@ -37,11 +37,11 @@ impl<'a, L: Links, D: Disk> RecordedLinks<'a, L, D> {
         ensures step { OwnStep
             (seen (L.report self.old.inner.now) (first_after self.old.last)
             (D.report self.old.recorder.journal.disk.now) self.old.recorder.journal.gate
-            self.old.recorder.journal.has_record self.old.recorder.sends.summaries.items
+            self.old.recorder.journal.has_record self.old.recorder.sends.now.summaries.items
             self.old.spent)
             (seen (L.report self.new.inner.now) (first_after self.new.last)
             (D.report self.new.recorder.journal.disk.now) self.new.recorder.journal.gate
-            self.new.recorder.journal.has_record self.new.recorder.sends.summaries.items
+            self.new.recorder.journal.has_record self.new.recorder.sends.now.summaries.items
             self.new.spent)
             turn result }
         ensures disk_failed { FailedIf self.new.disk_failed

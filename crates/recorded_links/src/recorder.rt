@@ -1,40 +1,107 @@
 //! A record is added to the journal before what it is of is handed out.
 
-ghost use Rattle.std.specs.Prelude.{◌≡◌, ℕ, ◌+◌, ◌<◌, ◌≤◌, [], Err, false, true, is_ok, length, OnErr, OnOk};
+ghost use Rattle.std.specs.Prelude.{◌≡◌, ℕ, ◌+◌, ◌<◌, ◌≤◌, [], Err, None, false, true, is_ok, length, vec_capacity, vec_len, OnErr, OnOk};
+ghost use Rattle.std.specs.Option.{ForSome};
 ghost use Rattle.disk_port.specs.Calls.{HasCause};
 ghost use Rattle.journal_format.specs.Limits.{journal_limit, step_limit};
 ghost use Rattle.journal_format.specs.Spelling.{IsRecord, IsWord, record_bytes};
+ghost use Rattle.ports.specs.Calls.{AddsCalls};
+ghost use Rattle.ports.specs.Links.{IsWithin, send_entries};
+ghost use Rattle.ports.specs.declared.links.SendAnswer.TheVariants as send;
 ghost use Rattle.recorded_links.specs.Keeping.{AddsRecord, FailedIf, HandsListen, HandsOut, HasPiece, IsTurn, entry_of, is_lost, is_lost_listen, is_ready, is_recorded, kept_of, listen_entry};
+ghost use Rattle.recorded_links.specs.Numbers.{first_after, inner_number};
+ghost use Rattle.recorded_links.specs.Sending.{Fits, after_send, may_note, taken_by};
 ghost use Rattle.turn_journal.specs.Standing.{IsNext};
 
+use crate::ask::inner_number;
 use crate::sends::Sends;
 use disk_port::{Disk, DiskError};
 use ev_types::Memory;
 use journal_format::{TurnEvent, push_read_turn, push_turn};
-use ports::{ListenAnswer, Turn, What};
+use ports::{Links, ListenAnswer, SendAnswer, Turn, What};
 use std::alloc::Global;
 use turn_journal::JournalFile;
 
-/// A journal, and the sends that its next record is to have.
+/// A journal, and the sends that its next record is to have, in memory that is lent.
 #[derive(Drop)]
 pub struct TurnRecorder<'a, D: Disk> {
     pub journal: JournalFile<'a, D>,
-    pub sends: Sends,
+    pub sends: &'a mut Sends,
     // the record that is added
-    bytes: Vec<u8>,
+    bytes: &'a mut Vec<u8>,
 }
 
 impl<'a, D: Disk> TurnRecorder<'a, D> {
-    /// The recorder of turns in this journal, before any send. It takes no memory.
-    pub(crate) fn over(alloc: Global, journal: JournalFile<'a, D>) -> TurnRecorder<'a, D>
+    /// The recorder of turns in this journal, before any send.
+    pub(crate) fn over(
+        journal: JournalFile<'a, D>,
+        sends: &'a mut Sends,
+        bytes: &'a mut Vec<u8>,
+    ) -> TurnRecorder<'a, D>
         ensures journal { result.journal ≡ journal.entry }
-        ensures sends { result.sends.summaries.items ≡ [] }
+        ensures sends { result.sends.now.summaries.items ≡ [] }
     {
+        sends.clear();
         TurnRecorder {
             journal,
-            sends: Sends::fresh(alloc),
-            bytes: Vec::new(alloc),
+            sends,
+            bytes,
         }
+    }
+
+    /// Takes room for the summary of one send more.
+    pub(crate) fn reserve(&mut self) -> Result<(), Memory>
+        ensures items { self.new.sends.now.summaries.items
+            ≡ self.old.sends.now.summaries.items }
+        ensures room { OnOk result (vec_len self.new.sends.now.summaries
+            < vec_capacity self.new.sends.now.summaries) }
+        ensures journal { self.new.journal ≡ self.old.journal }
+    {
+        self.sends.reserve()
+    }
+
+    /// Notes how a send was answered.
+    pub(crate) fn note(&mut self, link: u64, answer: SendAnswer)
+        requires fits { Fits link (taken_by answer) self.old.sends.now.summaries.items }
+        requires room { vec_len self.old.sends.now.summaries
+            < vec_capacity self.old.sends.now.summaries }
+        ensures sends { self.new.sends.now.summaries.items
+            ≡ after_send link answer self.old.sends.now.summaries.items }
+        ensures journal { self.new.journal ≡ self.old.journal }
+    {
+        self.sends.note(link, answer);
+    }
+
+    /// Offers the bytes to the inner link, or holds them back: if the link is not an inner one, or what came of the send
+    /// could not be noted.
+    pub(crate) fn offer<L: Links>(
+        &self,
+        alloc: Global,
+        inner: &mut L,
+        last: Option<u64>,
+        link: u64,
+        bytes: &[u8],
+    ) -> SendAnswer
+        requires { 0 < length bytes.now }
+        ensures within { IsWithin (length bytes.now) result }
+        ensures passed { ForSome (inner_number (first_after last) link) (λ number.
+            may_note link (length bytes.now) self.now.sends.now.summaries.items ≡ true →
+            AddsCalls (L.report inner.old) (L.report inner.new)
+            (send_entries number bytes.now result)) }
+        ensures own { inner_number (first_after last) link ≡ None →
+            (result ≡ send.Later) × (L.report inner.new ≡ L.report inner.old) }
+        ensures unnoted { may_note link (length bytes.now) self.now.sends.now.summaries.items ≡ false →
+            (result ≡ send.Later) × (L.report inner.new ≡ L.report inner.old) }
+        ensures fits { Fits link (taken_by result) self.now.sends.now.summaries.items }
+        ensures no_fault { (L.report inner.new).faults ≡ (L.report inner.old).faults }
+    {
+        let Some(number) = inner_number(last, link) else {
+            return SendAnswer::Later;
+        };
+        if !self.sends.may_note(link, bytes.len()) {
+            return SendAnswer::Later;
+        }
+        inner.send(alloc, number, bytes)
     }
 
     /// Adds the record of a turn of the inner links, with the bytes of a read, and gives what is handed out.
@@ -45,9 +112,9 @@ impl<'a, D: Disk> TurnRecorder<'a, D> {
         requires sound { self.old.journal.failed ≡ false }
         ensures hands { HandsOut asked.what asked result }
         ensures allowed { is_recorded asked.what ≡ true →
-            IsRecord (entry_of self.old.sends.summaries.items asked piece.now) }
+            IsRecord (entry_of self.old.sends.now.summaries.items asked piece.now) }
         ensures records { is_recorded asked.what ≡ true →
-            AddsRecord (record_bytes (entry_of self.old.sends.summaries.items asked piece.now))
+            AddsRecord (record_bytes (entry_of self.old.sends.now.summaries.items asked piece.now))
             (is_recorded result.what)
             (kept_of (D.report self.old.journal.disk.now).past self.old.journal.gate
             self.old.journal.has_record)
@@ -61,9 +128,9 @@ impl<'a, D: Disk> TurnRecorder<'a, D> {
         ensures faults { FailedIf (is_lost asked.what result.what)
             (D.report self.old.journal.disk.now).faults
             (D.report self.new.journal.disk.now).faults }
-        ensures cleared { is_recorded result.what ≡ true → self.new.sends.summaries.items ≡ [] }
+        ensures cleared { is_recorded result.what ≡ true → self.new.sends.now.summaries.items ≡ [] }
         ensures uncleared { is_recorded result.what ≡ false →
-            self.new.sends.summaries.items ≡ self.old.sends.summaries.items }
+            self.new.sends.now.summaries.items ≡ self.old.sends.now.summaries.items }
         ensures begun { self.new.journal.has_record ≡ true }
         ensures opened { (D.report self.new.journal.disk.now).opened
             ≡ (D.report self.old.journal.disk.now).opened }
@@ -82,24 +149,24 @@ impl<'a, D: Disk> TurnRecorder<'a, D> {
         requires begun { self.old.journal.has_record ≡ true }
         requires room { self.old.journal.gate + step_limit < journal_limit }
         requires sound { self.old.journal.failed ≡ false }
-        ensures allowed { IsRecord (entry_of self.old.sends.summaries.items turn piece.now) }
+        ensures allowed { IsRecord (entry_of self.old.sends.now.summaries.items turn piece.now) }
         ensures records { AddsRecord
-            (record_bytes (entry_of self.old.sends.summaries.items turn piece.now)) (is_ok result)
+            (record_bytes (entry_of self.old.sends.now.summaries.items turn piece.now)) (is_ok result)
             (kept_of (D.report self.old.journal.disk.now).past self.old.journal.gate
             self.old.journal.has_record)
             (kept_of (D.report self.new.journal.disk.now).past self.new.journal.gate
             self.new.journal.has_record) }
         ensures cause { HasCause (D.report self.old.journal.disk.now).faults
             (D.report self.new.journal.disk.now).faults result }
-        ensures ok { OnOk result (self.new.sends.summaries.items ≡ []) }
+        ensures ok { OnOk result (self.new.sends.now.summaries.items ≡ []) }
         ensures err { OnErr result
-            (self.new.sends.summaries.items ≡ self.old.sends.summaries.items) }
+            (self.new.sends.now.summaries.items ≡ self.old.sends.now.summaries.items) }
         ensures begun { self.new.journal.has_record ≡ true }
         ensures opened { (D.report self.new.journal.disk.now).opened
             ≡ (D.report self.old.journal.disk.now).opened }
         ensures same { self.new.journal.disk.ghost_name ≡ self.old.journal.disk.ghost_name }
     {
-        match fill_turn(alloc, &mut self.bytes, &self.sends, turn, piece) {
+        match fill_turn(alloc, self.bytes, self.sends, turn, piece) {
             Ok(()) => self.add(alloc),
             Err(_) => Err(DiskError::Memory),
         }
@@ -107,20 +174,20 @@ impl<'a, D: Disk> TurnRecorder<'a, D> {
 
     /// Adds the record that was made ready, and forgets the sends before it.
     fn add(&mut self, alloc: Global) -> Result<(), DiskError>
-        requires next { IsNext self.old.journal.has_record self.old.bytes.items }
-        requires short { length self.old.bytes.items + 1 ≤ step_limit }
+        requires next { IsNext self.old.journal.has_record self.old.bytes.now.items }
+        requires short { length self.old.bytes.now.items + 1 ≤ step_limit }
         requires room { self.old.journal.gate + step_limit < journal_limit }
         requires sound { self.old.journal.failed ≡ false }
-        ensures records { AddsRecord self.old.bytes.items (is_ok result)
+        ensures records { AddsRecord self.old.bytes.now.items (is_ok result)
             (kept_of (D.report self.old.journal.disk.now).past self.old.journal.gate
             self.old.journal.has_record)
             (kept_of (D.report self.new.journal.disk.now).past self.new.journal.gate
             self.new.journal.has_record) }
         ensures cause { HasCause (D.report self.old.journal.disk.now).faults
             (D.report self.new.journal.disk.now).faults result }
-        ensures ok { OnOk result (self.new.sends.summaries.items ≡ []) }
+        ensures ok { OnOk result (self.new.sends.now.summaries.items ≡ []) }
         ensures err { OnErr result
-            (self.new.sends.summaries.items ≡ self.old.sends.summaries.items) }
+            (self.new.sends.now.summaries.items ≡ self.old.sends.now.summaries.items) }
         ensures begun { OnOk result (self.new.journal.has_record ≡ true) }
         ensures unbegun { OnErr result
             (self.new.journal.has_record ≡ self.old.journal.has_record) }
@@ -145,9 +212,9 @@ impl<'a, D: Disk> TurnRecorder<'a, D> {
         requires sound { self.old.journal.failed ≡ false }
         ensures hands { HandsListen asked result }
         ensures allowed { (secs : ℕ) → asked ≡ ListenAnswer.Ready secs →
-            IsRecord (listen_entry self.old.sends.summaries.items secs) }
+            IsRecord (listen_entry self.old.sends.now.summaries.items secs) }
         ensures records { (secs : ℕ) → asked ≡ ListenAnswer.Ready secs →
-            AddsRecord (record_bytes (listen_entry self.old.sends.summaries.items secs))
+            AddsRecord (record_bytes (listen_entry self.old.sends.now.summaries.items secs))
             (is_ready result)
             (kept_of (D.report self.old.journal.disk.now).past self.old.journal.gate
             self.old.journal.has_record)
@@ -161,9 +228,9 @@ impl<'a, D: Disk> TurnRecorder<'a, D> {
         ensures faults { FailedIf (is_lost_listen asked result)
             (D.report self.old.journal.disk.now).faults
             (D.report self.new.journal.disk.now).faults }
-        ensures cleared { is_ready result ≡ true → self.new.sends.summaries.items ≡ [] }
+        ensures cleared { is_ready result ≡ true → self.new.sends.now.summaries.items ≡ [] }
         ensures uncleared { is_ready result ≡ false →
-            self.new.sends.summaries.items ≡ self.old.sends.summaries.items }
+            self.new.sends.now.summaries.items ≡ self.old.sends.now.summaries.items }
         ensures begun { self.new.journal.has_record ≡ is_ready result }
         ensures gate { is_ready result ≡ false →
             self.new.journal.gate ≡ self.old.journal.gate }
@@ -185,25 +252,25 @@ impl<'a, D: Disk> TurnRecorder<'a, D> {
         requires unbegun { self.old.journal.has_record ≡ false }
         requires room { self.old.journal.gate + step_limit < journal_limit }
         requires sound { self.old.journal.failed ≡ false }
-        ensures allowed { IsRecord (listen_entry self.old.sends.summaries.items secs) }
+        ensures allowed { IsRecord (listen_entry self.old.sends.now.summaries.items secs) }
         ensures records { AddsRecord
-            (record_bytes (listen_entry self.old.sends.summaries.items secs)) (is_ok result)
+            (record_bytes (listen_entry self.old.sends.now.summaries.items secs)) (is_ok result)
             (kept_of (D.report self.old.journal.disk.now).past self.old.journal.gate
             self.old.journal.has_record)
             (kept_of (D.report self.new.journal.disk.now).past self.new.journal.gate
             self.new.journal.has_record) }
         ensures cause { HasCause (D.report self.old.journal.disk.now).faults
             (D.report self.new.journal.disk.now).faults result }
-        ensures ok { OnOk result (self.new.sends.summaries.items ≡ []) }
+        ensures ok { OnOk result (self.new.sends.now.summaries.items ≡ []) }
         ensures err { OnErr result
-            (self.new.sends.summaries.items ≡ self.old.sends.summaries.items) }
+            (self.new.sends.now.summaries.items ≡ self.old.sends.now.summaries.items) }
         ensures begun { self.new.journal.has_record ≡ is_ok result }
         ensures gate { OnErr result (self.new.journal.gate ≡ self.old.journal.gate) }
         ensures opened { (D.report self.new.journal.disk.now).opened
             ≡ (D.report self.old.journal.disk.now).opened }
         ensures same { self.new.journal.disk.ghost_name ≡ self.old.journal.disk.ghost_name }
     {
-        match fill_listen(alloc, &mut self.bytes, &self.sends, secs) {
+        match fill_listen(alloc, self.bytes, self.sends, secs) {
             Ok(()) => self.add(alloc),
             Err(_) => Err(DiskError::Memory),
         }

@@ -23,7 +23,7 @@ use Rattle.recorded_runs.specs.Lending.{Keeps, Lent}
 use Rattle.recorded_runs.specs.Noting.{Noted, after_call, after_listen, after_turn, noted, with_entry}
 use Rattle.recorded_runs.proofs.JournalLaws.{keeps_added, keeps_lost, keeps_same}
 
-noted_more : (calls more : List Entry) → noted (calls ++ more) ≡ fold after_call (noted calls) more
+pub noted_more : (calls more : List Entry) → noted (calls ++ more) ≡ fold after_call (noted calls) more
 noted_more calls more = fold-append after_call (record { records = []; sends = [] }) calls more
 
 -- ---- `next`
@@ -47,12 +47,12 @@ turn_noted : (calls calls' : List Entry) (wants : List Want) (buf : List ℕ) (t
     → noted calls' ≡ cond (is_recorded turn.what) (with_entry (entry_of (noted calls).sends turn (piece_of turn.what buf)) (noted calls)) (noted calls)
 turn_noted calls calls' wants buf turn log = ap noted log ∙ noted_more calls (next_entries wants buf turn) ∙ noted_turn (noted calls) wants buf turn
 
-turn_added : (calls calls' : List Entry) (wants : List Want) (buf : List ℕ) (turn : Turn) → calls' ≡ calls ++ next_entries wants buf turn → is_recorded turn.what ≡ true
+pub turn_added : (calls calls' : List Entry) (wants : List Want) (buf : List ℕ) (turn : Turn) → calls' ≡ calls ++ next_entries wants buf turn → is_recorded turn.what ≡ true
     → noted calls' ≡ with_entry (entry_of (noted calls).sends turn (piece_of turn.what buf)) (noted calls)
 turn_added calls calls' wants buf turn log is =
     turn_noted calls calls' wants buf turn log ∙ ap (λ (flag : Bool). cond flag (with_entry (entry_of (noted calls).sends turn (piece_of turn.what buf)) (noted calls)) (noted calls)) is
 
-turn_quiet : (calls calls' : List Entry) (wants : List Want) (buf : List ℕ) (turn : Turn) → calls' ≡ calls ++ next_entries wants buf turn → is_recorded turn.what ≡ false → noted calls' ≡ noted calls
+pub turn_quiet : (calls calls' : List Entry) (wants : List Want) (buf : List ℕ) (turn : Turn) → calls' ≡ calls ++ next_entries wants buf turn → is_recorded turn.what ≡ false → noted calls' ≡ noted calls
 turn_quiet calls calls' wants buf turn log is =
     turn_noted calls calls' wants buf turn log ∙ ap (λ (flag : Bool). cond flag (with_entry (entry_of (noted calls).sends turn (piece_of turn.what buf)) (noted calls)) (noted calls)) is
 
@@ -229,7 +229,7 @@ keeps_listen lent calls calls' old new address answer keeps log (listen_taken ta
 abbrev with_send : ℕ → SendAnswer → Noted → Noted
 with_send link answer so_far = record { records = so_far.records; sends = after_send link answer so_far.sends }
 
-send_noted : (calls calls' : List Entry) (link : ℕ) (bytes : List ℕ) (answer : SendAnswer) → calls' ≡ calls ++ send_entries link bytes answer → noted calls' ≡ with_send link answer (noted calls)
+pub send_noted : (calls calls' : List Entry) (link : ℕ) (bytes : List ℕ) (answer : SendAnswer) → calls' ≡ calls ++ send_entries link bytes answer → noted calls' ≡ with_send link answer (noted calls)
 send_noted calls calls' link bytes (send.Took count) log = ap noted log ∙ noted_more calls (Send link bytes (send.Took count) ∷ [])
 send_noted calls calls' link bytes send.Later log = ap noted log ∙ noted_more calls (Send link bytes send.Later ∷ [])
 send_noted calls calls' link bytes send.Failed log = ap noted log ∙ noted_more calls (Send link bytes send.Failed ∷ [])

@@ -35,7 +35,7 @@ pub struct TracedLinks<'a, L: Links, D: Disk, K: Loan> {
     pub ghost traces: { ∥ Traces K.lent links.log (seen (L.report links.inner.now)
         (first_after links.last) (D.report links.recorder.journal.disk.now)
         links.recorder.journal.gate links.recorder.journal.has_record
-        links.recorder.sends.summaries.items links.spent) ∥₁ },
+        links.recorder.sends.now.summaries.items links.spent) ∥₁ },
 }
 
 impl<'a, L: Links, D: Disk, K: Loan> TracedLinks<'a, L, D, K> {
@@ -50,7 +50,7 @@ impl<'a, L: Links, D: Disk, K: Loan> TracedLinks<'a, L, D, K> {
           has_record = links.recorder.journal.has_record;
         } ≡ K.lent.found }
         requires fresh { links.log ≡ [] }
-        requires unsent { links.recorder.sends.summaries.items ≡ [] }
+        requires unsent { links.recorder.sends.now.summaries.items ≡ [] }
         requires first { first_after links.last ≡ 0 }
         ensures links { result.links ≡ links.entry }
         ensures unfailed { result.disk_failed ≡ false }

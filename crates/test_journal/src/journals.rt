@@ -38,14 +38,16 @@ fn add<D: Disk>(
 
 /// Whether a journal is begun in an empty file, and a record added.
 fn is_begun<D: Disk>(alloc: Global, disk: &mut D) -> Result<bool, JournalFault> {
-    let mut file = JournalFile::begin(alloc, disk, CONFIG)?;
+    let mut room = Vec::new(alloc);
+    let mut file = JournalFile::begin(alloc, disk, &mut room, CONFIG)?;
     let added = add(alloc, &mut file, LISTEN) == Ok(());
     Ok(added && file.gate == 32 && file.has_record && !file.failed)
 }
 
 /// Whether the journal is loaded.
 fn is_loaded<D: Disk>(alloc: Global, disk: &mut D) -> Result<bool, JournalFault> {
-    let (file, bytes) = match JournalFile::load(alloc, disk) {
+    let mut room = Vec::new(alloc);
+    let (file, bytes) = match JournalFile::load(alloc, disk, &mut room) {
         Ok(loaded) => loaded,
         Err(fault) => return Err(fault),
     };

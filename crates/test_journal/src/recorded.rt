@@ -4,7 +4,7 @@ use ev_types::{Blob, Memory, Text};
 use ports::{
     Links, ListenAnswer, PIECE_LIMIT, ScriptLinks, SendAnswer, Turn, Wants, What, feed_links,
 };
-use recorded_links::RecordedLinks;
+use recorded_links::{RecordRoom, RecordedLinks};
 use std::alloc::Global;
 use std::test::Fail;
 use turn_journal::JournalFault;
@@ -41,7 +41,8 @@ fn is_recorded<L: Links, D: Disk>(
     inner: &mut L,
     disk: &mut D,
 ) -> Result<bool, JournalFault> {
-    let mut links = RecordedLinks::record(alloc, inner, disk, CONFIG)?;
+    let mut room = RecordRoom::fresh(alloc);
+    let mut links = RecordedLinks::record(alloc, inner, disk, &mut room, CONFIG)?;
     let played = is_played(alloc, &mut links)?;
     Ok(played && !links.spent && !links.disk_failed)
 }
@@ -52,7 +53,8 @@ fn is_lost<L: Links, D: Disk>(
     inner: &mut L,
     disk: &mut D,
 ) -> Result<bool, JournalFault> {
-    let mut links = RecordedLinks::record(alloc, inner, disk, CONFIG)?;
+    let mut room = RecordRoom::fresh(alloc);
+    let mut links = RecordedLinks::record(alloc, inner, disk, &mut room, CONFIG)?;
     let address = Text::from_str(alloc, "h:1")?;
     let failed = links.listen(alloc, &address) == ListenAnswer::Failed && links.disk_failed;
     let mut buf = buffer(alloc)?;

@@ -2,7 +2,7 @@ use crate::formats::CONFIG;
 use crate::recorded::{RECORDED, buffer, empty_disk, is_next, is_played, two_turns};
 use disk_port::{Disk, MemDisk};
 use ev_types::{Blob, Memory};
-use journal_links::JournalLinks;
+use journal_links::{JournalLinks, JournalRoom};
 use ports::{Links, SendAnswer, What};
 use std::alloc::Global;
 use std::test::Fail;
@@ -15,7 +15,8 @@ fn is_begun<L: Links, D: Disk>(
     inner: &mut L,
     disk: &mut D,
 ) -> Result<bool, JournalFault> {
-    let mut links = JournalLinks::record(alloc, inner, disk, CONFIG)?;
+    let mut room = JournalRoom::fresh(alloc);
+    let mut links = JournalLinks::record(alloc, inner, disk, &mut room, CONFIG)?;
     let played = is_played(alloc, &mut links)?;
     let config = links.config().as_slice() == CONFIG.as_slice();
     Ok(played && config && !links.replayed() && !links.disk_failed())
@@ -27,7 +28,8 @@ fn is_resumed<L: Links, D: Disk>(
     inner: &mut L,
     disk: &mut D,
 ) -> Result<bool, JournalFault> {
-    let mut links = JournalLinks::resume(alloc, inner, disk)?;
+    let mut room = JournalRoom::fresh(alloc);
+    let mut links = JournalLinks::resume(alloc, inner, disk, &mut room)?;
     let played = is_played(alloc, &mut links)?;
     let mut buf = buffer(alloc)?;
     let broken = is_next(

@@ -1,5 +1,5 @@
 -- What a record more makes of a file, and what a crash may make of it.
-use Rattle.std.proofs.Common.{◌≡◌, ◌⊎◌, inl, inr, ℕ, zero, suc, ◌+◌, ◌-◌, ◌<◌, ◌≤◌, Bool, true, not, List, [], ◌∷◌, ◌++◌, length, get_or, take, drop, Option, Some, None, Result, Ok, Err, OnOk, refl, sym, ap, subst, ◌∙◌, append_assoc, length-append, length-take, length-drop, arith}
+use Rattle.std.proofs.Common.{◌≡◌, inl, inr, ℕ, ◌+◌, ◌-◌, ◌<◌, ◌≤◌, Bool, true, not, List, [], ◌∷◌, ◌++◌, length, get_or, take, drop, Option, Some, None, Result, Ok, Err, OnOk, refl, sym, ap, subst, ◌∙◌, append_assoc, length-append, length-drop, arith}
 use Rattle.std.specs.Option.{ForSome, option_map}
 use Rattle.std.proofs.lemmas.Bool.{cases_eq}
 use Rattle.std.proofs.lemmas.List.{take_at, drop_at, drop_more, take-append-drop, length-take-le}
@@ -7,7 +7,7 @@ use Rattle.std.proofs.lemmas.Option.{none-some, same_Some}
 use Rattle.disk_port.specs.Past.{LeavesOnly, Past, Rests, TearsOnly, Torn, put, synced, text_of, written}
 use Rattle.disk_port.proofs.PastLaws.{then_more, weaker}
 use Rattle.journal_format.specs.Limits.{journal_limit}
-use Rattle.journal_format.specs.Journals.{Holds, HoldsAt, Journal, is_blank, with_record}
+use Rattle.journal_format.specs.Journals.{HoldsAt, Journal, is_blank, with_record}
 use Rattle.journal_format.specs.Spelling.{Spells}
 use Rattle.journal_format.specs.declared.turn_record.TurnRecord.{TurnRecord}
 use Rattle.journal_format.proofs.FindLaws.{front_more, not_empty}

@@ -1,17 +1,17 @@
 -- What beginning a journal makes of a file, and what a crash may make of it.
-use Rattle.std.proofs.Common.{◌≡◌, ◌⊎◌, inl, inr, ℕ, suc, ◌+◌, ◌<◌, ◌≤◌, Bool, true, false, List, [], ◌∷◌, ◌++◌, length, take, drop, Option, Some, None, Result, Ok, Err, IfErr, IfOk, OnOk, refl, sym, ap, subst, ◌∙◌, append_assoc, append-nil, length-append, length-take, arith}
+use Rattle.std.proofs.Common.{◌≡◌, inl, inr, ℕ, ◌+◌, ◌<◌, ◌≤◌, true, false, List, [], ◌∷◌, ◌++◌, length, take, drop, Option, Some, None, Result, Ok, Err, IfErr, IfOk, OnOk, refl, sym, ap, subst, ◌∙◌, append_assoc, append-nil, length-append, length-take, arith}
 use Rattle.std.specs.Int.{w32, to_be_bytes}
 use Rattle.std.specs.Option.{ForSome, option_map}
 use Rattle.std.proofs.lemmas.Bool.{cases_eq}
 use Rattle.std.proofs.lemmas.List.{take-append-drop}
-use Rattle.std.proofs.lemmas.Option.{none-some, same_Some}
-use Rattle.disk_port.specs.Past.{LeavesOnly, Past, Rests, TearsOnly, Torn, put, synced, text_of, written}
+use Rattle.std.proofs.lemmas.Option.{same_Some}
+use Rattle.disk_port.specs.Past.{LeavesOnly, Past, TearsOnly, Torn, put, synced, text_of, written}
 use Rattle.disk_port.specs.Calls.{IsReadAt}
 use Rattle.disk_port.proofs.PastLaws.{begins, then_more, weaker}
 use Rattle.journal_format.specs.Limits.{config_limit}
 use Rattle.journal_format.specs.Journals.{HoldsAt, Journal, blank, head_bytes}
 use Rattle.journal_format.specs.declared.finder.Found.{Found}
-use Rattle.turn_journal.specs.Beginning.{BeginsOnly, HoldsBlankOrFree, IsClosed, IsFirst, IsFree, IsOfDisk, IsShort, IsWhyTaken, LeavesAfterSync, StandsBlank, begun_past, blank_bytes, blank_end, blank_past, closed_past, headed_past, is_taken}
+use Rattle.turn_journal.specs.Beginning.{BeginsOnly, HoldsBlankOrFree, IsClosed, IsFirst, IsFree, IsOfDisk, IsShort, IsWhyTaken, LeavesAfterSync, StandsBlank, blank_bytes, blank_end, blank_past, closed_past, headed_past, is_taken}
 use Rattle.turn_journal.specs.Loading.{IsSyncedOrNot}
 use Rattle.turn_journal.specs.Standing.{IsReady, Stands, Told}
 use Rattle.turn_journal.specs.declared.begin.First.{First}

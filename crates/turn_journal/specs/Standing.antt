@@ -2,7 +2,7 @@
 use Rattle.std.specs.Prelude.{◌≡◌, ◌⊎◌, ℕ, ◌+◌, ◌≤◌, Bool, not, List, [], ◌∷◌, length, Option, Some}
 use Rattle.std.specs.Option.{ForSome}
 use Rattle.disk_port.specs.Past.{LeavesOnly, Past, Rests, synced, text_of, written}
-use Rattle.journal_format.specs.Journals.{Holds, HoldsAt, Journal, blank, is_blank, with_record}
+use Rattle.journal_format.specs.Journals.{Holds, HoldsAt, Journal, is_blank, with_record}
 use Rattle.journal_format.specs.Spelling.{Spells}
 use Rattle.journal_format.specs.declared.turn_record.TurnRecord.{TurnRecord}
 

@@ -15,8 +15,8 @@ use disk_port::{Disk, DiskError};
 use ev_types::{Blob, Memory};
 use std::alloc::Global;
 
-/// A journal on a disk that is lent. Contracts see the disk, the place of the closed gate, whether a record is before
-/// it, and whether the value may still be used.
+/// A journal on a disk that is lent, with room for the bytes that it writes. Contracts see the disk, the place of the closed
+/// gate, whether a record is before it, and whether the value may still be used.
 #[derive(Drop)]
 pub struct JournalFile<'a, D: Disk> {
     pub disk: &'a mut D,
@@ -26,13 +26,18 @@ pub struct JournalFile<'a, D: Disk> {
     /// Whether a call answered an error. The value is then not used again, and the journal is loaded anew.
     pub failed: bool,
     // The record that is written, and a closed gate.
-    bytes: Vec<u8>,
+    bytes: &'a mut Vec<u8>,
     ghost within: { failed ≡ false → IsWithin (D.report disk.now).past gate },
 }
 
 impl<'a, D: Disk> JournalFile<'a, D> {
-    /// The journal whose closed gate is at that place of the disk's file.
-    pub fn over(alloc: Global, disk: &'a mut D, gate: u64, has_record: bool) -> JournalFile<'a, D>
+    /// The journal whose closed gate is at that place of the disk's file. `bytes` is room for what is written.
+    pub fn over(
+        disk: &'a mut D,
+        bytes: &'a mut Vec<u8>,
+        gate: u64,
+        has_record: bool,
+    ) -> JournalFile<'a, D>
         requires { IsWithin (D.report disk.old).past gate }
         ensures disk { result.disk.now ≡ disk.entry.now }
         ensures same { result.disk.ghost_name ≡ disk.entry.ghost_name }
@@ -45,7 +50,7 @@ impl<'a, D: Disk> JournalFile<'a, D> {
             gate,
             has_record,
             failed: false,
-            bytes: Vec::new(alloc),
+            bytes,
         }
     }
 
@@ -54,6 +59,7 @@ impl<'a, D: Disk> JournalFile<'a, D> {
     pub fn begin(
         alloc: Global,
         disk: &'a mut D,
+        bytes: &'a mut Vec<u8>,
         config: &[u8],
     ) -> Result<JournalFile<'a, D>, JournalFault>
         requires { length config.now ≤ config_limit }
@@ -79,7 +85,7 @@ impl<'a, D: Disk> JournalFile<'a, D> {
     {
         match begin_on(alloc, disk, config) {
             Ok(found) => {
-                let file = JournalFile::over(alloc, disk, found.gate, found.has_record);
+                let file = JournalFile::over(disk, bytes, found.gate, found.has_record);
                 Ok(file)
             }
             Err(fault) => Err(fault),
@@ -88,7 +94,11 @@ impl<'a, D: Disk> JournalFile<'a, D> {
 
     /// Syncs, and finds the journal in the disk's file. It gives its bytes too, and writes nothing. What is known after
     /// an error [`load_on`] says.
-    pub fn load(alloc: Global, disk: &'a mut D) -> Result<(JournalFile<'a, D>, Blob), JournalFault>
+    pub fn load(
+        alloc: Global,
+        disk: &'a mut D,
+        bytes: &'a mut Vec<u8>,
+    ) -> Result<(JournalFile<'a, D>, Blob), JournalFault>
         ensures ok { IfOk result (λ loaded. ForSome (D.report disk.entry.now).past (λ past.
             IsLoaded past (record { gate = loaded.0.gate; has_record = loaded.0.has_record })
             loaded.1)) }
@@ -108,9 +118,9 @@ impl<'a, D: Disk> JournalFile<'a, D> {
             loaded.0.disk.ghost_name ≡ disk.entry.ghost_name) }
     {
         match load_on(alloc, disk) {
-            Ok((found, bytes)) => {
-                let file = JournalFile::over(alloc, disk, found.gate, found.has_record);
-                Ok((file, bytes))
+            Ok((found, text)) => {
+                let file = JournalFile::over(disk, bytes, found.gate, found.has_record);
+                Ok((file, text))
             }
             Err(fault) => Err(fault),
         }
@@ -162,7 +172,7 @@ impl<'a, D: Disk> JournalFile<'a, D> {
 
     /// Makes the record and a closed gate ready to be written.
     fn fill(&mut self, bytes: &[u8]) -> Result<(), Memory>
-        ensures bytes { OnOk result (self.new.bytes.items ≡ bytes.now ++ 0 ∷ []) }
+        ensures bytes { OnOk result (self.new.bytes.now.items ≡ bytes.now ++ 0 ∷ []) }
         ensures disk { self.new.disk.now ≡ self.old.disk.now }
         ensures same { self.new.disk.ghost_name ≡ self.old.disk.ghost_name }
         ensures gate { self.new.gate ≡ self.old.gate }

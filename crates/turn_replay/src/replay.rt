@@ -1,6 +1,6 @@
 //! The turns of a journal, given again.
 
-ghost use Rattle.std.specs.Prelude.{◌≡◌, ◌≤◌, ◌<◌, ◌∷◌, List, true, nat_le, length, drop, IfOk, OnErr, OnOk};
+ghost use Rattle.std.specs.Prelude.{◌≡◌, ◌≤◌, ◌<◌, [], ◌∷◌, List, true, nat_le, length, drop, IfOk, OnErr, OnOk};
 ghost use Rattle.std.specs.List.{list_all};
 ghost use Rattle.journal_format.specs.declared.turn_record.TurnRecord.{TurnRecord};
 ghost use Rattle.ports.specs.Links.{IsPieceWithin, IsWithin, piece_of};
@@ -28,6 +28,18 @@ pub struct Replay {
 }
 
 impl Replay {
+    /// Of no record. It takes no memory.
+    pub fn fresh(alloc: Global) -> Replay
+        ensures records { result.records ≡ [] }
+        ensures given { result.given ≡ 0 }
+    {
+        Replay {
+            records: TurnRecords::fresh(alloc),
+            given: 0,
+            left: Vec::new(alloc),
+        }
+    }
+
     /// Before the first of these records.
     pub fn over(alloc: Global, records: TurnRecords) -> Result<Replay, Memory>
         requires { list_all has_event records ≡ true }

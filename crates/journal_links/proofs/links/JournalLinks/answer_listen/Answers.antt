@@ -33,4 +33,4 @@ pub returns-clause-step : goal.returns-clause-step
 returns-clause-step g c = listen_again c.listen_again.ensures.again
 
 pub invariant_of-self-clause-before : goal.invariant_of-self-clause-before
-invariant_of-self-clause-before g c = same_before c.args.self.now.recorded.last c.listen.new.self.last c.args.self.now.replay.records c.listen.ensures.last c.args.self.now.before
+invariant_of-self-clause-before g c = same_before c.args.self.now.recorded.last c.listen.new.self.last c.args.self.now.replay.now.records c.listen.ensures.last c.args.self.now.before

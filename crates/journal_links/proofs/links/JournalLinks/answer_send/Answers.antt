@@ -30,4 +30,4 @@ pub returns-clause-passes : goal.returns-clause-passes
 returns-clause-passes g c = passes_send_here (first_after c.args.self.now.recorded.last) c.args.self.now.log c.args.self.now.recorded.log c.args.link c.args.bytes.now c.answer.result c.args.self.now.passes
 
 pub invariant_of-self-clause-before : goal.invariant_of-self-clause-before
-invariant_of-self-clause-before g c = same_before c.args.self.now.recorded.last c.send.new.self.last c.args.self.now.replay.records c.send.ensures.last c.args.self.now.before
+invariant_of-self-clause-before g c = same_before c.args.self.now.recorded.last c.send.new.self.last c.args.self.now.replay.now.records c.send.ensures.last c.args.self.now.before

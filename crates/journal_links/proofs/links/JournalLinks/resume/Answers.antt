@@ -20,14 +20,16 @@ returns-in-Err-read_journal-clause-refused g c = λ past is.
 
 pub returns-clause-resumed : goal.returns-clause-resumed
 returns-clause-resumed g c =
-    let gate : c.in_ok-links.links.recorded.recorder.journal.gate ≡ c.in-Ok.loaded.0.gate = rw c.in_ok-links.ensures.journal c.over-journal.ensures.gate in
-    let has : c.in_ok-links.links.recorded.recorder.journal.has_record ≡ c.in-Ok.loaded.0.has_record = rw c.in_ok-links.ensures.journal c.over-journal.ensures.has_record in
+    let gate : c.over-links.result.recorded.recorder.journal.gate ≡ c.in-Ok.loaded.0.gate = rw c.over-links.ensures.journal c.over-journal.ensures.gate in
+    let has : c.over-links.result.recorded.recorder.journal.has_record ≡ c.in-Ok.loaded.0.has_record = rw c.over-links.ensures.journal c.over-journal.ensures.has_record in
+    let config_is : c.over-links.result.config.now ≡ c.in-Ok-read_journal.read.0 = search rules in
+    let records_are : c.over-links.result.replay.now.records ≡ c.in-Ok-read_journal.read.1 = search rules in
     λ past is.
     let at = c.in-Ok.ensures.ok past is in
     let same : c.as_slice.result.now ≡ c.in-Ok.loaded.1 = search rules in
     let whole = subst (IsWhole at.journal) (sym same) (loaded_whole past c.in-Ok.loaded.0 c.in-Ok.loaded.1 at) in
     let read = c.in-Ok-read_journal.ensures.read at.journal whole in
-    resumes past c.in-Ok.loaded.0.gate c.in_ok-links.links.recorded.recorder.journal.gate c.in-Ok.loaded.0.has_record c.in_ok-links.links.recorded.recorder.journal.has_record c.in-Ok.loaded.1
-    c.in_ok-links.links.config c.in_ok-links.links.replay.records at gate has
-    (c.in_ok-links.ensures.config ∙ ap (λ (pair : List ℕ × List TurnRecord). pair.0) read)
-    (c.in_ok-links.ensures.records ∙ ap (λ (pair : List ℕ × List TurnRecord). pair.1) read)
+    resumes past c.in-Ok.loaded.0.gate c.over-links.result.recorded.recorder.journal.gate c.in-Ok.loaded.0.has_record c.over-links.result.recorded.recorder.journal.has_record c.in-Ok.loaded.1
+    c.over-links.result.config.now c.over-links.result.replay.now.records at gate has
+    (config_is ∙ ap (λ (pair : List ℕ × List TurnRecord). pair.0) read)
+    (records_are ∙ ap (λ (pair : List ℕ × List TurnRecord). pair.1) read)

@@ -60,13 +60,13 @@ pub returns-in-None-clause-step : goal.returns-in-None-clause-step
 returns-in-None-clause-step g c =
     next_inner (search rules) (sym c.first.ensures ∙ c.in-None.is) c.next.ensures.step (record { records = refl; given = refl; left = refl; opened = refl })
 
-pub invariant_of-self-clause-passes : goal.invariant_of-self-clause-passes
-invariant_of-self-clause-passes g c =
+pub invariant_of-self-in-None-clause-passes : goal.invariant_of-self-in-None-clause-passes
+invariant_of-self-in-None-clause-passes g c =
     same_last c.args.self.now.recorded.last c.next.new.self.last c.args.self.now.log c.next.new.self.log c.next.ensures.last
     (passes_turn_there (first_after c.args.self.now.recorded.last) c.args.self.now.log c.args.self.now.recorded.log c.next.new.self.log c.args.wants.now c.next.new.buf c.next.result c.next.ensures.log c.args.self.now.passes)
 
-pub invariant_of-self-clause-before : goal.invariant_of-self-clause-before
-invariant_of-self-clause-before g c = same_before c.args.self.now.recorded.last c.next.new.self.last c.args.self.now.replay.records c.next.ensures.last c.args.self.now.before
+pub invariant_of-self-in-None-clause-before : goal.invariant_of-self-in-None-clause-before
+invariant_of-self-in-None-clause-before g c = same_before c.args.self.now.recorded.last c.next.new.self.last c.args.self.now.replay.now.records c.next.ensures.last c.args.self.now.before
 
 pub returns-then-not-is_over-clause-failed : goal.returns-then-not-is_over-clause-failed
 returns-then-not-is_over-clause-failed g c = λ failed quiet. absurd (cc (ap is_failed_turn failed, c.turn_again.ensures.unfailed))

@@ -38,4 +38,4 @@ returns-else-is_inner-clause-step g c =
     close_again (no_number (inner_number (first_after c.args.self.now.recorded.last) c.args.link) (sym c.is_inner.ensures ∙ c.if-is_inner.false)) c.closed-else-is_inner.ensures refl refl refl (record { inner = refl; kept = refl; faults = refl; sends = refl }) (λ spent. spent)
 
 pub invariant_of-self-then-is_inner-clause-before : goal.invariant_of-self-then-is_inner-clause-before
-invariant_of-self-then-is_inner-clause-before g c = same_before c.args.self.now.recorded.last c.close.new.self.last c.args.self.now.replay.records c.close.ensures.last c.args.self.now.before
+invariant_of-self-then-is_inner-clause-before g c = same_before c.args.self.now.recorded.last c.close.new.self.last c.args.self.now.replay.now.records c.close.ensures.last c.args.self.now.before

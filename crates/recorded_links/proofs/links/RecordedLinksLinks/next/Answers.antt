@@ -13,10 +13,10 @@ returns-clause-step g c = next_taken (record {
   asked = c.ask-asked.result;
   asks = c.ask-asked.ensures.asks;
   hands = c.keep_turn-turn.ensures.hands;
-  allowed = λ recorded. subst (λ (piece : List ℕ). IsRecord (entry_of c.args.self.now.recorder.sends.summaries.items c.ask-asked.result piece))
+  allowed = λ recorded. subst (λ (piece : List ℕ). IsRecord (entry_of c.args.self.now.recorder.sends.now.summaries.items c.ask-asked.result piece))
       (c.count_read-count.ensures.piece c.ask-asked.new.buf) (c.keep_turn-turn.ensures.allowed recorded);
   records = λ recorded. subst
-      (λ (piece : List ℕ). AddsRecord (record_bytes (entry_of c.args.self.now.recorder.sends.summaries.items c.ask-asked.result piece)) (is_recorded c.keep_turn-turn.result.what)
+      (λ (piece : List ℕ). AddsRecord (record_bytes (entry_of c.args.self.now.recorder.sends.now.summaries.items c.ask-asked.result piece)) (is_recorded c.keep_turn-turn.result.what)
       (kept_of (g.D.Disk.report c.args.self.now.recorder.journal.disk.now).past c.args.self.now.recorder.journal.gate c.args.self.now.recorder.journal.has_record)
       (kept_of (g.D.Disk.report c.keep_turn-turn.new.self.journal.disk.now).past c.keep_turn-turn.new.self.journal.gate c.keep_turn-turn.new.self.journal.has_record))
       (c.count_read-count.ensures.piece c.ask-asked.new.buf) (c.keep_turn-turn.ensures.records recorded);
