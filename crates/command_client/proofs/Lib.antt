@@ -1,3 +1,4 @@
+pub mod EndingLaws
 pub mod ReplyLaws
 pub mod QueryLaws
 pub mod ExchangeLaws

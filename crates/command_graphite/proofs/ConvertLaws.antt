@@ -12,7 +12,7 @@ use Rattle.command_io.specs.declared.limits.TheConstants.{FILE_LIMIT}
 use Rattle.command_io.specs.declared.read.FileFault.{FileFault}
 use Rattle.command_io.specs.declared.read.FileFault.TheVariants as file
 use Rattle.command_io.specs.declared.status.Status.{Status}
-use Rattle.command_io.specs.declared.status.Status.TheVariants.{Done, Usage, Config, ReadFault, SinkFault, LinkFault, Memory, Script, Truncated, TooLong, Lines, Tests, Verdict, Unanswered, BadReply}
+use Rattle.command_io.specs.declared.status.Status.TheVariants.{Done, Usage, Config, ReadFault, SinkFault, LinkFault, Memory, Script, Truncated, TooLong, Lines, Tests, Verdict, Unanswered, BadReply, Journal, DiskFault}
 use Rattle.graphite_lines.specs.Frames.{AreReadBack, FramesAreReadBack, accepted, frames_in, refused_lines}
 use Rattle.graphite_lines.specs.Lines.{lines_of}
 use Rattle.graphite_lines.specs.declared.bad.BadLine.{BadLine}
@@ -76,6 +76,8 @@ text_ends law host_part text frames lines out out' err err' Tests f l w = w
 text_ends law host_part text frames lines out out' err err' Verdict f l w = w
 text_ends law host_part text frames lines out out' err err' Unanswered f l w = w
 text_ends law host_part text frames lines out out' err err' BadReply f l w = w
+text_ends law host_part text frames lines out out' err err' Journal f l w = w
+text_ends law host_part text frames lines out out' err err' DiskFault f l w = w
 
 -- ---- the command
 
@@ -97,6 +99,8 @@ converted_ends name host_part old new text Tests is ends = absurd ends
 converted_ends name host_part old new text Verdict is ends = absurd ends
 converted_ends name host_part old new text Unanswered is ends = absurd ends
 converted_ends name host_part old new text BadReply is ends = absurd ends
+converted_ends name host_part old new text Journal is ends = absurd ends
+converted_ends name host_part old new text DiskFault is ends = absurd ends
 
 pub converted_reads : (name : List ℕ) (host_part : Option ℕ) (text : List ℕ) (out out' err err' : SinkReport)
     (reads reads' : Option (List StoreRead)) (status : Status)
@@ -117,6 +121,8 @@ converted_reads name host_part text out out' err err' reads reads' Tests ends gr
 converted_reads name host_part text out out' err err' reads reads' Verdict ends grew = grew
 converted_reads name host_part text out out' err err' reads reads' Unanswered ends grew = grew
 converted_reads name host_part text out out' err err' reads reads' BadReply ends grew = grew
+converted_reads name host_part text out out' err err' reads reads' Journal ends grew = grew
+converted_reads name host_part text out out' err err' reads reads' DiskFault ends grew = grew
 
 -- the file was not read
 pub fault_ends : (name : List ℕ) (shown : Bor (List ℕ)) (host_part : Option ℕ) (old new : Reports) (fault : FileFault)
@@ -198,3 +204,5 @@ convert_complete name host_part old new Tests ends text holds fits read_still pu
 convert_complete name host_part old new Verdict ends text holds fits read_still put_still err_still = ends.2
 convert_complete name host_part old new Unanswered ends text holds fits read_still put_still err_still = ends.2
 convert_complete name host_part old new BadReply ends text holds fits read_still put_still err_still = ends.2
+convert_complete name host_part old new Journal ends text holds fits read_still put_still err_still = ends.2
+convert_complete name host_part old new DiskFault ends text holds fits read_still put_still err_still = ends.2

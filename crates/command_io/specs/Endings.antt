@@ -7,7 +7,7 @@ use Rattle.command_io.specs.declared.ending.ConfigRefusal.TheVariants.{Refused}
 use Rattle.command_io.specs.declared.ending.Ending.{Ending}
 use Rattle.command_io.specs.declared.ending.Ending.TheVariants.{Finished, ConfigRefused, Unread, OverLimit, BytesLeft, WriteFailed, LinksFailed, ScriptRefused, OutOfMemory}
 use Rattle.command_io.specs.declared.status.Status.{Status}
-use Rattle.command_io.specs.declared.status.Status.TheVariants.{Done, Usage, Config, ReadFault, SinkFault, LinkFault, Memory, Script, Truncated, TooLong, Lines, Tests, Verdict, Unanswered, BadReply}
+use Rattle.command_io.specs.declared.status.Status.TheVariants.{Done, Usage, Config, ReadFault, SinkFault, LinkFault, Memory, Script, Truncated, TooLong, Lines, Tests, Verdict, Unanswered, BadReply, Journal, DiskFault}
 use Rattle.command_io.specs.Files.{LastFailed, NoneFailed, ReadMore, read_name}
 use Rattle.command_io.specs.Lines.{left_line, links_line, memory_line, refusal_line, script_line, too_long_line, unread_line}
 
@@ -28,6 +28,8 @@ code_of Tests = 11
 code_of Verdict = 12
 code_of Unanswered = 13
 code_of BadReply = 14
+code_of Journal = 15
+code_of DiskFault = 16
 
 abbrev pub status_of : Ending → Status
 status_of Finished = Done
@@ -68,6 +70,7 @@ IsRefusal ReadFault = Unit {0}
 IsRefusal TooLong = Unit {0}
 IsRefusal Script = Unit {0}
 IsRefusal Tests = Unit {0}
+IsRefusal Journal = Unit {0}
 IsRefusal _ = ⊥
 
 -- the same, or memory ran out

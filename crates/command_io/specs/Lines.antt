@@ -9,7 +9,7 @@ use Rattle.command_io.specs.declared.ending.ConfigRefusal.{ConfigRefusal}
 use Rattle.command_io.specs.declared.ending.ConfigRefusal.TheVariants.{Refused, Pattern}
 
 abbrev pub usage_line : List ℕ
-usage_line = codes "riemann: usage: feed CONFIG FILE, check CONFIG, replay CONFIG SCRIPT, serve CONFIG [--turns N], load CONFIG N START, graphite FILE [--host K], test CONFIG TESTS, send ADDRESS FILE [--turns N], query ADDRESS TEXT [--turns N]" ++ 10 ∷ []
+usage_line = codes "riemann: usage: feed CONFIG FILE, check CONFIG, replay CONFIG SCRIPT, serve CONFIG [--turns N], load CONFIG N START, graphite FILE [--host K], test CONFIG TESTS, send ADDRESS FILE [--turns N], query ADDRESS TEXT [--turns N], record CONFIG JOURNAL, resume JOURNAL" ++ 10 ∷ []
 
 abbrev pub refused_line : ℕ → ConfigWhy → List ℕ
 refused_line place why = codes "riemann: config refused at " ++ (decimal place ++ (codes ": " ++ (why_name why ++ 10 ∷ [])))

@@ -35,7 +35,7 @@ impl FetchFault {
 }
 
 /// How a command ends whose text was not read as a configuration.
-fn ending_of_config<'a>(fault: ConfigFault) -> Ending<'a>
+pub fn ending_of_config<'a>(fault: ConfigFault) -> Ending<'a>
     ensures { result ≡ ending_of_config fault }
 {
     match fault {

@@ -13,7 +13,7 @@ mod write;
 
 pub use build::build_ready;
 pub use ending::{ConfigRefusal, Ending};
-pub use fetch::{FetchFault, fetch_config};
+pub use fetch::{FetchFault, ending_of_config, fetch_config};
 pub use hub_meaning;
 pub use limits::{CONFIG_LIMIT, FILE_LIMIT, limits_are_numbers};
 pub use lines::{MEMORY_LINE, USAGE, put_line, report};

@@ -13,7 +13,7 @@ use sexp_config::ConfigWhy;
 
 /// The line where no command matches the arguments.
 pub const USAGE: &str =
-    "riemann: usage: feed CONFIG FILE, check CONFIG, replay CONFIG SCRIPT, serve CONFIG [--turns N], load CONFIG N START, graphite FILE [--host K], test CONFIG TESTS, send ADDRESS FILE [--turns N], query ADDRESS TEXT [--turns N]\n";
+    "riemann: usage: feed CONFIG FILE, check CONFIG, replay CONFIG SCRIPT, serve CONFIG [--turns N], load CONFIG N START, graphite FILE [--host K], test CONFIG TESTS, send ADDRESS FILE [--turns N], query ADDRESS TEXT [--turns N], record CONFIG JOURNAL, resume JOURNAL\n";
 
 /// The line where memory ran out.
 pub const MEMORY_LINE: &str = "riemann: out of memory\n";

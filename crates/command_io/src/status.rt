@@ -34,6 +34,11 @@ pub enum Status {
     Unanswered,
     /// A reply came whole before its request was sent whole, or is not a message.
     BadReply,
+    /// The file of the journal was refused: it may hold a journal where one is to be begun, or holds none that can be
+    /// resumed.
+    Journal,
+    /// The disk failed.
+    DiskFault,
 }
 
 impl Status {
@@ -59,6 +64,8 @@ impl Status {
             Status::Verdict => 12,
             Status::Unanswered => 13,
             Status::BadReply => 14,
+            Status::Journal => 15,
+            Status::DiskFault => 16,
         }
     }
 }

@@ -1,3 +1,4 @@
+pub mod TextLaws
 pub mod SetupLaws
 pub mod FaultLaws
 pub use Rattle.command_io.proofs.EndingLaws as CommandIoEndingLaws

@@ -8,10 +8,10 @@ use Rattle.ports.specs.Reading.{Content}
 use Rattle.command_io.specs.sexp_config.declared.config.Config.{Config}
 use Rattle.stream_plan.specs.Ready.{plan_patterns}
 use Rattle.command_io.specs.Building.{AreBuilt, IsRefusedPattern}
-use Rattle.command_io.specs.Configs.{ForConfig}
+use Rattle.command_io.specs.Configs.{ForConfig, IsRefused, ReadsAs}
 use Rattle.ports.specs.Writing.{SinkReport}
 use Rattle.command_io.specs.Reports.{Reports}
-use Rattle.command_io.specs.declared.ending.ConfigRefusal.TheVariants.{Pattern}
+use Rattle.command_io.specs.declared.ending.ConfigRefusal.TheVariants.{Refused, Pattern}
 use Rattle.command_io.specs.declared.ending.Ending.{Ending}
 use Rattle.command_io.specs.declared.ending.Ending.TheVariants.{ConfigRefused, OutOfMemory}
 
@@ -26,6 +26,18 @@ setup_of config = record { address = address_text config.host config.port; plan 
 -- the file is a configuration whose patterns were built, and this is what its server is run with
 abbrev pub SetsUp : Content → Setup → Type 0
 SetsUp content setup = ForConfig content (λ config. AreBuilt config.plan × (setup ≡ setup_of config))
+
+-- the same of a text
+abbrev pub SetsUpText : List ℕ → Setup → Type 0
+SetsUpText text setup = (config : Config) × ReadsAs text config × AreBuilt config.plan × (setup ≡ setup_of config)
+
+-- why no server is run with a text, from what is reported of patterns before and after
+abbrev pub RefusesText : List ℕ → PatternsReport → PatternsReport → Ending → Type 0
+RefusesText text patterns patterns' (ConfigRefused (Refused place why)) = IsRefused text place why × (patterns' ≡ patterns)
+RefusesText text patterns patterns' (ConfigRefused (Pattern number)) =
+    (config : Config) × ReadsAs text config × IsRefusedPattern (plan_patterns config.plan) number patterns patterns'
+RefusesText text patterns patterns' OutOfMemory = patterns' ≡ patterns
+RefusesText text patterns patterns' _ = ⊥
 
 -- what changes in a run whose notice lines go to this sink
 abbrev pub run_report_of : Reports → SinkReport → RunReport

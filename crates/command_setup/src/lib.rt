@@ -10,4 +10,4 @@ pub use command_io::sexp_config;
 pub use ending::ending_of_fault;
 pub use hub_run;
 pub use hub_run::{conn_core, event_core, hub_meaning};
-pub use setup::fetch_setup;
+pub use setup::{fetch_setup, read_setup};

@@ -4,10 +4,12 @@ ghost use Rattle.stream_plan.specs.Ready.{plan_patterns};
 ghost use Rattle.command_io.specs.Endings.{HasNoConfig, IsReadOnce, ReadsFiles};
 ghost use Rattle.command_io.specs.Files.{ReadMore, good_read};
 ghost use Rattle.command_io.specs.Accepting.{RefusesSetup};
-ghost use Rattle.command_setup.specs.Setups.{MakesSetup, SetsUp, address_text};
+ghost use Rattle.command_setup.specs.Setups.{MakesSetup, RefusesText, SetsUp, SetsUpText, address_text};
 
-use command_io::sexp_config::Config;
-use command_io::{CONFIG_LIMIT, ConfigRefusal, Ending, build_ready, fetch_config};
+use command_io::sexp_config::{Config, read_config};
+use command_io::{
+    CONFIG_LIMIT, ConfigRefusal, Ending, build_ready, ending_of_config, fetch_config,
+};
 use ev_types::{Memory, Text};
 use hub_run::Setup;
 use ports::Store;
@@ -40,6 +42,27 @@ pub fn fetch_setup<'a, S: Store, P: Patterns>(
     match fetch_config(alloc, name, store) {
         Ok(config) => setup_of(alloc, config, patterns),
         Err(fault) => Err(fault.ending(name.as_str())),
+    }
+}
+
+/// Reads the text as a configuration, builds its patterns, and gives what a server is run with. An error is how the command
+/// ends.
+pub fn read_setup<'a, P: Patterns>(
+    alloc: Global,
+    text: &[u8],
+    patterns: &mut P,
+) -> Result<Setup, Ending<'a>>
+    ensures setup { IfOk result (SetsUpText text.now) }
+    ensures interval { IfOk result (λ setup. IsInterval setup.expiry) }
+    ensures refused { IfErr result
+        (RefusesText text.now (P.report patterns.old) (P.report patterns.new)) }
+    ensures same { OnOk result (P.report patterns.new ≡ P.report patterns.old) }
+    ensures unasked { IfErr result (λ ending. HasNoConfig ending →
+        patterns.new ≡ patterns.old) }
+{
+    match read_config(alloc, text) {
+        Ok(config) => setup_of(alloc, config, patterns),
+        Err(fault) => Err(ending_of_config(fault)),
     }
 }
 

@@ -1,3 +1,4 @@
+pub mod EndingLaws
 pub mod LineLaws
 pub mod RunLaws
 pub mod FileLaws

@@ -12,16 +12,19 @@ use Rattle.command_io.specs.declared.status.Status.TheVariants.{Usage}
 use Rattle.command_feed.specs.Feeds.{Feeds}
 use Rattle.command_graphite.specs.Converts.{Converts}
 use Rattle.command_load.specs.Loads.{Loads}
+use Rattle.command_record.specs.Records.{Records}
+use Rattle.command_record.specs.Resumes.{Resumes}
 use Rattle.command_replay.specs.Replays.{Replays}
+use Rattle.disk_port.specs.Calls.{DiskReport}
 use Rattle.script_text.specs.Words.{number_of}
 use Rattle.command_serve.specs.Serves.{Serves}
 use Rattle.command_test.specs.RunsTests.{RunsTests}
 use Rattle.riemann_commands.specs.declared.command.Command.{Command}
-use Rattle.riemann_commands.specs.declared.command.Command.TheVariants.{Feed, Check, Replay, Serve, Load, Graphite, Test, Send, Query}
-use Rattle.riemann_commands.specs.Carrying.{CarriesOut, IsWithinLimits, PromiseOf, UnlessFeed, UnlessLines, UnlessRunning, UnlessTest}
+use Rattle.riemann_commands.specs.declared.command.Command.TheVariants.{Feed, Check, Replay, Serve, Load, Graphite, Test, Send, Query, Record, Resume}
+use Rattle.riemann_commands.specs.Carrying.{CarriesOut, IsWithinLimits, PromiseOf, UnlessFeed, UnlessJournal, UnlessLines, UnlessRunning, UnlessTest}
 use Rattle.riemann_commands.specs.Commands.{IsCommandOf}
 use Rattle.riemann_commands.specs.Promises.{Promises, Sameness}
-use Rattle.riemann_commands.specs.Words.{IsGraphite, IsLoad, IsQuery, IsSend, IsServe, IsUsage, OnCheck, OnFeed, OnGraphite, OnLoad, OnQuery, OnReplay, OnSend, OnServe, OnTest, check_words, feed_words, load_words, replay_words, serve_turns_words, serve_words, test_words}
+use Rattle.riemann_commands.specs.Words.{IsGraphite, IsLoad, IsQuery, IsSend, IsServe, IsUsage, OnCheck, OnFeed, OnGraphite, OnLoad, OnQuery, OnRecord, OnReplay, OnResume, OnSend, OnServe, OnTest, check_words, feed_words, load_words, record_words, replay_words, resume_words, serve_turns_words, serve_words, test_words}
 use Rattle.riemann_commands.proofs.CommandLaws.{asks_named, converts_named, host_part_within, named, sends_named}
 
 -- ---- the name of a command, which is the first of its arguments
@@ -40,6 +43,8 @@ name_of (Graphite file host_part) = codes "graphite"
 name_of (Test config tests) = codes "test"
 name_of (Send address file turns) = codes "send"
 name_of (Query address text turns) = codes "query"
+name_of (Record config journal) = codes "record"
+name_of (Resume journal) = codes "resume"
 
 serve_first : (words : List (List ℕ)) (config : List ℕ) (turns : ℕ) → IsServe words config turns
     → first_of words ≡ codes "serve"
@@ -71,6 +76,8 @@ first_named words (Graphite file host_part) is = graphite_first words file.now h
 first_named words (Test config tests) is = ap first_of is
 first_named words (Send address file turns) is = send_first words address.now file.now turns is
 first_named words (Query address text turns) is = query_first words address.now text.now turns is
+first_named words (Record config journal) is = ap first_of is
+first_named words (Resume journal) is = ap first_of is
 
 -- a number that tells the names apart, of their first and third letters
 abbrev mark : List ℕ → ℕ
@@ -110,8 +117,8 @@ same_loading words config config' count count' start start' is is' =
     let starts : Some start ≡ Some start' = sym is.starts ∙ (ap number_of two ∙ is'.starts) in
     (cc, cc, cc)
 
-module _ (words : List (List ℕ)) (old new : Reports) (same : Sameness) (status : Status) where
-  feed_on : (command : Command) → IsCommandOf words command → PromiseOf command old new same status
+module _ (words : List (List ℕ)) (old new : Reports) (disk disk' : DiskReport) (same : Sameness) (status : Status) where
+  feed_on : (command : Command) → IsCommandOf words command → PromiseOf command old new disk disk' same status
       → OnFeed words (λ config file. Feeds config file old new same.Patterns status)
   feed_on (Feed config0 file0) is promise config file are =
       let both : feed_words config0.now file0.now ≡ feed_words config file = sym is ∙ are in
@@ -135,8 +142,12 @@ module _ (words : List (List ℕ)) (old new : Reports) (same : Sameness) (status
       absurd (other words (Send address0 file0 turns0) is (codes "feed") (ap first_of are) (λ e. omega (arith, e)))
   feed_on (Query address0 text0 turns0) is promise config file are =
       absurd (other words (Query address0 text0 turns0) is (codes "feed") (ap first_of are) (λ e. omega (arith, e)))
+  feed_on (Record config0 journal0) is promise config file are =
+      absurd (other words (Record config0 journal0) is (codes "feed") (ap first_of are) (λ e. omega (arith, e)))
+  feed_on (Resume journal0) is promise config file are =
+      absurd (other words (Resume journal0) is (codes "feed") (ap first_of are) (λ e. omega (arith, e)))
 
-  check_on : (command : Command) → IsCommandOf words command → PromiseOf command old new same status
+  check_on : (command : Command) → IsCommandOf words command → PromiseOf command old new disk disk' same status
       → OnCheck words (λ config. Checks config old new same.Patterns status)
   check_on (Feed config0 file0) is promise config are =
       absurd (other words (Feed config0 file0) is (codes "check") (ap first_of are) (λ e. omega (arith, e)))
@@ -158,8 +169,12 @@ module _ (words : List (List ℕ)) (old new : Reports) (same : Sameness) (status
       absurd (other words (Send address0 file0 turns0) is (codes "check") (ap first_of are) (λ e. omega (arith, e)))
   check_on (Query address0 text0 turns0) is promise config are =
       absurd (other words (Query address0 text0 turns0) is (codes "check") (ap first_of are) (λ e. omega (arith, e)))
+  check_on (Record config0 journal0) is promise config are =
+      absurd (other words (Record config0 journal0) is (codes "check") (ap first_of are) (λ e. omega (arith, e)))
+  check_on (Resume journal0) is promise config are =
+      absurd (other words (Resume journal0) is (codes "check") (ap first_of are) (λ e. omega (arith, e)))
 
-  replay_on : (command : Command) → IsCommandOf words command → PromiseOf command old new same status
+  replay_on : (command : Command) → IsCommandOf words command → PromiseOf command old new disk disk' same status
       → OnReplay words (λ config script. Replays config script old new same.Patterns status)
   replay_on (Feed config0 file0) is promise config script are =
       absurd (other words (Feed config0 file0) is (codes "replay") (ap first_of are) (λ e. omega (arith, e)))
@@ -183,8 +198,12 @@ module _ (words : List (List ℕ)) (old new : Reports) (same : Sameness) (status
       absurd (other words (Send address0 file0 turns0) is (codes "replay") (ap first_of are) (λ e. omega (arith, e)))
   replay_on (Query address0 text0 turns0) is promise config script are =
       absurd (other words (Query address0 text0 turns0) is (codes "replay") (ap first_of are) (λ e. omega (arith, e)))
+  replay_on (Record config0 journal0) is promise config script are =
+      absurd (other words (Record config0 journal0) is (codes "replay") (ap first_of are) (λ e. omega (arith, e)))
+  replay_on (Resume journal0) is promise config script are =
+      absurd (other words (Resume journal0) is (codes "replay") (ap first_of are) (λ e. omega (arith, e)))
 
-  serve_on : (command : Command) → IsCommandOf words command → PromiseOf command old new same status
+  serve_on : (command : Command) → IsCommandOf words command → PromiseOf command old new disk disk' same status
       → OnServe words (λ config turns. Serves config turns old new same.Patterns status)
   serve_on (Feed config0 file0) is promise config turns are =
       absurd
@@ -214,8 +233,14 @@ module _ (words : List (List ℕ)) (old new : Reports) (same : Sameness) (status
   serve_on (Query address0 text0 turns0) is promise config turns are =
       absurd (other words (Query address0 text0 turns0) is (codes "serve") (serve_first words config turns are)
       (λ e. omega (arith, e)))
+  serve_on (Record config0 journal0) is promise config turns are =
+      absurd (other words (Record config0 journal0) is (codes "serve") (serve_first words config turns are)
+      (λ e. omega (arith, e)))
+  serve_on (Resume journal0) is promise config turns are =
+      absurd
+      (other words (Resume journal0) is (codes "serve") (serve_first words config turns are) (λ e. omega (arith, e)))
 
-  load_on : (command : Command) → IsCommandOf words command → PromiseOf command old new same status
+  load_on : (command : Command) → IsCommandOf words command → PromiseOf command old new disk disk' same status
       → OnLoad words (λ config count start. Loads config count start old new same.Patterns status)
   load_on (Feed config0 file0) is promise config count start are =
       absurd (other words (Feed config0 file0) is (codes "load") (ap first_of are.are) (λ e. omega (arith, e)))
@@ -238,8 +263,12 @@ module _ (words : List (List ℕ)) (old new : Reports) (same : Sameness) (status
       absurd (other words (Send address0 file0 turns0) is (codes "load") (ap first_of are.are) (λ e. omega (arith, e)))
   load_on (Query address0 text0 turns0) is promise config count start are =
       absurd (other words (Query address0 text0 turns0) is (codes "load") (ap first_of are.are) (λ e. omega (arith, e)))
+  load_on (Record config0 journal0) is promise config count start are =
+      absurd (other words (Record config0 journal0) is (codes "load") (ap first_of are.are) (λ e. omega (arith, e)))
+  load_on (Resume journal0) is promise config count start are =
+      absurd (other words (Resume journal0) is (codes "load") (ap first_of are.are) (λ e. omega (arith, e)))
 
-  graphite_on : (command : Command) → IsCommandOf words command → PromiseOf command old new same status
+  graphite_on : (command : Command) → IsCommandOf words command → PromiseOf command old new disk disk' same status
       → OnGraphite words (λ file host_part. Converts file host_part old new status)
   graphite_on (Feed config0 file0) is promise file host_part are =
       absurd (other words (Feed config0 file0) is (codes "graphite") (graphite_first words file host_part are)
@@ -267,8 +296,14 @@ module _ (words : List (List ℕ)) (old new : Reports) (same : Sameness) (status
   graphite_on (Query address0 text0 turns0) is promise file host_part are =
       absurd (other words (Query address0 text0 turns0) is (codes "graphite") (graphite_first words file host_part are)
       (λ e. omega (arith, e)))
+  graphite_on (Record config0 journal0) is promise file host_part are =
+      absurd (other words (Record config0 journal0) is (codes "graphite") (graphite_first words file host_part are)
+      (λ e. omega (arith, e)))
+  graphite_on (Resume journal0) is promise file host_part are =
+      absurd (other words (Resume journal0) is (codes "graphite") (graphite_first words file host_part are)
+      (λ e. omega (arith, e)))
 
-  test_on : (command : Command) → IsCommandOf words command → PromiseOf command old new same status
+  test_on : (command : Command) → IsCommandOf words command → PromiseOf command old new disk disk' same status
       → OnTest words (λ config tests. RunsTests config tests old new same.Patterns same.Out status)
   test_on (Feed config0 file0) is promise config tests are =
       absurd (other words (Feed config0 file0) is (codes "test") (ap first_of are) (λ e. omega (arith, e)))
@@ -292,8 +327,12 @@ module _ (words : List (List ℕ)) (old new : Reports) (same : Sameness) (status
       absurd (other words (Send address0 file0 turns0) is (codes "test") (ap first_of are) (λ e. omega (arith, e)))
   test_on (Query address0 text0 turns0) is promise config tests are =
       absurd (other words (Query address0 text0 turns0) is (codes "test") (ap first_of are) (λ e. omega (arith, e)))
+  test_on (Record config0 journal0) is promise config tests are =
+      absurd (other words (Record config0 journal0) is (codes "test") (ap first_of are) (λ e. omega (arith, e)))
+  test_on (Resume journal0) is promise config tests are =
+      absurd (other words (Resume journal0) is (codes "test") (ap first_of are) (λ e. omega (arith, e)))
 
-  send_on : (command : Command) → IsCommandOf words command → PromiseOf command old new same status
+  send_on : (command : Command) → IsCommandOf words command → PromiseOf command old new disk disk' same status
       → OnSend words (λ address file turns. Sends address file turns old new status)
   send_on (Feed config0 file0) is promise address file turns are =
       absurd (other words (Feed config0 file0) is (codes "send") (send_first words address file turns are)
@@ -321,8 +360,14 @@ module _ (words : List (List ℕ)) (old new : Reports) (same : Sameness) (status
   send_on (Query address0 text0 turns0) is promise address file turns are =
       absurd (other words (Query address0 text0 turns0) is (codes "send") (send_first words address file turns are)
       (λ e. omega (arith, e)))
+  send_on (Record config0 journal0) is promise address file turns are =
+      absurd (other words (Record config0 journal0) is (codes "send") (send_first words address file turns are)
+      (λ e. omega (arith, e)))
+  send_on (Resume journal0) is promise address file turns are =
+      absurd (other words (Resume journal0) is (codes "send") (send_first words address file turns are)
+      (λ e. omega (arith, e)))
 
-  query_on : (command : Command) → IsCommandOf words command → PromiseOf command old new same status
+  query_on : (command : Command) → IsCommandOf words command → PromiseOf command old new disk disk' same status
       → OnQuery words (λ address text turns. Asks address text turns old new status)
   query_on (Feed config0 file0) is promise address text turns are =
       absurd (other words (Feed config0 file0) is (codes "query") (query_first words address text turns are)
@@ -350,6 +395,68 @@ module _ (words : List (List ℕ)) (old new : Reports) (same : Sameness) (status
       (λ e. omega (arith, e)))
   query_on (Query address0 text0 turns0) is promise address text turns are =
       asks_named words address0.now address text0.now text turns0 turns old new status is promise are
+  query_on (Record config0 journal0) is promise address text turns are =
+      absurd (other words (Record config0 journal0) is (codes "query") (query_first words address text turns are)
+      (λ e. omega (arith, e)))
+  query_on (Resume journal0) is promise address text turns are =
+      absurd (other words (Resume journal0) is (codes "query") (query_first words address text turns are)
+      (λ e. omega (arith, e)))
+
+  record_on : (command : Command) → IsCommandOf words command → PromiseOf command old new disk disk' same status
+      → OnRecord words (λ config journal. Records config journal old new disk disk' same.Patterns status)
+  record_on (Feed config0 file0) is promise config journal are =
+      absurd (other words (Feed config0 file0) is (codes "record") (ap first_of are) (λ e. omega (arith, e)))
+  record_on (Check config0) is promise config journal are =
+      absurd (other words (Check config0) is (codes "record") (ap first_of are) (λ e. omega (arith, e)))
+  record_on (Replay config0 script0) is promise config journal are =
+      absurd (other words (Replay config0 script0) is (codes "record") (ap first_of are) (λ e. omega (arith, e)))
+  record_on (Serve config0 turns0) is promise config journal are =
+      absurd (other words (Serve config0 turns0) is (codes "record") (ap first_of are) (λ e. omega (arith, e)))
+  record_on (Load config0 count0 start0) is promise config journal are =
+      absurd (other words (Load config0 count0 start0) is (codes "record") (ap first_of are) (λ e. omega (arith, e)))
+  record_on (Graphite file0 host_part0) is promise config journal are =
+      absurd (other words (Graphite file0 host_part0) is (codes "record") (ap first_of are) (λ e. omega (arith, e)))
+  record_on (Test config0 tests0) is promise config journal are =
+      absurd (other words (Test config0 tests0) is (codes "record") (ap first_of are) (λ e. omega (arith, e)))
+  record_on (Send address0 file0 turns0) is promise config journal are =
+      absurd (other words (Send address0 file0 turns0) is (codes "record") (ap first_of are) (λ e. omega (arith, e)))
+  record_on (Query address0 text0 turns0) is promise config journal are =
+      absurd (other words (Query address0 text0 turns0) is (codes "record") (ap first_of are) (λ e. omega (arith, e)))
+  record_on (Record config0 journal0) is promise config journal are =
+      let both : record_words config0.now journal0.now ≡ record_words config journal = sym is ∙ are in
+      let one : config0.now ≡ config = cc in
+      let two : journal0.now ≡ journal = cc in
+      subst (λ (j : List ℕ). Records config j old new disk disk' same.Patterns status) two
+      (subst (λ (c : List ℕ). Records c journal0.now old new disk disk' same.Patterns status) one promise)
+  record_on (Resume journal0) is promise config journal are =
+      absurd (other words (Resume journal0) is (codes "record") (ap first_of are) (λ e. omega (arith, e)))
+
+  resume_on : (command : Command) → IsCommandOf words command → PromiseOf command old new disk disk' same status
+      → OnResume words (λ journal. Resumes journal old new disk disk' same.Patterns status)
+  resume_on (Feed config0 file0) is promise journal are =
+      absurd (other words (Feed config0 file0) is (codes "resume") (ap first_of are) (λ e. omega (arith, e)))
+  resume_on (Check config0) is promise journal are =
+      absurd (other words (Check config0) is (codes "resume") (ap first_of are) (λ e. omega (arith, e)))
+  resume_on (Replay config0 script0) is promise journal are =
+      absurd (other words (Replay config0 script0) is (codes "resume") (ap first_of are) (λ e. omega (arith, e)))
+  resume_on (Serve config0 turns0) is promise journal are =
+      absurd (other words (Serve config0 turns0) is (codes "resume") (ap first_of are) (λ e. omega (arith, e)))
+  resume_on (Load config0 count0 start0) is promise journal are =
+      absurd (other words (Load config0 count0 start0) is (codes "resume") (ap first_of are) (λ e. omega (arith, e)))
+  resume_on (Graphite file0 host_part0) is promise journal are =
+      absurd (other words (Graphite file0 host_part0) is (codes "resume") (ap first_of are) (λ e. omega (arith, e)))
+  resume_on (Test config0 tests0) is promise journal are =
+      absurd (other words (Test config0 tests0) is (codes "resume") (ap first_of are) (λ e. omega (arith, e)))
+  resume_on (Send address0 file0 turns0) is promise journal are =
+      absurd (other words (Send address0 file0 turns0) is (codes "resume") (ap first_of are) (λ e. omega (arith, e)))
+  resume_on (Query address0 text0 turns0) is promise journal are =
+      absurd (other words (Query address0 text0 turns0) is (codes "resume") (ap first_of are) (λ e. omega (arith, e)))
+  resume_on (Record config0 journal0) is promise journal are =
+      absurd (other words (Record config0 journal0) is (codes "resume") (ap first_of are) (λ e. omega (arith, e)))
+  resume_on (Resume journal0) is promise journal are =
+      let both : resume_words journal0.now ≡ resume_words journal = sym is ∙ are in
+      let one : journal0.now ≡ journal = cc in
+      subst (λ (j : List ℕ). Resumes j old new disk disk' same.Patterns status) one promise
 
 -- ---- what need not hold of some commands
 
@@ -364,20 +471,28 @@ untouched_on words (Graphite file host_part) P is fact not_test = fact
 untouched_on words (Test config tests) P is fact not_test = absurd (not_test config.now tests.now is)
 untouched_on words (Send address file turns) P is fact not_test = fact
 untouched_on words (Query address text turns) P is fact not_test = fact
+untouched_on words (Record config journal) P is fact not_test = fact
+untouched_on words (Resume journal) P is fact not_test = fact
 
 memory_on : (words : List (List ℕ)) (command : Command) (P : Type 0) → IsCommandOf words command
     → UnlessRunning command P → OnReplay words (λ config script. ⊥) → OnServe words (λ config turns. ⊥)
-    → OnTest words (λ config tests. ⊥) → P
-memory_on words (Feed config file) P is fact not_replay not_serve not_test = fact
-memory_on words (Check config) P is fact not_replay not_serve not_test = fact
-memory_on words (Replay config script) P is fact not_replay not_serve not_test =
+    → OnTest words (λ config tests. ⊥) → OnRecord words (λ config journal. ⊥) → OnResume words (λ journal. ⊥) → P
+memory_on words (Feed config file) P is fact not_replay not_serve not_test not_record not_resume = fact
+memory_on words (Check config) P is fact not_replay not_serve not_test not_record not_resume = fact
+memory_on words (Replay config script) P is fact not_replay not_serve not_test not_record not_resume =
     absurd (not_replay config.now script.now is)
-memory_on words (Serve config turns) P is fact not_replay not_serve not_test = absurd (not_serve config.now turns is)
-memory_on words (Load config count start) P is fact not_replay not_serve not_test = fact
-memory_on words (Graphite file host_part) P is fact not_replay not_serve not_test = fact
-memory_on words (Test config tests) P is fact not_replay not_serve not_test = absurd (not_test config.now tests.now is)
-memory_on words (Send address file turns) P is fact not_replay not_serve not_test = fact
-memory_on words (Query address text turns) P is fact not_replay not_serve not_test = fact
+memory_on words (Serve config turns) P is fact not_replay not_serve not_test not_record not_resume =
+    absurd (not_serve config.now turns is)
+memory_on words (Load config count start) P is fact not_replay not_serve not_test not_record not_resume = fact
+memory_on words (Graphite file host_part) P is fact not_replay not_serve not_test not_record not_resume = fact
+memory_on words (Test config tests) P is fact not_replay not_serve not_test not_record not_resume =
+    absurd (not_test config.now tests.now is)
+memory_on words (Send address file turns) P is fact not_replay not_serve not_test not_record not_resume = fact
+memory_on words (Query address text turns) P is fact not_replay not_serve not_test not_record not_resume = fact
+memory_on words (Record config journal) P is fact not_replay not_serve not_test not_record not_resume =
+    absurd (not_record config.now journal.now is)
+memory_on words (Resume journal) P is fact not_replay not_serve not_test not_record not_resume =
+    absurd (not_resume journal.now is)
 
 no_line_on : (words : List (List ℕ)) (command : Command) (P : Type 0) → IsCommandOf words command
     → UnlessLines command P → OnFeed words (λ config file. ⊥) → OnGraphite words (λ file host_part. ⊥) → P
@@ -390,6 +505,8 @@ no_line_on words (Graphite file host_part) P is fact not_feed not_graphite = abs
 no_line_on words (Test config tests) P is fact not_feed not_graphite = fact
 no_line_on words (Send address file turns) P is fact not_feed not_graphite = fact
 no_line_on words (Query address text turns) P is fact not_feed not_graphite = fact
+no_line_on words (Record config journal) P is fact not_feed not_graphite = fact
+no_line_on words (Resume journal) P is fact not_feed not_graphite = fact
 
 done_on : (words : List (List ℕ)) (command : Command) (P : Type 0) → IsCommandOf words command → UnlessFeed command P
     → OnFeed words (λ config file. ⊥) → P
@@ -402,6 +519,23 @@ done_on words (Graphite file host_part) P is fact not_feed = fact
 done_on words (Test config tests) P is fact not_feed = fact
 done_on words (Send address file turns) P is fact not_feed = fact
 done_on words (Query address text turns) P is fact not_feed = fact
+done_on words (Record config journal) P is fact not_feed = fact
+done_on words (Resume journal) P is fact not_feed = fact
+
+uncalled_on : (words : List (List ℕ)) (command : Command) (P : Type 0) → IsCommandOf words command
+    → UnlessJournal command P → OnRecord words (λ config journal. ⊥) → OnResume words (λ journal. ⊥) → P
+uncalled_on words (Feed config file) P is fact not_record not_resume = fact
+uncalled_on words (Check config) P is fact not_record not_resume = fact
+uncalled_on words (Replay config script) P is fact not_record not_resume = fact
+uncalled_on words (Serve config turns) P is fact not_record not_resume = fact
+uncalled_on words (Load config count start) P is fact not_record not_resume = fact
+uncalled_on words (Graphite file host_part) P is fact not_record not_resume = fact
+uncalled_on words (Test config tests) P is fact not_record not_resume = fact
+uncalled_on words (Send address file turns) P is fact not_record not_resume = fact
+uncalled_on words (Query address text turns) P is fact not_record not_resume = fact
+uncalled_on words (Record config journal) P is fact not_record not_resume =
+    absurd (not_record config.now journal.now is)
+uncalled_on words (Resume journal) P is fact not_record not_resume = absurd (not_resume journal.now is)
 
 pub within_limits : (words : List (List ℕ)) (command : Command) → IsCommandOf words command → IsWithinLimits command
 within_limits words (Feed config file) is = tt
@@ -413,13 +547,16 @@ within_limits words (Graphite file host_part) is = host_part_within words file.n
 within_limits words (Test config tests) is = tt
 within_limits words (Send address file turns) is = tt
 within_limits words (Query address text turns) is = is.0
+within_limits words (Record config journal) is = tt
+within_limits words (Resume journal) is = tt
 
 -- ---- all that is promised of the arguments
 
-pub keeps_promises : (words : List (List ℕ)) (command : Command) (old new : Reports) (same : Sameness) (status : Status)
+pub keeps_promises : (words : List (List ℕ)) (command : Command) (old new : Reports) (disk disk' : DiskReport)
+    (same : Sameness) (status : Status)
     → IsCommandOf words command
-    → CarriesOut command old new same status → Promises words old new same status
-keeps_promises words command old new same status is carried = record {
+    → CarriesOut command old new disk disk' same status → Promises words old new disk disk' same status
+keeps_promises words command old new disk disk' same status is carried = record {
   usage = (λ e. absurd (carried.not_usage e), λ usage. absurd (named words command is usage));
   command = λ not_usage. (command, is);
   idle = λ e. absurd (carried.not_usage e);
@@ -428,39 +565,45 @@ keeps_promises words command old new same status is carried = record {
       let kept = carried.untouched refused in
       ((λ not_test. untouched_on words command same.Out is kept.0 not_test), kept.1);
   memory =
-      λ e not_replay not_serve not_test.
-      memory_on words command same.Out is (carried.memory e) not_replay not_serve not_test;
+      λ e not_replay not_serve not_test not_record not_resume.
+      memory_on words command same.Out is (carried.memory e) not_replay not_serve not_test not_record not_resume;
   no_line =
       λ quiet not_feed not_graphite. no_line_on words command same.Err is (carried.no_line quiet) not_feed not_graphite;
   done = λ e not_feed. done_on words command same.Err is (carried.done e) not_feed;
   read_fault = carried.read_fault;
   sink_fault = carried.sink_fault;
   link_fault = carried.link_fault;
-  feed = feed_on words old new same status command is carried.promise;
-  check = check_on words old new same status command is carried.promise;
-  replay = replay_on words old new same status command is carried.promise;
-  serve = serve_on words old new same status command is carried.promise;
-  load = load_on words old new same status command is carried.promise;
-  graphite = graphite_on words old new same status command is carried.promise;
-  test = test_on words old new same status command is carried.promise;
-  send = send_on words old new same status command is carried.promise;
-  query = query_on words old new same status command is carried.promise;
+  disk_fault = carried.disk_fault;
+  uncalled = λ not_record not_resume. uncalled_on words command same.Disk is carried.uncalled not_record not_resume;
+  feed = feed_on words old new disk disk' same status command is carried.promise;
+  check = check_on words old new disk disk' same status command is carried.promise;
+  replay = replay_on words old new disk disk' same status command is carried.promise;
+  serve = serve_on words old new disk disk' same status command is carried.promise;
+  load = load_on words old new disk disk' same status command is carried.promise;
+  graphite = graphite_on words old new disk disk' same status command is carried.promise;
+  test = test_on words old new disk disk' same status command is carried.promise;
+  send = send_on words old new disk disk' same status command is carried.promise;
+  query = query_on words old new disk disk' same status command is carried.promise;
+  records = record_on words old new disk disk' same status command is carried.promise;
+  resumes = resume_on words old new disk disk' same status command is carried.promise;
 }
 
-pub refuses_usage : (words : List (List ℕ)) (old new : Reports) (same : Sameness) → IsUsage words → same.Store
-    → same.Links → same.Out → same.Patterns → same.Steps
-    → GotLineOf usage_line old.err new.err → Promises words old new same Usage
-refuses_usage words old new same usage store links out patterns steps line = record {
+pub refuses_usage : (words : List (List ℕ)) (old new : Reports) (disk disk' : DiskReport) (same : Sameness)
+    → IsUsage words → same.Store → same.Links → same.Disk → same.Out → same.Patterns → same.Steps
+    → GotLineOf usage_line old.err new.err → Promises words old new disk disk' same Usage
+refuses_usage words old new disk disk' same usage store links uncalled out patterns steps line = record {
   usage = (λ e. usage, λ none. refl);
   command = λ not_usage. absurd (not_usage refl);
-  idle = λ e. (store, links, patterns, steps, line);
+  idle = λ e. (store, links, uncalled, patterns, steps, line);
   untouched = λ refused. ((λ not_test. out), links);
-  memory = λ e not_replay not_serve not_test. out;
+  memory = λ e not_replay not_serve not_test not_record not_resume. out;
   no_line = λ quiet. absurd quiet;
   done = λ e. absurd cc;
   read_fault = λ e. absurd cc;
   sink_fault = λ e. absurd cc;
   link_fault = λ e. absurd cc;
+  disk_fault = λ e. absurd cc;
+  uncalled = λ not_record not_resume. uncalled;
   feed = λ config file is. absurd (usage.0 config file is);
   check = λ config is. absurd (usage.1 config is);
   replay = λ config script is. absurd (usage.2 config script is);
@@ -470,4 +613,6 @@ refuses_usage words old new same usage store links out patterns steps line = rec
   test = λ config tests is. absurd (usage.6 config tests is);
   send = λ address file turns is. absurd (usage.7 address file turns is);
   query = λ address text turns is. absurd (usage.8 address text turns is);
+  records = λ config journal is. absurd (usage.9 config journal is);
+  resumes = λ journal is. absurd (usage.10 journal is);
 }

@@ -4,14 +4,14 @@ use Rattle.std.specs.Option.{ForSome}
 use Rattle.command_io.specs.declared.ending.Ending.{Ending}
 use Rattle.command_io.specs.declared.ending.Ending.TheVariants.{Finished, ConfigRefused, Unread, OverLimit, BytesLeft, WriteFailed, LinksFailed, ScriptRefused, OutOfMemory}
 use Rattle.command_io.specs.declared.status.Status.{Status}
-use Rattle.command_io.specs.declared.status.Status.TheVariants.{Done, Usage, Config, ReadFault, SinkFault, LinkFault, Memory, Script, Truncated, TooLong, Lines, Tests, Verdict, Unanswered, BadReply}
+use Rattle.command_io.specs.declared.status.Status.TheVariants.{Done, Usage, Config, ReadFault, SinkFault, LinkFault, Memory, Script, Truncated, TooLong, Lines, Tests, Verdict, Unanswered, BadReply, Journal, DiskFault}
 use Rattle.command_io.specs.Reports.{Reports}
 use Rattle.command_client.specs.Asks.{Asks}
 use Rattle.command_client.specs.Sends.{Sends}
 use Rattle.command_graphite.specs.Converts.{ConvertEnds, Converts}
 use Rattle.command_io.specs.Endings.{HasNoLine, IsRefusal, IsRefusalOrMemory, status_of}
 use Rattle.riemann_commands.specs.declared.command.Command.{Command}
-use Rattle.riemann_commands.specs.declared.command.Command.TheVariants.{Feed, Check, Replay, Serve, Load, Graphite, Test, Send, Query}
+use Rattle.riemann_commands.specs.declared.command.Command.TheVariants.{Feed, Check, Replay, Serve, Load, Graphite, Test, Send, Query, Record, Resume}
 use Rattle.riemann_commands.specs.Commands.{IsCommandOf}
 use Rattle.riemann_commands.specs.Words.{IsGraphite, IsQuery, IsSend, IsUsage, graphite_host_words, graphite_words, query_turns_words, query_words, send_turns_words, send_words}
 use Rattle.script_text.specs.Words.{number_of}
@@ -30,6 +30,24 @@ no_ending OutOfMemory e = cc
 pub not_usage : (status : Status) (ending : Ending) → status ≡ status_of ending → status ≡ Usage → ⊥
 not_usage status ending ended e = no_ending ending (rw ended at e)
 
+-- ---- a command that calls no disk does not end with a fault of it
+
+pub no_disk : (ending : Ending) → status_of ending ≡ DiskFault → ⊥
+no_disk Finished e = cc
+no_disk (ConfigRefused refusal) e = cc
+no_disk (Unread unread) e = cc
+no_disk (OverLimit over limit) e = cc
+no_disk (BytesLeft count) e = cc
+no_disk WriteFailed e = cc
+no_disk LinksFailed e = cc
+no_disk (ScriptRefused line) e = cc
+no_disk OutOfMemory e = cc
+
+pub not_of_disk : (status : Status) (ending : Ending) → status ≡ status_of ending → status ≡ DiskFault → ⊥
+not_of_disk status ending ended e = no_disk ending (rw ended at e)
+
+-- ---- the arguments name one command
+
 pub named : (words : List (List ℕ)) (command : Command) → IsCommandOf words command → IsUsage words → ⊥
 named words (Feed config file) is usage = usage.0 config.now file.now is
 named words (Check config) is usage = usage.1 config.now is
@@ -40,11 +58,17 @@ named words (Graphite file host_part) is usage = usage.5 file.now host_part is
 named words (Test config tests) is usage = usage.6 config.now tests.now is
 named words (Send address file turns) is usage = usage.7 address.now file.now turns is
 named words (Query address text turns) is usage = usage.8 address.now text.now turns is
+named words (Record config journal) is usage = usage.9 config.now journal.now is
+named words (Resume journal) is usage = usage.10 journal.now is
 
 -- the command that converts has an end of its own
 pub not_usage_converting : (file : List ℕ) (host_part : Option ℕ) (old new : Reports) (status : Status)
     → Converts file host_part old new status → status ≡ Usage → ⊥
 not_usage_converting file host_part old new status promise e =
+    let P : Status → Type 0 = λ s. ConvertEnds file host_part old new s in let ends = subst P e promise.ends in ends.2
+
+pub converting_not_of_disk : (file : List ℕ) (host_part : Option ℕ) (old new : Reports) (status : Status) → Converts file host_part old new status → status ≡ DiskFault → ⊥
+converting_not_of_disk file host_part old new status promise e =
     let P : Status → Type 0 = λ s. ConvertEnds file host_part old new s in let ends = subst P e promise.ends in ends.2
 
 -- the part of a path that is the host has a number from 1 to 64
@@ -163,6 +187,8 @@ refusal_or_memory Tests refused = refused
 refusal_or_memory Verdict refused = refused
 refusal_or_memory Unanswered refused = refused
 refusal_or_memory BadReply refused = refused
+refusal_or_memory Journal refused = refused
+refusal_or_memory DiskFault refused = refused
 
 pub out_of_memory : (status : Status) → status ≡ Memory → IsRefusalOrMemory status
 out_of_memory status e = rw e tt

@@ -1,8 +1,8 @@
 -- The command that matches the arguments.
 use Rattle.std.specs.Prelude.{◌≡◌, ℕ, List}
 use Rattle.riemann_commands.specs.declared.command.Command.{Command}
-use Rattle.riemann_commands.specs.declared.command.Command.TheVariants.{Feed, Check, Replay, Serve, Load, Graphite, Test, Send, Query}
-use Rattle.riemann_commands.specs.Words.{IsGraphite, IsLoad, IsQuery, IsSend, IsServe, check_words, feed_words, replay_words, test_words}
+use Rattle.riemann_commands.specs.declared.command.Command.TheVariants.{Feed, Check, Replay, Serve, Load, Graphite, Test, Send, Query, Record, Resume}
+use Rattle.riemann_commands.specs.Words.{IsGraphite, IsLoad, IsQuery, IsSend, IsServe, check_words, feed_words, record_words, replay_words, resume_words, test_words}
 
 -- the arguments are those of the command
 abbrev pub IsCommandOf : List (List ℕ) → Command → Type 0
@@ -15,6 +15,8 @@ IsCommandOf words (Graphite file host_part) = IsGraphite words file.now host_par
 IsCommandOf words (Test config tests) = words ≡ test_words config.now tests.now
 IsCommandOf words (Send address file turns) = IsSend words address.now file.now turns
 IsCommandOf words (Query address text turns) = IsQuery words address.now text.now turns
+IsCommandOf words (Record config journal) = words ≡ record_words config.now journal.now
+IsCommandOf words (Resume journal) = words ≡ resume_words journal.now
 
 -- a command matches the arguments
 abbrev pub IsCommand : List (List ℕ) → Type 0

@@ -80,6 +80,12 @@ abbrev pub IsQuery : List (List ℕ) → List ℕ → List ℕ → ℕ → Type 
 IsQuery words address text turns = (length text ≤ MAX_BYTES) × (((words ≡ query_words address text) × (turns ≡ greatest))
     ⊎ ((number : List ℕ) × (words ≡ query_turns_words address text number) × (number_of number ≡ Some turns)))
 
+abbrev pub record_words : List ℕ → List ℕ → List (List ℕ)
+record_words config journal = codes "record" ∷ (config ∷ (journal ∷ []))
+
+abbrev pub resume_words : List ℕ → List (List ℕ)
+resume_words journal = codes "resume" ∷ (journal ∷ [])
+
 -- the first argument names a command of a client
 abbrev pub IsOfClient : List (List ℕ) → Type 0
 IsOfClient [] = ⊥
@@ -114,9 +120,16 @@ OnSend words P = (address file : List ℕ) (turns : ℕ) → IsSend words addres
 abbrev pub OnQuery : List (List ℕ) → (List ℕ → List ℕ → ℕ → Type 0) → Type 0
 OnQuery words P = (address text : List ℕ) (turns : ℕ) → IsQuery words address text turns → P address text turns
 
+abbrev pub OnRecord : List (List ℕ) → (List ℕ → List ℕ → Type 0) → Type 0
+OnRecord words P = (config journal : List ℕ) → words ≡ record_words config journal → P config journal
+
+abbrev pub OnResume : List (List ℕ) → (List ℕ → Type 0) → Type 0
+OnResume words P = (journal : List ℕ) → words ≡ resume_words journal → P journal
+
 -- no command matches the arguments
 abbrev pub IsUsage : List (List ℕ) → Type 0
 IsUsage words = OnFeed words (λ config file. ⊥) × OnCheck words (λ config. ⊥)
     × OnReplay words (λ config script. ⊥) × OnServe words (λ config turns. ⊥) × OnLoad words (λ config count start. ⊥)
     × OnGraphite words (λ file host_part. ⊥) × OnTest words (λ config tests. ⊥)
     × OnSend words (λ address file turns. ⊥) × OnQuery words (λ address text turns. ⊥)
+    × OnRecord words (λ config journal. ⊥) × OnResume words (λ journal. ⊥)

@@ -53,6 +53,13 @@ pub(crate) enum Command<'a> {
         text: &'a Text,
         turns: u64,
     },
+    Record {
+        config: &'a Text,
+        journal: &'a Text,
+    },
+    Resume {
+        journal: &'a Text,
+    },
 }
 
 /// The greatest number of the part of a path that is the host.
@@ -93,6 +100,8 @@ fn command_on_one<'a>(command: &'a Text, name: &'a Text) -> Option<Command<'a>>
             file: name,
             host_part: None,
         })
+    } else if command.is(b"resume") {
+        Some(Command::Resume { journal: name })
     } else {
         None
     }
@@ -118,6 +127,11 @@ fn command_on_two<'a>(command: &'a Text, first: &'a Text, second: &'a Text) -> O
             config: first,
             tests: second,
         })
+    } else if command.is(b"record") {
+        Some(Command::Record {
+            config: first,
+            journal: second,
+        })
     } else {
         client_on_two(command, first, second)
     }
@@ -128,6 +142,7 @@ fn client_on_two<'a>(command: &'a Text, address: &'a Text, second: &'a Text) -> 
     requires feed { command.now ≢ codes "feed" }
     requires replay { command.now ≢ codes "replay" }
     requires test { command.now ≢ codes "test" }
+    requires recording { command.now ≢ codes "record" }
     ensures { MatchOption result (IsUsage (command.now ∷ (address.now ∷ (second.now ∷ []))))
         (λ found. IsCommandOf (command.now ∷ (address.now ∷ (second.now ∷ []))) found) }
 {

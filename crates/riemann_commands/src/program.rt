@@ -9,6 +9,7 @@ ghost use Rattle.riemann_commands.specs.Promises.{IsNoOption, Promises, WritesTe
 
 use crate::server::riemann;
 use command_io::{MEMORY_LINE, Status, USAGE, put_all, put_line};
+use disk_port::Disk;
 use ev_types::Text;
 use ports::{Links, Sink, Store};
 use pred_eval::Patterns;
@@ -29,6 +30,8 @@ commands:
                           and then what each link was sent
   serve CONFIG            serve clients; write the lines of notices
   serve CONFIG --turns N  the same, for at most N turns
+  record CONFIG JOURNAL   serve clients, and keep a journal of the run in the file JOURNAL
+  resume JOURNAL          go on with the run of the journal
   load CONFIG N START     serve a generated load of N events in memory; write what it came to
   graphite FILE           convert lines of a path, a value and a time to frames
   graphite FILE --host K  the same; part K of a path is the host
@@ -93,11 +96,12 @@ fn names_client(words: &[Text]) -> bool
 
 /// Answers `--help` and `--version`, and carries out any other command. Arguments that could not be read have the status
 /// and the line of their fault.
-pub fn run<S: Store, L: Links, O: Sink, E: Sink, P: Patterns, G: Ledger>(
+pub fn run<S: Store, L: Links, D: Disk, O: Sink, E: Sink, P: Patterns, G: Ledger>(
     alloc: Global,
     arguments: Result<Vec<Text>, ArgumentsFault>,
     store: &mut S,
     links: &mut L,
+    disk: &mut D,
     out: &mut O,
     err: &mut E,
     patterns: &mut P,
@@ -107,9 +111,10 @@ pub fn run<S: Store, L: Links, O: Sink, E: Sink, P: Patterns, G: Ledger>(
         Promises given.items (reports (S.report store.old) (L.report links.old) (O.report out.old)
         (E.report err.old) (P.report patterns.old) steps.old.forks)
         (reports (S.report store.new) (L.report links.new) (O.report out.new) (E.report err.new)
-        (P.report patterns.new) steps.new.forks)
-        (sameness (store.new ≡ store.old) (links.new ≡ links.old) (out.new ≡ out.old)
-        (err.new ≡ err.old) (patterns.new ≡ patterns.old) (steps.new ≡ steps.old)) result) }
+        (P.report patterns.new) steps.new.forks) (D.report disk.old) (D.report disk.new)
+        (sameness (store.new ≡ store.old) (links.new ≡ links.old) (disk.new ≡ disk.old)
+        (out.new ≡ out.old) (err.new ≡ err.old) (patterns.new ≡ patterns.old)
+        (steps.new ≡ steps.old)) result) }
     ensures help { IfOk arguments (λ given. given.items ≡ help_words →
         WritesText HELP.now (O.report out.old) (O.report out.new) result) }
     ensures version { IfOk arguments (λ given. given.items ≡ version_words →
@@ -123,7 +128,7 @@ pub fn run<S: Store, L: Links, O: Sink, E: Sink, P: Patterns, G: Ledger>(
         Ok(arguments) => match arguments.as_slice() {
             [option] if option.is(b"--help") => put_text(out, HELP),
             [option] if option.is(b"--version") => put_text(out, VERSION),
-            words => riemann(alloc, words, store, links, out, err, patterns, steps),
+            words => riemann(alloc, words, store, links, disk, out, err, patterns, steps),
         },
         Err(ArgumentsFault::NotUtf8) => {
             put_line(err, &[USAGE]);

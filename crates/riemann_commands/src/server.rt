@@ -10,9 +10,11 @@ use command_feed::feed;
 use command_graphite::graphite;
 use command_io::{Status, USAGE, put_line};
 use command_load::load;
+use command_record::{record, resume};
 use command_replay::replay;
 use command_serve::serve;
 use command_test::run_tests;
+use disk_port::Disk;
 use ev_types::Text;
 use ports::{Links, Sink, Store};
 use pred_eval::Patterns;
@@ -36,14 +38,17 @@ use step_count::{Ledger, Steps};
 /// | `send ADDRESS FILE --turns N` | the same, in at most N turns |
 /// | `query ADDRESS TEXT` | asks the query over `links`, and writes the reply to `out` |
 /// | `query ADDRESS TEXT --turns N` | the same, in at most N turns |
+/// | `record CONFIG JOURNAL` | runs a server over `links`, as `serve` does, and records its turns in a journal in the file JOURNAL of `disk` |
+/// | `resume JOURNAL` | goes on with the run of that journal over `links` |
 ///
 /// Patterns are built by `patterns`, and the forks that are entered are counted in `steps`. A status other than `Done` and
 /// `SinkFault` has a line on `err`, which is cut where a write to `err` fails.
-pub fn riemann<S: Store, L: Links, O: Sink, E: Sink, P: Patterns, G: Ledger>(
+pub fn riemann<S: Store, L: Links, D: Disk, O: Sink, E: Sink, P: Patterns, G: Ledger>(
     alloc: Global,
     words: &[Text],
     store: &mut S,
     links: &mut L,
+    disk: &mut D,
     out: &mut O,
     err: &mut E,
     patterns: &mut P,
@@ -52,12 +57,15 @@ pub fn riemann<S: Store, L: Links, O: Sink, E: Sink, P: Patterns, G: Ledger>(
     ensures { Promises words.now (reports (S.report store.old) (L.report links.old)
         (O.report out.old) (E.report err.old) (P.report patterns.old) steps.old.forks)
         (reports (S.report store.new) (L.report links.new) (O.report out.new) (E.report err.new)
-        (P.report patterns.new) steps.new.forks)
-        (sameness (store.new ≡ store.old) (links.new ≡ links.old) (out.new ≡ out.old)
-        (err.new ≡ err.old) (patterns.new ≡ patterns.old) (steps.new ≡ steps.old)) result }
+        (P.report patterns.new) steps.new.forks) (D.report disk.old) (D.report disk.new)
+        (sameness (store.new ≡ store.old) (links.new ≡ links.old) (disk.new ≡ disk.old)
+        (out.new ≡ out.old) (err.new ≡ err.old) (patterns.new ≡ patterns.old)
+        (steps.new ≡ steps.old)) result }
 {
     match command_of(words) {
-        Some(command) => carry_out(alloc, command, store, links, out, err, patterns, steps),
+        Some(command) => carry_out(
+            alloc, command, store, links, disk, out, err, patterns, steps,
+        ),
         None => {
             put_line(err, &[USAGE]);
             Status::Usage
@@ -66,11 +74,12 @@ pub fn riemann<S: Store, L: Links, O: Sink, E: Sink, P: Patterns, G: Ledger>(
 }
 
 /// Carries out the command.
-fn carry_out<S: Store, L: Links, O: Sink, E: Sink, P: Patterns, G: Ledger>(
+fn carry_out<S: Store, L: Links, D: Disk, O: Sink, E: Sink, P: Patterns, G: Ledger>(
     alloc: Global,
     command: Command,
     store: &mut S,
     links: &mut L,
+    disk: &mut D,
     out: &mut O,
     err: &mut E,
     patterns: &mut P,
@@ -80,9 +89,10 @@ fn carry_out<S: Store, L: Links, O: Sink, E: Sink, P: Patterns, G: Ledger>(
     ensures { CarriesOut command.entry (reports (S.report store.old) (L.report links.old)
         (O.report out.old) (E.report err.old) (P.report patterns.old) steps.old.forks)
         (reports (S.report store.new) (L.report links.new) (O.report out.new) (E.report err.new)
-        (P.report patterns.new) steps.new.forks)
-        (sameness (store.new ≡ store.old) (links.new ≡ links.old) (out.new ≡ out.old)
-        (err.new ≡ err.old) (patterns.new ≡ patterns.old) (steps.new ≡ steps.old)) result }
+        (P.report patterns.new) steps.new.forks) (D.report disk.old) (D.report disk.new)
+        (sameness (store.new ≡ store.old) (links.new ≡ links.old) (disk.new ≡ disk.old)
+        (out.new ≡ out.old) (err.new ≡ err.old) (patterns.new ≡ patterns.old)
+        (steps.new ≡ steps.old)) result }
 {
     match command {
         Command::Feed { config, file } => {
@@ -118,5 +128,11 @@ fn carry_out<S: Store, L: Links, O: Sink, E: Sink, P: Patterns, G: Ledger>(
             text,
             turns,
         } => query(alloc, address, text, turns, links, out, err),
+        Command::Record { config, journal } => record(
+            alloc, config, journal, store, links, disk, out, err, patterns, steps,
+        ),
+        Command::Resume { journal } => {
+            resume(alloc, journal, links, disk, out, err, patterns, steps)
+        }
     }
 }

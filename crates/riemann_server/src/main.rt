@@ -6,6 +6,7 @@ ghost use Rattle.std.specs.Process.{exit_status};
 ghost use Rattle.command_io.specs.Endings.{code_of};
 
 use command_io::{MEMORY_LINE, Status, put_line};
+use disk_port::FileDisk;
 use mio_links::{DialLinks, MioLinks};
 use ports::{FileStore, StreamSink};
 use pred_eval::RegexPatterns;
@@ -15,6 +16,7 @@ use step_count::{NoLedger, Steps};
 
 fn main(rt: HostRuntime) -> ExitCode {
     let mut store = FileStore::fresh(&rt);
+    let mut disk = FileDisk::fresh(&rt);
     let mut out = StreamSink::fresh(rt.stdout());
     let mut err = StreamSink::fresh(rt.stderr());
     let mut patterns = RegexPatterns { refusals: 0 };
@@ -30,6 +32,7 @@ fn main(rt: HostRuntime) -> ExitCode {
             words,
             &mut store,
             &mut links,
+            &mut disk,
             &mut out,
             &mut err,
             &mut patterns,
@@ -46,6 +49,7 @@ fn main(rt: HostRuntime) -> ExitCode {
         words,
         &mut store,
         &mut links,
+        &mut disk,
         &mut out,
         &mut err,
         &mut patterns,

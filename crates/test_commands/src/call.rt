@@ -1,6 +1,7 @@
 use crate::fault::Fault;
 use crate::numbers::{number_of, numbers_of};
 use command_io::Status;
+use disk_port::MemDisk;
 use ev_types::{Blob, Text, Texts};
 use ports::{FaultLinks, MemSink, MemStore};
 use pred_eval::ListPatterns;
@@ -16,6 +17,7 @@ pub(crate) struct Ended {
     pub status: Status,
     pub store: MemStore,
     pub links: FaultLinks,
+    pub disk: MemDisk,
     pub out: MemSink,
     pub err: MemSink,
     pub patterns: ListPatterns,
@@ -29,6 +31,7 @@ const ROOM: u64 = 1 << 20;
 pub(crate) fn call(alloc: Global, row: &Row) -> Result<Ended, Fault> {
     let mut store = store_of(alloc, row)?;
     let mut links = links_of(alloc, row)?;
+    let mut disk = disk_of(alloc, row)?;
     let room = number_of(row, "room")?.unwrap_or(ROOM);
     let mut out = sink_of(alloc, row, "fail out", room)?;
     let mut err = sink_of(alloc, row, "fail err", ROOM)?;
@@ -46,6 +49,7 @@ pub(crate) fn call(alloc: Global, row: &Row) -> Result<Ended, Fault> {
         arguments,
         &mut store,
         &mut links,
+        &mut disk,
         &mut out,
         &mut err,
         &mut patterns,
@@ -55,6 +59,7 @@ pub(crate) fn call(alloc: Global, row: &Row) -> Result<Ended, Fault> {
         status,
         store,
         links,
+        disk,
         out,
         err,
         patterns,
@@ -95,6 +100,14 @@ fn links_of(alloc: Global, row: &Row) -> Result<FaultLinks, Fault> {
     };
     let failing = numbers_of(alloc, row, "fail links")?;
     Ok(FaultLinks::fresh(inner, failing))
+}
+
+/// A disk whose file has the bytes of the row.
+fn disk_of(alloc: Global, row: &Row) -> Result<MemDisk, Fault> {
+    let file = Blob::from_slice(alloc, row.value("disk").unwrap_or(b""))?;
+    let failing = numbers_of(alloc, row, "fail disk")?;
+    let stop = number_of(row, "stop disk")?;
+    Ok(MemDisk::fresh(alloc, file, failing, stop)?)
 }
 
 /// An empty sink whose writes fail as the key says.

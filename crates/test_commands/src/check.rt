@@ -14,7 +14,8 @@ pub(crate) fn differences(alloc: Global, row: &Row) -> Result<String, Fault> {
     let mut said = String::new(alloc);
     compare_written(alloc, row, &ended, &mut said)?;
     compare_counts(alloc, row, &ended, &mut said)?;
-    compare_refused(row, &ended, &mut said)?;
+    compare_texts(row, "refused", ended.patterns.refused.as_slice(), &mut said)?;
+    compare_disk(row, &ended, &mut said)?;
     compare_sent(row, &ended, &mut said)?;
     Ok(said)
 }
@@ -41,41 +42,51 @@ fn compare_counts(alloc: Global, row: &Row, ended: &Ended, said: &mut String) ->
     compare_given(alloc, row, "forks", ended.steps.ledger().forks, said)
 }
 
-/// Compares the patterns that were refused.
-fn compare_refused(row: &Row, ended: &Ended, said: &mut String) -> Result<(), Fault> {
-    let mut patterns = ended.patterns.refused.as_slice().iter();
+/// Compares texts with the values of the key, in order.
+fn compare_texts(row: &Row, key: &str, came: &[Text], said: &mut String) -> Result<(), Fault> {
+    let mut texts = came.iter();
     for field in &row.fields {
-        if field.key.as_str() == "refused" {
-            compare_pattern(field, patterns.next(), said)?;
+        if field.key.as_str() == key {
+            compare_text(field, texts.next(), said)?;
         }
     }
-    match patterns.next() {
-        Some(pattern) => Difference {
-            key: "refused",
-            wanted: b"no more patterns",
-            came: pattern.as_bytes(),
+    match texts.next() {
+        Some(text) => Difference {
+            key,
+            wanted: b"no more",
+            came: text.as_bytes(),
         }
         .say(said),
         None => Ok(()),
     }
 }
 
-fn compare_pattern(field: &Field, pattern: Option<&Text>, said: &mut String) -> Result<(), Fault> {
+fn compare_text(field: &Field, text: Option<&Text>, said: &mut String) -> Result<(), Fault> {
+    let key = field.key.as_str();
     let wanted = field.value.as_slice();
-    match pattern {
-        Some(pattern) if pattern.as_bytes() == wanted => Ok(()),
-        Some(pattern) => Difference {
-            key: "refused",
+    match text {
+        Some(text) if text.as_bytes() == wanted => Ok(()),
+        Some(text) => Difference {
+            key,
             wanted,
-            came: pattern.as_bytes(),
+            came: text.as_bytes(),
         }
         .say(said),
         None => Difference {
-            key: "refused",
+            key,
             wanted,
-            came: b"no more patterns",
+            came: b"no more",
         }
         .say(said),
+    }
+}
+
+/// Compares the disk's file, where the row gives it, and the names that were opened.
+fn compare_disk(row: &Row, ended: &Ended, said: &mut String) -> Result<(), Fault> {
+    compare_texts(row, "opened", ended.disk.opened.as_slice(), said)?;
+    match row.value("journal") {
+        Some(_) => compare(row, "journal", ended.disk.file.as_slice(), said),
+        None => Ok(()),
     }
 }
 

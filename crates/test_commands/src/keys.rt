@@ -10,6 +10,9 @@ const ONCE: &[&str] = &[
     "fail links",
     "fail out",
     "fail err",
+    "fail disk",
+    "stop disk",
+    "disk",
     "room",
     "status",
     "out",
@@ -17,10 +20,11 @@ const ONCE: &[&str] = &[
     "reads",
     "puts",
     "forks",
+    "journal",
 ];
 
 /// The keys that it has any number of times.
-const MANY: &[&str] = &["args", "arg", "refused"];
+const MANY: &[&str] = &["args", "arg", "refused", "opened"];
 
 /// The keys with a name of their own, once for each name.
 const NAMED: &[&str] = &["file ", "sent "];

@@ -1,5 +1,7 @@
 use Rattle.std.proofs.Common.{refl, inl}
-use Rattle.riemann_commands.proofs.CommandLaws.{done_has_no_line, not_usage, not_usage_converting, out_of_memory, refusal_or_memory}
+use Rattle.command_client.proofs.EndingLaws as client
+use Rattle.command_test.proofs.EndingLaws as tests
+use Rattle.riemann_commands.proofs.CommandLaws.{converting_not_of_disk, done_has_no_line, no_disk, not_of_disk, not_usage, not_usage_converting, out_of_memory, refusal_or_memory}
 use Rattle.riemann_commands.proofs.server.carry_out.Goals as goal
 
 pub returns-in-Feed : goal.returns-in-Feed
@@ -15,6 +17,8 @@ returns-in-Feed g c =
       read_fault = c.feed.ensures.read_fault;
       sink_fault = c.feed.ensures.sink_fault;
       link_fault = λ e. absurd (c.feed.ensures.links_work e);
+      disk_fault = λ e. absurd (not_of_disk _ promise.ending promise.ended e);
+      uncalled = refl;
     })
 
 pub returns-in-Check : goal.returns-in-Check
@@ -30,6 +34,8 @@ returns-in-Check g c =
       read_fault = c.check.ensures.read_fault;
       sink_fault = λ e. inl (c.check.ensures.sink_fault e);
       link_fault = λ e. absurd (c.check.ensures.links_work e);
+      disk_fault = λ e. absurd (not_of_disk _ promise.ending promise.ended e);
+      uncalled = refl;
     })
 
 pub returns-in-Replay : goal.returns-in-Replay
@@ -45,6 +51,8 @@ returns-in-Replay g c =
       read_fault = c.replay.ensures.read_fault;
       sink_fault = λ e. inl (c.replay.ensures.sink_fault e);
       link_fault = λ e. absurd (c.replay.ensures.links_work e);
+      disk_fault = λ e. absurd (not_of_disk _ promise.ending promise.ended e);
+      uncalled = refl;
     })
 
 pub returns-in-Serve : goal.returns-in-Serve
@@ -60,6 +68,8 @@ returns-in-Serve g c =
       read_fault = c.serve.ensures.read_fault;
       sink_fault = λ e. inl (c.serve.ensures.sink_fault e);
       link_fault = c.serve.ensures.link_fault;
+      disk_fault = λ e. absurd (not_of_disk _ promise.ending promise.ended e);
+      uncalled = refl;
     })
 
 pub returns-in-Load : goal.returns-in-Load
@@ -75,6 +85,8 @@ returns-in-Load g c =
       read_fault = c.load.ensures.read_fault;
       sink_fault = λ e. inl (c.load.ensures.sink_fault e);
       link_fault = λ e. absurd (c.load.ensures.links_work e);
+      disk_fault = λ e. absurd (not_of_disk _ promise.ending promise.ended e);
+      uncalled = refl;
     })
 
 pub returns-in-Graphite : goal.returns-in-Graphite
@@ -92,6 +104,8 @@ returns-in-Graphite g c =
       read_fault = c.graphite.ensures.read_fault;
       sink_fault = c.graphite.ensures.sink_fault;
       link_fault = λ e. absurd (c.graphite.ensures.links_work e);
+      disk_fault = λ e. absurd (converting_not_of_disk _ _ _ _ _ promise e);
+      uncalled = refl;
     })
 
 pub returns-in-Test : goal.returns-in-Test
@@ -107,6 +121,8 @@ returns-in-Test g c =
       read_fault = c.run_tests.ensures.read_fault;
       sink_fault = λ e. inl (c.run_tests.ensures.sink_fault e);
       link_fault = λ e. absurd (c.run_tests.ensures.links_work e);
+      disk_fault = λ e. absurd (tests.not_of_disk no_disk _ promise.ending promise.ended e);
+      uncalled = refl;
     })
 
 pub returns-in-Send : goal.returns-in-Send
@@ -124,6 +140,8 @@ returns-in-Send g c =
       read_fault = c.send.ensures.read_fault;
       sink_fault = λ e. inl (c.send.ensures.sink_fault e);
       link_fault = c.send.ensures.link_fault;
+      disk_fault = λ e. absurd (client.not_of_disk no_disk _ promise.ending promise.ended e);
+      uncalled = refl;
     })
 
 pub returns-in-Query : goal.returns-in-Query
@@ -143,4 +161,40 @@ returns-in-Query g c =
       read_fault = λ e. absurd (c.query.ensures.no_file e);
       sink_fault = λ e. inl (c.query.ensures.sink_fault e);
       link_fault = c.query.ensures.link_fault;
+      disk_fault = λ e. absurd (client.not_of_disk no_disk _ promise.ending promise.ended e);
+      uncalled = refl;
+    })
+
+pub returns-in-Record : goal.returns-in-Record
+returns-in-Record g c =
+    let promise = c.«record».ensures.promise in
+    rw c.in-Record.is (record {
+      promise = promise;
+      not_usage = c.«record».ensures.not_usage;
+      untouched = c.«record».ensures.untouched;
+      memory = λ e. tt;
+      no_line = c.«record».ensures.no_line;
+      done = λ e. c.«record».ensures.no_line (done_has_no_line c.«record».result e);
+      read_fault = c.«record».ensures.read_fault;
+      sink_fault = λ e. inl (c.«record».ensures.sink_fault e);
+      link_fault = c.«record».ensures.link_fault;
+      disk_fault = c.«record».ensures.disk_fault;
+      uncalled = tt;
+    })
+
+pub returns-in-Resume : goal.returns-in-Resume
+returns-in-Resume g c =
+    let promise = c.resume.ensures.promise (g.S.Store.report c.args.store.now) in
+    rw c.in-Resume.is (record {
+      promise = promise;
+      not_usage = c.resume.ensures.not_usage;
+      untouched = c.resume.ensures.untouched;
+      memory = λ e. tt;
+      no_line = c.resume.ensures.no_line;
+      done = λ e. c.resume.ensures.no_line (done_has_no_line c.resume.result e);
+      read_fault = λ e. absurd (c.resume.ensures.no_file e);
+      sink_fault = λ e. inl (c.resume.ensures.sink_fault e);
+      link_fault = c.resume.ensures.link_fault;
+      disk_fault = c.resume.ensures.disk_fault;
+      uncalled = tt;
     })

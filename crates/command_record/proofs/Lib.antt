@@ -1,0 +1,5 @@
+pub mod EndingLaws
+pub mod CauseLaws
+pub mod OpeningLaws
+pub mod RecordLaws
+pub mod ResumeLaws

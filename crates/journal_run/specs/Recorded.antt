@@ -1,0 +1,51 @@
+-- What a run comes to whose turns are recorded.
+use Rattle.std.specs.Prelude.{◌≡◌, ℕ, List, Some, Result, Ok, Err}
+use Rattle.disk_port.specs.Calls.{DiskReport}
+use Rattle.disk_port.specs.Past.{Leaves, LeavesOnly, Past}
+use Rattle.hub_run.specs.Runs.{RunReport, RunsTo}
+use Rattle.hub_run.specs.conn_core.declared.hub.Hub.{Hub}
+use Rattle.hub_run.specs.declared.fault.RunFault.{RunFault}
+use Rattle.hub_run.specs.declared.fault.RunFault.TheVariants as run
+use Rattle.hub_run.specs.declared.setup.Setup.{Setup}
+use Rattle.journal_format.specs.Journals.{Journal}
+use Rattle.journal_format.specs.declared.finder.Found.{Found}
+use Rattle.journal_run.specs.declared.fault.JournalRunFault.{JournalRunFault}
+use Rattle.journal_run.specs.declared.fault.JournalRunFault.TheVariants.{Links, Disk, Sink, Memory}
+use Rattle.ports.specs.Calls.{LinksReport}
+use Rattle.ports.specs.declared.entry.Entry.{Entry}
+use Rattle.recorded_runs.specs.Laws.{AreAll, AreFirst, HoldsMore}
+use Rattle.recorded_runs.specs.Lending.{Passed}
+use Rattle.recorded_runs.specs.Noting.{noted}
+use Rattle.recorded_runs.specs.Recording.{Recorded}
+use Rattle.turn_journal.specs.Standing.{Stands}
+
+-- how the run ended for the hub, which knows of no disk: its links failed
+abbrev pub run_result : Result Hub JournalRunFault → Result Hub RunFault
+run_result (Ok hub) = Ok hub
+run_result (Err Links) = Err run.Links
+run_result (Err Disk) = Err run.Links
+run_result (Err Sink) = Err run.Sink
+run_result (Err Memory) = Err run.Memory
+
+-- Of a file that held the journal, in which these calls were recorded since.
+pub record IsRecordedIn (journal : Journal) (start : Past) (calls : List Entry) (now : Past) : Type 0 where
+  -- each turn was handed out only once every crash left the journal with it
+  pub recorded : Recorded journal start calls now
+  -- a crash at any moment leaves the journal with the first of the turns, or with all and one more
+  pub at_any_moment : LeavesOnly start now (HoldsMore journal (AreFirst (noted calls).records))
+  -- a crash now leaves the journal with all of them, or with all and one more
+  pub last : (image : List ℕ) → Leaves now image → HoldsMore journal (AreAll (noted calls).records) image
+
+-- so it is of the journal that ends there in the disk's file, where the disk reports it
+abbrev pub RecordsIn : Found → DiskReport → DiskReport → List Entry → Type 0
+RecordsIn found disk disk' calls = (journal : Journal) (start : Past) → disk.past ≡ Some start → Stands start found.gate found.has_record journal
+    → ∥ ((now : Past) × (disk'.past ≡ Some now) × IsRecordedIn journal start calls now) ∥₁
+
+-- A server was run over links that record.
+pub record RunsRecorded (setup : Setup) (limit : ℕ) (found : Found) (links links' : LinksReport) (disk disk' : DiskReport) (old new : RunReport) (result : Result Hub JournalRunFault) : Type 0 where
+  -- the calls of the links that record, with each turn that was handed out
+  pub calls : List Entry
+  pub runs : RunsTo setup limit old new (run_result result) calls
+  -- the calls that were made for them of the links that were lent
+  pub passed : ∥ Passed 0 links calls links' ∥₁
+  pub journal : RecordsIn found disk disk' calls

@@ -1,0 +1,10 @@
+//! Runs of a server whose turns a journal keeps.
+#![tactic(auto)]
+
+mod fault;
+mod recorded;
+mod resumed;
+
+pub use fault::JournalRunFault;
+pub use recorded::run_recorded;
+pub use resumed::run_resumed;

@@ -1,0 +1,5 @@
+pub mod KeepLaws
+pub mod StepLaws
+pub mod AskLaws
+pub mod RisenLaws
+pub mod MadeLaws

@@ -1,0 +1,4 @@
+pub mod Making
+pub mod Asking
+pub mod Moments
+pub mod Lending
