@@ -1,4 +1,6 @@
+pub mod EventAgain
 pub mod Folds
+pub mod FoundAgain
 pub mod Joined
 pub mod Lengths
 pub mod ReadAgain
