@@ -1,5 +1,5 @@
 -- Kinds of streams, by what is in their forms.
-use Rattle.std.proofs.Common.{◌≡◌, ◌≢◌, ◌<◌, ◌+◌, take, get_or, ℕ, List, [], ◌∷◌, ◌++◌, length, Vec, Global, Option, Some, None, Result, Ok, refl, ap, sym, ◌∙◌, arith}
+use Rattle.std.proofs.Common.{◌≡◌, ◌≢◌, ◌<◌, ◌+◌, take, get_or, ℕ, List, [], ◌∷◌, ◌++◌, length, Vec, Global, Bool, Option, Some, None, Result, Ok, refl, ap, sym, ◌∙◌, arith}
 use Rattle.std.specs.Option.{is_some}
 use Rattle.ev_types.specs.declared.settings.Fold.{Fold}
 use Rattle.ev_types.specs.declared.settings.Set.{Set}
@@ -15,7 +15,7 @@ use Rattle.sexp_read.specs.Tree.{FormTree, FormTrees, Single, Group, none, also}
 use Rattle.config_terms.specs.Steps.{Fault, ◌>>=◌, start_of, nth, argument}
 use Rattle.config_terms.specs.Words.{fold_word}
 use Rattle.config_terms.specs.Arguments.{Env, sets_from}
-use Rattle.config_streams.specs.Kinds.{is_map, one_set, sets_by, sets_of, init_of, init_by, some_init, fold_named, tag_rules, all_tagged}
+use Rattle.config_streams.specs.Kinds.{is_map, one_set, sets_by, sets_of, init_of, init_by, some_init, some_idle, idle_by, idle_of, fold_named, tag_rules, all_tagged}
 use Rattle.std.proofs.lemmas.List.{take_more}
 use Rattle.config_terms.specs.Rules.{with_rule}
 use Rattle.config_terms.proofs.RuleLaws.{rule_pushed}
@@ -56,6 +56,32 @@ pub init_is : (env : Env) (forms entries : FormTrees) (form : FormTree) → Some
     init_of env forms ≡ some_init env (start_of form) entries
 unfolding init_of
 init_is env forms entries form at is = ap (init_by env) (sym at) ∙ map_of_init env entries form is
+
+pub map_of_idle : (in_fork : Bool) (env : Env) (entries : FormTrees) (form : FormTree) → Some entries ≡ map_in form →
+    idle_by in_fork env (Some form) ≡ some_idle in_fork env (start_of form) entries
+map_of_idle in_fork env entries (Group Curly more begin last) e =
+    ap (λ (found : Option FormTrees). found_idle found) (sym e)
+  where
+    found_idle : Option FormTrees → Result (Option ℕ) Fault
+    found_idle None = Ok None
+    found_idle (Some held) = some_idle in_fork env begin held
+map_of_idle in_fork env entries (Group Round more begin last) e = cc
+map_of_idle in_fork env entries (Group Square more begin last) e = cc
+map_of_idle in_fork env entries (Single a begin last) e = cc
+
+pub idle_is : (in_fork : Bool) (env : Env) (forms entries : FormTrees) (form : FormTree) → Some form ≡ nth 1 forms →
+    Some entries ≡ map_in form →
+    idle_of in_fork env forms ≡ some_idle in_fork env (start_of form) entries
+unfolding idle_of
+idle_is in_fork env forms entries form at is =
+    ap (idle_by in_fork env) (sym at) ∙ map_of_idle in_fork env entries form is
+
+pub no_map_of_idle : (in_fork : Bool) (env : Env) (form : FormTree) → None ≡ map_in form
+    → idle_by in_fork env (Some form) ≡ Ok None
+no_map_of_idle in_fork env (Group Curly more begin last) e = cc
+no_map_of_idle in_fork env (Group Round more begin last) e = refl
+no_map_of_idle in_fork env (Group Square more begin last) e = refl
+no_map_of_idle in_fork env (Single a begin last) e = refl
 
 pub sets_are : (env : Env) (start : ℕ) (forms entries : FormTrees) (form : FormTree) →
     argument start 0 forms ≡ Ok form → Some entries ≡ map_in form →

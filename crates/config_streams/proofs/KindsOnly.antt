@@ -1,5 +1,5 @@
 -- The arguments of which a kind of stream is read are those of the grammar.
-use Rattle.std.proofs.Common.{◌≡◌, ℕ, ℤ, Bool, true, false, not, codes, List, [], ◌∷◌, if◌then◌else◌, Option, Some, None, Result, Ok, Err, refl, ap, sym, ◌∙◌, subst}
+use Rattle.std.proofs.Common.{◌≡◌, ℕ, ℤ, Bool, true, false, not, codes, List, [], ◌∷◌, if◌then◌else◌, Option, Some, None, Result, Ok, Err, refl, ap, sym, ◌∙◌, subst, arith}
 use Rattle.std.proofs.lemmas.Slice.Eq.{bytes_eq-Decides}
 use Rattle.std.specs.Str.{bytes_eq}
 use Rattle.ev_types.specs.declared.field.Field.{Field}
@@ -22,19 +22,20 @@ use Rattle.config_terms.specs.declared.word.StreamWord.TheVariants as word
 use Rattle.config_terms.specs.Code.{later}
 use Rattle.config_terms.specs.Steps.{Fault, ◌>>=◌, start_of, nth, argument}
 use Rattle.config_terms.specs.Words.{stream_text, stream_word, passing_word, counting_word, window_word, fold_word, init_text}
-use Rattle.config_terms.specs.Arguments.{Env, text_at, number_at, field_at, value_at, texts_at, fields_at, some_of, set_at, sets_from, one_entry}
+use Rattle.config_terms.specs.Arguments.{Env, text_at, number_at, field_at, value_at, texts_at, fields_at, some_of, set_at, sets_from, one_entry, idle_in}
 use Rattle.config_terms.specs.Rules.{rule_at}
 use Rattle.config_terms.specs.Grammar.{symbol, IsLiteral, IsPredicate}
-use Rattle.config_terms.specs.Terms.{map_of, IsField, IsTexts, IsFields, IsSet, AreSets, IsInit}
+use Rattle.config_terms.specs.Terms.{map_of, IsField, IsTexts, IsFields, IsSet, AreSets, IsInit, IsRanged, a_ranged, IsIdle, an_idle}
 use Rattle.config_terms.proofs.GrammarLaws.{predicates_are_those}
 use Rattle.config_terms.proofs.Outcomes.{OkGood, SomeGood, Any_, bind_good, any_good, weaker, some_if, some_or}
 use Rattle.config_terms.proofs.TermLaws.{texts_are_read, numbers_are_read, fields_are_read}
 use Rattle.config_terms.proofs.VectorLaws.{ranges_are_read, text_vectors_are_read, field_vectors_are_read}
 use Rattle.config_terms.proofs.SetLaws.{sets_are_read, set_maps_are_read, inits_are_read}
+use Rattle.config_terms.proofs.IdleLaws.{idles_are_read}
 use Rattle.stream_plan.specs.declared.kinds.TheConstants.{MAX_COUNT, MAX_SECS}
-use Rattle.config_streams.specs.Kinds.{count_at, secs_at, is_map, is_map_in, one_set, sets_of, some_init, init_of, fold_by, fold_named, fold_at, has_secs, coalesce_secs, all_tagged, tagged_kind, one_argument, two_arguments, order_kind, changed_kind, window_kind, counting_kind, kind_of, leads, two_if, one_if}
+use Rattle.config_streams.specs.Kinds.{count_at, secs_at, is_map, is_map_in, one_set, sets_of, some_init, init_of, most_idle, some_idle, idle_of, by_kind, fold_by, fold_named, fold_at, has_secs, coalesce_secs, all_tagged, tagged_kind, one_argument, two_arguments, order_kind, changed_kind, window_kind, counting_kind, kind_of, leads, two_if, one_if}
 use Rattle.config_streams.specs.Streams.{is_where}
-use Rattle.config_streams.specs.Grammar.{IsCount, AreSecs, IsFold, sum, minimum, maximum, counted, and_then, IsKind, sdo, where_, with_one, with_all, default_one, default_all, tagging, by, changed, changed_from, runs, throttle, rollup, batch, stable, fixed_event, moving_event, fixed_time, moving_time, coalesce, coalesce_every, smap, expired, tagged, over, under}
+use Rattle.config_streams.specs.Grammar.{IsCount, AreSecs, IsFold, sum, minimum, maximum, counted, and_then, IsKind, sdo, where_, with_one, with_all, default_one, default_all, tagging, by, by_idle, changed, changed_from, runs, throttle, rollup, batch, stable, fixed_event, moving_event, fixed_time, moving_time, coalesce, coalesce_every, smap, expired, tagged, over, under}
 use Rattle.config_streams.proofs.KindsRead.{all_tags_are}
 
 -- ---- arguments
@@ -133,12 +134,13 @@ fold_means env f = fold_by_means (IsFold (bare_tree f)) env f (fold_named f) (na
 -- ---- what is known of a kind that was read
 
 -- the word and these arguments begin a stream of the kind, also one that no stream follows
-pub data Starts : Env → List ℕ → BareTrees → KindTree → Type 0 where
-  start_index : {env : Env} → Starts env (codes "index") no_trees plan.Index
-  start_notice : {env : Env} {x : BareTree} {name : List ℕ} → IsLiteral env x (bound.Text name)
-      → Starts env (codes "notice") (listed (x ∷ [])) (plan.Notice name)
-  start_kind : {env : Env} {name : List ℕ} {own : BareTrees} {one : KindTree} → IsKind env name own one
-      → Starts env name own one
+pub data Starts : Bool → Env → List ℕ → BareTrees → KindTree → Type 0 where
+  start_index : {in_fork : Bool} {env : Env} → Starts in_fork env (codes "index") no_trees plan.Index
+  start_notice : {in_fork : Bool} {env : Env} {x : BareTree} {name : List ℕ} → IsLiteral env x (bound.Text name)
+      → Starts in_fork env (codes "notice") (listed (x ∷ [])) (plan.Notice name)
+  start_kind : {in_fork : Bool} {env : Env} {name : List ℕ} {own : BareTrees} {one : KindTree}
+      → IsKind in_fork env name own one
+      → Starts in_fork env name own one
 
 -- an `else` may follow
 pub record Divides (env : Env) (own : BareTrees) (one : KindTree) : Type 0 where
@@ -148,9 +150,9 @@ pub record Divides (env : Env) (own : BareTrees) (one : KindTree) : Type 0 where
   pub one_is : one ≡ plan.Where rule
   pub is : IsPredicate env p rule
 
-pub record Known (env : Env) (from : StreamWord) (forms : FormTrees) (one : KindTree) : Type 0 where
+pub record Known (in_fork : Bool) (env : Env) (from : StreamWord) (forms : FormTrees) (one : KindTree) : Type 0 where
   pub own : BareTrees
-  pub is : Starts env (stream_text from) own one
+  pub is : Starts in_fork env (stream_text from) own one
   pub are : bare_trees forms ≡ and_then own (bare_trees (later (leads env from forms) forms))
   pub divides : is_where from ≡ true → Divides env own one
 
@@ -159,16 +161,17 @@ never e = cc
 
 -- ---- kinds of one argument and of two
 
-one_means : {A : Type 0} (env : Env) (from : StreamWord) (read : Env → FormTree → Result A Fault) (make : A → KindTree)
+one_means : {A : Type 0} (in_fork : Bool) (env : Env) (from : StreamWord) (read : Env → FormTree → Result A Fault)
+    (make : A → KindTree)
     (Is : BareTree → A → Type 0)
     → ((f : FormTree) → OkGood (Is (bare_tree f)) (read env f))
-    → ((x : BareTree) (a : A) → Is x a → Starts env (stream_text from) (listed (x ∷ [])) (make a))
+    → ((x : BareTree) (a : A) → Is x a → Starts in_fork env (stream_text from) (listed (x ∷ [])) (make a))
     → ((forms : FormTrees) → leads env from forms ≡ 1) → is_where from ≡ false
-    → (start : ℕ) (forms : FormTrees) → OkGood (Known env from forms) (one_argument read make env start forms)
+    → (start : ℕ) (forms : FormTrees) → OkGood (Known in_fork env from forms) (one_argument read make env start forms)
 unfolding argument
-one_means env from read make Is means starts own no_else start none = tt
-one_means env from read make Is means starts own no_else start (also f rest) =
-    bind_good (Is (bare_tree f)) (Known env from (also f rest)) (read env f) (λ a. Ok (make a)) (means f)
+one_means in_fork env from read make Is means starts own no_else start none = tt
+one_means in_fork env from read make Is means starts own no_else start (also f rest) =
+    bind_good (Is (bare_tree f)) (Known in_fork env from (also f rest)) (read env f) (λ a. Ok (make a)) (means f)
     (λ a is. record {
       own = listed (bare_tree f ∷ []);
       is = starts (bare_tree f) a is;
@@ -178,23 +181,25 @@ one_means env from read make Is means starts own no_else start (also f rest) =
       divides = λ at. never (sym no_else ∙ at);
     })
 
-two_mean : {A B : Type 0} (env : Env) (from : StreamWord) (read : Env → FormTree → Result A Fault)
+two_mean : {A B : Type 0} (in_fork : Bool) (env : Env) (from : StreamWord) (read : Env → FormTree → Result A Fault)
     (read_next : Env → FormTree → Result B Fault) (make : A → B → KindTree) (Is : BareTree → A → Type 0)
     (Is_next : BareTree → B → Type 0)
     → ((f : FormTree) → OkGood (Is (bare_tree f)) (read env f))
     → ((f : FormTree) → OkGood (Is_next (bare_tree f)) (read_next env f))
     → ((x y : BareTree) (a : A) (b : B) → Is x a → Is_next y b
-    → Starts env (stream_text from) (listed (x ∷ y ∷ [])) (make a b))
+    → Starts in_fork env (stream_text from) (listed (x ∷ y ∷ [])) (make a b))
     → ((forms : FormTrees) → leads env from forms ≡ 2) → is_where from ≡ false
     → (start : ℕ) (forms : FormTrees)
-    → OkGood (Known env from forms) (two_arguments read read_next make env start forms)
+    → OkGood (Known in_fork env from forms) (two_arguments read read_next make env start forms)
 unfolding argument
-two_mean env from read read_next make Is Is_next means next_means starts own no_else start none = tt
-two_mean env from read read_next make Is Is_next means next_means starts own no_else start (also f none) =
-    bind_good Any_ (Known env from (also f none)) (read env f) _ (any_good (read env f)) (λ a _. tt)
-two_mean env from read read_next make Is Is_next means next_means starts own no_else start (also f (also g rest)) =
-    bind_good (Is (bare_tree f)) (Known env from (also f (also g rest))) (read env f) _ (means f) (λ a is.
-    bind_good (Is_next (bare_tree g)) (Known env from (also f (also g rest))) (read_next env g) (λ b. Ok (make a b))
+two_mean in_fork env from read read_next make Is Is_next means next_means starts own no_else start none = tt
+two_mean in_fork env from read read_next make Is Is_next means next_means starts own no_else start (also f none) =
+    bind_good Any_ (Known in_fork env from (also f none)) (read env f) _ (any_good (read env f)) (λ a _. tt)
+two_mean in_fork env from read read_next make Is Is_next means next_means starts own no_else start
+    (also f (also g rest)) =
+    bind_good (Is (bare_tree f)) (Known in_fork env from (also f (also g rest))) (read env f) _ (means f) (λ a is.
+    bind_good (Is_next (bare_tree g)) (Known in_fork env from (also f (also g rest))) (read_next env g)
+    (λ b. Ok (make a b))
     (next_means g) (λ b next_is.
     record {
       own = listed (bare_tree f ∷ bare_tree g ∷ []);
@@ -208,12 +213,13 @@ two_mean env from read read_next make Is Is_next means next_means starts own no_
 
 -- ---- where, and tags
 
-where_means : (env : Env) (start : ℕ) (forms : FormTrees)
-    → OkGood (Known env word.Where forms) (kind_of env word.Where start forms)
+where_means : (in_fork : Bool) (env : Env) (start : ℕ) (forms : FormTrees)
+    → OkGood (Known in_fork env word.Where forms) (kind_of in_fork env word.Where start forms)
 unfolding kind_of leads argument
-where_means env start none = tt
-where_means env start (also a rest) =
-    bind_good (IsPredicate env (bare_tree a)) (Known env word.Where (also a rest)) (rule_at env a) _ (rule_means env a)
+where_means in_fork env start none = tt
+where_means in_fork env start (also a rest) =
+    bind_good (IsPredicate env (bare_tree a)) (Known in_fork env word.Where (also a rest)) (rule_at env a) _
+    (rule_means env a)
     (λ rule is. record {
       own = listed (bare_tree a ∷ []);
       is = start_kind (where_ is);
@@ -221,71 +227,73 @@ where_means env start (also a rest) =
       divides = λ _. record { p = bare_tree a; rule = rule; own_is = refl; one_is = refl; is = is };
     })
 
-some_tags : (env : Env) (a : FormTree) (rest : FormTrees) (texts : List (List ℕ)) → IsTexts env (bare_tree a) texts
-    → OkGood (Known env word.Tagged (also a rest))
+some_tags : (in_fork : Bool) (env : Env) (a : FormTree) (rest : FormTrees) (texts : List (List ℕ))
+    → IsTexts env (bare_tree a) texts
+    → OkGood (Known in_fork env word.Tagged (also a rest))
     (some_of (start_of a) texts >>= λ tags. Ok (plan.Where (all_tagged tags)))
 unfolding leads
-some_tags env a rest [] are = tt
-some_tags env a rest (one ∷ tags) are =
+some_tags in_fork env a rest [] are = tt
+some_tags in_fork env a rest (one ∷ tags) are =
     record {
       own = listed (bare_tree a ∷ []);
       is =
-          subst (λ (rule : Tree). Starts env (codes "tagged") (listed (bare_tree a ∷ [])) (plan.Where rule))
+          subst (λ (rule : Tree). Starts in_fork env (codes "tagged") (listed (bare_tree a ∷ [])) (plan.Where rule))
           (sym (all_tags_are one tags)) (start_kind (tagged are));
       are = refl;
       divides = never;
     }
 
-tagged_means : (env : Env) (start : ℕ) (forms : FormTrees)
-    → OkGood (Known env word.Tagged forms) (kind_of env word.Tagged start forms)
+tagged_means : (in_fork : Bool) (env : Env) (start : ℕ) (forms : FormTrees)
+    → OkGood (Known in_fork env word.Tagged forms) (kind_of in_fork env word.Tagged start forms)
 unfolding kind_of counting_kind window_kind tagged_kind argument
-tagged_means env start none = tt
-tagged_means env start (also a rest) =
-    bind_good (IsTexts env (bare_tree a)) (Known env word.Tagged (also a rest)) (texts_at env a) _ (texts_mean env a)
-    (λ texts are. some_tags env a rest texts are)
+tagged_means in_fork env start none = tt
+tagged_means in_fork env start (also a rest) =
+    bind_good (IsTexts env (bare_tree a)) (Known in_fork env word.Tagged (also a rest)) (texts_at env a) _
+    (texts_mean env a)
+    (λ texts are. some_tags in_fork env a rest texts are)
 
 -- seconds, where there are any
 
-record Coalesced (env : Env) (forms : FormTrees) (has : Bool) (secs : ℕ) : Type 0 where
+record Coalesced (in_fork : Bool) (env : Env) (forms : FormTrees) (has : Bool) (secs : ℕ) : Type 0 where
   own : BareTrees
-  is : IsKind env (codes "coalesce") own (plan.Coalesce secs)
+  is : IsKind in_fork env (codes "coalesce") own (plan.Coalesce secs)
   are : bare_trees forms ≡ and_then own (bare_trees (later (one_if has) forms))
 
-coalesced : (env : Env) (start : ℕ) (forms : FormTrees) (has : Bool)
-    → OkGood (Coalesced env forms has) (if has then (argument start 0 forms >>= secs_at env) else Ok 1)
+coalesced : (in_fork : Bool) (env : Env) (start : ℕ) (forms : FormTrees) (has : Bool)
+    → OkGood (Coalesced in_fork env forms has) (if has then (argument start 0 forms >>= secs_at env) else Ok 1)
 unfolding argument
-coalesced env start none true = tt
-coalesced env start (also a rest) true =
-    weaker (AreSecs env (bare_tree a)) (Coalesced env (also a rest) true) (secs_at env a)
+coalesced in_fork env start none true = tt
+coalesced in_fork env start (also a rest) true =
+    weaker (AreSecs env (bare_tree a)) (Coalesced in_fork env (also a rest) true) (secs_at env a)
     (λ secs are. record { own = listed (bare_tree a ∷ []); is = coalesce_every are; are = refl }) (secs_mean env a)
-coalesced env start none false = record { own = no_trees; is = coalesce; are = refl }
-coalesced env start (also a rest) false = record { own = no_trees; is = coalesce; are = refl }
+coalesced in_fork env start none false = record { own = no_trees; is = coalesce; are = refl }
+coalesced in_fork env start (also a rest) false = record { own = no_trees; is = coalesce; are = refl }
 
-coalesce_means : (env : Env) (start : ℕ) (forms : FormTrees)
-    → OkGood (Known env word.Coalesce forms) (kind_of env word.Coalesce start forms)
+coalesce_means : (in_fork : Bool) (env : Env) (start : ℕ) (forms : FormTrees)
+    → OkGood (Known in_fork env word.Coalesce forms) (kind_of in_fork env word.Coalesce start forms)
 unfolding kind_of counting_kind coalesce_secs leads
-coalesce_means env start forms =
-    bind_good (Coalesced env forms (has_secs env forms)) (Known env word.Coalesce forms) _ _
-    (coalesced env start forms (has_secs env forms))
+coalesce_means in_fork env start forms =
+    bind_good (Coalesced in_fork env forms (has_secs env forms)) (Known in_fork env word.Coalesce forms) _ _
+    (coalesced in_fork env start forms (has_secs env forms))
     (λ secs known. record { own = known.own; is = start_kind known.is; are = known.are; divides = never })
 
 -- ---- sets
 
 -- a map, or a field and its value
 
-record Setting (env : Env) (forms : FormTrees) (sets : List Set) : Type 0 where
+record Setting (in_fork : Bool) (env : Env) (forms : FormTrees) (sets : List Set) : Type 0 where
   own : BareTrees
-  as_with : IsKind env (codes "with") own (plan.With sets)
-  as_default : IsKind env (codes "default") own (plan.Default sets)
+  as_with : IsKind in_fork env (codes "with") own (plan.With sets)
+  as_default : IsKind in_fork env (codes "default") own (plan.Default sets)
   are : bare_trees forms ≡ and_then own (bare_trees (later (two_if (not (is_map_in (nth 0 forms)))) forms))
 
-one_setting : (env : Env) (start : ℕ) (a : FormTree) (rest : FormTrees) → is_map a ≡ false
-    → OkGood (Setting env (also a rest)) (one_set env start a (also a rest))
+one_setting : (in_fork : Bool) (env : Env) (start : ℕ) (a : FormTree) (rest : FormTrees) → is_map a ≡ false
+    → OkGood (Setting in_fork env (also a rest)) (one_set env start a (also a rest))
 unfolding argument
-one_setting env start a none no_map =
-    bind_good Any_ (Setting env (also a none)) (field_at env a) _ (any_good (field_at env a)) (λ one _. tt)
-one_setting env start a (also b rest) no_map =
-    let Q = Setting env (also a (also b rest)) in
+one_setting in_fork env start a none no_map =
+    bind_good Any_ (Setting in_fork env (also a none)) (field_at env a) _ (any_good (field_at env a)) (λ one _. tt)
+one_setting in_fork env start a (also b rest) no_map =
+    let Q = Setting in_fork env (also a (also b rest)) in
     bind_good (IsField env (bare_tree a)) Q (field_at env a) _ (field_means env a) (λ one means.
     bind_good (IsSet env one (bare_tree b)) Q (set_at env one b) _ (set_means env one b) (λ set is.
     record {
@@ -299,11 +307,12 @@ one_setting env start a (also b rest) no_map =
           (sym no_map);
     }))
 
-settings : (env : Env) (start : ℕ) (forms : FormTrees) → OkGood (Setting env forms) (sets_of env start forms)
+settings : (in_fork : Bool) (env : Env) (start : ℕ) (forms : FormTrees)
+    → OkGood (Setting in_fork env forms) (sets_of env start forms)
 unfolding sets_of argument
-settings env start none = tt
-settings env start (also (Group Curly entries begin last) rest) =
-    weaker (AreSets env (bare_trees entries)) (Setting env (also (Group Curly entries begin last) rest))
+settings in_fork env start none = tt
+settings in_fork env start (also (Group Curly entries begin last) rest) =
+    weaker (AreSets env (bare_trees entries)) (Setting in_fork env (also (Group Curly entries begin last) rest))
     (sets_from begin env [] entries)
     (λ sets are. record {
       own = listed (map_of (bare_trees entries) ∷ []);
@@ -312,32 +321,36 @@ settings env start (also (Group Curly entries begin last) rest) =
       are = refl;
     })
     (sets_mean env begin entries)
-settings env start (also (Group Round entries begin last) rest) =
-    one_setting env start (Group Round entries begin last) rest refl
-settings env start (also (Group Square entries begin last) rest) =
-    one_setting env start (Group Square entries begin last) rest refl
-settings env start (also (Single one begin last) rest) = one_setting env start (Single one begin last) rest refl
+settings in_fork env start (also (Group Round entries begin last) rest) =
+    one_setting in_fork env start (Group Round entries begin last) rest refl
+settings in_fork env start (also (Group Square entries begin last) rest) =
+    one_setting in_fork env start (Group Square entries begin last) rest refl
+settings in_fork env start (also (Single one begin last) rest) =
+    one_setting in_fork env start (Single one begin last) rest refl
 
-with_means : (env : Env) (start : ℕ) (forms : FormTrees)
-    → OkGood (Known env word.With forms) (kind_of env word.With start forms)
+with_means : (in_fork : Bool) (env : Env) (start : ℕ) (forms : FormTrees)
+    → OkGood (Known in_fork env word.With forms) (kind_of in_fork env word.With start forms)
 unfolding kind_of leads
-with_means env start forms =
-    bind_good (Setting env forms) (Known env word.With forms) (sets_of env start forms) _ (settings env start forms)
+with_means in_fork env start forms =
+    bind_good (Setting in_fork env forms) (Known in_fork env word.With forms) (sets_of env start forms) _
+    (settings in_fork env start forms)
     (λ sets known. record { own = known.own; is = start_kind known.as_with; are = known.are; divides = never })
 
-default_means : (env : Env) (start : ℕ) (forms : FormTrees)
-    → OkGood (Known env word.Default forms) (kind_of env word.Default start forms)
+default_means : (in_fork : Bool) (env : Env) (start : ℕ) (forms : FormTrees)
+    → OkGood (Known in_fork env word.Default forms) (kind_of in_fork env word.Default start forms)
 unfolding kind_of leads
-default_means env start forms =
-    bind_good (Setting env forms) (Known env word.Default forms) (sets_of env start forms) _ (settings env start forms)
+default_means in_fork env start forms =
+    bind_good (Setting in_fork env forms) (Known in_fork env word.Default forms) (sets_of env start forms) _
+    (settings in_fork env start forms)
     (λ sets known. record { own = known.own; is = start_kind known.as_default; are = known.are; divides = never })
 
 -- a field, and what it was
 
-no_init_means : (env : Env) (a : FormTree) (rest : FormTrees) → is_map_in (nth 0 rest) ≡ false → (one : Field)
-    → IsField env (bare_tree a) one → Known env word.Changed (also a rest) (plan.Changed one None)
+no_init_means : (in_fork : Bool) (env : Env) (a : FormTree) (rest : FormTrees) → is_map_in (nth 0 rest) ≡ false
+    → (one : Field)
+    → IsField env (bare_tree a) one → Known in_fork env word.Changed (also a rest) (plan.Changed one None)
 unfolding leads
-no_init_means env a rest no_map one means =
+no_init_means in_fork env a rest no_map one means =
     record {
       own = listed (bare_tree a ∷ []);
       is = start_kind (changed means);
@@ -358,28 +371,30 @@ inited env place entries =
     (one_entry init_text value_at place env None entries) _ (init_means env place entries)
     (λ held is. record { held = held; init_is = refl; is = is })
 
-changed_means : (env : Env) (start : ℕ) (forms : FormTrees)
-    → OkGood (Known env word.Changed forms) (kind_of env word.Changed start forms)
+changed_means : (in_fork : Bool) (env : Env) (start : ℕ) (forms : FormTrees)
+    → OkGood (Known in_fork env word.Changed forms) (kind_of in_fork env word.Changed start forms)
 unfolding kind_of counting_kind changed_kind init_of leads argument
-changed_means env start none = tt
-changed_means env start (also a none) =
-    bind_good (IsField env (bare_tree a)) (Known env word.Changed (also a none)) (field_at env a) _ (field_means env a)
-    (λ one means. no_init_means env a none refl one means)
-changed_means env start (also a (also (Single x begin last) rest)) =
-    bind_good (IsField env (bare_tree a)) (Known env word.Changed (also a (also (Single x begin last) rest)))
-    (field_at env a) _ (field_means env a)
-    (λ one means. no_init_means env a (also (Single x begin last) rest) refl one means)
-changed_means env start (also a (also (Group Round entries begin last) rest)) =
-    bind_good (IsField env (bare_tree a)) (Known env word.Changed (also a (also (Group Round entries begin last) rest)))
-    (field_at env a) _ (field_means env a)
-    (λ one means. no_init_means env a (also (Group Round entries begin last) rest) refl one means)
-changed_means env start (also a (also (Group Square entries begin last) rest)) =
-    bind_good (IsField env (bare_tree a))
-    (Known env word.Changed (also a (also (Group Square entries begin last) rest))) (field_at env a) _
+changed_means in_fork env start none = tt
+changed_means in_fork env start (also a none) =
+    bind_good (IsField env (bare_tree a)) (Known in_fork env word.Changed (also a none)) (field_at env a) _
     (field_means env a)
-    (λ one means. no_init_means env a (also (Group Square entries begin last) rest) refl one means)
-changed_means env start (also a (also (Group Curly entries begin last) rest)) =
-    let Q = Known env word.Changed (also a (also (Group Curly entries begin last) rest)) in
+    (λ one means. no_init_means in_fork env a none refl one means)
+changed_means in_fork env start (also a (also (Single x begin last) rest)) =
+    bind_good (IsField env (bare_tree a)) (Known in_fork env word.Changed (also a (also (Single x begin last) rest)))
+    (field_at env a) _ (field_means env a)
+    (λ one means. no_init_means in_fork env a (also (Single x begin last) rest) refl one means)
+changed_means in_fork env start (also a (also (Group Round entries begin last) rest)) =
+    bind_good (IsField env (bare_tree a)) (Known in_fork env word.Changed
+    (also a (also (Group Round entries begin last) rest)))
+    (field_at env a) _ (field_means env a)
+    (λ one means. no_init_means in_fork env a (also (Group Round entries begin last) rest) refl one means)
+changed_means in_fork env start (also a (also (Group Square entries begin last) rest)) =
+    bind_good (IsField env (bare_tree a))
+    (Known in_fork env word.Changed (also a (also (Group Square entries begin last) rest))) (field_at env a) _
+    (field_means env a)
+    (λ one means. no_init_means in_fork env a (also (Group Square entries begin last) rest) refl one means)
+changed_means in_fork env start (also a (also (Group Curly entries begin last) rest)) =
+    let Q = Known in_fork env word.Changed (also a (also (Group Curly entries begin last) rest)) in
     let make : (one : Field) → IsField env (bare_tree a) one → (held : Value) → IsInit env (bare_trees entries) held
     → Q (plan.Changed one (Some held)) =
     λ one means held is. record {
@@ -393,66 +408,155 @@ changed_means env start (also a (also (Group Curly entries begin last) rest)) =
     subst (λ (found : Option Value). Q (plan.Changed one found)) (sym known.init_is)
     (make one means known.held known.is)))
 
+-- fields, and when forks end
+
+no_idle_means : (in_fork : Bool) (env : Env) (a : FormTree) (rest : FormTrees) → is_map_in (nth 0 rest) ≡ false
+    → (fields : List Field) → IsFields env (bare_tree a) fields
+    → Known in_fork env word.By (also a rest) (plan.By fields None)
+unfolding leads
+no_idle_means in_fork env a rest no_map fields means =
+    record {
+      own = listed (bare_tree a ∷ []);
+      is = start_kind (by means);
+      are =
+          ap (λ (map : Bool). and_then (listed (bare_tree a ∷ [])) (bare_trees (later (two_if map) (also a rest))))
+          (sym no_map);
+      divides = never;
+    }
+
+-- below another `by` no number is in range
+none_idle : (env : Env) (row : BareTrees) (secs : ℕ) → IsIdle 0 env row secs → ⊥
+none_idle env _ secs (an_idle named (a_ranged literal low high)) = absurd (omega (arith, low, high))
+
+record Ending (in_fork : Bool) (env : Env) (entries : FormTrees) (idle : Option ℕ) : Type 0 where
+  outermost : in_fork ≡ false
+  secs : ℕ
+  idle_is : idle ≡ Some secs
+  is : IsIdle MAX_SECS env (bare_trees entries) secs
+
+ending : (in_fork : Bool) (env : Env) (place : ℕ) (entries : FormTrees)
+    → OkGood (Ending in_fork env entries) (some_idle in_fork env place entries)
+ending true env place entries =
+    bind_good (IsIdle 0 env (bare_trees entries)) (Ending true env entries) (idle_in 0 place env entries) _
+    (good_of (IsIdle 0 env (bare_trees entries)) (idle_in 0 place env entries)
+    (λ secs is. (idles_are_read 0 env place entries secs).1 is))
+    (λ secs is. absurd (none_idle env (bare_trees entries) secs is))
+ending false env place entries =
+    bind_good (IsIdle MAX_SECS env (bare_trees entries)) (Ending false env entries)
+    (idle_in MAX_SECS place env entries) _
+    (good_of (IsIdle MAX_SECS env (bare_trees entries)) (idle_in MAX_SECS place env entries)
+    (λ secs is. (idles_are_read MAX_SECS env place entries secs).1 is))
+    (λ secs is. record { outermost = refl; secs = secs; idle_is = refl; is = is })
+
+idle_means : (in_fork : Bool) (env : Env) (a : FormTree) (entries rest : FormTrees) (begin last : ℕ)
+    → (fields : List Field) → IsFields env (bare_tree a) fields → (idle : Option ℕ)
+    → Ending in_fork env entries idle
+    → Known in_fork env word.By (also a (also (Group Curly entries begin last) rest)) (plan.By fields idle)
+unfolding leads
+idle_means in_fork env a entries rest begin last fields means idle known =
+    let forms = also a (also (Group Curly entries begin last) rest) in
+    let outer : Known false env word.By forms (plan.By fields (Some known.secs)) =
+    record {
+      own = listed (bare_tree a ∷ map_of (bare_trees entries) ∷ []);
+      is = start_kind (by_idle means known.is);
+      are = refl;
+      divides = never;
+    } in
+    subst (λ (i : Bool). Known i env word.By forms (plan.By fields idle)) (sym known.outermost)
+    (subst (λ (found : Option ℕ). Known false env word.By forms (plan.By fields found)) (sym known.idle_is) outer)
+
+by_means : (in_fork : Bool) (env : Env) (start : ℕ) (forms : FormTrees)
+    → OkGood (Known in_fork env word.By forms) (kind_of in_fork env word.By start forms)
+unfolding kind_of by_kind idle_of argument
+by_means in_fork env start none = tt
+by_means in_fork env start (also a none) =
+    bind_good (IsFields env (bare_tree a)) (Known in_fork env word.By (also a none)) (fields_at env a) _
+    (fields_mean env a) (λ fields means. no_idle_means in_fork env a none refl fields means)
+by_means in_fork env start (also a (also (Single x begin last) rest)) =
+    bind_good (IsFields env (bare_tree a)) (Known in_fork env word.By (also a (also (Single x begin last) rest)))
+    (fields_at env a) _ (fields_mean env a)
+    (λ fields means. no_idle_means in_fork env a (also (Single x begin last) rest) refl fields means)
+by_means in_fork env start (also a (also (Group Round entries begin last) rest)) =
+    bind_good (IsFields env (bare_tree a))
+    (Known in_fork env word.By (also a (also (Group Round entries begin last) rest))) (fields_at env a) _
+    (fields_mean env a)
+    (λ fields means. no_idle_means in_fork env a (also (Group Round entries begin last) rest) refl fields means)
+by_means in_fork env start (also a (also (Group Square entries begin last) rest)) =
+    bind_good (IsFields env (bare_tree a))
+    (Known in_fork env word.By (also a (also (Group Square entries begin last) rest))) (fields_at env a) _
+    (fields_mean env a)
+    (λ fields means. no_idle_means in_fork env a (also (Group Square entries begin last) rest) refl fields means)
+by_means in_fork env start (also a (also (Group Curly entries begin last) rest)) =
+    let Q = Known in_fork env word.By (also a (also (Group Curly entries begin last) rest)) in
+    bind_good (IsFields env (bare_tree a)) Q (fields_at env a) _ (fields_mean env a) (λ fields means.
+    bind_good (Ending in_fork env entries) Q (some_idle in_fork env begin entries) _ (ending in_fork env begin entries)
+    (λ idle known. idle_means in_fork env a entries rest begin last fields means idle known))
+
 -- ---- all kinds
 
-pub kind_means : (env : Env) (from : StreamWord) (start : ℕ) (forms : FormTrees)
-    → OkGood (Known env from forms) (kind_of env from start forms)
+pub kind_means : (in_fork : Bool) (env : Env) (from : StreamWord) (start : ℕ) (forms : FormTrees)
+    → OkGood (Known in_fork env from forms) (kind_of in_fork env from start forms)
 unfolding kind_of counting_kind window_kind order_kind leads
-kind_means env word.Index start forms = record { own = no_trees; is = start_index; are = refl; divides = never }
-kind_means env word.Notice start forms =
-    one_means env word.Notice text_at plan.Notice (TextIs env) (text_means env) (λ x name is. start_notice is)
+kind_means in_fork env word.Index start forms = record { own = no_trees; is = start_index; are = refl; divides = never }
+kind_means in_fork env word.Notice start forms =
+    one_means in_fork env word.Notice text_at plan.Notice (TextIs env) (text_means env) (λ x name is. start_notice is)
     (λ fs. refl) refl start forms
-kind_means env word.Sdo start forms = record { own = no_trees; is = start_kind sdo; are = refl; divides = never }
-kind_means env word.Where start forms = where_means env start forms
-kind_means env word.Else start forms = tt
-kind_means env word.With start forms = with_means env start forms
-kind_means env word.Default start forms = default_means env start forms
-kind_means env word.Tag start forms =
-    one_means env word.Tag texts_at plan.Tag (IsTexts env) (texts_mean env) (λ x tags are. start_kind (tagging are))
+kind_means in_fork env word.Sdo start forms =
+    record { own = no_trees; is = start_kind sdo; are = refl; divides = never }
+kind_means in_fork env word.Where start forms = where_means in_fork env start forms
+kind_means in_fork env word.Else start forms = tt
+kind_means in_fork env word.With start forms = with_means in_fork env start forms
+kind_means in_fork env word.Default start forms = default_means in_fork env start forms
+kind_means in_fork env word.Tag start forms =
+    one_means in_fork env word.Tag texts_at plan.Tag (IsTexts env) (texts_mean env)
+    (λ x tags are. start_kind (tagging are))
     (λ fs. refl) refl start forms
-kind_means env word.By start forms =
-    one_means env word.By fields_at (λ fields. plan.By fields None) (IsFields env) (fields_mean env)
-    (λ f fields are. start_kind (by are)) (λ fs. refl) refl start forms
-kind_means env word.Changed start forms = changed_means env start forms
-kind_means env word.Runs start forms =
-    two_mean env word.Runs count_at field_at plan.Runs (IsCount env) (IsField env) (count_means env) (field_means env)
+kind_means in_fork env word.By start forms = by_means in_fork env start forms
+kind_means in_fork env word.Changed start forms = changed_means in_fork env start forms
+kind_means in_fork env word.Runs start forms =
+    two_mean in_fork env word.Runs count_at field_at plan.Runs (IsCount env) (IsField env) (count_means env)
+    (field_means env)
     (λ n f count one is means. start_kind (runs is means)) (λ fs. refl) refl start forms
-kind_means env word.Throttle start forms =
-    two_mean env word.Throttle count_at secs_at plan.Throttle (IsCount env) (AreSecs env) (count_means env)
+kind_means in_fork env word.Throttle start forms =
+    two_mean in_fork env word.Throttle count_at secs_at plan.Throttle (IsCount env) (AreSecs env) (count_means env)
     (secs_mean env) (λ n dt count secs is are. start_kind (throttle is are)) (λ fs. refl) refl start forms
-kind_means env word.Rollup start forms =
-    two_mean env word.Rollup count_at secs_at plan.Rollup (IsCount env) (AreSecs env) (count_means env) (secs_mean env)
+kind_means in_fork env word.Rollup start forms =
+    two_mean in_fork env word.Rollup count_at secs_at plan.Rollup (IsCount env) (AreSecs env) (count_means env)
+    (secs_mean env)
     (λ n dt count secs is are. start_kind (rollup is are)) (λ fs. refl) refl start forms
-kind_means env word.Batch start forms =
-    two_mean env word.Batch count_at secs_at plan.Batch (IsCount env) (AreSecs env) (count_means env) (secs_mean env)
+kind_means in_fork env word.Batch start forms =
+    two_mean in_fork env word.Batch count_at secs_at plan.Batch (IsCount env) (AreSecs env) (count_means env)
+    (secs_mean env)
     (λ n dt count secs is are. start_kind (batch is are)) (λ fs. refl) refl start forms
-kind_means env word.Stable start forms =
-    two_mean env word.Stable secs_at field_at plan.Stable (AreSecs env) (IsField env) (secs_mean env) (field_means env)
+kind_means in_fork env word.Stable start forms =
+    two_mean in_fork env word.Stable secs_at field_at plan.Stable (AreSecs env) (IsField env) (secs_mean env)
+    (field_means env)
     (λ dt f secs one are means. start_kind (stable are means)) (λ fs. refl) refl start forms
-kind_means env word.FixedEvent start forms =
-    one_means env word.FixedEvent count_at plan.FixedEvent (IsCount env) (count_means env)
+kind_means in_fork env word.FixedEvent start forms =
+    one_means in_fork env word.FixedEvent count_at plan.FixedEvent (IsCount env) (count_means env)
     (λ n count is. start_kind (fixed_event is)) (λ fs. refl) refl start forms
-kind_means env word.MovingEvent start forms =
-    one_means env word.MovingEvent count_at plan.MovingEvent (IsCount env) (count_means env)
+kind_means in_fork env word.MovingEvent start forms =
+    one_means in_fork env word.MovingEvent count_at plan.MovingEvent (IsCount env) (count_means env)
     (λ n count is. start_kind (moving_event is)) (λ fs. refl) refl start forms
-kind_means env word.FixedTime start forms =
-    one_means env word.FixedTime secs_at plan.FixedTime (AreSecs env) (secs_mean env)
+kind_means in_fork env word.FixedTime start forms =
+    one_means in_fork env word.FixedTime secs_at plan.FixedTime (AreSecs env) (secs_mean env)
     (λ dt secs are. start_kind (fixed_time are)) (λ fs. refl) refl start forms
-kind_means env word.MovingTime start forms =
-    one_means env word.MovingTime secs_at plan.MovingTime (AreSecs env) (secs_mean env)
+kind_means in_fork env word.MovingTime start forms =
+    one_means in_fork env word.MovingTime secs_at plan.MovingTime (AreSecs env) (secs_mean env)
     (λ dt secs are. start_kind (moving_time are)) (λ fs. refl) refl start forms
-kind_means env word.Coalesce start forms = coalesce_means env start forms
-kind_means env word.Smap start forms =
-    one_means env word.Smap fold_at plan.Smap IsFold (fold_means env) (λ f fold is. start_kind (smap is)) (λ fs. refl)
+kind_means in_fork env word.Coalesce start forms = coalesce_means in_fork env start forms
+kind_means in_fork env word.Smap start forms =
+    one_means in_fork env word.Smap fold_at plan.Smap IsFold (fold_means env) (λ f fold is. start_kind (smap is))
+    (λ fs. refl)
     refl start forms
-kind_means env word.Expired start forms =
+kind_means in_fork env word.Expired start forms =
     record { own = no_trees; is = start_kind expired; are = refl; divides = never }
-kind_means env word.Tagged start forms = tagged_means env start forms
-kind_means env word.Over start forms =
-    one_means env word.Over number_at (λ number. plan.Where (Order field.Metric Greater number)) (NumberIs env)
+kind_means in_fork env word.Tagged start forms = tagged_means in_fork env start forms
+kind_means in_fork env word.Over start forms =
+    one_means in_fork env word.Over number_at (λ number. plan.Where (Order field.Metric Greater number)) (NumberIs env)
     (number_means env) (λ k number is. start_kind (over is)) (λ fs. refl) refl start forms
-kind_means env word.Under start forms =
-    one_means env word.Under number_at (λ number. plan.Where (Order field.Metric Less number)) (NumberIs env)
+kind_means in_fork env word.Under start forms =
+    one_means in_fork env word.Under number_at (λ number. plan.Where (Order field.Metric Less number)) (NumberIs env)
     (number_means env) (λ k number is. start_kind (under is)) (λ fs. refl) refl start forms
 
 -- ---- words

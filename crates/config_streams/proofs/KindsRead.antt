@@ -15,7 +15,7 @@ use Rattle.sexp_read.specs.declared.piece.Atom.TheVariants as atom
 use Rattle.sexp_read.specs.declared.piece.Bracket.TheVariants.{Round, Square, Curly}
 use Rattle.sexp_read.specs.Tree.{FormTree, FormTrees, Single, Group, also}
 use Rattle.sexp_read.specs.Written.{BareTree, BareTrees, and_trees, bare_tree, bare_trees}
-use Rattle.stream_plan.specs.Kinds.{may_have_children}
+use Rattle.stream_plan.specs.Kinds.{may_have_children, is_by}
 use Rattle.stream_plan.specs.Tree.{KindTree}
 use Rattle.stream_plan.specs.Tree as plan
 use Rattle.stream_plan.specs.declared.kinds.TheConstants.{MAX_COUNT, MAX_SECS}
@@ -26,19 +26,20 @@ use Rattle.config_terms.specs.declared.word.StreamWord.TheVariants as word
 use Rattle.config_terms.specs.Code.{map_in}
 use Rattle.config_terms.specs.Steps.{Fault, ◌>>=◌, start_of, nth, argument}
 use Rattle.config_terms.specs.Words.{stream_text, stream_word, passing_word, counting_word, window_word, fold_text, fold_word, init_text}
-use Rattle.config_terms.specs.Arguments.{Env, text_at, number_at, field_at, value_at, ranged_at, texts_at, fields_at, set_at, sets_from, one_entry}
+use Rattle.config_terms.specs.Arguments.{Env, text_at, number_at, field_at, value_at, ranged_at, texts_at, fields_at, set_at, sets_from, one_entry, idle_in}
 use Rattle.config_terms.specs.Rules.{rule_at}
 use Rattle.config_terms.specs.Grammar.{IsLiteral, a_text, a_pattern, a_number, a_keyword, a_name, IsPredicate, all_of}
-use Rattle.config_terms.specs.Terms.{map_of, IsRanged, a_ranged, IsField, a_field, IsTexts, IsFields, IsSet, AreSets, IsInit}
+use Rattle.config_terms.specs.Terms.{map_of, IsRanged, a_ranged, IsField, a_field, IsTexts, IsFields, IsSet, AreSets, IsInit, IsIdle}
 use Rattle.config_terms.proofs.BareForms.{IsSingle, single_of, group_of, also_of}
 use Rattle.config_terms.proofs.GrammarLaws.{predicates_are_those}
 use Rattle.config_terms.proofs.GrammarRead.{literal_read}
 use Rattle.config_terms.proofs.TermLaws.{texts_are_read, numbers_are_read, fields_are_read}
 use Rattle.config_terms.proofs.VectorLaws.{ranges_are_read, text_vectors_are_read, field_vectors_are_read}
 use Rattle.config_terms.proofs.SetLaws.{sets_are_read, set_maps_are_read, inits_are_read}
-use Rattle.config_streams.specs.Kinds.{count_at, secs_at, is_map, is_map_in, is_number_in, one_set, sets_of, some_init, init_by, init_of, fold_by, fold_named, fold_at, has_secs, coalesce_secs, tag_rules, all_tagged, tagged_kind, one_argument, two_arguments, order_kind, changed_kind, window_kind, counting_kind, kind_of, leads}
-use Rattle.config_streams.specs.Streams.{part_at, parts_in, is_else}
-use Rattle.config_streams.specs.Grammar.{IsCount, AreSecs, IsFold, sum, minimum, maximum, counted, each_tag, and_then, IsKind, sdo, where_, with_one, with_all, default_one, default_all, tagging, by, changed, changed_from, runs, throttle, rollup, batch, stable, fixed_event, moving_event, fixed_time, moving_time, coalesce, coalesce_every, smap, expired, tagged, over, under}
+use Rattle.config_terms.proofs.IdleLaws.{idles_are_read}
+use Rattle.config_streams.specs.Kinds.{count_at, secs_at, is_map, is_map_in, is_number_in, one_set, sets_of, some_init, init_by, init_of, some_idle, idle_by, idle_of, by_kind, fold_by, fold_named, fold_at, has_secs, coalesce_secs, tag_rules, all_tagged, tagged_kind, one_argument, two_arguments, order_kind, changed_kind, window_kind, counting_kind, kind_of, leads}
+use Rattle.config_streams.specs.Streams.{part_at, parts_in, is_else, is_by_in}
+use Rattle.config_streams.specs.Grammar.{IsCount, AreSecs, IsFold, sum, minimum, maximum, counted, each_tag, and_then, IsKind, sdo, where_, with_one, with_all, default_one, default_all, tagging, by, by_idle, changed, changed_from, runs, throttle, rollup, batch, stable, fixed_event, moving_event, fixed_time, moving_time, coalesce, coalesce_every, smap, expired, tagged, over, under}
 use Rattle.config_streams.proofs.KindLaws.{no_map_of_sets}
 
 -- ---- arguments
@@ -173,37 +174,41 @@ abbrev pub IsPlainRow : Env → BareTrees → Type 0
 IsPlainRow env row = (forms : FormTrees) → bare_trees forms ≡ row → IsPlain env forms
 
 -- the kind is read of the arguments, and the rest of them are these
-pub record Led (env : Env) (name : List ℕ) (one : KindTree) (forms : FormTrees) (more : BareTrees) : Type 0 where
+pub record Led (in_fork : Bool) (env : Env) (name : List ℕ) (one : KindTree) (forms : FormTrees)
+    (more : BareTrees) : Type 0 where
   pub from : StreamWord
   pub named : stream_word name ≡ Some from
   pub not_else : is_else from ≡ false
   pub rest : FormTrees
   pub rest_are : bare_trees rest ≡ more
-  pub read : (start : ℕ) → kind_of env from start forms ≡ Ok one
-  pub drops : (may_else : Bool) → drop (leads env from forms) (parts_in may_else env forms) ≡ parts_in may_else env rest
+  pub read : (start : ℕ) → kind_of in_fork env from start forms ≡ Ok one
+  pub drops : (may_else below : Bool)
+      → drop (leads env from forms) (parts_in may_else below env forms) ≡ parts_in may_else below env rest
 
-parts_of : (may_else : Bool) (env : Env) (f : FormTree) (forms : FormTrees)
-    → parts_in may_else env (also f forms) ≡ (start_of f, part_at may_else env f) ∷ parts_in may_else env forms
+parts_of : (may_else below : Bool) (env : Env) (f : FormTree) (forms : FormTrees)
+    → parts_in may_else below env (also f forms)
+    ≡ (start_of f, part_at may_else below env f) ∷ parts_in may_else below env forms
 unfolding part_at parts_in
-parts_of may_else env f forms = refl
+parts_of may_else below env f forms = refl
 
-one_dropped : (may_else : Bool) (env : Env) (f : FormTree) (forms : FormTrees)
-    → drop 1 (parts_in may_else env (also f forms)) ≡ parts_in may_else env forms
-one_dropped may_else env f forms = ap (drop 1) (parts_of may_else env f forms)
+one_dropped : (may_else below : Bool) (env : Env) (f : FormTree) (forms : FormTrees)
+    → drop 1 (parts_in may_else below env (also f forms)) ≡ parts_in may_else below env forms
+one_dropped may_else below env f forms = ap (drop 1) (parts_of may_else below env f forms)
 
-two_dropped : (may_else : Bool) (env : Env) (f g : FormTree) (forms : FormTrees)
-    → drop 2 (parts_in may_else env (also f (also g forms))) ≡ parts_in may_else env forms
-two_dropped may_else env f g forms =
-    ap (drop 2) (parts_of may_else env f (also g forms)) ∙ ap (drop 1) (parts_of may_else env g forms)
+two_dropped : (may_else below : Bool) (env : Env) (f g : FormTree) (forms : FormTrees)
+    → drop 2 (parts_in may_else below env (also f (also g forms))) ≡ parts_in may_else below env forms
+two_dropped may_else below env f g forms =
+    ap (drop 2) (parts_of may_else below env f (also g forms)) ∙ ap (drop 1) (parts_of may_else below env g forms)
 
-abbrev ReadsKind : Env → StreamWord → KindTree → FormTrees → ℕ → Type 0
-ReadsKind env from one forms n = ((start : ℕ) → kind_of env from start forms ≡ Ok one) × (leads env from forms ≡ n)
+abbrev ReadsKind : Bool → Env → StreamWord → KindTree → FormTrees → ℕ → Type 0
+ReadsKind in_fork env from one forms n =
+    ((start : ℕ) → kind_of in_fork env from start forms ≡ Ok one) × (leads env from forms ≡ n)
 
 -- a kind of no arguments, of one and of two
-none_led : (env : Env) (from : StreamWord) (one : KindTree) (forms : FormTrees) (more : BareTrees)
-    → is_else from ≡ false → ReadsKind env from one forms 0 → bare_trees forms ≡ more
-    → Led env (stream_text from) one forms more
-none_led env from one forms more not_else reads h =
+none_led : (in_fork : Bool) (env : Env) (from : StreamWord) (one : KindTree) (forms : FormTrees) (more : BareTrees)
+    → is_else from ≡ false → ReadsKind in_fork env from one forms 0 → bare_trees forms ≡ more
+    → Led in_fork env (stream_text from) one forms more
+none_led in_fork env from one forms more not_else reads h =
     record {
       from = from;
       named = word_read from;
@@ -211,15 +216,16 @@ none_led env from one forms more not_else reads h =
       rest = forms;
       rest_are = h;
       read = reads.0;
-      drops = λ may_else. ap (λ (n : ℕ). drop n (parts_in may_else env forms)) reads.1;
+      drops = λ may_else below. ap (λ (n : ℕ). drop n (parts_in may_else below env forms)) reads.1;
     }
 
-one_led : (env : Env) (from : StreamWord) (one : KindTree) (forms : FormTrees) (a : BareTree) (more : BareTrees)
+one_led : (in_fork : Bool) (env : Env) (from : StreamWord) (one : KindTree) (forms : FormTrees) (a : BareTree)
+    (more : BareTrees)
     → is_else from ≡ false
     → ((f : FormTree) (rest : FormTrees) → bare_tree f ≡ a → bare_trees rest ≡ more
-    → ReadsKind env from one (also f rest) 1)
-    → bare_trees forms ≡ and_trees a more → Led env (stream_text from) one forms more
-one_led env from one forms a more not_else reads h =
+    → ReadsKind in_fork env from one (also f rest) 1)
+    → bare_trees forms ≡ and_trees a more → Led in_fork env (stream_text from) one forms more
+one_led in_fork env from one forms a more not_else reads h =
     let first = also_of forms a more h in
     let known = reads first.first first.rest first.first_is first.rest_are in
     record {
@@ -228,19 +234,21 @@ one_led env from one forms a more not_else reads h =
       not_else = not_else;
       rest = first.rest;
       rest_are = first.rest_are;
-      read = λ start. ap (kind_of env from start) first.are ∙ known.0 start;
-      drops = λ may_else. ap (λ (fs : FormTrees). drop (leads env from fs) (parts_in may_else env fs)) first.are
-          ∙ ap (λ (n : ℕ). drop n (parts_in may_else env (also first.first first.rest))) known.1
-          ∙ one_dropped may_else env first.first first.rest;
+      read = λ start. ap (kind_of in_fork env from start) first.are ∙ known.0 start;
+      drops = λ may_else below. ap (λ (fs : FormTrees). drop (leads env from fs) (parts_in may_else below env fs))
+          first.are
+          ∙ ap (λ (n : ℕ). drop n (parts_in may_else below env (also first.first first.rest))) known.1
+          ∙ one_dropped may_else below env first.first first.rest;
     }
 
-two_led : (env : Env) (from : StreamWord) (one : KindTree) (forms : FormTrees) (a b : BareTree) (more : BareTrees)
+two_led : (in_fork : Bool) (env : Env) (from : StreamWord) (one : KindTree) (forms : FormTrees) (a b : BareTree)
+    (more : BareTrees)
     → is_else from ≡ false
     → ((f g : FormTree) (rest : FormTrees) → bare_tree f ≡ a → bare_tree g ≡ b
-    → ReadsKind env from one (also f (also g rest)) 2)
+    → ReadsKind in_fork env from one (also f (also g rest)) 2)
     → bare_trees forms ≡ and_trees a (and_trees b more)
-    → Led env (stream_text from) one forms more
-two_led env from one forms a b more not_else reads h =
+    → Led in_fork env (stream_text from) one forms more
+two_led in_fork env from one forms a b more not_else reads h =
     let first = also_of forms a (and_trees b more) h in
     let second = also_of first.rest b more first.rest_are in
     let are = first.are ∙ ap (also first.first) second.are in
@@ -251,18 +259,19 @@ two_led env from one forms a b more not_else reads h =
       not_else = not_else;
       rest = second.rest;
       rest_are = second.rest_are;
-      read = λ start. ap (kind_of env from start) are ∙ known.0 start;
-      drops = λ may_else. ap (λ (fs : FormTrees). drop (leads env from fs) (parts_in may_else env fs)) are
-          ∙ ap (λ (n : ℕ). drop n (parts_in may_else env (also first.first (also second.first second.rest)))) known.1
-          ∙ two_dropped may_else env first.first second.first second.rest;
+      read = λ start. ap (kind_of in_fork env from start) are ∙ known.0 start;
+      drops = λ may_else below. ap (λ (fs : FormTrees). drop (leads env from fs) (parts_in may_else below env fs)) are
+          ∙ ap (λ (n : ℕ). drop n (parts_in may_else below env (also first.first (also second.first second.rest))))
+          known.1
+          ∙ two_dropped may_else below env first.first second.first second.rest;
     }
 
 -- ---- kinds of no arguments
 
-coalesce_none : (env : Env) (forms : FormTrees) → has_secs env forms ≡ false
-    → ReadsKind env word.Coalesce (plan.Coalesce 1) forms 0
+coalesce_none : (in_fork : Bool) (env : Env) (forms : FormTrees) → has_secs env forms ≡ false
+    → ReadsKind in_fork env word.Coalesce (plan.Coalesce 1) forms 0
 unfolding kind_of counting_kind coalesce_secs leads
-coalesce_none env forms is = ((λ start. rw is refl), rw is refl)
+coalesce_none in_fork env forms is = ((λ start. rw is refl), rw is refl)
 
 no_secs : (env : Env) (forms : FormTrees) → is_number_in env (nth 0 forms) ≡ false → has_secs env forms ≡ false
 unfolding has_secs
@@ -288,26 +297,28 @@ both_read : {A B : Type 0} (env : Env) (read : Env → FormTree → Result A Fau
 unfolding argument
 both_read env read read_next make a b start f g rest is next_is = rw (is, next_is) refl
 
-one_read : {A : Type 0} (env : Env) (from : StreamWord) (read : Env → FormTree → Result A Fault) (make : A → KindTree)
+one_read : {A : Type 0} (in_fork : Bool) (env : Env) (from : StreamWord) (read : Env → FormTree → Result A Fault)
+    (make : A → KindTree)
     (a : A) (x : BareTree)
-    → ((start : ℕ) (fs : FormTrees) → kind_of env from start fs ≡ one_argument read make env start fs)
+    → ((start : ℕ) (fs : FormTrees) → kind_of in_fork env from start fs ≡ one_argument read make env start fs)
     → ((fs : FormTrees) → leads env from fs ≡ 1) → is_else from ≡ false → IsRead env read x a
     → (forms : FormTrees) (more : BareTrees) → bare_trees forms ≡ and_trees x more
-    → Led env (stream_text from) (make a) forms more
-one_read env from read make a x kind_is own not_else is forms more h =
-    one_led env from (make a) forms x more not_else
+    → Led in_fork env (stream_text from) (make a) forms more
+one_read in_fork env from read make a x kind_is own not_else is forms more h =
+    one_led in_fork env from (make a) forms x more not_else
     (λ f rest at _.
     ((λ start. kind_is start (also f rest) ∙ first_read env read make a start f rest (is f at)), own (also f rest)))
     h
 
-two_read : {A B : Type 0} (env : Env) (from : StreamWord) (read : Env → FormTree → Result A Fault)
+two_read : {A B : Type 0} (in_fork : Bool) (env : Env) (from : StreamWord) (read : Env → FormTree → Result A Fault)
     (read_next : Env → FormTree → Result B Fault) (make : A → B → KindTree) (a : A) (b : B) (x y : BareTree)
-    → ((start : ℕ) (fs : FormTrees) → kind_of env from start fs ≡ two_arguments read read_next make env start fs)
+    → ((start : ℕ) (fs : FormTrees) → kind_of in_fork env from start fs
+    ≡ two_arguments read read_next make env start fs)
     → ((fs : FormTrees) → leads env from fs ≡ 2) → is_else from ≡ false → IsRead env read x a → IsRead env read_next y b
     → (forms : FormTrees) (more : BareTrees) → bare_trees forms ≡ and_trees x (and_trees y more)
-    → Led env (stream_text from) (make a b) forms more
-two_read env from read read_next make a b x y kind_is own not_else is next_is forms more h =
-    two_led env from (make a b) forms x y more not_else
+    → Led in_fork env (stream_text from) (make a b) forms more
+two_read in_fork env from read read_next make a b x y kind_is own not_else is next_is forms more h =
+    two_led in_fork env from (make a b) forms x y more not_else
     (λ f g rest at to. (
       (λ start. kind_is start (also f (also g rest))
           ∙ both_read env read read_next make a b start f g rest (is f at) (next_is g to)),
@@ -324,11 +335,11 @@ all_tags_are tag [] = refl
 all_tags_are tag (second ∷ tags) =
     ap (λ (rules : Trees). All (pred.also (Tagged tag) (pred.also (Tagged second) rules))) (each_tag_is tags)
 
-tagged_one : (env : Env) (f : FormTree) (rest : FormTrees) (tag : List ℕ) (tags : List (List ℕ))
+tagged_one : (in_fork : Bool) (env : Env) (f : FormTree) (rest : FormTrees) (tag : List ℕ) (tags : List (List ℕ))
     → texts_at env f ≡ Ok (tag ∷ tags)
-    → ReadsKind env word.Tagged (plan.Where (all_of (Tagged tag) (each_tag tags))) (also f rest) 1
+    → ReadsKind in_fork env word.Tagged (plan.Where (all_of (Tagged tag) (each_tag tags))) (also f rest) 1
 unfolding kind_of counting_kind window_kind tagged_kind leads argument
-tagged_one env f rest tag tags is =
+tagged_one in_fork env f rest tag tags is =
     ((λ start. rw is (ap (λ (rule : Tree). Ok (plan.Where rule)) (all_tags_are tag tags))), refl)
 
 has_number : (env : Env) (dt : BareTree) (secs : ℕ) → AreSecs env dt secs → (f : FormTree) (rest : FormTrees)
@@ -336,10 +347,11 @@ has_number : (env : Env) (dt : BareTree) (secs : ℕ) → AreSecs env dt secs �
 unfolding has_secs
 has_number env dt secs (a_ranged is low high) f rest h = rw (literal_read env dt (bound.Number (pos secs)) is f h) refl
 
-coalesce_one : (env : Env) (f : FormTree) (rest : FormTrees) (secs : ℕ) → has_secs env (also f rest) ≡ true
-    → secs_at env f ≡ Ok secs → ReadsKind env word.Coalesce (plan.Coalesce secs) (also f rest) 1
+coalesce_one : (in_fork : Bool) (env : Env) (f : FormTree) (rest : FormTrees) (secs : ℕ) → has_secs env (also f rest)
+    ≡ true
+    → secs_at env f ≡ Ok secs → ReadsKind in_fork env word.Coalesce (plan.Coalesce secs) (also f rest) 1
 unfolding kind_of counting_kind coalesce_secs leads argument
-coalesce_one env f rest secs has is = ((λ start. rw (has, is) refl), rw has refl)
+coalesce_one in_fork env f rest secs has is = ((λ start. rw (has, is) refl), rw has refl)
 
 no_init : (env : Env) (found : Option FormTree) → is_map_in found ≡ false → init_by env found ≡ Ok None
 no_init env None h = refl
@@ -348,10 +360,12 @@ no_init env (Some (Group Round forms start last)) h = refl
 no_init env (Some (Group Square forms start last)) h = refl
 no_init env (Some (Group Curly forms start last)) h = cc
 
-changed_one : (env : Env) (f : FormTree) (rest : FormTrees) (one : Field) → is_map_in (nth 0 rest) ≡ false
-    → field_at env f ≡ Ok one → ReadsKind env word.Changed (plan.Changed one None) (also f rest) 1
+changed_one : (in_fork : Bool) (env : Env) (f : FormTree) (rest : FormTrees) (one : Field) → is_map_in (nth 0 rest)
+    ≡ false
+    → field_at env f ≡ Ok one → ReadsKind in_fork env word.Changed (plan.Changed one None) (also f rest) 1
 unfolding kind_of counting_kind changed_kind init_of leads argument
-changed_one env f rest one no_map is = ((λ start. rw (is, no_init env (nth 0 rest) no_map) refl), rw no_map refl)
+changed_one in_fork env f rest one no_map is =
+    ((λ start. rw (is, no_init env (nth 0 rest) no_map) refl), rw no_map refl)
 
 -- ---- sets
 
@@ -381,29 +395,30 @@ two_sets : (env : Env) (start : ℕ) (f g : FormTree) (rest : FormTrees) (sets :
 unfolding sets_of argument
 two_sets env start f g rest sets no_map is = no_map_of_sets env start (also f (also g rest)) f no_map ∙ is
 
-with_reads_one : (env : Env) (f : FormTree) (rest : FormTrees) (sets : List Set) → is_map f ≡ true
+with_reads_one : (in_fork : Bool) (env : Env) (f : FormTree) (rest : FormTrees) (sets : List Set) → is_map f ≡ true
     → ((start : ℕ) → sets_of env start (also f rest) ≡ Ok sets)
-    → ReadsKind env word.With (plan.With sets) (also f rest) 1
+    → ReadsKind in_fork env word.With (plan.With sets) (also f rest) 1
 unfolding kind_of leads
-with_reads_one env f rest sets map is = ((λ start. rw (is start) refl), rw map refl)
+with_reads_one in_fork env f rest sets map is = ((λ start. rw (is start) refl), rw map refl)
 
-with_reads_two : (env : Env) (f g : FormTree) (rest : FormTrees) (sets : List Set) → is_map f ≡ false
+with_reads_two : (in_fork : Bool) (env : Env) (f g : FormTree) (rest : FormTrees) (sets : List Set) → is_map f ≡ false
     → ((start : ℕ) → sets_of env start (also f (also g rest)) ≡ Ok sets)
-    → ReadsKind env word.With (plan.With sets) (also f (also g rest)) 2
+    → ReadsKind in_fork env word.With (plan.With sets) (also f (also g rest)) 2
 unfolding kind_of leads
-with_reads_two env f g rest sets map is = ((λ start. rw (is start) refl), rw map refl)
+with_reads_two in_fork env f g rest sets map is = ((λ start. rw (is start) refl), rw map refl)
 
-default_reads_one : (env : Env) (f : FormTree) (rest : FormTrees) (sets : List Set) → is_map f ≡ true
+default_reads_one : (in_fork : Bool) (env : Env) (f : FormTree) (rest : FormTrees) (sets : List Set) → is_map f ≡ true
     → ((start : ℕ) → sets_of env start (also f rest) ≡ Ok sets)
-    → ReadsKind env word.Default (plan.Default sets) (also f rest) 1
+    → ReadsKind in_fork env word.Default (plan.Default sets) (also f rest) 1
 unfolding kind_of leads
-default_reads_one env f rest sets map is = ((λ start. rw (is start) refl), rw map refl)
+default_reads_one in_fork env f rest sets map is = ((λ start. rw (is start) refl), rw map refl)
 
-default_reads_two : (env : Env) (f g : FormTree) (rest : FormTrees) (sets : List Set) → is_map f ≡ false
+default_reads_two : (in_fork : Bool) (env : Env) (f g : FormTree) (rest : FormTrees) (sets : List Set) → is_map f
+    ≡ false
     → ((start : ℕ) → sets_of env start (also f (also g rest)) ≡ Ok sets)
-    → ReadsKind env word.Default (plan.Default sets) (also f (also g rest)) 2
+    → ReadsKind in_fork env word.Default (plan.Default sets) (also f (also g rest)) 2
 unfolding kind_of leads
-default_reads_two env f g rest sets map is = ((λ start. rw (is start) refl), rw map refl)
+default_reads_two in_fork env f g rest sets map is = ((λ start. rw (is start) refl), rw map refl)
 
 one_of_sets : (env : Env) (x v : BareTree) (one : Field) (set : Set) → IsField env x one → IsSet env one v set
     → (start : ℕ) (f g : FormTree) (rest : FormTrees) → bare_tree f ≡ x → bare_tree g ≡ v
@@ -423,108 +438,170 @@ map_init env row held is f h =
     (init_is env row held is group.start group.forms group.forms_are) in
     (ap (λ (one : FormTree). init_by env (Some one)) group.is ∙ read, ap is_map group.is)
 
-changed_two : (env : Env) (f g : FormTree) (rest : FormTrees) (one : Field) (held : Value) → field_at env f ≡ Ok one
+changed_two : (in_fork : Bool) (env : Env) (f g : FormTree) (rest : FormTrees) (one : Field) (held : Value)
+    → field_at env f ≡ Ok one
     → init_by env (Some g) ≡ Ok (Some held) → is_map g ≡ true
-    → ReadsKind env word.Changed (plan.Changed one (Some held)) (also f (also g rest)) 2
+    → ReadsKind in_fork env word.Changed (plan.Changed one (Some held)) (also f (also g rest)) 2
 unfolding kind_of counting_kind changed_kind init_of leads argument
-changed_two env f g rest one held first second map = ((λ start. rw (first, second) refl), rw map refl)
+changed_two in_fork env f g rest one held first second map = ((λ start. rw (first, second) refl), rw map refl)
+
+-- ---- fields, and when forks end
+
+idle_is : (most : ℕ) (env : Env) (row : BareTrees) (secs : ℕ) → IsIdle most env row secs → (place : ℕ)
+    → (forms : FormTrees) → bare_trees forms ≡ row → idle_in most place env forms ≡ Ok secs
+idle_is most env row secs is place forms at =
+    (idles_are_read most env place forms secs).0 (subst (λ (ts : BareTrees). IsIdle most env ts secs) (sym at) is)
+
+no_idle : (in_fork : Bool) (env : Env) (found : Option FormTree) → is_map_in found ≡ false
+    → idle_by in_fork env found ≡ Ok None
+no_idle in_fork env None h = refl
+no_idle in_fork env (Some (Single a start last)) h = refl
+no_idle in_fork env (Some (Group Round forms start last)) h = refl
+no_idle in_fork env (Some (Group Square forms start last)) h = refl
+no_idle in_fork env (Some (Group Curly forms start last)) h = cc
+
+by_one : (in_fork : Bool) (env : Env) (f : FormTree) (rest : FormTrees) (fields : List Field)
+    → is_map_in (nth 0 rest) ≡ false → fields_at env f ≡ Ok fields
+    → ReadsKind in_fork env word.By (plan.By fields None) (also f rest) 1
+unfolding kind_of by_kind idle_of leads argument
+by_one in_fork env f rest fields no_map is =
+    ((λ start. rw (is, no_idle in_fork env (nth 0 rest) no_map) refl), rw no_map refl)
+
+map_idle : (env : Env) (row : BareTrees) (secs : ℕ) → IsIdle MAX_SECS env row secs → (f : FormTree)
+    → bare_tree f ≡ map_of row → (idle_by false env (Some f) ≡ Ok (Some secs)) × (is_map f ≡ true)
+map_idle env row secs is f h =
+    let group = group_of f Curly row h in
+    let read : some_idle false env group.start group.forms ≡ Ok (Some secs) =
+    ap (λ (read : Result ℕ Fault). read >>= λ secs. Ok (Some secs))
+    (idle_is MAX_SECS env row secs is group.start group.forms group.forms_are) in
+    (ap (λ (one : FormTree). idle_by false env (Some one)) group.is ∙ read, ap is_map group.is)
+
+by_two : (env : Env) (f g : FormTree) (rest : FormTrees) (fields : List Field) (secs : ℕ) → fields_at env f ≡ Ok fields
+    → idle_by false env (Some g) ≡ Ok (Some secs) → is_map g ≡ true
+    → ReadsKind false env word.By (plan.By fields (Some secs)) (also f (also g rest)) 2
+unfolding kind_of by_kind idle_of leads argument
+by_two env f g rest fields secs first second map = ((λ start. rw (first, second) refl), rw map refl)
 
 -- ---- all kinds
 
-pub kind_read : (env : Env) (name : List ℕ) (own : BareTrees) (one : KindTree) → IsKind env name own one
+pub kind_read : (in_fork : Bool) (env : Env) (name : List ℕ) (own : BareTrees) (one : KindTree)
+    → IsKind in_fork env name own one
     → (forms : FormTrees) (more : BareTrees) → bare_trees forms ≡ and_then own more → IsPlainRow env more
-    → Led env name one forms more
+    → Led in_fork env name one forms more
 unfolding kind_of counting_kind window_kind order_kind leads
-kind_read env _ _ _ sdo forms more h plain = none_led env word.Sdo plan.Sdo forms more refl ((λ start. refl), refl) h
-kind_read env _ _ _ (where_ {p = p} {rule = rule} is) forms more h plain =
-    one_read env word.Where rule_at plan.Where rule p (λ start fs. refl) (λ fs. refl) refl (rule_is env p rule is) forms
+kind_read in_fork env _ _ _ sdo forms more h plain =
+    none_led in_fork env word.Sdo plan.Sdo forms more refl ((λ start. refl), refl) h
+kind_read in_fork env _ _ _ (where_ {p = p} {rule = rule} is) forms more h plain =
+    one_read in_fork env word.Where rule_at plan.Where rule p (λ start fs. refl) (λ fs. refl) refl
+    (rule_is env p rule is) forms
     more h
-kind_read env _ _ _ (with_one {f = x} {v = v} {one = one} {set = set} means is) forms more h plain =
-    two_led env word.With (plan.With (set ∷ [])) forms x v more refl
-    (λ f g rest at to. with_reads_two env f g rest (set ∷ []) (is_no_map f (field_no_map env x one means f at))
+kind_read in_fork env _ _ _ (with_one {f = x} {v = v} {one = one} {set = set} means is) forms more h plain =
+    two_led in_fork env word.With (plan.With (set ∷ [])) forms x v more refl
+    (λ f g rest at to. with_reads_two in_fork env f g rest (set ∷ []) (is_no_map f (field_no_map env x one means f at))
     (λ start. one_of_sets env x v one set means is start f g rest at to))
     h
-kind_read env _ _ _ (with_all {entries = entries} {sets = sets} are) forms more h plain =
-    one_led env word.With (plan.With sets) forms (map_of entries) more refl
-    (λ f rest at _. with_reads_one env f rest sets (map_sets_are env entries sets are 0 f rest at).1
+kind_read in_fork env _ _ _ (with_all {entries = entries} {sets = sets} are) forms more h plain =
+    one_led in_fork env word.With (plan.With sets) forms (map_of entries) more refl
+    (λ f rest at _. with_reads_one in_fork env f rest sets (map_sets_are env entries sets are 0 f rest at).1
     (λ start. (map_sets_are env entries sets are start f rest at).0))
     h
-kind_read env _ _ _ (default_one {f = x} {v = v} {one = one} {set = set} means is) forms more h plain =
-    two_led env word.Default (plan.Default (set ∷ [])) forms x v more refl
-    (λ f g rest at to. default_reads_two env f g rest (set ∷ []) (is_no_map f (field_no_map env x one means f at))
+kind_read in_fork env _ _ _ (default_one {f = x} {v = v} {one = one} {set = set} means is) forms more h plain =
+    two_led in_fork env word.Default (plan.Default (set ∷ [])) forms x v more refl
+    (λ f g rest at to. default_reads_two in_fork env f g rest (set ∷ [])
+    (is_no_map f (field_no_map env x one means f at))
     (λ start. one_of_sets env x v one set means is start f g rest at to))
     h
-kind_read env _ _ _ (default_all {entries = entries} {sets = sets} are) forms more h plain =
-    one_led env word.Default (plan.Default sets) forms (map_of entries) more refl
-    (λ f rest at _. default_reads_one env f rest sets (map_sets_are env entries sets are 0 f rest at).1
+kind_read in_fork env _ _ _ (default_all {entries = entries} {sets = sets} are) forms more h plain =
+    one_led in_fork env word.Default (plan.Default sets) forms (map_of entries) more refl
+    (λ f rest at _. default_reads_one in_fork env f rest sets (map_sets_are env entries sets are 0 f rest at).1
     (λ start. (map_sets_are env entries sets are start f rest at).0))
     h
-kind_read env _ _ _ (tagging {x = x} {tags = tags} are) forms more h plain =
-    one_read env word.Tag texts_at plan.Tag tags x (λ start fs. refl) (λ fs. refl) refl (texts_are env x tags are) forms
+kind_read in_fork env _ _ _ (tagging {x = x} {tags = tags} are) forms more h plain =
+    one_read in_fork env word.Tag texts_at plan.Tag tags x (λ start fs. refl) (λ fs. refl) refl
+    (texts_are env x tags are) forms
     more h
-kind_read env _ _ _ (by {f = x} {fields = fields} are) forms more h plain =
-    one_read env word.By fields_at (λ fields. plan.By fields None) fields x (λ start fs. refl) (λ fs. refl) refl
-    (fields_are env x fields are) forms more h
-kind_read env _ _ _ (changed {f = x} {one = one} means) forms more h plain =
-    one_led env word.Changed (plan.Changed one None) forms x more refl
-    (λ f rest at are. changed_one env f rest one (plain rest are).1 (field_is env x one means f at)) h
-kind_read env _ _ _ (changed_from {f = x} {entries = entries} {one = one} {held = held} means is) forms more h plain =
-    two_led env word.Changed (plan.Changed one (Some held)) forms x (map_of entries) more refl
+kind_read in_fork env _ _ _ (by {f = x} {fields = fields} are) forms more h plain =
+    one_led in_fork env word.By (plan.By fields None) forms x more refl
+    (λ f rest at to. by_one in_fork env f rest fields (plain rest to).1 (fields_are env x fields are f at)) h
+kind_read _ env _ _ _ (by_idle {f = x} {entries = entries} {fields = fields} {secs = secs} are is) forms more h plain =
+    two_led false env word.By (plan.By fields (Some secs)) forms x (map_of entries) more refl
+    (λ f g rest at to.
+    let idle = map_idle env entries secs is g to in
+    by_two env f g rest fields secs (fields_are env x fields are f at) idle.0 idle.1)
+    h
+kind_read in_fork env _ _ _ (changed {f = x} {one = one} means) forms more h plain =
+    one_led in_fork env word.Changed (plan.Changed one None) forms x more refl
+    (λ f rest at are. changed_one in_fork env f rest one (plain rest are).1 (field_is env x one means f at)) h
+kind_read in_fork env _ _ _ (changed_from {f = x} {entries = entries} {one = one} {held = held} means is) forms more h
+    plain =
+    two_led in_fork env word.Changed (plan.Changed one (Some held)) forms x (map_of entries) more refl
     (λ f g rest at to.
     let init = map_init env entries held is g to in
-    changed_two env f g rest one held (field_is env x one means f at) init.0 init.1)
+    changed_two in_fork env f g rest one held (field_is env x one means f at) init.0 init.1)
     h
-kind_read env _ _ _ (runs {n = n} {f = x} {count = count} {one = one} is means) forms more h plain =
-    two_read env word.Runs count_at field_at plan.Runs count one n x (λ start fs. refl) (λ fs. refl) refl
+kind_read in_fork env _ _ _ (runs {n = n} {f = x} {count = count} {one = one} is means) forms more h plain =
+    two_read in_fork env word.Runs count_at field_at plan.Runs count one n x (λ start fs. refl) (λ fs. refl) refl
     (count_is env n count is) (field_is env x one means) forms more h
-kind_read env _ _ _ (throttle {n = n} {dt = dt} {count = count} {secs = secs} is are) forms more h plain =
-    two_read env word.Throttle count_at secs_at plan.Throttle count secs n dt (λ start fs. refl) (λ fs. refl) refl
+kind_read in_fork env _ _ _ (throttle {n = n} {dt = dt} {count = count} {secs = secs} is are) forms more h plain =
+    two_read in_fork env word.Throttle count_at secs_at plan.Throttle count secs n dt (λ start fs. refl) (λ fs. refl)
+    refl
     (count_is env n count is) (secs_are env dt secs are) forms more h
-kind_read env _ _ _ (rollup {n = n} {dt = dt} {count = count} {secs = secs} is are) forms more h plain =
-    two_read env word.Rollup count_at secs_at plan.Rollup count secs n dt (λ start fs. refl) (λ fs. refl) refl
+kind_read in_fork env _ _ _ (rollup {n = n} {dt = dt} {count = count} {secs = secs} is are) forms more h plain =
+    two_read in_fork env word.Rollup count_at secs_at plan.Rollup count secs n dt (λ start fs. refl) (λ fs. refl) refl
     (count_is env n count is) (secs_are env dt secs are) forms more h
-kind_read env _ _ _ (batch {n = n} {dt = dt} {count = count} {secs = secs} is are) forms more h plain =
-    two_read env word.Batch count_at secs_at plan.Batch count secs n dt (λ start fs. refl) (λ fs. refl) refl
+kind_read in_fork env _ _ _ (batch {n = n} {dt = dt} {count = count} {secs = secs} is are) forms more h plain =
+    two_read in_fork env word.Batch count_at secs_at plan.Batch count secs n dt (λ start fs. refl) (λ fs. refl) refl
     (count_is env n count is) (secs_are env dt secs are) forms more h
-kind_read env _ _ _ (stable {dt = dt} {f = x} {secs = secs} {one = one} are means) forms more h plain =
-    two_read env word.Stable secs_at field_at plan.Stable secs one dt x (λ start fs. refl) (λ fs. refl) refl
+kind_read in_fork env _ _ _ (stable {dt = dt} {f = x} {secs = secs} {one = one} are means) forms more h plain =
+    two_read in_fork env word.Stable secs_at field_at plan.Stable secs one dt x (λ start fs. refl) (λ fs. refl) refl
     (secs_are env dt secs are) (field_is env x one means) forms more h
-kind_read env _ _ _ (fixed_event {n = n} {count = count} is) forms more h plain =
-    one_read env word.FixedEvent count_at plan.FixedEvent count n (λ start fs. refl) (λ fs. refl) refl
+kind_read in_fork env _ _ _ (fixed_event {n = n} {count = count} is) forms more h plain =
+    one_read in_fork env word.FixedEvent count_at plan.FixedEvent count n (λ start fs. refl) (λ fs. refl) refl
     (count_is env n count is) forms more h
-kind_read env _ _ _ (moving_event {n = n} {count = count} is) forms more h plain =
-    one_read env word.MovingEvent count_at plan.MovingEvent count n (λ start fs. refl) (λ fs. refl) refl
+kind_read in_fork env _ _ _ (moving_event {n = n} {count = count} is) forms more h plain =
+    one_read in_fork env word.MovingEvent count_at plan.MovingEvent count n (λ start fs. refl) (λ fs. refl) refl
     (count_is env n count is) forms more h
-kind_read env _ _ _ (fixed_time {dt = dt} {secs = secs} are) forms more h plain =
-    one_read env word.FixedTime secs_at plan.FixedTime secs dt (λ start fs. refl) (λ fs. refl) refl
+kind_read in_fork env _ _ _ (fixed_time {dt = dt} {secs = secs} are) forms more h plain =
+    one_read in_fork env word.FixedTime secs_at plan.FixedTime secs dt (λ start fs. refl) (λ fs. refl) refl
     (secs_are env dt secs are) forms more h
-kind_read env _ _ _ (moving_time {dt = dt} {secs = secs} are) forms more h plain =
-    one_read env word.MovingTime secs_at plan.MovingTime secs dt (λ start fs. refl) (λ fs. refl) refl
+kind_read in_fork env _ _ _ (moving_time {dt = dt} {secs = secs} are) forms more h plain =
+    one_read in_fork env word.MovingTime secs_at plan.MovingTime secs dt (λ start fs. refl) (λ fs. refl) refl
     (secs_are env dt secs are) forms more h
-kind_read env _ _ _ coalesce forms more h plain =
-    none_led env word.Coalesce (plan.Coalesce 1) forms more refl
-    (coalesce_none env forms (no_secs env forms (plain forms h).0)) h
-kind_read env _ _ _ (coalesce_every {dt = dt} {secs = secs} are) forms more h plain =
-    one_led env word.Coalesce (plan.Coalesce secs) forms dt more refl
-    (λ f rest at _. coalesce_one env f rest secs (has_number env dt secs are f rest at) (secs_are env dt secs are f at))
+kind_read in_fork env _ _ _ coalesce forms more h plain =
+    none_led in_fork env word.Coalesce (plan.Coalesce 1) forms more refl
+    (coalesce_none in_fork env forms (no_secs env forms (plain forms h).0)) h
+kind_read in_fork env _ _ _ (coalesce_every {dt = dt} {secs = secs} are) forms more h plain =
+    one_led in_fork env word.Coalesce (plan.Coalesce secs) forms dt more refl
+    (λ f rest at _. coalesce_one in_fork env f rest secs (has_number env dt secs are f rest at)
+    (secs_are env dt secs are f at))
     h
-kind_read env _ _ _ (smap {f = x} {fold = one} is) forms more h plain =
-    one_read env word.Smap fold_at plan.Smap one x (λ start fs. refl) (λ fs. refl) refl (fold_is env x one is) forms
+kind_read in_fork env _ _ _ (smap {f = x} {fold = one} is) forms more h plain =
+    one_read in_fork env word.Smap fold_at plan.Smap one x (λ start fs. refl) (λ fs. refl) refl (fold_is env x one is)
+    forms
     more h
-kind_read env _ _ _ expired forms more h plain =
-    none_led env word.Expired (plan.Where (pred.Equal field.State (value.Text (codes "expired")))) forms more refl
+kind_read in_fork env _ _ _ expired forms more h plain =
+    none_led in_fork env word.Expired (plan.Where (pred.Equal field.State (value.Text (codes "expired")))) forms more
+    refl
     ((λ start. refl), refl) h
-kind_read env _ _ _ (tagged {x = x} {tag = one} {tags = tags} are) forms more h plain =
-    one_led env word.Tagged (plan.Where (all_of (Tagged one) (each_tag tags))) forms x more refl
-    (λ f rest at _. tagged_one env f rest one tags (texts_are env x (one ∷ tags) are f at)) h
-kind_read env _ _ _ (over {k = k} {number = number} is) forms more h plain =
-    one_read env word.Over number_at (λ number. plan.Where (Order field.Metric Greater number)) number k
+kind_read in_fork env _ _ _ (tagged {x = x} {tag = one} {tags = tags} are) forms more h plain =
+    one_led in_fork env word.Tagged (plan.Where (all_of (Tagged one) (each_tag tags))) forms x more refl
+    (λ f rest at _. tagged_one in_fork env f rest one tags (texts_are env x (one ∷ tags) are f at)) h
+kind_read in_fork env _ _ _ (over {k = k} {number = number} is) forms more h plain =
+    one_read in_fork env word.Over number_at (λ number. plan.Where (Order field.Metric Greater number)) number k
     (λ start fs. refl) (λ fs. refl) refl (number_is env k number is) forms more h
-kind_read env _ _ _ (under {k = k} {number = number} is) forms more h plain =
-    one_read env word.Under number_at (λ number. plan.Where (Order field.Metric Less number)) number k
+kind_read in_fork env _ _ _ (under {k = k} {number = number} is) forms more h plain =
+    one_read in_fork env word.Under number_at (λ number. plan.Where (Order field.Metric Less number)) number k
     (λ start fs. refl) (λ fs. refl) refl (number_is env k number is) forms more h
 
-pub kind_passes : (env : Env) (name : List ℕ) (own : BareTrees) (one : KindTree) → IsKind env name own one
+pub kind_passes : (in_fork : Bool) (env : Env) (name : List ℕ) (own : BareTrees) (one : KindTree)
+    → IsKind in_fork env name own one
     → may_have_children one ≡ true
-kind_passes env _ _ _ sdo = refl
-kind_passes env _ _ _ is = refl
+kind_passes in_fork env _ _ _ sdo = refl
+kind_passes in_fork env _ _ _ is = refl
+
+-- a list is a `by` exactly where its word says so
+pub kind_forks : (in_fork : Bool) (env : Env) (name : List ℕ) (own : BareTrees) (one : KindTree)
+    → IsKind in_fork env name own one → is_by_in (stream_word name) ≡ is_by one
+unfolding stream_word passing_word counting_word window_word
+kind_forks in_fork env _ _ _ sdo = refl
+kind_forks in_fork env _ _ _ is = refl

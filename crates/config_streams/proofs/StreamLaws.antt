@@ -1,5 +1,5 @@
 -- Streams and their places, at the values that the code makes.
-use Rattle.std.proofs.Common.{◌≡◌, ℕ, zero, suc, Bool, List, [], ◌∷◌, ◌++◌, drop, Vec, Global, Option, Result, Ok, Err, refl, ap, sym, ◌∙◌}
+use Rattle.std.proofs.Common.{◌≡◌, ℕ, zero, suc, Bool, ◌||◌, List, [], ◌∷◌, ◌++◌, drop, Vec, Global, Option, Result, Ok, Err, refl, ap, sym, ◌∙◌}
 use Rattle.sexp_read.specs.declared.piece.Atom.TheVariants as atom
 use Rattle.sexp_read.specs.declared.piece.Bracket.TheVariants.{Round, Square, Curly}
 use Rattle.sexp_read.specs.Tree.{FormTree, FormTrees, Single, Group, none, also}
@@ -17,7 +17,7 @@ use Rattle.config_terms.specs.Words.{stream_word}
 use Rattle.config_terms.specs.Arguments.{Env, bound_value}
 use Rattle.config_streams.specs.Sources.{SourceTree, SourceTrees, source, with_source}
 use Rattle.config_streams.specs.Sources as sources
-use Rattle.config_streams.specs.Streams.{Below, Part, next_place, with_stream, with_part, all_read, is_where_in, symbol_by, worded, part_at, parts_in}
+use Rattle.config_streams.specs.Streams.{Below, Part, next_place, with_stream, with_part, all_read, is_where_in, is_by_in, symbol_by, worded, part_at, parts_in}
 use Rattle.config_terms.specs.Code.{Look, Symbol, Call, Lookup, Other, look_of, later, next_of}
 use Rattle.config_streams.specs.Made.{source_tree, source_trees, source_list}
 
@@ -60,76 +60,78 @@ source_tree-opened s =
 
 -- ---- by what a form looks like
 
-abbrev pub part_by : Bool → Env → ℕ → Look → Result Part Fault
-part_by may_else env start (Symbol name) = symbol_by (bound_value name env) name start
-part_by may_else env start (Call name forms) =
-    worded may_else env (stream_word name) start forms (parts_in (is_where_in (stream_word name)) env forms)
-part_by may_else env start (Lookup name forms) = Err (start, why.Form)
-part_by may_else env start Other = Err (start, why.Form)
+abbrev pub part_by : Bool → Bool → Env → ℕ → Look → Result Part Fault
+part_by may_else in_fork env start (Symbol name) = symbol_by (bound_value name env) name start
+part_by may_else in_fork env start (Call name forms) =
+    worded may_else in_fork env (stream_word name) start forms
+    (parts_in (is_where_in (stream_word name)) (is_by_in (stream_word name) || in_fork) env forms)
+part_by may_else in_fork env start (Lookup name forms) = Err (start, why.Form)
+part_by may_else in_fork env start Other = Err (start, why.Form)
 
-part_looks : (may_else : Bool) (env : Env) (form : FormTree)
-    → part_at may_else env form ≡ part_by may_else env (start_of form) (look_of form)
+part_looks : (may_else in_fork : Bool) (env : Env) (form : FormTree)
+    → part_at may_else in_fork env form ≡ part_by may_else in_fork env (start_of form) (look_of form)
 unfolding part_at look_of
-part_looks m env (Single (atom.Symbol name) start last) = refl
-part_looks m env (Single (atom.Text name) start last) = refl
-part_looks m env (Single (atom.Pattern name) start last) = refl
-part_looks m env (Single (atom.Number name) start last) = refl
-part_looks m env (Single (atom.Keyword name) start last) = refl
-part_looks m env (Group Round (also (Single (atom.Symbol name) begin end) forms) start last) = refl
-part_looks m env (Group Round (also (Single (atom.Keyword name) begin end) forms) start last) = refl
-part_looks m env (Group Round (also (Single (atom.Text name) begin end) forms) start last) = refl
-part_looks m env (Group Round (also (Single (atom.Pattern name) begin end) forms) start last) = refl
-part_looks m env (Group Round (also (Single (atom.Number name) begin end) forms) start last) = refl
-part_looks m env (Group Round (also (Group bracket more begin end) forms) start last) = refl
-part_looks m env (Group Round none start last) = refl
-part_looks m env (Group Square forms start last) = refl
-part_looks m env (Group Curly forms start last) = refl
+part_looks m i env (Single (atom.Symbol name) start last) = refl
+part_looks m i env (Single (atom.Text name) start last) = refl
+part_looks m i env (Single (atom.Pattern name) start last) = refl
+part_looks m i env (Single (atom.Number name) start last) = refl
+part_looks m i env (Single (atom.Keyword name) start last) = refl
+part_looks m i env (Group Round (also (Single (atom.Symbol name) begin end) forms) start last) = refl
+part_looks m i env (Group Round (also (Single (atom.Keyword name) begin end) forms) start last) = refl
+part_looks m i env (Group Round (also (Single (atom.Text name) begin end) forms) start last) = refl
+part_looks m i env (Group Round (also (Single (atom.Pattern name) begin end) forms) start last) = refl
+part_looks m i env (Group Round (also (Single (atom.Number name) begin end) forms) start last) = refl
+part_looks m i env (Group Round (also (Group bracket more begin end) forms) start last) = refl
+part_looks m i env (Group Round none start last) = refl
+part_looks m i env (Group Square forms start last) = refl
+part_looks m i env (Group Curly forms start last) = refl
 
-pub part_by_look : (may_else : Bool) (env : Env) (form : FormTree) (look : Look) → look ≡ look_of form
-    → part_at may_else env form ≡ part_by may_else env (start_of form) look
-part_by_look m env form look e = part_looks m env form ∙ ap (part_by m env (start_of form)) (sym e)
+pub part_by_look : (may_else in_fork : Bool) (env : Env) (form : FormTree) (look : Look) → look ≡ look_of form
+    → part_at may_else in_fork env form ≡ part_by may_else in_fork env (start_of form) look
+part_by_look m i env form look e = part_looks m i env form ∙ ap (part_by m i env (start_of form)) (sym e)
 
 -- ---- the forms later some
 
-parts_in-later : (m : Bool) (env : Env) (n : ℕ) (forms : FormTrees)
-    → parts_in m env (later n forms) ≡ drop n (parts_in m env forms)
+parts_in-later : (m i : Bool) (env : Env) (n : ℕ) (forms : FormTrees)
+    → parts_in m i env (later n forms) ≡ drop n (parts_in m i env forms)
 unfolding parts_in
-parts_in-later m env zero forms = refl
-parts_in-later m env (suc n) none = refl
-parts_in-later m env (suc n) (also form forms) = parts_in-later m env n forms
+parts_in-later m i env zero forms = refl
+parts_in-later m i env (suc n) none = refl
+parts_in-later m i env (suc n) (also form forms) = parts_in-later m i env n forms
 
-pub parts_later : (may_else : Bool) (env : Env) (n : ℕ) (forms rest : FormTrees) → rest ≡ later n forms
-    → parts_in may_else env rest ≡ drop n (parts_in may_else env forms)
-parts_later m env n forms rest e = ap (parts_in m env) e ∙ parts_in-later m env n forms
+pub parts_later : (may_else in_fork : Bool) (env : Env) (n : ℕ) (forms rest : FormTrees) → rest ≡ later n forms
+    → parts_in may_else in_fork env rest ≡ drop n (parts_in may_else in_fork env forms)
+parts_later m i env n forms rest e = ap (parts_in m i env) e ∙ parts_in-later m i env n forms
 
-pub next_of_parts : (may_else : Bool) (env : Env) (forms : FormTrees)
-    → next_place (parts_in may_else env forms) ≡ next_of forms
+pub next_of_parts : (may_else in_fork : Bool) (env : Env) (forms : FormTrees)
+    → next_place (parts_in may_else in_fork env forms) ≡ next_of forms
 unfolding parts_in
-next_of_parts m env none = refl
-next_of_parts m env (also f forms) = refl
+next_of_parts m i env none = refl
+next_of_parts m i env (also f forms) = refl
 
 -- ---- one more part is read
 
-pub parts_more : (may_else : Bool) (env : Env) (below more : Below) (left forms : FormTrees) (form : FormTree)
+pub parts_more : (may_else in_fork : Bool) (env : Env) (below more : Below) (left forms : FormTrees) (form : FormTree)
     (one : Part) (next : Option ℕ) →
-    left ≡ also form forms → part_at may_else env form ≡ Ok one → next ≡ next_of forms →
+    left ≡ also form forms → part_at may_else in_fork env form ≡ Ok one → next ≡ next_of forms →
     with_part below one next ≡ Ok more →
-    all_read below (parts_in may_else env left) ≡ all_read more (parts_in may_else env forms)
+    all_read below (parts_in may_else in_fork env left) ≡ all_read more (parts_in may_else in_fork env forms)
 unfolding all_read parts_in
-parts_more m env below more left forms form one next at read is put =
-    let reported : with_part below one (next_place (parts_in m env forms)) ≡ Ok more =
-    rw (next_of_parts m env forms, sym is) put in
+parts_more m i env below more left forms form one next at read is put =
+    let reported : with_part below one (next_place (parts_in m i env forms)) ≡ Ok more =
+    rw (next_of_parts m i env forms, sym is) put in
     rw (at, read, reported) refl
 
-pub parts_fail : (may_else : Bool) (env : Env) (below : Below) (left forms : FormTrees) (form : FormTree) (one : Part)
+pub parts_fail : (may_else in_fork : Bool) (env : Env) (below : Below) (left forms : FormTrees) (form : FormTree)
+    (one : Part)
     (next : Option ℕ) (fault : Fault) →
-    left ≡ also form forms → part_at may_else env form ≡ Ok one → next ≡ next_of forms →
+    left ≡ also form forms → part_at may_else in_fork env form ≡ Ok one → next ≡ next_of forms →
     with_part below one next ≡ Err fault →
-    all_read below (parts_in may_else env left) ≡ Err fault
+    all_read below (parts_in may_else in_fork env left) ≡ Err fault
 unfolding all_read parts_in
-parts_fail m env below left forms form one next fault at read is put =
-    let reported : with_part below one (next_place (parts_in m env forms)) ≡ Err fault =
-    rw (next_of_parts m env forms, sym is) put in
+parts_fail m i env below left forms form one next fault at read is put =
+    let reported : with_part below one (next_place (parts_in m i env forms)) ≡ Err fault =
+    rw (next_of_parts m i env forms, sym is) put in
     rw (at, read, reported) refl
 
 -- ---- a stream and a source that are put together

@@ -20,7 +20,7 @@ use Rattle.config_terms.specs.declared.word.StreamWord.{StreamWord}
 use Rattle.config_terms.specs.declared.word.StreamWord.TheVariants as word
 use Rattle.config_terms.specs.Steps.{Fault, ◌>>=◌, start_of, nth, argument}
 use Rattle.config_terms.specs.Words.{fold_word, init_text}
-use Rattle.config_terms.specs.Arguments.{Env, Argument, Number, argument_of, misfit, field_at, number_at, value_at, text_at, texts_at, fields_at, some_of, set_at, sets_from, ranged_at, one_entry}
+use Rattle.config_terms.specs.Arguments.{Env, Argument, Number, argument_of, misfit, field_at, number_at, value_at, text_at, texts_at, fields_at, some_of, set_at, sets_from, ranged_at, one_entry, idle_in}
 use Rattle.config_terms.specs.Rules.{rule_at}
 
 -- ---- counts and seconds
@@ -62,6 +62,23 @@ init_by env f = Ok None
 
 unfoldable pub init_of : Env → FormTrees → Result (Option Value) Fault
 init_of env forms = init_by env (nth 1 forms)
+
+-- ---- after how long without an event a fork ends
+
+-- the most seconds: below another `by` none are in range
+abbrev pub most_idle : Bool → ℕ
+most_idle true = 0
+most_idle false = MAX_SECS
+
+abbrev pub some_idle : Bool → Env → ℕ → FormTrees → Result (Option ℕ) Fault
+some_idle in_fork env place entries = idle_in (most_idle in_fork) place env entries >>= λ secs. Ok (Some secs)
+
+abbrev pub idle_by : Bool → Env → Option FormTree → Result (Option ℕ) Fault
+idle_by in_fork env (Some (Group Curly entries begin last)) = some_idle in_fork env begin entries
+idle_by in_fork env f = Ok None
+
+unfoldable pub idle_of : Bool → Env → FormTrees → Result (Option ℕ) Fault
+idle_of in_fork env forms = idle_by in_fork env (nth 1 forms)
 
 -- ---- folds
 
@@ -145,6 +162,14 @@ changed_kind env start forms =
     init_of env forms >>= λ init.
     Ok (kind.Changed one init)
 
+-- fields, and after how long without an event a fork ends
+unfoldable pub by_kind : Bool → Env → ℕ → FormTrees → Result KindTree Fault
+by_kind in_fork env start forms =
+    argument start 0 forms >>= λ first.
+    fields_at env first >>= λ fields.
+    idle_of in_fork env forms >>= λ idle.
+    Ok (kind.By fields idle)
+
 -- ---- all kinds
 
 -- windows, and tests of one thing
@@ -171,17 +196,17 @@ counting_kind env word.Coalesce start forms = coalesce_secs env start forms >>= 
 counting_kind env word.Smap start forms = one_argument fold_at kind.Smap env start forms
 counting_kind env word start forms = window_kind env word start forms
 
--- and those that pass events on or end their way
-unfoldable pub kind_of : Env → StreamWord → ℕ → FormTrees → Result KindTree Fault
-kind_of env word.Index start forms = Ok kind.Index
-kind_of env word.Notice start forms = one_argument text_at kind.Notice env start forms
-kind_of env word.Sdo start forms = Ok kind.Sdo
-kind_of env word.Where start forms = one_argument rule_at kind.Where env start forms
-kind_of env word.With start forms = sets_of env start forms >>= λ sets. Ok (kind.With sets)
-kind_of env word.Default start forms = sets_of env start forms >>= λ sets. Ok (kind.Default sets)
-kind_of env word.Tag start forms = one_argument texts_at kind.Tag env start forms
-kind_of env word.By start forms = one_argument fields_at (λ fields. kind.By fields None) env start forms
-kind_of env word start forms = counting_kind env word start forms
+-- And those that pass events on or end their way. The truth value says whether the stream is below a `by`.
+unfoldable pub kind_of : Bool → Env → StreamWord → ℕ → FormTrees → Result KindTree Fault
+kind_of in_fork env word.Index start forms = Ok kind.Index
+kind_of in_fork env word.Notice start forms = one_argument text_at kind.Notice env start forms
+kind_of in_fork env word.Sdo start forms = Ok kind.Sdo
+kind_of in_fork env word.Where start forms = one_argument rule_at kind.Where env start forms
+kind_of in_fork env word.With start forms = sets_of env start forms >>= λ sets. Ok (kind.With sets)
+kind_of in_fork env word.Default start forms = sets_of env start forms >>= λ sets. Ok (kind.Default sets)
+kind_of in_fork env word.Tag start forms = one_argument texts_at kind.Tag env start forms
+kind_of in_fork env word.By start forms = by_kind in_fork env start forms
+kind_of in_fork env word start forms = counting_kind env word start forms
 
 -- ---- the number of arguments before the streams
 
@@ -204,6 +229,7 @@ leads env word.Else forms = 0
 leads env word.Expired forms = 0
 leads env word.With forms = two_if (not (is_map_in (nth 0 forms)))
 leads env word.Default forms = two_if (not (is_map_in (nth 0 forms)))
+leads env word.By forms = two_if (is_map_in (nth 1 forms))
 leads env word.Changed forms = two_if (is_map_in (nth 1 forms))
 leads env word.Coalesce forms = one_if (has_secs env forms)
 leads env word.Runs forms = 2

@@ -1,5 +1,5 @@
 -- Streams, and the streams below them.
-use Rattle.std.specs.Prelude.{ℕ, Bool, true, false, if◌then◌else◌, List, [], ◌∷◌, drop, Option, Some, None, Result, Ok, Err}
+use Rattle.std.specs.Prelude.{ℕ, Bool, true, false, ◌||◌, if◌then◌else◌, List, [], ◌∷◌, drop, Option, Some, None, Result, Ok, Err}
 use Rattle.std.specs.Str.{bytes_eq}
 use Rattle.sexp_read.specs.declared.piece.Bracket.TheVariants.{Round}
 use Rattle.sexp_read.specs.Tree.{FormTree, FormTrees, Single, Group, none, also}
@@ -93,6 +93,14 @@ abbrev pub is_where_in : Option StreamWord → Bool
 is_where_in None = false
 is_where_in (Some one) = is_where one
 
+abbrev pub is_by : StreamWord → Bool
+is_by word.By = true
+is_by _ = false
+
+abbrev pub is_by_in : Option StreamWord → Bool
+is_by_in None = false
+is_by_in (Some one) = is_by one
+
 abbrev pub is_else : StreamWord → Bool
 is_else word.Else = true
 is_else _ = false
@@ -115,21 +123,23 @@ abbrev pub else_part : Bool → ℕ → Readings → Result Part Fault
 else_part may_else start readings =
     if may_else then (all_read nothing readings >>= λ below. Ok (Rest below.children)) else Err (start, why.Form)
 
--- a stream of the word, or the streams that get the rest
-unfoldable pub worded : Bool → Env → Option StreamWord → ℕ → FormTrees → Readings → Result Part Fault
-worded may_else env None start forms readings = Err (start, why.Form)
-worded may_else env (Some one) start forms readings =
+-- A stream of the word, or the streams that get the rest. The truth values say whether `else` may be there, and whether
+-- the form is below a `by`.
+unfoldable pub worded : Bool → Bool → Env → Option StreamWord → ℕ → FormTrees → Readings → Result Part Fault
+worded may_else in_fork env None start forms readings = Err (start, why.Form)
+worded may_else in_fork env (Some one) start forms readings =
     if is_else one then else_part may_else start readings
-    else (kind_of env one start forms >>= λ kind. followed kind start (leads env one forms) forms readings)
+    else (kind_of in_fork env one start forms >>= λ kind. followed kind start (leads env one forms) forms readings)
 
 -- what a form is in the place of a stream, and the same of each of some forms
 unfoldable mutual
-  pub part_at : Bool → Env → FormTree → Result Part Fault
-  part_at may_else env (Single (form.Symbol name) start last) = symbol_by (bound_value name env) name start
-  part_at may_else env (Group Round (also (Single (form.Symbol name) begin end) forms) start last) =
-      worded may_else env (stream_word name) start forms (parts_in (is_where_in (stream_word name)) env forms)
-  part_at may_else env f = Err (start_of f, why.Form)
+  pub part_at : Bool → Bool → Env → FormTree → Result Part Fault
+  part_at may_else in_fork env (Single (form.Symbol name) start last) = symbol_by (bound_value name env) name start
+  part_at may_else in_fork env (Group Round (also (Single (form.Symbol name) begin end) forms) start last) =
+      worded may_else in_fork env (stream_word name) start forms
+      (parts_in (is_where_in (stream_word name)) (is_by_in (stream_word name) || in_fork) env forms)
+  part_at may_else in_fork env f = Err (start_of f, why.Form)
 
-  pub parts_in : Bool → Env → FormTrees → Readings
-  parts_in may_else env none = []
-  parts_in may_else env (also f forms) = (start_of f, part_at may_else env f) ∷ parts_in may_else env forms
+  pub parts_in : Bool → Bool → Env → FormTrees → Readings
+  parts_in may_else in_fork env none = []
+  parts_in may_else in_fork env (also f forms) = (start_of f, part_at may_else in_fork env f) ∷ parts_in may_else in_fork env forms

@@ -9,12 +9,12 @@ ghost use Rattle.std.specs.Option.{option_map};
 ghost use Rattle.config_terms.specs.Code.{argument_in, map_in};
 ghost use Rattle.config_terms.specs.Arguments.{some_of};
 ghost use Rattle.config_terms.specs.Words.{fold_word as fold_word_of};
-ghost use Rattle.config_streams.specs.Kinds.{count_at as count_in, secs_at as secs_in, sets_of as sets_in, one_set as one_set_of, is_map, is_map_in, init_of as init_in, some_init as some_init_of, fold_named as fold_named_by, fold_at as fold_from, has_secs as secs_stand, is_number as is_number_of, coalesce_secs as coalesce_secs_of, expired_rule as expired_tree, all_tagged as all_tagged_by, tag_rules as tag_trees, tagged_kind as tagged_kind_of, order_kind as order_kind_of, changed_kind as changed_kind_of, window_kind as window_kind_of, counting_kind as counting_kind_of, kind_of as kind_from, leads as leads_of};
+ghost use Rattle.config_streams.specs.Kinds.{count_at as count_in, secs_at as secs_in, sets_of as sets_in, one_set as one_set_of, is_map, is_map_in, init_of as init_in, some_init as some_init_of, most_idle as most_idle_of, some_idle as some_idle_of, idle_of as idle_in, by_kind as by_kind_of, fold_named as fold_named_by, fold_at as fold_from, has_secs as secs_stand, is_number as is_number_of, coalesce_secs as coalesce_secs_of, expired_rule as expired_tree, all_tagged as all_tagged_by, tag_rules as tag_trees, tagged_kind as tagged_kind_of, order_kind as order_kind_of, changed_kind as changed_kind_of, window_kind as window_kind_of, counting_kind as counting_kind_of, kind_of as kind_from, leads as leads_of};
 
 use config_terms::{
     Argument, Binding, ConfigFault, ConfigWhy, StreamWord, View, argument, argument_of, field_at,
-    fields_at, fold_word, init_from, nth, number_at, ranged_at, refused, rule_at, set_at,
-    sets_from, text_at, texts_at, unfit, view_of,
+    fields_at, fold_word, idle_from, init_from, nth, number_at, ranged_at, refused, rule_at,
+    set_at, sets_from, text_at, texts_at, unfit, view_of,
 };
 use ev_types::{Field, Fold, Sets, Text, Texts, Value};
 use pred_eval::{Ordering, Rule, Rules};
@@ -102,6 +102,39 @@ fn some_init(
 {
     let init = init_from(alloc, place, env, entries)?;
     Ok(Some(init))
+}
+
+/// After how long without an event a fork ends, where a map says so. Below another `by` none do.
+#[tactic(auto, using(crate::proofs::KindLaws::map_of_idle, crate::proofs::KindLaws::no_map_of_idle, config_terms::proofs::FormLaws::start_of_form), unfolding(crate::specs::Kinds::idle_of))]
+fn idle_of(env: &[Binding], in_fork: bool, forms: &[Form]) -> Result<Option<u32>, ConfigFault>
+    ensures { Gives result (idle_in in_fork env.now (form_trees forms.now)) }
+{
+    let Some(form) = nth(forms, 1) else {
+        return Ok(None);
+    };
+    let Some(entries) = map_of(form) else {
+        return Ok(None);
+    };
+    some_idle(form.start, env, in_fork, entries)
+}
+
+fn some_idle(
+    place: usize,
+    env: &[Binding],
+    in_fork: bool,
+    entries: &[Form],
+) -> Result<Option<u32>, ConfigFault>
+    ensures { Gives result (some_idle_of in_fork env.now place (form_trees entries.now)) }
+{
+    let secs = idle_from(place, env, entries, most_idle(in_fork))?;
+    Ok(Some(secs))
+}
+
+/// The most seconds for which a fork lives without an event: below another `by` no number is in range.
+fn most_idle(in_fork: bool) -> u32
+    ensures { result ≡ most_idle_of in_fork }
+{
+    if in_fork { 0 } else { MAX_SECS }
 }
 
 /// The fold that the form names.
@@ -244,16 +277,35 @@ fn changed_kind(
     Ok(Kind::Changed { field, init })
 }
 
-/// The kind of a stream that begins with the word at `start`, by the arguments after it.
+#[tactic(auto, unfolding(crate::specs::Kinds::by_kind))]
+fn by_kind(
+    alloc: Global,
+    env: &[Binding],
+    in_fork: bool,
+    start: usize,
+    forms: &[Form],
+) -> Result<Kind, ConfigFault>
+    ensures { GivesAs kind_tree result
+        (by_kind_of in_fork env.now start (form_trees forms.now)) }
+{
+    let form = argument(start, 0, forms)?;
+    let fields = fields_at(alloc, env, form)?;
+    let idle = idle_of(env, in_fork, forms)?;
+    Ok(Kind::By { fields, idle })
+}
+
+/// The kind of a stream that begins with the word at `start`, by the arguments after it. `in_fork`: it is below a `by`.
 #[tactic(auto, unfolding(crate::specs::Kinds::kind_of))]
 pub(crate) fn kind_of(
     alloc: Global,
     env: &[Binding],
     word: StreamWord,
+    in_fork: bool,
     start: usize,
     forms: &[Form],
 ) -> Result<Kind, ConfigFault>
-    ensures { GivesAs kind_tree result (kind_from env.now word start (form_trees forms.now)) }
+    ensures { GivesAs kind_tree result
+        (kind_from in_fork env.now word start (form_trees forms.now)) }
 {
     match word {
         StreamWord::Index => Ok(Kind::Index),
@@ -269,7 +321,7 @@ pub(crate) fn kind_of(
             Ok(Kind::Default(sets))
         }
         StreamWord::Tag => Ok(Kind::Tag(texts_at(alloc, env, argument(start, 0, forms)?)?)),
-        StreamWord::By => Ok(Kind::By(fields_at(alloc, env, argument(start, 0, forms)?)?)),
+        StreamWord::By => by_kind(alloc, env, in_fork, start, forms),
         _ => counting_kind(alloc, env, word, start, forms),
     }
 }
@@ -376,7 +428,7 @@ pub(crate) fn leads(env: &[Binding], word: StreamWord, forms: &[Form]) -> usize
     match word {
         StreamWord::Index | StreamWord::Sdo | StreamWord::Else | StreamWord::Expired => 0,
         StreamWord::With | StreamWord::Default => if is_map_at(forms, 0) { 1 } else { 2 },
-        StreamWord::Changed => if is_map_at(forms, 1) { 2 } else { 1 },
+        StreamWord::By | StreamWord::Changed => if is_map_at(forms, 1) { 2 } else { 1 },
         StreamWord::Coalesce => if has_secs(env, forms) { 1 } else { 0 },
         StreamWord::Runs
         | StreamWord::Throttle

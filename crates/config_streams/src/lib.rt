@@ -8,4 +8,4 @@ mod streams;
 
 pub use law::streams_are_read;
 pub use source::{Source, Sources};
-pub use streams::{Below, Located, parts_onto};
+pub use streams::{Below, Located, tops_onto};

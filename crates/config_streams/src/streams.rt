@@ -1,13 +1,13 @@
 //! Streams, and the streams below them.
 
-ghost use Rattle.std.specs.Prelude.{◌≡◌, false, OnOk, IfErr, Ok};
+ghost use Rattle.std.specs.Prelude.{◌≡◌, ◌||◌, false, Some, OnOk, IfErr, Ok};
 ghost use Rattle.stream_plan.specs.Tree.{kind_tree, stream_tree};
 ghost use Rattle.stream_plan.specs.Kinds.{may_have_children as may_have_children_of};
 ghost use Rattle.sexp_read.specs.Tree.{form_tree, form_trees};
 ghost use Rattle.config_terms.specs.Steps.{GivesAs};
 ghost use Rattle.config_terms.specs.Words.{stream_word as stream_word_of};
 ghost use Rattle.config_terms.specs.Arguments.{bound_value};
-ghost use Rattle.config_streams.specs.Streams.{nothing, nowhere, stream_of as stream_made, with_part, all_read, is_where as is_where_of, is_where_in, with_one, is_else as is_else_of, symbol_by, followed as followed_by, worded, else_part as else_part_of, part_at as part_from, parts_in as readings_of};
+ghost use Rattle.config_streams.specs.Streams.{nothing, nowhere, stream_of as stream_made, with_part, all_read, is_where_in, is_by_in, with_one, is_else as is_else_of, symbol_by, followed as followed_by, worded, else_part as else_part_of, part_at as part_from, parts_in as readings_of};
 ghost use Rattle.config_streams.specs.Made.{located_in, below_in, part_in, source_tree};
 
 use crate::kinds::{kind_of, leads};
@@ -43,6 +43,28 @@ pub(crate) enum Part {
     One(Stream, Source),
     /// The streams that get the rest.
     Rest(Located),
+}
+
+/// Where the form of a stream is.
+#[derive(Clone, Copy)]
+struct Position {
+    /// An `else` may be there.
+    may_else: bool,
+    /// It is below a `by`.
+    in_fork: bool,
+}
+
+impl Position {
+    /// Where the forms of the streams are that follow a stream of the word.
+    fn below(self, word: StreamWord) -> Position
+        ensures may_else { result.may_else ≡ is_where_in (Some word) }
+        ensures in_fork { result.in_fork ≡ (is_by_in (Some word) || self.in_fork) }
+    {
+        Position {
+            may_else: matches!(word, StreamWord::Where),
+            in_fork: matches!(word, StreamWord::By) || self.in_fork,
+        }
+    }
 }
 
 impl Located {
@@ -122,12 +144,6 @@ fn may_have_children(kind: &Kind) -> bool
     !matches!(kind, Kind::Index | Kind::Notice(_))
 }
 
-fn is_where(word: StreamWord) -> bool
-    ensures { result ≡ is_where_of word }
-{
-    matches!(word, StreamWord::Where)
-}
-
 fn is_else(word: StreamWord) -> bool
     ensures { result ≡ is_else_of word }
 {
@@ -155,12 +171,18 @@ fn symbol_part(
 
 /// What the form is in the place of a stream.
 #[cycle(parts)]
-fn part_at(alloc: Global, env: &[Binding], form: &Form, may_else: bool) -> Result<Part, ConfigFault>
-    ensures { GivesAs part_in result (part_from may_else env.now (form_tree form.now)) }
+fn part_at(
+    alloc: Global,
+    env: &[Binding],
+    form: &Form,
+    position: Position,
+) -> Result<Part, ConfigFault>
+    ensures { GivesAs part_in result
+        (part_from position.may_else position.in_fork env.now (form_tree form.now)) }
 {
     match view_of(form) {
         View::Symbol(name) => symbol_part(alloc, env, name, form.start),
-        View::Call(name, forms) => call_part(alloc, env, name, may_else, form.start, forms),
+        View::Call(name, forms) => call_part(alloc, env, name, position, form.start, forms),
         View::Lookup(_, _) => Err(refused(form.start, ConfigWhy::Form)),
         View::Other => Err(refused(form.start, ConfigWhy::Form)),
     }
@@ -173,84 +195,104 @@ fn call_part(
     alloc: Global,
     env: &[Binding],
     name: &Text,
-    may_else: bool,
+    position: Position,
     start: usize,
     forms: &[Form],
 ) -> Result<Part, ConfigFault>
-    ensures { GivesAs part_in result (worded may_else env.now (stream_word_of name.now) start
-        (form_trees forms.now)
-        (readings_of (is_where_in (stream_word_of name.now)) env.now (form_trees forms.now))) }
+    ensures { GivesAs part_in result (worded position.may_else position.in_fork env.now
+        (stream_word_of name.now) start (form_trees forms.now)
+        (readings_of (is_where_in (stream_word_of name.now))
+        (is_by_in (stream_word_of name.now) || position.in_fork) env.now (form_trees forms.now))) }
 {
     let Some(word) = stream_word(name) else {
         return Err(refused(start, ConfigWhy::Form));
     };
+    let below = position.below(word);
     if is_else(word) {
-        return else_part(alloc, env, may_else, start, forms);
+        return else_part(alloc, env, position.may_else, below, start, forms);
     }
-    let kind = kind_of(alloc, env, word, start, forms)?;
+    let kind = kind_of(alloc, env, word, position.in_fork, start, forms)?;
     let own = leads(env, word, forms);
-    followed(alloc, env, kind, is_where(word), start, own, forms)
+    followed(alloc, env, kind, below, start, own, forms)
 }
 
-/// The streams that get the rest.
+/// The streams that get the rest, if they may be there. Their forms are at `position`.
 #[cycle(parts)]
 fn else_part(
     alloc: Global,
     env: &[Binding],
     may_else: bool,
+    position: Position,
     start: usize,
     forms: &[Form],
 ) -> Result<Part, ConfigFault>
     ensures { GivesAs part_in result (else_part_of may_else start
-        (readings_of false env.now (form_trees forms.now))) }
+        (readings_of position.may_else position.in_fork env.now (form_trees forms.now))) }
 {
     if !may_else {
         return Err(refused(start, ConfigWhy::Form));
     }
-    let below = parts_onto(alloc, env, forms, false, Below::fresh(alloc))?;
+    let below = parts_onto(alloc, env, forms, position, Below::fresh(alloc))?;
     Ok(Part::Rest(below.children))
 }
 
-/// The stream of the kind, with the streams after its own arguments.
+/// The stream of the kind, with the streams after its own arguments, whose forms are at `position`.
 #[cycle(parts)]
 #[tactic(auto, using(crate::proofs::StreamLaws::parts_later))]
 fn followed(
     alloc: Global,
     env: &[Binding],
     kind: Kind,
-    may_else: bool,
+    position: Position,
     start: usize,
     own: usize,
     forms: &[Form],
 ) -> Result<Part, ConfigFault>
     ensures { GivesAs part_in result (followed_by (kind_tree kind) start own (form_trees forms.now)
-        (readings_of may_else env.now (form_trees forms.now))) }
+        (readings_of position.may_else position.in_fork env.now (form_trees forms.now))) }
 {
     if !may_have_children(&kind) {
         at_most(own, forms)?;
         return Ok(stream_of(kind, start, Below::fresh(alloc)));
     }
-    let below = parts_onto(alloc, env, later(forms, own), may_else, Below::fresh(alloc))?;
+    let below = parts_onto(alloc, env, later(forms, own), position, Below::fresh(alloc))?;
     Ok(stream_of(kind, start, below))
+}
+
+/// The streams that there were, and those that the forms at the top give.
+pub fn tops_onto(
+    alloc: Global,
+    env: &[Binding],
+    forms: &[Form],
+    before: Below,
+) -> Result<Below, ConfigFault>
+    ensures { GivesAs below_in result (all_read (below_in before)
+        (readings_of false false env.now (form_trees forms.now))) }
+{
+    let top = Position {
+        may_else: false,
+        in_fork: false,
+    };
+    parts_onto(alloc, env, forms, top, before)
 }
 
 /// The streams that there were, and those that the forms give.
 #[cycle(parts)]
 #[tactic(auto, unfolding(crate::specs::Streams::part_at, crate::specs::Streams::all_read))]
-pub fn parts_onto(
+fn parts_onto(
     alloc: Global,
     env: &[Binding],
     forms: &[Form],
-    may_else: bool,
+    position: Position,
     before: Below,
 ) -> Result<Below, ConfigFault>
     ensures { GivesAs below_in result (all_read (below_in before)
-        (readings_of may_else env.now (form_trees forms.now))) }
+        (readings_of position.may_else position.in_fork env.now (form_trees forms.now))) }
 {
     let mut below = before;
     let mut left = forms;
     'parts: while let Some((form, rest)) = first(left) {
-        let part = part_at(alloc, env, form, may_else)?;
+        let part = part_at(alloc, env, form, position)?;
         below = put(below, part, next_start(rest))?;
         left = rest;
     }

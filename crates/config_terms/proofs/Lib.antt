@@ -9,3 +9,4 @@ pub mod GrammarLaws
 pub mod TermLaws
 pub mod VectorLaws
 pub mod SetLaws
+pub mod IdleLaws

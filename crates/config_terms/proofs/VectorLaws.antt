@@ -21,7 +21,7 @@ use Rattle.config_terms.proofs.TermLaws.{keyword_field, field_read, field_means}
 
 -- ---- numbers in a range
 
-ranged_is : (least most place number : ℕ) → least ≤ number → number ≤ most
+pub ranged_is : (least most place number : ℕ) → least ≤ number → number ≤ most
     → ranged least most place (pos number) ≡ Ok number
 ranged_is least most place number low high = rw (le-leb least number low, le-leb number most high) refl
 
@@ -32,7 +32,7 @@ range_read least most env form number (a_ranged is low high) f h =
     rw (number_read env f (pos number) (literal_read env form (bound.Number (pos number)) is f h))
     (ranged_is least most (start_of f) number low high)
 
-ranged_means : (least most place : ℕ) (env : Env) (form : BareTree) (number : ℤ) → NumberIs env form number
+pub ranged_means : (least most place : ℕ) (env : Env) (form : BareTree) (number : ℤ) → NumberIs env form number
     → OkGood (IsRanged least most env form) (ranged least most place number)
 ranged_means least most place env form (pos number) means =
     ok_if (IsRanged least most env form) _ _ _

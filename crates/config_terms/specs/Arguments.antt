@@ -18,9 +18,9 @@ use Rattle.config_terms.specs.declared.binding.Bound.{Bound}
 use Rattle.config_terms.specs.declared.binding.Bound.TheVariants as bound
 use Rattle.config_terms.specs.declared.fault.ConfigWhy.{ConfigWhy}
 use Rattle.config_terms.specs.declared.fault.ConfigWhy.TheVariants as why
-use Rattle.config_terms.specs.Steps.{Fault, ◌>>=◌, start_of, each}
+use Rattle.config_terms.specs.Steps.{Fault, ◌>>=◌, start_of, pair_in, each}
 use Rattle.ev_types.specs.Names.{named_field}
-use Rattle.config_terms.specs.Words.{nil_text, same_field}
+use Rattle.config_terms.specs.Words.{nil_text, idle_text, same_field}
 
 -- names and their values, the innermost last
 abbrev pub Env : Type 0
@@ -236,3 +236,24 @@ one_entry wanted read place env found (also key (also f forms)) =
     only_key_at wanted (is_some found) env key >>= λ known.
     read env f >>= λ a.
     one_entry wanted read place env (Some a) forms
+
+-- ---- the map of a `by`
+
+abbrev pub is_idle_key : Argument → Bool
+is_idle_key (Keyword key) = bytes_eq key idle_text
+is_idle_key _ = false
+
+abbrev pub idle_number : ℕ → ℕ → ℕ → Argument → Result ℕ Fault
+idle_number most place start (Number number) = ranged 1 most start number
+idle_number most place start given = Err (place, why.Arguments)
+
+abbrev pub idle_by : ℕ → ℕ → Env → Option (FormTree × FormTree) → Result ℕ Fault
+idle_by most place env None = Err (place, why.Arguments)
+idle_by most place env (Some entry) =
+    if is_idle_key (argument_of env entry.0) then idle_number most place (start_of entry.1) (argument_of env entry.1)
+    else Err (place, why.Arguments)
+
+-- In a map that starts at the place, `:idle` and a number of seconds up to the most. Any other map is refused as a whole,
+-- at its start, and a number outside the range at its own.
+unfoldable pub idle_in : ℕ → ℕ → Env → FormTrees → Result ℕ Fault
+idle_in most place env forms = idle_by most place env (pair_in forms)

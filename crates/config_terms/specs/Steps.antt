@@ -51,6 +51,11 @@ nth n none = None
 nth zero (also form forms) = Some form
 nth (suc n) (also form forms) = nth n forms
 
+-- two forms, where there are exactly two
+abbrev pub pair_in : FormTrees → Option (FormTree × FormTree)
+pair_in (also one (also two none)) = Some (one, two)
+pair_in forms = None
+
 -- a form that has to be there: where it is not, the form that lacks it is refused at its start
 abbrev pub present : {A : Type 0} → ℕ → Option A → Result A Fault
 present start None = Err (start, Arguments)

@@ -10,7 +10,7 @@ use Rattle.sexp_read.specs.Tree.{FormTree, FormTrees}
 use Rattle.sexp_read.specs.Written.{BareTree, BareTrees, Branch, no_trees, and_trees, bare_tree, bare_trees, listed}
 use Rattle.config_terms.specs.declared.binding.Bound.TheVariants as bound
 use Rattle.config_terms.specs.Words.{init_text}
-use Rattle.config_terms.specs.Arguments.{Env, text_at, number_at, value_at, field_at, ranged_at, texts_at, fields_at, set_at, sets_from, one_entry}
+use Rattle.config_terms.specs.Arguments.{Env, text_at, number_at, value_at, field_at, ranged_at, texts_at, fields_at, set_at, sets_from, one_entry, idle_in}
 use Rattle.config_terms.specs.Grammar.{IsLiteral, IsValue}
 
 abbrev pub vector_of : BareTrees → BareTree
@@ -74,6 +74,10 @@ pub data AreSets : Env → BareTrees → List Set → Type 0 where
 pub data IsInit : Env → BareTrees → Value → Type 0 where
   an_init : {env : Env} {key v : BareTree} {held : Value} → IsLiteral env key (bound.Keyword (codes "init")) → IsValue env v held → IsInit env (listed (key ∷ v ∷ [])) held
 
+-- `:idle n`, of a number up to the most
+pub data IsIdle : ℕ → Env → BareTrees → ℕ → Type 0 where
+  an_idle : {most : ℕ} {env : Env} {key n : BareTree} {secs : ℕ} → IsLiteral env key (bound.Keyword (codes "idle")) → IsRanged 1 most env n secs → IsIdle most env (listed (key ∷ n ∷ [])) secs
+
 -- ---- a form is read as each of these exactly where it represents this one
 
 abbrev pub TextsAreRead : Type 0
@@ -105,3 +109,6 @@ SetMapsAreRead = (env : Env) (place : ℕ) (forms : FormTrees) (sets : List Set)
 
 abbrev pub InitsAreRead : Type 0
 InitsAreRead = (env : Env) (place : ℕ) (forms : FormTrees) (held : Value) → IsInit env (bare_trees forms) held ↔ (one_entry init_text value_at place env None forms ≡ Ok held)
+
+abbrev pub IdlesAreRead : Type 0
+IdlesAreRead = (most : ℕ) (env : Env) (place : ℕ) (forms : FormTrees) (secs : ℕ) → IsIdle most env (bare_trees forms) secs ↔ (idle_in most place env forms ≡ Ok secs)

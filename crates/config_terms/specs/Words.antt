@@ -188,6 +188,9 @@ fold_word name =
 abbrev pub init_text : List ℕ
 init_text = codes "init"
 
+abbrev pub idle_text : List ℕ
+idle_text = codes "idle"
+
 abbrev pub keep_text : List ℕ
 keep_text = codes "keep-keys"
 

@@ -4,7 +4,7 @@ ghost use Rattle.std.specs.Prelude.{◌≡◌, ◌≤◌, option_copied, IfOk};
 ghost use Rattle.std.specs.Option.{option_map};
 ghost use Rattle.sexp_read.specs.Tree.{form_tree, form_trees};
 ghost use Rattle.config_terms.specs.Steps.{Gives, GivesAs, start_of};
-ghost use Rattle.config_terms.specs.Arguments.{bound_value, argument_of as argument_from, bound_argument as bound_from, misfit as misfit_of, text_in, keyword_in, number_in, vector_in, map_in, field_in, value_in, text_at as text_from, keyword_at as keyword_from, number_at as number_from, ranged_at as ranged_from, field_at as field_from, value_at as value_from, vector_at as vector_from, map_at as map_from};
+ghost use Rattle.config_terms.specs.Arguments.{bound_value, argument_of as argument_from, bound_argument as bound_from, misfit as misfit_of, text_in, keyword_in, number_in, vector_in, map_in, field_in, value_in, text_at as text_from, keyword_at as keyword_from, number_at as number_from, ranged, ranged_at as ranged_from, field_at as field_from, value_at as value_from, vector_at as vector_from, map_at as map_from};
 ghost use Rattle.config_terms.specs.Code.{argument_in};
 
 use crate::forms::refused;
@@ -206,8 +206,16 @@ pub fn ranged_at(env: &[Binding], form: &Form, least: u32, most: u32) -> Result<
     ensures within { IfOk result (λ number. (least ≤ number) × (number ≤ most)) }
 {
     let number = number_at(env, form)?;
+    in_range(form.start, number, least, most)
+}
+
+/// The number at the place, if it is from `least` to `most`.
+pub(crate) fn in_range(place: usize, number: i64, least: u32, most: u32) -> Result<u32, ConfigFault>
+    ensures gives { Gives result (ranged least most place number) }
+    ensures within { IfOk result (λ number. (least ≤ number) × (number ≤ most)) }
+{
     if number < i64::from(least) || number > i64::from(most) {
-        return Err(refused(form.start, ConfigWhy::Range));
+        return Err(refused(place, ConfigWhy::Range));
     }
     Ok(number as u32)
 }

@@ -3,7 +3,7 @@
 ghost use Rattle.std.specs.Prelude.{◌≡◌, ◌+◌, ◌≤◌, length, MatchOption, option_map, option_copied};
 ghost use Rattle.sexp_read.specs.declared.piece.Bracket.TheVariants.{Round};
 ghost use Rattle.sexp_read.specs.Tree.{form_tree, form_trees, none, also, Group};
-ghost use Rattle.config_terms.specs.Steps.{nth, argument as argument_at, at_most, GivesAs, name_in};
+ghost use Rattle.config_terms.specs.Steps.{nth, pair_in, argument as argument_at, at_most, GivesAs, name_in};
 ghost use Rattle.config_terms.specs.Code.{later as later_of, next_of, look_of, look_in, IsWithin, weight, form_weight};
 
 use crate::{ConfigFault, ConfigWhy};
@@ -69,6 +69,19 @@ pub fn first(forms: &[Form]) -> Option<(&Form, &[Form])>
         ≡ form_weight (form_tree pair.0.now) + weight (form_trees pair.1.now) + 1) }
 {
     forms.split_first()
+}
+
+/// The two forms, if there are exactly two.
+pub(crate) fn pair_of(forms: &[Form]) -> Option<(&Form, &Form)>
+    ensures { option_map (λ pair. (form_tree pair.0.now, form_tree pair.1.now)) result
+        ≡ pair_in (form_trees forms.now) }
+{
+    let (one, rest) = first(forms)?;
+    let (two, more) = first(rest)?;
+    match first(more) {
+        Some(_) => None,
+        None => Some((one, two)),
+    }
 }
 
 /// The form of a number, from 0.

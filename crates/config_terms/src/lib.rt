@@ -21,6 +21,6 @@ pub use forms::{
     View, argument, at_most, first, later, next_start, nth, refused, symbol_of, view_of,
 };
 pub use law::{groups_are_read, predicates_are_read, terms_are_read};
-pub use lists::{fields_at, init_from, only_key_at, set_at, sets_from, texts_at};
+pub use lists::{fields_at, idle_from, init_from, only_key_at, set_at, sets_from, texts_at};
 pub use rules::{no_form, rule_at};
 pub use word::{RuleWord, StreamWord, TopWord, field_of, fold_word, is, stream_word, top_word};

@@ -2,13 +2,16 @@
 
 ghost use Rattle.std.specs.Prelude.{◌≡◌, [], ◌∷◌, ◌&&◌, if◌then◌else◌, None, Ok};
 ghost use Rattle.sexp_read.specs.Tree.{form_tree, form_trees};
-ghost use Rattle.config_terms.specs.Steps.{Gives, GivesAs, each};
-ghost use Rattle.config_terms.specs.Arguments.{with_text, texts_at as texts_from, with_field, one_field, some_fields, fields_at as fields_from, set_at as set_from, has_field, new_field_at as new_field_from, sets_from as sets_in, is_number, is_ttl_field, value_at as value_from, only_key_at as only_key_from, one_entry};
+ghost use Rattle.config_terms.specs.Steps.{Gives, GivesAs, each, start_of};
+ghost use Rattle.config_terms.specs.Code.{argument_in};
+ghost use Rattle.config_terms.specs.Arguments.{with_text, texts_at as texts_from, with_field, one_field, some_fields, fields_at as fields_from, set_at as set_from, has_field, new_field_at as new_field_from, sets_from as sets_in, is_number, is_ttl_field, value_at as value_from, only_key_at as only_key_from, one_entry, is_idle_key, idle_number, idle_in};
 ghost use Rattle.config_terms.specs.declared.fault.ConfigWhy.TheVariants.{Range, Arguments};
 ghost use Rattle.config_terms.specs.Words.{init_text};
 
-use crate::arguments::{Argument, argument_of, field_at, keyword_at, text_at, unfit, value_at};
-use crate::forms::{first, refused};
+use crate::arguments::{
+    Argument, argument_of, field_at, in_range, keyword_at, text_at, unfit, value_at,
+};
+use crate::forms::{first, pair_of, refused};
 use crate::word::{is, same_field};
 use crate::{Binding, ConfigFault, ConfigWhy};
 use ev_types::{Field, Fields, Set, Sets, Text, Texts, Value, fits};
@@ -231,5 +234,50 @@ pub fn init_from(
     match init {
         Some(value) => Ok(value),
         None => Err(refused(place, ConfigWhy::Arguments)),
+    }
+}
+
+/// The seconds in the map of a `by` that starts at `place`: exactly `:idle` and a number from 1 to `most`. Any other map
+/// is refused at `place` (Arguments), and a number outside this range at its start (Range).
+#[tactic(auto, unfolding(crate::specs::Arguments::idle_in))]
+pub fn idle_from(
+    place: usize,
+    env: &[Binding],
+    entries: &[Form],
+    most: u32,
+) -> Result<u32, ConfigFault>
+    ensures { Gives result (idle_in most place env.now (form_trees entries.now)) }
+{
+    let Some((key, form)) = pair_of(entries) else {
+        return Err(refused(place, ConfigWhy::Arguments));
+    };
+    if !is_idle_key(argument_of(env, key)) {
+        return Err(refused(place, ConfigWhy::Arguments));
+    }
+    idle_number(place, form, argument_of(env, form), most)
+}
+
+fn is_idle_key(key: Argument<'_>) -> bool
+    ensures { result ≡ is_idle_key (argument_in key.entry) }
+{
+    match key {
+        Argument::Keyword(name) => is(name.as_bytes(), b"idle"),
+        _ => false,
+    }
+}
+
+#[tactic(auto, using(crate::proofs::FormLaws::start_of_form))]
+fn idle_number(
+    place: usize,
+    form: &Form,
+    argument: Argument<'_>,
+    most: u32,
+) -> Result<u32, ConfigFault>
+    ensures { Gives result (idle_number most place (start_of (form_tree form.now))
+        (argument_in argument.entry)) }
+{
+    match argument {
+        Argument::Number(number) => in_range(form.start, number, 1, most),
+        _ => Err(refused(place, ConfigWhy::Arguments)),
     }
 }

@@ -1,26 +1,24 @@
 -- How the labels of forks change, and what ties their parts.
-use Rattle.std.proofs.Common.{◌≡◌, ◌≢◌, ℕ, suc, zero, ◌+◌, ◌-◌, ◌<◌, ◌≤◌, ◌⊎◌, Bool, true, false, not, cond, ◌||◌, eqb, nat_le, max, List, [], ◌∷◌, ◌++◌, map, filter, length, length-append, get_or, slice_get, unwrap_or, ◌↔◌, Option, None, Some, IsSome, arith, refl, sym, ◌∙◌, ap, subst, inl, inr}
-use Rattle.std.specs.List.{All, AllByRecursion, IsDistinct, list_any}
+use Rattle.std.proofs.Common.{◌≡◌, ◌≢◌, ℕ, suc, zero, ◌+◌, ◌<◌, ◌≤◌, ◌⊎◌, Bool, true, false, not, cond, eqb, List, [], ◌∷◌, ◌++◌, map, length, get_or, slice_get, unwrap_or, ◌↔◌, Option, None, Some, IsSome, arith, refl, sym, ◌∙◌, ap, subst, inl, inr}
+use Rattle.std.specs.List.{All, IsDistinct}
 use Rattle.std.specs.Map.{keys_of, lookup}
 use Rattle.std.specs.Option.{option_map}
-use Rattle.std.proofs.lemmas.List.Elements.{All-from_recursion, recursion_from_All, All-map, All-weaker}
-use Rattle.std.proofs.lemmas.Option.{slice_get_within, slice_get_past, get_or_from_slice_get}
+use Rattle.std.proofs.lemmas.List.Elements.{All-from_recursion}
+use Rattle.std.proofs.lemmas.Option.{slice_get_within, get_or_from_slice_get}
 use Rattle.std.proofs.lemmas.Map.Keys.{apart_from_distinct}
 use Rattle.ev_types.specs.declared.value.Value.{Value}
 use Rattle.ev_types.specs.Key.{same_key}
 use Rattle.ev_types.proofs.Values.{same_key_decides}
-use Rattle.linked_slots.specs.IdLists.{list_at, times, times_in, without, append_to, first_of, last_from, last_of}
-use Rattle.linked_slots.proofs.ListLaws.{bool_cases, eqb-same, eqb-true, eqb-false, eqb-apart, times_in-push, times_in-remove, times-append, times-without, at-append_same, at-without, length-append_to, length-without, all_listed}
-use Rattle.tick_schedule.specs.Queue.{moment_at, IsRising, Sets}
+use Rattle.linked_slots.specs.IdLists.{list_at, times, times_in}
+use Rattle.linked_slots.proofs.ListLaws.{bool_cases, eqb-same, eqb-true, eqb-false, eqb-apart, times_in-remove}
 use Rattle.fork_by.specs.declared.slots.Change.{Change}
 use Rattle.fork_by.specs.declared.slots.Change.TheVariants.{Added, Removed}
 use Rattle.fork_by.specs.declared.slots.Slot.{Slot}
-use Rattle.fork_by.specs.Labels.{Label, label_at, index_at, AreSound, IsLatest, number_of, with_moment, with_due, moved_to, touched, dues_set, dropped}
-use Rattle.fork_by.specs.Order.{Pairwise}
-use Rattle.fork_by.specs.Register.{AreKept, AreTied, TakesOut, MomentsRise, is_number, key_in, label_of, label_with, labels_of, latest_of, idle_among, number_at, numbers_from, numbers_after, removed}
-use Rattle.fork_by.specs.Slots.{slot_at, SetsSlot, index_in, place_in, order_in, moment_in, held, slot_with, with_index, at_moment}
-use Rattle.fork_by.proofs.LabelLaws.{label_found, label_absent, all_labels, each_label, numbers_differ, keys_differ}
-use Rattle.fork_by.proofs.ListLaws.{all-more, all-push, all-filter, all_times, times-head, times-tail, times-rest, pairs-push, pairs-filter, pairs-agree, map-agree, map-twice, map-push, map-length, filter-map, get-end, get-push, get-before}
+use Rattle.fork_by.specs.Labels.{Label, label_at, index_at, last_moment_at, AreSound, number_of}
+use Rattle.fork_by.specs.Register.{AreKept, key_in, label_of, labels_of, number_at, numbers_from, removed}
+use Rattle.fork_by.specs.Slots.{slot_at, index_in, place_in, moment_in, held}
+use Rattle.fork_by.proofs.LabelLaws.{label_found, label_absent, all_labels, numbers_differ, keys_differ}
+use Rattle.fork_by.proofs.ListLaws.{times-head, times-tail, times-rest, map-twice, map-length}
 
 -- ---- one change more
 pub numbers-added : (numbers : List ℕ) (changes : List (Change × Unit {0})) (number : ℕ)
@@ -313,6 +311,19 @@ module _ (entries : List (List Value × ℕ)) (slots : List (Option Slot)) (list
             ∙ sym (ap index_in (not_held (slot_at number slots) (sym (k.live number) ∙ zero_times))))
         | inr more ↦ (let differ : times_in number numbers ≢ 0 = eqb-apart (times_in number numbers) 0 more in
             ap (λ (l : Option Label). unwrap_or (option_map (λ label. label.index) l) 0)
+            (found number (omega (arith, differ))))
+      ]
+
+  pub moment_is : (number : ℕ)
+      → unwrap_or (last_moment_at number (labels_of entries slots due numbers)) 0 ≡ moment_in (slot_at number slots)
+  moment_is number =
+      elim (bool_cases (eqb (times_in number numbers) 0)) [
+        | inl none ↦ (
+            let zero_times : times_in number numbers ≡ 0 = eqb-true (times_in number numbers) 0 none in
+            ap (λ (l : Option Label). unwrap_or (option_map (λ label. label.moment) l) 0) (absent number zero_times)
+            ∙ sym (ap moment_in (not_held (slot_at number slots) (sym (k.live number) ∙ zero_times))))
+        | inr more ↦ (let differ : times_in number numbers ≢ 0 = eqb-apart (times_in number numbers) 0 more in
+            ap (λ (l : Option Label). unwrap_or (option_map (λ label. label.moment) l) 0)
             (found number (omega (arith, differ))))
       ]
 

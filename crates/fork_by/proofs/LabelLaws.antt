@@ -1,15 +1,14 @@
 -- Laws of labels, and of the queue of their due moments.
-use Rattle.std.proofs.Common.{◌≡◌, ◌≢◌, ℕ, suc, ◌<◌, ◌≤◌, Bool, true, false, not, cond, ◌||◌, eqb, nat_le, List, [], ◌∷◌, ◌++◌, map, filter, length, Option, None, Some, IsSome, arith, refl, sym, ◌∙◌, ap, subst, inl, inr}
-use Rattle.std.specs.List.{All, AllByRecursion, Contains, IsDistinct, list_any, find}
+use Rattle.std.proofs.Common.{◌≡◌, ℕ, suc, ◌<◌, ◌≤◌, Bool, true, false, not, cond, eqb, nat_le, List, [], ◌∷◌, map, filter, Option, None, Some, arith, refl, sym, ◌∙◌, ap, subst, inl, inr}
+use Rattle.std.specs.List.{AllByRecursion, IsDistinct}
 use Rattle.std.specs.List.Sorted.{IsStrictlySortedBy}
-use Rattle.std.specs.Map.{keys_of, lookup}
+use Rattle.std.specs.Map.{keys_of}
 use Rattle.std.specs.Ordering.{nat_cmp}
 use Rattle.std.specs.declared.cmp.Ordering.TheVariants.{Less}
 use Rattle.std.specs.BTreeMap.{is_at}
-use Rattle.std.proofs.lemmas.List.Elements.{All-from_recursion, recursion_from_All}
 use Rattle.linked_slots.specs.IdLists.{times_in}
 use Rattle.linked_slots.proofs.ListLaws.{bool_cases, eqb-true, all_listed}
-use Rattle.tick_schedule.specs.Queue.{moment_at, IsRising, due_ids, due_later}
+use Rattle.tick_schedule.specs.Queue.{moment_at, IsRising, due_later}
 use Rattle.tick_schedule.proofs.QueueLaws.{at-true, at-less, is_by, rising-rest}
 use Rattle.ev_types.specs.declared.value.Value.{Value}
 use Rattle.ev_types.specs.Key.{same_key}

@@ -1,10 +1,15 @@
-pub mod ChangeLaws
+pub mod AddedLaws
+pub mod ChangedSlotLaws
+pub mod DroppedLaws
 pub mod DueLaws
-pub mod EndingLaws
+pub mod KeptForkLaws
 pub mod KeptLaws
 pub mod LabelLaws
 pub mod ListLaws
+pub mod MomentLaws
+pub mod NewNumberLaws
 pub mod OrderLaws
 pub mod RenewLaws
 pub mod SlotLaws
 pub mod TableLaws
+pub mod TouchedLaws

@@ -1,19 +1,18 @@
 -- Orders that are given anew.
-use Rattle.std.proofs.Common.{◌≡◌, ◌≢◌, ℕ, suc, zero, ◌+◌, ◌<◌, ◌≤◌, Bool, true, false, cond, ◌||◌, eqb, List, [], ◌∷◌, ◌++◌, map, filter, length, get_or, take, slice_get, Option, None, Some, arith, refl, sym, ◌∙◌, ap, subst, inl, inr}
+use Rattle.std.proofs.Common.{◌≡◌, ℕ, suc, zero, ◌+◌, ◌<◌, ◌≤◌, Bool, true, false, cond, ◌||◌, eqb, List, [], ◌∷◌, ◌++◌, filter, length, get_or, take, Option, None, Some, arith, refl, sym, ◌∙◌, ap, inl, inr}
 use Rattle.std.proofs.lemmas.List.{take_more}
 use Rattle.std.specs.BTreeMap.{is_at}
-use Rattle.std.specs.List.{AllByRecursion, list_any}
+use Rattle.std.specs.List.{list_any}
 use Rattle.std.specs.Map.{values_of}
-use Rattle.std.specs.Option.{option_map}
 use Rattle.std.specs.Ordering.{nat_cmp}
 use Rattle.ev_types.specs.declared.value.Value.{Value}
 use Rattle.linked_slots.specs.IdLists.{times_in, list_at}
 use Rattle.linked_slots.proofs.ListLaws.{bool_cases, eqb-same, eqb-true, eqb-false, eqb-apart, all_listed}
 use Rattle.tick_schedule.proofs.QueueLaws.{at-same, at-true}
 use Rattle.fork_by.specs.declared.slots.Slot.{Slot}
-use Rattle.fork_by.specs.Order.{OrdersRise, Pairwise, put_all}
+use Rattle.fork_by.specs.Order.{Pairwise, put_all}
 use Rattle.fork_by.specs.Labels.{Label}
-use Rattle.fork_by.specs.Register.{AreKept, MomentsRise, label_of, label_with, labels_of, key_in, number_at}
+use Rattle.fork_by.specs.Register.{AreKept, label_of, label_with, labels_of, number_at}
 use Rattle.fork_by.specs.Renew.{AreOrdered, Renews, renewed}
 use Rattle.fork_by.specs.Slots.{slot_at, SetsSlot, held, index_in, moment_in, order_in, place_in, with_order}
 use Rattle.fork_by.proofs.KeptLaws.{numbered, once, place_held}

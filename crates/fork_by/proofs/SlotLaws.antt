@@ -1,12 +1,12 @@
 -- Laws of slots by number.
-use Rattle.std.proofs.Common.{◌≡◌, ℕ, suc, zero, ◌<◌, ◌≤◌, true, false, cond, eqb, List, [], ◌∷◌, ◌++◌, length, slice_index_or, slice_set, Option, None, Some, arith, refl, sym, ◌∙◌, ap, inl, inr}
+use Rattle.std.proofs.Common.{◌≡◌, ℕ, suc, zero, ◌<◌, ◌≤◌, true, false, cond, eqb, List, [], ◌∷◌, ◌++◌, length, slice_set, Option, None, Some, arith, refl, sym, ◌∙◌, ap, inl, inr}
 use Rattle.std.proofs.lemmas.Bool.Decides.{nat_tests}
 use Rattle.std.proofs.lemmas.List.{get_or-set_other}
 use Rattle.std.proofs.lemmas.Grind.{get_or-set_at}
 use Rattle.linked_slots.proofs.ListLaws.{bool_cases, eqb-true}
 use Rattle.fork_by.specs.declared.slots.Slot.{Slot}
 use Rattle.fork_by.specs.Register.{is_number}
-use Rattle.fork_by.specs.Slots.{slot_at, SetsSlot, with_index, at_moment}
+use Rattle.fork_by.specs.Slots.{slot_at, SetsSlot, with_index}
 
 pub slot_set : (slots : List (Option Slot)) (number : ℕ) (slot : Option Slot) → number < length slots
     → SetsSlot slots (slice_set slots number slot) number slot

@@ -32,6 +32,10 @@ label_at number labels = find (λ label. eqb label.number number) labels
 abbrev pub index_at : ℕ → List Label → Option ℕ
 index_at number labels = option_map (λ label. label.index) (label_at number labels)
 
+-- the moment of the last item of the fork of the number, if it has one
+abbrev pub last_moment_at : ℕ → List Label → Option ℕ
+last_moment_at number labels = option_map (λ label. label.moment) (label_at number labels)
+
 -- the number has a fork
 abbrev pub IsLive : ℕ → List Label → Type 0
 IsLive number labels = IsSome (label_at number labels)

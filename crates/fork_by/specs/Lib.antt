@@ -1,4 +1,3 @@
-pub mod Ending
 pub mod Labels
 pub mod Order
 pub mod Register

@@ -1,5 +1,5 @@
 -- Orders that are given anew.
-use Rattle.std.specs.Prelude.{◌≡◌, ℕ, suc, ◌<◌, eqb, List, [], ◌∷◌, Option, None, Some, true, if◌then◌else◌}
+use Rattle.std.specs.Prelude.{◌≡◌, ℕ, suc, ◌<◌, eqb, List, [], ◌∷◌, Option, true, if◌then◌else◌}
 use Rattle.std.specs.BTreeMap.{is_at}
 use Rattle.std.specs.List.{AllByRecursion, list_any}
 use Rattle.std.specs.Map.{values_of}

@@ -1,9 +1,9 @@
-//! What is known of the forks of a table, whose memory is taken with the first fork.
+//! What is known of the forks of a table, as one small value.
 ghost use Rattle.std.specs.Prelude.{◌≡◌, ◌+◌, ◌≤◌, ◌<◌, ◌++◌, ◌↔◌, [], length, unwrap_or, None, IsSome, IsTrue, IsOk, IfOk, IfSome, IfNone, OnOk, OnErr};
 ghost use Rattle.std.specs.List.{All};
 ghost use Rattle.list_laws.specs.Prefix.{IsPrefix};
 ghost use Rattle.tick_schedule.specs.Queue.{IsLeast};
-ghost use Rattle.fork_by.specs.Labels.{IsLive, number_of, index_at, dues_set, due_numbers, dues_cleared, due_moments, AreSound, Adds, Touches, Drops, labels_in};
+ghost use Rattle.fork_by.specs.Labels.{IsLive, number_of, index_at, last_moment_at, dues_set, due_numbers, dues_cleared, due_moments, AreSound, Adds, Touches, Drops, labels_in};
 
 use crate::register::Register;
 use ev_types::Key;
@@ -12,8 +12,8 @@ use std::alloc::Global;
 use std::marker::Model;
 use step_count::{Ledger, Steps};
 
-/// The labels of the forks of a table, in the order in which these were added. Without a fork they take no memory but
-/// that of a pointer, since most streams have no forks.
+/// The labels of the forks of a table, in the order in which these were added. What keeps them is in a box that is made
+/// with the first fork, since most streams have no forks.
 #[derive(Drop)]
 pub(crate) struct Labels {
     register: Option<Box<Register>>,
@@ -56,6 +56,16 @@ impl Labels {
         }
     }
 
+    /// The moment of the last item of the fork of the number, and 0 where it has none.
+    pub(crate) fn moment(&self, number: usize) -> u64
+        ensures { result ≡ unwrap_or (last_moment_at number self.now) 0 }
+    {
+        match &self.register {
+            Some(register) => register.moment(number),
+            None => 0,
+        }
+    }
+
     /// Whether the number has a fork.
     pub(crate) fn is_live(&self, number: usize) -> bool
         ensures { IsTrue result ↔ IsLive number self.now }
@@ -66,7 +76,8 @@ impl Labels {
         }
     }
 
-    /// Adds the label of a fork, and gives its number. A moment before that of another fork counts as that one.
+    /// Adds the label of a fork, and gives its number. If `now` is before the moment of another fork, no clause says which
+    /// moment is kept.
     #[tactic(auto, using(crate::proofs::LabelLaws::sound_nothing))]
     pub(crate) fn add(&mut self, alloc: Global, key: Key, now: u64) -> Result<usize, Memory>
         requires { number_of key self.old ≡ None }
@@ -74,14 +85,17 @@ impl Labels {
         ensures err { OnErr result (self.new ≡ self.old) }
         ensures sound { AreSound self.new }
     {
-        open(alloc, &mut self.register)?;
-        let Some(register) = &mut self.register else {
-            return Err(Memory);
-        };
-        register.add(alloc, key, now)
+        if let Some(register) = &mut self.register {
+            return register.add(alloc, key, now);
+        }
+        let mut register = Register::fresh(alloc)?;
+        let number = register.add(alloc, key, now)?;
+        self.register = Some(Box::new(alloc, register)?);
+        Ok(number)
     }
 
-    /// Sets the moment of the last item of the fork. A moment before that of another fork counts as that one.
+    /// Sets the moment of the last item of the fork. If `now` is before the moment of another fork, no clause says which
+    /// moment is kept.
     #[tactic(auto, using(crate::proofs::LabelLaws::sound_nothing))]
     pub(crate) fn touch(&mut self, number: usize, now: u64)
         requires { IsLive number self.old }
@@ -169,18 +183,4 @@ impl Labels {
             None => None,
         }
     }
-}
-
-/// Makes the register, if it is not there.
-fn open(alloc: Global, register: &mut Option<Box<Register>>) -> Result<(), Memory>
-    ensures same { labels_in register.new ≡ labels_in register.old }
-    ensures open { OnOk result (IsSome register.new) }
-    ensures none { OnErr result (labels_in register.old ≡ []) }
-{
-    if register.is_some() {
-        return Ok(());
-    }
-    let made = Register::fresh(alloc)?;
-    *register = Some(Box::new(alloc, made)?);
-    Ok(())
 }

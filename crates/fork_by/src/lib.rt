@@ -1,7 +1,6 @@
 //! The forks of a stream, by key.
 #![tactic(auto)]
 
-mod ending;
 mod labels;
 mod order;
 mod register;
@@ -9,5 +8,4 @@ mod renew;
 mod slots;
 mod table;
 
-pub use ending::EndingForks;
 pub use table::ForkTable;

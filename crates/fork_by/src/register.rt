@@ -6,7 +6,7 @@ ghost use Rattle.list_laws.specs.Prefix.{IsPrefix};
 ghost use Rattle.ev_types.specs.Key.{same_key};
 ghost use Rattle.linked_slots.specs.IdLists.{list_at, times, append_to, first_of, last_of};
 ghost use Rattle.tick_schedule.specs.Queue.{IsLeast};
-ghost use Rattle.fork_by.specs.Labels.{IsLive, IsLatest, number_of, index_at, dues_set, due_numbers, dues_cleared, due_moments, AreSound, Adds, Touches, Drops, dropped};
+ghost use Rattle.fork_by.specs.Labels.{IsLive, IsLatest, number_of, index_at, last_moment_at, dues_set, due_numbers, dues_cleared, due_moments, AreSound, Adds, Touches, Drops, dropped};
 ghost use Rattle.fork_by.specs.Register.{latest_of, idle_among, TakesOut};
 ghost use Rattle.fork_by.specs.Slots.{slot_at};
 ghost use Rattle.indexmap.specs.IndexMap.{get};
@@ -85,6 +85,13 @@ impl Register {
         index_of(&self.slots, number)
     }
 
+    /// The moment of the last item of the fork of the number, and 0 where it has none.
+    pub(crate) fn moment(&self, number: usize) -> u64
+        ensures { result ≡ unwrap_or (last_moment_at number self.now) 0 }
+    {
+        moment_of(&self.slots, number)
+    }
+
     /// Whether the number has a fork.
     pub(crate) fn is_live(&self, number: usize) -> bool
         ensures { IsTrue result ↔ IsLive number self.now }
@@ -92,7 +99,8 @@ impl Register {
         slot_of(&self.slots, number).is_some()
     }
 
-    /// Adds the label of a fork, and gives its number. A moment before that of another fork counts as that one.
+    /// Adds the label of a fork, and gives its number. If `now` is before the moment of another fork, the latest one is kept,
+    /// so that the numbers stay in the order of their moments.
     pub(crate) fn add(&mut self, alloc: Global, key: Key, now: u64) -> Result<usize, Memory>
         requires { number_of key self.old ≡ None }
         ensures ok { IfOk result (λ number. Adds self.old self.new key number now) }
@@ -124,7 +132,8 @@ impl Register {
         Ok(number)
     }
 
-    /// Sets the moment of the last item of the fork. A moment before that of another fork counts as that one.
+    /// Sets the moment of the last item of the fork. If `now` is before the moment of another fork, the latest one is kept,
+    /// so that the numbers stay in the order of their moments.
     pub(crate) fn touch(&mut self, number: usize, now: u64)
         requires { IsLive number self.old }
         ensures touched { Touches self.old self.new number now }

@@ -52,7 +52,7 @@ fn splits(fields: &[Field], kind: &Kind) -> bool
     ensures { result ≡ splits fields.now (kind_tree kind.now) }
 {
     match kind {
-        Kind::By(others) => has_all(fields, others.as_slice()),
+        Kind::By { fields: others, .. } => has_all(fields, others.as_slice()),
         _ => false,
     }
 }

@@ -1,5 +1,5 @@
 -- The canonical forms of a configuration that forms represent represent it too, and can be written.
-use Rattle.std.proofs.Common.{◌≡◌, ℕ, pos, ◌≤◌, Bool, true, nat_lt, codes, List, [], ◌∷◌, ◌++◌, map, Option, Some, None, unwrap_or, refl, ap, sym, ◌∙◌, subst, arith}
+use Rattle.std.proofs.Common.{◌≡◌, ℕ, pos, ◌≤◌, Bool, true, false, nat_lt, codes, List, [], ◌∷◌, ◌++◌, map, Option, Some, None, unwrap_or, refl, ap, sym, ◌∙◌, subst, arith}
 use Rattle.std.proofs.lemmas.Bool.{and_parts, ltb-true}
 use Rattle.std.proofs.lemmas.Str.{IsUtf8-from_ascii}
 use Rattle.std.proofs.lemmas.Str.Ascii.{IsAscii-nil, IsAscii-cons}
@@ -154,7 +154,7 @@ expiry_written env e _ _ (keeping {n = n} {forms = forms} {secs = secs} {keys = 
 record SaidWritten (said : Said) : Type 0 where
   servers : AllGood ServerWritten said.servers
   expiries : AllGood ExpiryWritten said.expiries
-  streams : AllWritten said.streams
+  streams : AllWritten false said.streams
 
 mutual
   top_written : (env : Env) → GoodEnv env → (form : BareTree) (said : Said) → IsTop env form said → IsWritableTree form
@@ -164,7 +164,7 @@ mutual
   top_written env e _ _ (an_expiry {forms = forms} {expiry = expiry} is) w =
       record { servers = tt; expiries = (expiry_written env e forms expiry is w.1, tt); streams = tt }
   top_written env e _ _ (some_streams {forms = forms} {streams = streams} are) w =
-      record { servers = tt; expiries = tt; streams = streams_written env e forms streams are w.1 }
+      record { servers = tt; expiries = tt; streams = streams_written false env e forms streams are w.1 }
   top_written env e _ said (with_names {inner = inner} {names = names} {forms = forms} known are) w =
       tops_written inner (names_good env e names inner known w.1.0) forms said are w.1.1
 
@@ -177,7 +177,7 @@ mutual
       record {
         servers = all_both ServerWritten said.servers more.servers first.servers rest.servers;
         expiries = all_both ExpiryWritten said.expiries more.expiries first.expiries rest.expiries;
-        streams = joined_written said.streams more.streams first.streams rest.streams;
+        streams = joined_written false said.streams more.streams first.streams rest.streams;
       }
 
 -- ---- configurations
@@ -185,10 +185,10 @@ mutual
 abbrev TopsWritten : List BareTree → Said → Type 0
 TopsWritten forms said = AreTops [] (listed forms) said × AreWritable (listed forms)
 
-plan_top : (streams : StreamTrees) → AllWritten streams
+plan_top : (streams : StreamTrees) → AllWritten false streams
     → TopsWritten (streams_form streams ∷ []) (record nothing_said { streams = streams })
 plan_top streams all =
-    let row = row_written streams all in (
+    let row = row_written false streams all in (
       subst
           (λ (plan : StreamTrees).
           AreTops [] (listed (streams_form streams ∷ [])) (record nothing_said { streams = plan }))

@@ -121,7 +121,7 @@ unfolding top_by
 expiry_step env start forms expiry draft new read = rw (new, read) refl
 
 streams_step : (env : Env) (start : ℕ) (forms : FormTrees) (below : Below) (draft : Draft)
-    → all_read draft.below (parts_in false env forms) ≡ Ok below
+    → all_read draft.below (parts_in false false env forms) ≡ Ok below
     → top_by (Some top.Streams) env start forms (tops_in forms) draft ≡ Ok (record draft { below = below })
 unfolding top_by
 streams_step env start forms below draft read = rw read refl
@@ -244,7 +244,7 @@ mutual
       let word = word_top env f top.Streams row draft h in
       let read =
       streams_are_read env draft.below word.forms streams
-      (subst (λ (r : BareTrees). AreStreams env r streams) (sym word.forms_are) are) in
+      (subst (λ (r : BareTrees). AreStreams false env r streams) (sym word.forms_are) are) in
       record {
         after = record draft { below = read.below };
         is = word.read ∙ streams_step env word.start word.forms read.below draft read.read;
@@ -451,8 +451,8 @@ streams_top : (env : Env) (forms : FormTrees) (draft : Draft)
     → OkGood (TopMeans env (worded (codes "streams") (bare_trees forms)) draft) (streams_onto env forms draft)
 streams_top env forms draft =
     bind_good (AreThose env draft.below forms) (TopMeans env (worded (codes "streams") (bare_trees forms)) draft)
-    (all_read draft.below (parts_in false env forms)) (λ below. Ok (record draft { below = below }))
-    (ok_from (all_read draft.below (parts_in false env forms))
+    (all_read draft.below (parts_in false false env forms)) (λ below. Ok (record draft { below = below }))
+    (ok_from (all_read draft.below (parts_in false false env forms))
     (λ below is. only_streams_are_read env draft.below forms below is))
     (λ below known.
     record {

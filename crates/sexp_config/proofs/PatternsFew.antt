@@ -1,6 +1,6 @@
 -- A plan that is read has no more patterns than its forms have brackets, and those are no more than the bytes of the
 -- text.
-use Rattle.std.proofs.Common.{◌≡◌, ℕ, ◌+◌, ◌≤◌, codes, List, [], ◌∷◌, ◌++◌, length, refl, ap, arith, length-append}
+use Rattle.std.proofs.Common.{◌≡◌, ℕ, ◌+◌, ◌≤◌, Bool, false, ◌||◌, codes, List, [], ◌∷◌, ◌++◌, length, refl, ap, arith, length-append}
 use Rattle.pred_eval.specs.Tree.{Tree, Trees, Tagged}
 use Rattle.pred_eval.specs.Tree as pred
 use Rattle.pred_eval.specs.Truth.{searches, searches_of}
@@ -10,6 +10,7 @@ use Rattle.sexp_read.specs.Tokens.{Closed}
 use Rattle.sexp_read.specs.Tree.{FormTree, FormTrees, Single, Group}
 use Rattle.sexp_read.specs.Tree as tree
 use Rattle.sexp_read.specs.Written.{BareTree, BareTrees, Leaf, Branch, no_trees, and_trees, bare_tree, bare_trees, listed}
+use Rattle.stream_plan.specs.Kinds.{is_by}
 use Rattle.stream_plan.specs.Ready.{kind_patterns, stream_patterns, plan_patterns}
 use Rattle.stream_plan.specs.Tree.{KindTree, StreamTree, stream, StreamTrees, none, also}
 use Rattle.config_terms.specs.Arguments.{Env}
@@ -97,13 +98,14 @@ tags_none (tag ∷ tags) = tags_none tags
 
 -- ---- streams
 
-kind_few : (env : Env) (name : List ℕ) (own : BareTrees) (one : KindTree) → IsKind env name own one
+kind_few : (in_fork : Bool) (env : Env) (name : List ℕ) (own : BareTrees) (one : KindTree)
+    → IsKind in_fork env name own one
     → length (kind_patterns one) ≤ brackets own
-kind_few env _ _ _ (where_ {p = p} {rule = one} is) = omega (arith, rule_few env p one is)
-kind_few env _ _ _ (tagged {tag = tag} {tags = tags} are) =
+kind_few in_fork env _ _ _ (where_ {p = p} {rule = one} is) = omega (arith, rule_few env p one is)
+kind_few in_fork env _ _ _ (tagged {tag = tag} {tags = tags} are) =
     omega (arith, all_add (Tagged tag) (each_tag tags), tags_none tags)
-kind_few env _ _ _ sdo = omega arith
-kind_few env _ _ _ is = omega arith
+kind_few in_fork env _ _ _ sdo = omega arith
+kind_few in_fork env _ _ _ is = omega arith
 
 joined_add : (streams others : StreamTrees)
     → length (plan_patterns (with_streams streams others))
@@ -121,42 +123,43 @@ joined_add (also one streams) others =
 mutual
   unfolding stream_patterns plan_patterns
 
-  stream_few : (env : Env) (form : BareTree) (one : StreamTree) → IsStream env form one
+  stream_few : (in_fork : Bool) (env : Env) (form : BareTree) (one : StreamTree) → IsStream in_fork env form one
       → length (stream_patterns one) ≤ tree_brackets form
-  stream_few env _ _ (index_word is) = omega arith
-  stream_few env _ _ (index_name is) = omega arith
-  stream_few env _ _ index_list = omega arith
-  stream_few env _ _ (notice is) = omega arith
-  stream_few env _ _
+  stream_few in_fork env _ _ (index_word is) = omega arith
+  stream_few in_fork env _ _ (index_name is) = omega arith
+  stream_few in_fork env _ _ index_list = omega arith
+  stream_few in_fork env _ _ (notice is) = omega arith
+  stream_few in_fork env _ _
       (passing {word = name} {arguments = own} {forms = forms} {one = one} {children = children} is are) =
       omega (
         arith,
         length-append (kind_patterns one) (plan_patterns children ++ []),
         length-append (plan_patterns children) [],
-        kind_few env name own one is,
-        streams_few env forms children are,
+        kind_few in_fork env name own one is,
+        streams_few (is_by one || in_fork) env forms children are,
         brackets_add own forms,
       )
-  stream_few env _ _ (where_else {p = p} {rule = one} {forms = forms} {rest = rest} {children = children}
+  stream_few in_fork env _ _ (where_else {p = p} {rule = one} {forms = forms} {rest = rest} {children = children}
       {otherwise = otherwise} is are others) =
       omega (
         arith,
         length-append (searches one) (plan_patterns children ++ plan_patterns otherwise),
         length-append (plan_patterns children) (plan_patterns otherwise),
         rule_few env p one is,
-        streams_few env forms children are,
-        streams_few env rest otherwise others,
+        streams_few in_fork env forms children are,
+        streams_few in_fork env rest otherwise others,
         brackets_add forms (listed (worded (codes "else") rest ∷ [])),
       )
 
-  streams_few : (env : Env) (forms : BareTrees) (streams : StreamTrees) → AreStreams env forms streams
+  streams_few : (in_fork : Bool) (env : Env) (forms : BareTrees) (streams : StreamTrees)
+      → AreStreams in_fork env forms streams
       → length (plan_patterns streams) ≤ brackets forms
-  streams_few env _ _ no_streams = omega arith
-  streams_few env _ _ (more_streams {form = form} {forms = forms} {one = one} {streams = streams} is others) =
+  streams_few in_fork env _ _ no_streams = omega arith
+  streams_few in_fork env _ _ (more_streams {form = form} {forms = forms} {one = one} {streams = streams} is others) =
       omega (
         arith,
-        stream_few env form one is,
-        streams_few env forms streams others,
+        stream_few in_fork env form one is,
+        streams_few in_fork env forms streams others,
         length-append (stream_patterns one) (plan_patterns streams),
       )
 
@@ -170,7 +173,7 @@ mutual
   top_few env _ _ (a_server is) = omega arith
   top_few env _ _ (an_expiry is) = omega arith
   top_few env _ _ (some_streams {forms = forms} {streams = streams} are) =
-      omega (arith, streams_few env forms streams are)
+      omega (arith, streams_few false env forms streams are)
   top_few env _ said (with_names {inner = inner} {forms = forms} known are) =
       omega (arith, tops_few inner forms said are)
 

@@ -61,11 +61,12 @@ none_few streams lacking =
 taken_none : (streams : List Placed) → AllByRecursion TakesWhatComes streams → place_of Kind streams ≡ None
 taken_none streams taken =
     passes_none (counts Kind) streams
-    (all_are TakesWhatComes (λ s. counts Kind s ≡ false) (λ s. not_true (takes (kind_of s.tree) s.flow)) streams taken)
+    (all_are TakesWhatComes (λ s. counts Kind s ≡ false) (λ s. not_true (takes (kind_of s.tree) s.flow.input)) streams
+    taken)
 
 none_taken : (streams : List Placed) → place_of Kind streams ≡ None → AllByRecursion TakesWhatComes streams
 none_taken streams none =
-    all_are (λ s. counts Kind s ≡ false) TakesWhatComes (λ s. true_from (takes (kind_of s.tree) s.flow)) streams
+    all_are (λ s. counts Kind s ≡ false) TakesWhatComes (λ s. true_from (takes (kind_of s.tree) s.flow.input)) streams
     (none_passes (counts Kind) streams none)
 
 map_none : {A B : Type 0} (f : A → B) (found : Option A) → option_map f found ≡ None → found ≡ None

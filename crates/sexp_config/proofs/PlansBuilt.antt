@@ -8,25 +8,25 @@ use Rattle.sexp_read.specs.Tree.{FormTrees}
 use Rattle.sexp_read.specs.Written.{bare_trees}
 use Rattle.stream_plan.specs.declared.fault.PlanWhy.{PlanWhy}
 use Rattle.stream_plan.specs.declared.fault.PlanWhy.TheVariants.{Many, Deep, Children, Range, Kind}
-use Rattle.stream_plan.specs.Faults.{preorder_at, preorder_in, preorder_of, count_of, counts, first_fault}
+use Rattle.stream_plan.specs.Faults.{preorder_at, preorder_in, preorder_of, count_of, counts, ends_in_fork, first_fault}
 use Rattle.stream_plan.specs.Faults as faults
-use Rattle.stream_plan.specs.Kinds.{passes_on, is_in_range}
-use Rattle.stream_plan.specs.Sound.{IsShallow, HasStreamsThatMayFollow, IsInRange}
+use Rattle.stream_plan.specs.Kinds.{passes_on, at_top, is_in_range}
+use Rattle.stream_plan.specs.Sound.{IsShallow, HasStreamsThatMayFollow, IsInRange, IsEndlessInForks}
 use Rattle.stream_plan.specs.Tree.{StreamTree, stream, StreamTrees}
 use Rattle.stream_plan.specs.Tree as plan
-use Rattle.stream_plan.proofs.SoundLaws.{faultless_is_sound}
+use Rattle.stream_plan.proofs.SoundLaws.{faultless_is_sound, neither, all_both}
 use Rattle.sexp_config.specs.Tops.{Draft, fresh_draft, run, tops_in}
 use Rattle.sexp_config.specs.WellBuilt.{IsWellBuilt, IsLeft, ReadPlansHaveNoFault}
 use Rattle.config_terms.proofs.Outcomes.{ok_read}
 use Rattle.sexp_config.proofs.StreamsBuilt.{FitsAt, AllFitAt, tops_fit}
 use Rattle.sexp_config.proofs.PlanLaws.{At, one, first, why_reported}
-use Rattle.sexp_config.proofs.PlanPasses.{all_are, passes_none, not_true}
+use Rattle.sexp_config.proofs.PlanPasses.{all_are, passes_none}
 use Rattle.sexp_config.proofs.GrammarTops.{TopsMean, tops_mean}
 
 -- ---- each stream of the plan
 
 abbrev Right : faults.Placed → Type 0
-Right s = IsShallow s × HasStreamsThatMayFollow s × IsInRange s
+Right s = IsShallow s × HasStreamsThatMayFollow s × IsInRange s × IsEndlessInForks s
 
 both : {A : Type 0} (P : A → Type 0) (xs ys : List A) → AllByRecursion P xs → AllByRecursion P ys
     → AllByRecursion P (xs ++ ys)
@@ -37,34 +37,38 @@ one_longer : (path : List ℕ) (n : ℕ) → suc (length path) ≡ length (path 
 one_longer [] n = refl
 one_longer (m ∷ path) n = ap suc (one_longer path n)
 
+-- `passes_on plan.Sdo flow` is this flow, whose type has no name here
 mutual
   unfolding preorder_at preorder_in
 
-  right_at : (path : List ℕ) (flow : _) (s : StreamTree) → FitsAt (length path) s
+  right_at : (path : List ℕ) (flow : _) (s : StreamTree) → FitsAt (length path) (passes_on plan.Sdo flow).in_fork s
       → AllByRecursion Right (preorder_at path flow s)
   right_at path flow (stream kind children otherwise) holds = (
-    (holds.0, holds.1, holds.2),
+    (holds.0, holds.1, holds.2, holds.3),
     both Right (preorder_in path 0 (passes_on kind flow) children)
         (preorder_in path (count_of children) (passes_on kind flow) otherwise)
-        (right_in path 0 (passes_on kind flow) children holds.3)
-        (right_in path (count_of children) (passes_on kind flow) otherwise holds.4),
+        (right_in path 0 (passes_on kind flow) children holds.4)
+        (right_in path (count_of children) (passes_on kind flow) otherwise holds.5),
   )
 
-  right_in : (path : List ℕ) (number : ℕ) (flow : _) (streams : StreamTrees) → AllFitAt (suc (length path)) streams
+  right_in : (path : List ℕ) (number : ℕ) (flow : _) (streams : StreamTrees)
+      → AllFitAt (suc (length path)) (passes_on plan.Sdo flow).in_fork streams
       → AllByRecursion Right (preorder_in path number flow streams)
   right_in path number flow plan.none all = tt
   right_in path number flow (plan.also s streams) all =
       both Right (preorder_at (path ++ number ∷ []) flow s) (preorder_in path (number + 1) flow streams)
-      (right_at (path ++ number ∷ []) flow s (subst (λ (n : ℕ). FitsAt n s) (one_longer path number) all.0))
+      (right_at (path ++ number ∷ []) flow s (subst (λ (n : ℕ). FitsAt n (passes_on plan.Sdo flow).in_fork s)
+      (one_longer path number) all.0))
       (right_in path (number + 1) flow streams all.1)
 
-well_built : (streams : StreamTrees) → AllFitAt 1 streams → IsWellBuilt streams
+well_built : (streams : StreamTrees) → AllFitAt 1 false streams → IsWellBuilt streams
 well_built streams all =
-    let right = right_in [] 0 _ streams all in
+    let right = right_in [] 0 at_top streams all in
     record {
       shallow = all_are Right IsShallow (λ s known. known.0) (preorder_of streams) right;
       followed = all_are Right HasStreamsThatMayFollow (λ s known. known.1) (preorder_of streams) right;
       in_range = all_are Right IsInRange (λ s known. known.2) (preorder_of streams) right;
+      endless = all_are Right IsEndlessInForks (λ s known. known.3) (preorder_of streams) right;
     }
 
 -- the draft that the forms give
@@ -96,8 +100,8 @@ has_none streams built =
       children = passes_none (counts Children) all built.followed;
       range =
           passes_none (counts Range) all
-          (all_are IsInRange (λ s. counts Range s ≡ false) (λ s. not_true (is_in_range (faults.kind_of s.tree))) all
-          built.in_range);
+          (all_both IsInRange IsEndlessInForks (λ s. counts Range s ≡ false)
+          (λ s. neither (is_in_range (faults.kind_of s.tree)) (ends_in_fork s)) all built.in_range built.endless);
     }
 
 -- a refusal is for one of the other two
@@ -139,5 +143,6 @@ read_plans text config is =
       shallow = built.shallow;
       followed = built.followed;
       in_range = built.in_range;
+      endless = built.endless;
       taken = is.holds.taken;
     })

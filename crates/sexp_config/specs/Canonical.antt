@@ -22,7 +22,7 @@ use Rattle.config_terms.specs.declared.word.RuleWord.TheVariants as rule
 use Rattle.config_terms.specs.declared.word.StreamWord.TheVariants as word
 use Rattle.config_terms.specs.declared.word.TopWord.TheVariants as top
 use Rattle.ev_types.specs.Names.{field_name}
-use Rattle.config_terms.specs.Words.{top_text, stream_text, rule_text, true_text, false_text, nil_text, tags_text, fold_text, init_text, keep_text, host_text, port_text}
+use Rattle.config_terms.specs.Words.{top_text, stream_text, rule_text, true_text, false_text, nil_text, tags_text, fold_text, init_text, idle_text, keep_text, host_text, port_text}
 
 -- ---- forms
 
@@ -104,6 +104,10 @@ abbrev pub init_forms : Option Value → List BareTree
 init_forms None = []
 init_forms (Some init) = map_form (keyword_form init_text ∷ value_form init ∷ []) ∷ []
 
+abbrev pub idle_forms : Option ℕ → List BareTree
+idle_forms None = []
+idle_forms (Some secs) = map_form (keyword_form idle_text ∷ number_form (pos secs) ∷ []) ∷ []
+
 -- the word of a kind, and the arguments before the streams
 abbrev pub kind_forms : KindTree → List BareTree
 kind_forms plan.Index = symbol_form (stream_text word.Index) ∷ []
@@ -113,7 +117,7 @@ kind_forms (plan.Where one) = symbol_form (stream_text word.Where) ∷ rule_form
 kind_forms (plan.With sets) = symbol_form (stream_text word.With) ∷ map_form (set_forms sets) ∷ []
 kind_forms (plan.Default sets) = symbol_form (stream_text word.Default) ∷ map_form (set_forms sets) ∷ []
 kind_forms (plan.Tag tags) = symbol_form (stream_text word.Tag) ∷ vector_form (map text_form tags) ∷ []
-kind_forms (plan.By fields idle) = symbol_form (stream_text word.By) ∷ vector_form (map field_form fields) ∷ []
+kind_forms (plan.By fields idle) = symbol_form (stream_text word.By) ∷ vector_form (map field_form fields) ∷ idle_forms idle
 kind_forms (plan.Changed field init) = symbol_form (stream_text word.Changed) ∷ field_form field ∷ init_forms init
 kind_forms (plan.Runs count field) = symbol_form (stream_text word.Runs) ∷ number_form (pos count) ∷ field_form field ∷ []
 kind_forms (plan.Throttle count secs) = symbol_form (stream_text word.Throttle) ∷ number_form (pos count) ∷ number_form (pos secs) ∷ []

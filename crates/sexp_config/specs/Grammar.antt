@@ -1,6 +1,6 @@
 -- The grammar of whole configurations, as a relation: which forms, apart from their places, represent which configuration.
 -- Each case belongs to a row of the table of forms at the top in docs/CONFIGURATIONS.md, or to what the page says of names.
-use Rattle.std.specs.Prelude.{◌≡◌, ℕ, ◌≤◌, List, [], ◌∷◌, ◌++◌, length, codes, Option, Some, None, option_to_list, unwrap_or}
+use Rattle.std.specs.Prelude.{◌≡◌, ℕ, ◌≤◌, false, List, [], ◌∷◌, ◌++◌, length, codes, Option, Some, None, option_to_list, unwrap_or}
 use Rattle.std.specs.List.{AllByRecursion}
 use Rattle.ev_types.specs.declared.field.Field.{Field}
 use Rattle.ev_types.specs.declared.field.Field.TheVariants.{Host, Service}
@@ -107,7 +107,7 @@ mutual
         → IsTop env (worded (codes "tcp-server") forms) (record nothing_said { servers = server ∷ [] })
     an_expiry : {env : Env} {forms : BareTrees} {expiry : Expiry} → IsExpiry env forms expiry
         → IsTop env (worded (codes "periodically-expire") forms) (record nothing_said { expiries = expiry ∷ [] })
-    some_streams : {env : Env} {forms : BareTrees} {streams : StreamTrees} → AreStreams env forms streams
+    some_streams : {env : Env} {forms : BareTrees} {streams : StreamTrees} → AreStreams false env forms streams
         → IsTop env (worded (codes "streams") forms) (record nothing_said { streams = streams })
     with_names : {env inner : Env} {names forms : BareTrees} {said : Said} → AreNames env names inner → AreTops inner forms said
         → IsTop env (worded (codes "let") (and_trees (vector_of names) forms)) said

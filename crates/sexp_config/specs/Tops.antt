@@ -206,7 +206,7 @@ with_expiry env start forms draft =
     Ok (record draft { expiry = Some expiry })
 
 abbrev pub with_streams : Env → FormTrees → Draft → Result Draft Fault
-with_streams env forms draft = all_read draft.below (parts_in false env forms) >>= λ below. Ok (record draft { below = below })
+with_streams env forms draft = all_read draft.below (parts_in false false env forms) >>= λ below. Ok (record draft { below = below })
 
 -- the forms after the names, where these are bound
 abbrev pub let_by : Env → ℕ → FormTrees → List Step → Draft → Result Draft Fault

@@ -4,16 +4,18 @@ use Rattle.std.specs.List.{AllByRecursion}
 use Rattle.stream_plan.specs.declared.fault.PlanWhy.{PlanWhy}
 use Rattle.stream_plan.specs.declared.fault.PlanWhy.TheVariants.{Many, Kind}
 use Rattle.stream_plan.specs.Faults.{preorder_of, first_fault}
-use Rattle.stream_plan.specs.Sound.{IsShallow, HasStreamsThatMayFollow, IsInRange}
+use Rattle.stream_plan.specs.Sound.{IsShallow, HasStreamsThatMayFollow, IsInRange, IsEndlessInForks}
 use Rattle.stream_plan.specs.Tree.{StreamTrees}
 use Rattle.sexp_config.specs.declared.config.Config.{Config}
 use Rattle.sexp_config.specs.Config.{IsConfigOf}
 
--- no stream is too deep, has streams that may not follow it, or has a number or a set outside its range
+-- no stream is too deep, has streams that may not follow it, has a number or a set outside its range, or is a `By` with
+-- `idle` below another `By`
 pub record IsWellBuilt (streams : StreamTrees) : Type 0 where
   pub shallow : AllByRecursion IsShallow (preorder_of streams)
   pub followed : AllByRecursion HasStreamsThatMayFollow (preorder_of streams)
   pub in_range : AllByRecursion IsInRange (preorder_of streams)
+  pub endless : AllByRecursion IsEndlessInForks (preorder_of streams)
 
 -- a cause for which such streams can still be refused
 abbrev pub IsLeft : PlanWhy → Type 0

@@ -3,7 +3,7 @@
 ghost use Rattle.std.specs.Prelude.{◌≡◌, ◌++◌, ◌∷◌, [], map as each_of, pos, codes, IfOk, OnOk};
 ghost use Rattle.pred_eval.specs.Tree.{tree_of, trees_in, Search as search_tree};
 ghost use Rattle.stream_plan.specs.Tree.{kind_tree, stream_tree as plain_stream, list_trees};
-ghost use Rattle.sexp_config.specs.Canonical.{bare_form, bare_forms, symbol_form, text_form, number_form, vector_form, map_form, worded_form, field_form, rule_field_form, rule_form as rule_form_of, rule_forms, set_forms, init_forms, kind_forms as forms_of_kind, else_forms, stream_form as stream_form_of, stream_forms, keep_form, server_form as server_form_of, expiry_form as expiry_form_of, expiry_forms, streams_form as streams_form_of, config_forms as forms_of_config};
+ghost use Rattle.sexp_config.specs.Canonical.{bare_form, bare_forms, symbol_form, text_form, number_form, vector_form, map_form, worded_form, field_form, rule_field_form, rule_form as rule_form_of, rule_forms, set_forms, init_forms, idle_forms, kind_forms as forms_of_kind, else_forms, stream_form as stream_form_of, stream_forms, keep_form, server_form as server_form_of, expiry_form as expiry_form_of, expiry_forms, streams_form as streams_form_of, config_forms as forms_of_config};
 ghost use Rattle.config_terms.specs.Words.{rule_text, fold_text};
 ghost use Rattle.config_terms.specs.declared.word.RuleWord.TheVariants.{Order as order_word};
 
@@ -169,6 +169,27 @@ fn changed_forms(alloc: Global, named: &Field, init: &Option<Value>) -> Result<F
     Ok(forms)
 }
 
+/// After how long without an event a fork ends, where that is said.
+fn put_idle(alloc: Global, idle: Option<u32>, forms: &mut Forms) -> Result<(), Memory>
+    ensures { OnOk result (bare_forms forms.new.items ≡ bare_forms forms.old.items
+        ++ idle_forms idle) }
+{
+    if let Some(secs) = idle {
+        let key = keyword(alloc, "idle")?;
+        put(forms, map(pair(alloc, key, number(i64::from(secs)))?))?;
+    }
+    Ok(())
+}
+
+fn by_forms(alloc: Global, fields: &[Field], idle: Option<u32>) -> Result<Forms, Memory>
+    ensures { IfOk result (λ forms. bare_forms forms.items ≡ symbol_form (codes "by")
+        ∷ vector_form (each_of field_form fields.now) ∷ idle_forms idle) }
+{
+    let mut forms = word_with(alloc, "by", fields_form(alloc, fields)?)?;
+    put_idle(alloc, idle, &mut forms)?;
+    Ok(forms)
+}
+
 fn fold_name(fold: Fold) -> &'static str
     ensures { result.now ≡ fold_text fold }
 {
@@ -223,7 +244,7 @@ fn kind_forms(alloc: Global, kind: &Kind) -> Result<Forms, Memory>
         Kind::With(sets) => word_with(alloc, "with", sets_form(alloc, sets.as_slice())?),
         Kind::Default(sets) => word_with(alloc, "default", sets_form(alloc, sets.as_slice())?),
         Kind::Tag(tags) => word_with(alloc, "tag", texts_form(alloc, tags.as_slice())?),
-        Kind::By(fields) => word_with(alloc, "by", fields_form(alloc, fields.as_slice())?),
+        Kind::By { fields, idle } => by_forms(alloc, fields.as_slice(), *idle),
         Kind::Changed { field: named, init } => changed_forms(alloc, named, init),
         Kind::Runs {
             count,

@@ -18,8 +18,8 @@ pub fn written_is_read()
 {}
 
 /// The plan of a configuration that was read has no fault: it has at most 4,096 streams, at most 64 of them in a row from
-/// the top down, and each has no streams but those that may follow it, its numbers and sets in their ranges, and takes
-/// what its parent passes on.
+/// the top down, and each has no streams but those that may follow it, its numbers and sets in their ranges, takes what
+/// its parent passes on, and is no `By` with `idle` below another `By`.
 pub fn read_plans_have_no_fault()
     ensures { ReadPlansHaveNoFault }
 {}

@@ -11,7 +11,7 @@ use crate::draft::Draft;
 use crate::expiry::expiry_in;
 use crate::names::names_at;
 use crate::server::server_in;
-use config_streams::{Below, parts_onto};
+use config_streams::{Below, tops_onto};
 use config_terms::{
     Binding, ConfigFault, ConfigWhy, TopWord, View, argument, first, later, no_form, refused,
     top_word, view_of,
@@ -83,7 +83,7 @@ fn more_streams(
     ensures { GivesAs draft_in result
         (with_streams env.now (form_trees forms.now) (draft_in draft)) }
 {
-    let below = parts_onto(alloc, env, forms, false, draft.below)?;
+    let below = tops_onto(alloc, env, forms, draft.below)?;
     Ok(Draft {
         server: draft.server,
         expiry: draft.expiry,

@@ -1,5 +1,6 @@
 pub mod Trees
 pub mod Searching
 pub mod SoundLaws
+pub mod NestingLaws
 pub mod PatternLaws
 pub mod PathLaws

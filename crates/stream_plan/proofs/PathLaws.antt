@@ -5,9 +5,8 @@ use Rattle.std.specs.Prelude.{slice_get}
 use Rattle.std.specs.List.{AllByRecursion}
 use Rattle.std.specs.Option.{option_and_then}
 use Rattle.stream_plan.specs.declared.kinds.Flow.{Flow}
-use Rattle.stream_plan.specs.declared.kinds.Flow.TheVariants.{Event}
 use Rattle.stream_plan.specs.Faults.{preorder_at, preorder_in, count_of}
-use Rattle.stream_plan.specs.Kinds.{passes_on}
+use Rattle.stream_plan.specs.Kinds.{passes_on, at_top}
 use Rattle.stream_plan.specs.Paths.{listed, following, stream_below, stream_at, IsStreamAt, PathsLeadToStreams}
 use Rattle.stream_plan.specs.Tree.{StreamTree, stream, StreamTrees, none, also}
 
@@ -70,6 +69,6 @@ mutual
       (there_in top path (number + 1) flow streams (λ i n next is. lead (suc i) n next (omega arith)))
 
 pub paths_lead : PathsLeadToStreams
-paths_lead streams = there_in streams [] 0 Event streams (λ i n s number is rest.
+paths_lead streams = there_in streams [] 0 at_top streams (λ i n s number is rest.
     let same : n ≡ i = omega arith in
     rw same (ap (λ (found : Option StreamTree). option_and_then (λ other. stream_below other rest) found) is))

@@ -11,9 +11,8 @@ use Rattle.stream_plan.specs.declared.search.Search.{Search}
 use Rattle.std.specs.Prelude.{slice_get}
 use Rattle.std.specs.List.{filter}
 use Rattle.std.specs.Option.{option_map}
-use Rattle.stream_plan.specs.declared.kinds.Flow.TheVariants.{Event}
 use Rattle.stream_plan.specs.Faults.{Placed, preorder_at, preorder_in, preorder_of, counts, allowed, place_of}
-use Rattle.stream_plan.specs.Kinds.{passes_on}
+use Rattle.stream_plan.specs.Kinds.{passes_on, at_top}
 use Rattle.stream_plan.specs.Search.{opened, ends_at, Passes, Searches}
 use Rattle.stream_plan.specs.Tree.{kind_tree, list_trees}
 use Rattle.stream_plan.proofs.Trees.{count_of-list_trees, preorder_in-drop}
@@ -178,8 +177,8 @@ abbrev all_of : List Stream → List Placed
 all_of streams = preorder_of (list_trees streams)
 
 whole_at : (a : Search) (streams : List Stream) → a.path.items ≡ []
-    → preorder_in a.path.items 0 Event (list_trees streams) ≡ all_of streams
-whole_at a streams top = ap (λ (path : List ℕ). preorder_in path 0 Event (list_trees streams)) top
+    → preorder_in a.path.items 0 at_top (list_trees streams) ≡ all_of streams
+whole_at a streams top = ap (λ (path : List ℕ). preorder_in path 0 at_top (list_trees streams)) top
 
 end_is : (a : Search) (streams : List Placed) → a.allowed ≡ allowed a.why
     → ends_at a streams ≡ option_map (λ s. s.path) (place_of a.why streams)
@@ -188,18 +187,18 @@ end_is a streams is =
 
 module _ (a b : Search) (streams held : List Stream) (held_is : held ≡ streams) (top : a.path.items ≡ [])
     (is : a.allowed ≡ allowed a.why) where
-  pub found_whole : Searches true a b (preorder_in a.path.items 0 Event (list_trees held)) →
+  pub found_whole : Searches true a b (preorder_in a.path.items 0 at_top (list_trees held)) →
       Some b.path.items ≡ option_map (λ s. s.path) (place_of a.why (all_of streams))
   found_whole found =
       sym (found [])
       ∙ ap (ends_at a)
-      (append-nil (preorder_in a.path.items 0 Event (list_trees held)) ∙ whole_at a held top ∙ ap all_of held_is)
+      (append-nil (preorder_in a.path.items 0 at_top (list_trees held)) ∙ whole_at a held top ∙ ap all_of held_is)
       ∙ end_is a (all_of streams) is
 
-  pub passed_whole : Searches false a b (preorder_in a.path.items 0 Event (list_trees held)) →
+  pub passed_whole : Searches false a b (preorder_in a.path.items 0 at_top (list_trees held)) →
       None ≡ option_map (λ s. s.path) (place_of a.why (all_of streams))
   passed_whole passed =
       sym (passed.ends_at [])
       ∙ ap (ends_at a)
-      (append-nil (preorder_in a.path.items 0 Event (list_trees held)) ∙ whole_at a held top ∙ ap all_of held_is)
+      (append-nil (preorder_in a.path.items 0 at_top (list_trees held)) ∙ whole_at a held top ∙ ap all_of held_is)
       ∙ end_is a (all_of streams) is

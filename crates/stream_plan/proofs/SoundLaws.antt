@@ -1,5 +1,5 @@
 -- There is no fault exactly where each stream is without it.
-use Rattle.std.proofs.Common.{inl, inr, ◌≡◌, ◌≤◌, Bool, true, false, not, List, [], ◌∷◌, length, Option, Some, None, refl, ap}
+use Rattle.std.proofs.Common.{inl, inr, ◌≡◌, ◌≤◌, Bool, true, false, not, ◌||◌, List, [], ◌∷◌, length, Option, Some, None, refl, ap}
 use Rattle.std.specs.Prelude.{slice_get}
 use Rattle.std.specs.List.{filter, AllByRecursion}
 use Rattle.std.specs.Option.{option_map, option_or}
@@ -7,9 +7,9 @@ use Rattle.std.proofs.lemmas.Bool.{le-ltb, ltb-false}
 use Rattle.std.proofs.lemmas.Option.{slice_get_cases, slice_get_past}
 use Rattle.stream_plan.specs.declared.fault.PlanWhy.{PlanWhy}
 use Rattle.stream_plan.specs.declared.fault.PlanWhy.TheVariants.{Many, Deep, Children, Range, Kind}
-use Rattle.stream_plan.specs.Faults.{Placed, Fault, preorder_of, kind_of, counts, place_of, fault_for, first_fault}
+use Rattle.stream_plan.specs.Faults.{Placed, Fault, preorder_of, kind_of, counts, ends_in_fork, place_of, fault_for, first_fault}
 use Rattle.stream_plan.specs.Kinds.{takes, is_in_range}
-use Rattle.stream_plan.specs.Sound.{IsSound, IsShallow, IsInRange, TakesWhatComes, SoundPlansHaveNoFault}
+use Rattle.stream_plan.specs.Sound.{IsSound, IsShallow, IsInRange, IsEndlessInForks, TakesWhatComes, SoundPlansHaveNoFault}
 use Rattle.stream_plan.specs.Tree.{StreamTrees}
 
 all_are : {A : Type 0} (P Q : A → Type 0) → ((x : A) → P x → Q x) → (xs : List A) → AllByRecursion P xs
@@ -82,6 +82,22 @@ true_from false is = cc
 not_true : (b : Bool) → b ≡ true → not b ≡ false
 not_true b is = rw is refl
 
+-- a number is in its range, and forks in forks don't end
+neither_from : (a b : Bool) → not a || b ≡ false → (a ≡ true) × (b ≡ false)
+neither_from true b is = (refl, is)
+neither_from false b is = cc
+
+pub neither : (a b : Bool) → a ≡ true → b ≡ false → not a || b ≡ false
+neither a b is off = rw (is, off) refl
+
+pub all_both : {A : Type 0} (P Q R : A → Type 0) → ((x : A) → P x → Q x → R x) → (xs : List A) → AllByRecursion P xs
+    → AllByRecursion Q xs → AllByRecursion R xs
+all_both P Q R joined [] first second = tt
+all_both P Q R joined (x ∷ xs) first second = (
+  joined x first.0 second.0,
+  all_both P Q R joined xs first.1 second.1,
+)
+
 -- ---- all causes
 
 sound_from : (streams : StreamTrees) → first_fault streams ≡ None → IsSound streams
@@ -92,6 +108,7 @@ sound_from streams none =
     let deep = or_none (fault_for Deep all) _ many.1 in
     let children = or_none (fault_for Children all) _ deep.1 in
     let range = or_none (fault_for Range all) (fault_for Kind all) children.1 in
+    let ranges = none_passes (counts Range) all (lacks Range all range.0) in
     record {
       few = few_from all (lacks Many all many.0);
       shallow =
@@ -99,10 +116,13 @@ sound_from streams none =
           (none_passes (counts Deep) all (lacks Deep all deep.0));
       followed = none_passes (counts Children) all (lacks Children all children.0);
       in_range =
-          all_are (λ s. counts Range s ≡ false) IsInRange (λ s. true_from (is_in_range (kind_of s.tree))) all
-          (none_passes (counts Range) all (lacks Range all range.0));
+          all_are (λ s. counts Range s ≡ false) IsInRange
+          (λ s is. (neither_from (is_in_range (kind_of s.tree)) (ends_in_fork s) is).0) all ranges;
+      endless =
+          all_are (λ s. counts Range s ≡ false) IsEndlessInForks
+          (λ s is. (neither_from (is_in_range (kind_of s.tree)) (ends_in_fork s) is).1) all ranges;
       taken =
-          all_are (λ s. counts Kind s ≡ false) TakesWhatComes (λ s. true_from (takes (kind_of s.tree) s.flow)) all
+          all_are (λ s. counts Kind s ≡ false) TakesWhatComes (λ s. true_from (takes (kind_of s.tree) s.flow.input)) all
           (none_passes (counts Kind) all (lacks Kind all range.1));
     }
 
@@ -117,11 +137,11 @@ sound_lack streams sound =
     let children = no_fault Children all (passes_none (counts Children) all sound.followed) in
     let range =
     no_fault Range all (passes_none (counts Range) all
-    (all_are IsInRange (λ s. counts Range s ≡ false) (λ s. not_true (is_in_range (kind_of s.tree))) all
-    sound.in_range)) in
+    (all_both IsInRange IsEndlessInForks (λ s. counts Range s ≡ false)
+    (λ s. neither (is_in_range (kind_of s.tree)) (ends_in_fork s)) all sound.in_range sound.endless)) in
     let kind =
     no_fault Kind all (passes_none (counts Kind) all
-    (all_are TakesWhatComes (λ s. counts Kind s ≡ false) (λ s. not_true (takes (kind_of s.tree) s.flow)) all
+    (all_are TakesWhatComes (λ s. counts Kind s ≡ false) (λ s. not_true (takes (kind_of s.tree) s.flow.input)) all
     sound.taken)) in
     rw (many, deep, children, range, kind) refl
 

@@ -8,13 +8,12 @@ use Rattle.stream_plan.specs.declared.fault.PlanWhy.{PlanWhy}
 use Rattle.stream_plan.specs.declared.fault.PlanWhy.TheVariants.{Many, Deep, Children, Range, Kind}
 use Rattle.stream_plan.specs.declared.search.TheConstants.{MAX_STREAMS, MAX_DEPTH}
 use Rattle.stream_plan.specs.declared.kinds.Flow.{Flow}
-use Rattle.stream_plan.specs.declared.kinds.Flow.TheVariants.{Event}
-use Rattle.stream_plan.specs.Kinds.{takes, passes_on, may_have_children, may_have_otherwise, is_in_range}
+use Rattle.stream_plan.specs.Kinds.{takes, passes_on, at_top, has_idle, may_have_children, may_have_otherwise, is_in_range}
 use Rattle.stream_plan.specs.Tree.{KindTree, StreamTree, stream, StreamTrees, none, also}
 
 -- ---- the streams of a plan
 
--- a stream with its path, which are the child numbers from the top down to it, and with what its parent passes on
+-- a stream with its path, which are the child numbers from the top down to it, and with what its parent passes on and whether it is in forks
 pub record Placed : Type 0 where
   pub path : List ℕ
   pub flow : Flow
@@ -43,7 +42,7 @@ unfoldable mutual
 
 -- all streams of a plan, whose first ones get the events
 abbrev pub preorder_of : StreamTrees → List Placed
-preorder_of = preorder_in [] 0 Event
+preorder_of = preorder_in [] 0 at_top
 
 -- ---- the five faults
 
@@ -55,13 +54,17 @@ abbrev pub has_wrong_streams : StreamTree → Bool
 has_wrong_streams (stream kind children otherwise) =
     (not (may_have_children kind) && has_streams children) || (not (may_have_otherwise kind) && has_streams otherwise)
 
+-- the forks of a stream end that is itself in forks
+abbrev pub ends_in_fork : Placed → Bool
+ends_in_fork s = has_idle (kind_of s.tree) && s.flow.in_fork
+
 -- a stream counts against a cause
 abbrev pub counts : PlanWhy → Placed → Bool
 counts Many s = true
 counts Deep s = nat_lt MAX_DEPTH (length s.path)
 counts Children s = has_wrong_streams s.tree
-counts Range s = not (is_in_range (kind_of s.tree))
-counts Kind s = not (takes (kind_of s.tree) s.flow)
+counts Range s = not (is_in_range (kind_of s.tree)) || ends_in_fork s
+counts Kind s = not (takes (kind_of s.tree) s.flow.input)
 
 -- how many streams that count against the cause a plan may have
 abbrev pub allowed : PlanWhy → ℕ

@@ -1,48 +1,68 @@
 -- What a stream of a kind takes, what it passes on, which streams may follow it, and the ranges of its numbers.
-use Rattle.std.specs.Prelude.{ℕ, Bool, true, false, ◌&&◌, nat_le, Option, Some, None}
+use Rattle.std.specs.Prelude.{ℕ, Bool, true, false, ◌&&◌, ◌||◌, nat_le, Option, Some, None, is_some}
 use Rattle.ev_types.specs.Set.{all_fit}
 use Rattle.stream_plan.specs.declared.kinds.TheConstants.{MAX_COUNT, MAX_SECS}
 use Rattle.stream_plan.specs.declared.kinds.Flow.{Flow}
-use Rattle.stream_plan.specs.declared.kinds.Flow.TheVariants.{Nothing, Event, Vector}
+use Rattle.stream_plan.specs.declared.kinds.Input.{Input}
+use Rattle.stream_plan.specs.declared.kinds.Input.TheVariants.{Nothing, Event, Vector}
 use Rattle.stream_plan.specs.Tree.{KindTree, Index, Notice, Sdo, Where, With, Default, By, Runs, Throttle, Rollup, Batch, Stable, FixedEvent, MovingEvent, FixedTime, MovingTime, Coalesce, Smap}
 
 -- ---- what is taken and what is passed on
 
 -- a stream that takes either takes events and vectors
-abbrev pub either : Flow → Bool
+abbrev pub either : Input → Bool
 either Nothing = false
 either Event = true
 either Vector = true
 
-abbrev pub only_events : Flow → Bool
+abbrev pub only_events : Input → Bool
 only_events Nothing = false
 only_events Event = true
 only_events Vector = false
 
-abbrev pub only_vectors : Flow → Bool
+abbrev pub only_vectors : Input → Bool
 only_vectors Nothing = false
 only_vectors Event = false
 only_vectors Vector = true
 
-abbrev pub takes : KindTree → Flow → Bool
+abbrev pub takes : KindTree → Input → Bool
 takes (Notice name) = either
 takes Sdo = either
 takes (Smap fold) = only_vectors
 takes _ = only_events
 
 -- what a stream of the kind passes on of such items
+abbrev pub input_below : KindTree → Input → Input
+input_below Index input = Nothing
+input_below (Notice name) input = Nothing
+input_below Sdo input = input
+input_below (Rollup count secs) input = Vector
+input_below (Batch count secs) input = Vector
+input_below (FixedEvent count) input = Vector
+input_below (MovingEvent count) input = Vector
+input_below (FixedTime secs) input = Vector
+input_below (MovingTime secs) input = Vector
+input_below (Coalesce secs) input = Vector
+input_below _ input = Event
+
+-- ---- forks
+
+abbrev pub is_by : KindTree → Bool
+is_by (By fields idle) = true
+is_by _ = false
+
+-- forks of the kind end
+abbrev pub has_idle : KindTree → Bool
+has_idle (By fields idle) = is_some idle
+has_idle _ = false
+
+-- what the streams that follow a stream of the kind are given: they are in forks if it is a `By` or in forks itself
 abbrev pub passes_on : KindTree → Flow → Flow
-passes_on Index flow = Nothing
-passes_on (Notice name) flow = Nothing
-passes_on Sdo flow = flow
-passes_on (Rollup count secs) flow = Vector
-passes_on (Batch count secs) flow = Vector
-passes_on (FixedEvent count) flow = Vector
-passes_on (MovingEvent count) flow = Vector
-passes_on (FixedTime secs) flow = Vector
-passes_on (MovingTime secs) flow = Vector
-passes_on (Coalesce secs) flow = Vector
-passes_on _ flow = Event
+passes_on kind flow = record { input = input_below kind flow.input; in_fork = is_by kind || flow.in_fork }
+
+-- what the first streams of a plan are given
+abbrev pub at_top : Flow
+at_top = record { input = Event; in_fork = false }
 
 -- ---- which streams may follow
 

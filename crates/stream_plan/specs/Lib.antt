@@ -3,6 +3,7 @@ pub mod Code
 pub mod Kinds
 pub mod Faults
 pub mod Sound
+pub mod Nesting
 pub mod Search
 pub mod Ready
 pub mod Paths

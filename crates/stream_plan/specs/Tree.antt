@@ -1,5 +1,5 @@
 -- A plan as a plain tree, apart from where it lies in memory. Plans are compared by their trees.
-use Rattle.std.specs.Prelude.{ℕ, List, [], ◌∷◌, Option, None}
+use Rattle.std.specs.Prelude.{ℕ, List, [], ◌∷◌, Option}
 use Rattle.ev_types.specs.declared.field.Field.{Field}
 use Rattle.ev_types.specs.declared.settings.Fold.{Fold}
 use Rattle.ev_types.specs.declared.settings.Set.{Set}
@@ -49,7 +49,7 @@ kind_tree (code.Where rule) = Where (tree_of rule)
 kind_tree (code.With sets) = With sets
 kind_tree (code.Default sets) = Default sets
 kind_tree (code.Tag tags) = Tag tags
-kind_tree (code.By fields) = By fields None
+kind_tree (code.By fields idle) = By fields idle
 kind_tree (code.Changed field init) = Changed field init
 kind_tree (code.Runs count field) = Runs count field
 kind_tree (code.Throttle count secs) = Throttle count secs

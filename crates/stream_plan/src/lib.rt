@@ -15,7 +15,7 @@ pub use checked::{CheckedPlan, check_kinds};
 pub use count::stream_pattern_count;
 pub use fault::{Path, PlanFault, PlanWhy};
 pub use kinds::{MAX_COUNT, MAX_SECS};
-pub use law::{paths_lead_to_their_streams, sound_plans_have_no_fault};
+pub use law::{paths_lead_to_their_streams, sound_plans_end_outermost, sound_plans_have_no_fault};
 pub use limits::limits_are_numbers;
 pub use plan::{Kind, Plan, Stream, Streams};
 pub use ready::{ReadyPlan, build_plan};

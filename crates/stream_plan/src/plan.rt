@@ -36,8 +36,9 @@ pub enum Kind {
     Default(Sets),
     /// Passes on each event with these tags added that it lacks.
     Tag(Tags),
-    /// Has a copy of its children for each combination of values of these fields.
-    By(Fields),
+    /// Has a copy of its children, a fork, for each combination of values of these fields. With `idle`, a fork that got
+    /// no event for this many seconds ends.
+    By { fields: Fields, idle: Option<u32> },
     /// Passes on an event whose field differs from that of the event before.
     Changed { field: Field, init: Option<Value> },
     /// Passes on an event where the last `count` events hold the same in the field.

@@ -7,7 +7,7 @@ ghost use Rattle.stream_plan.specs.Faults.{preorder_at, preorder_in, preorder_of
 ghost use Rattle.stream_plan.specs.Search.{opened, Searches};
 
 use crate::fault::{Path, PlanWhy};
-use crate::kinds::Flow;
+use crate::kinds::{Flow, Input};
 use crate::{Plan, Stream};
 use ev_types::Memory;
 use std::alloc::Global;
@@ -38,7 +38,11 @@ pub(crate) fn place_of(alloc: Global, plan: &Plan, why: PlanWhy) -> Result<Optio
         allowed: allowed(why),
         path: Vec::new(alloc),
     };
-    if search.find_among(&plan.streams, &[], Flow::Event)? {
+    let top = Flow {
+        input: Input::Event,
+        in_fork: false,
+    };
+    if search.find_among(&plan.streams, &[], top)? {
         Ok(Some(Path::from_vec(search.path)))
     } else {
         Ok(None)
@@ -123,8 +127,8 @@ fn counts(why: PlanWhy, path: &[usize], stream: &Stream, flow: Flow) -> bool
         PlanWhy::Many => true,
         PlanWhy::Deep => path.len() > MAX_DEPTH,
         PlanWhy::Children => has_wrong_streams(stream),
-        PlanWhy::Range => !stream.kind.is_in_range(),
-        PlanWhy::Kind => !stream.kind.takes(flow),
+        PlanWhy::Range => { !stream.kind.is_in_range() || (stream.kind.has_idle() && flow.in_fork) }
+        PlanWhy::Kind => !stream.kind.takes(flow.input),
     }
 }
 

@@ -20,7 +20,11 @@ pub(crate) fn is_in_range(kind: &Kind) -> bool
         Kind::Stable { secs, .. }
         | Kind::FixedTime { secs }
         | Kind::MovingTime { secs }
-        | Kind::Coalesce { secs } => is_secs(*secs),
+        | Kind::Coalesce { secs }
+        | Kind::By {
+            idle: Some(secs),
+            ..
+        } => is_secs(*secs),
         _ => true,
     }
 }

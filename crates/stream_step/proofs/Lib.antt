@@ -1,3 +1,2 @@
 pub mod KeptLaws
-pub mod RouteLaws
 pub mod StepLaws

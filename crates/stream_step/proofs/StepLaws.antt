@@ -1,6 +1,6 @@
 -- Where a stream's regular expressions are, and what streams that keep nothing do.
 use Rattle.std.proofs.Common.{◌≡◌, ℕ, ◌+◌, ◌≤◌, Bool, true, false, cond, List, [], ◌++◌, length, take, drop, refl, sym, ap, ◌∙◌, subst, arith, length-append}
-use Rattle.std.specs.Prelude.{None}
+use Rattle.std.specs.Prelude.{Option, None}
 use Rattle.std.proofs.lemmas.List.{append-nil}
 use Rattle.ev_types.specs.declared.event.Event.{Event}
 use Rattle.ev_types.specs.declared.field.Field.{Field}
@@ -19,13 +19,12 @@ use Rattle.stream_plan.specs.Tree.{KindTree, Where, By, Rollup, Batch, Stable, C
 use Rattle.stream_meaning.specs.Deadlines.{next_deadline}
 use Rattle.stream_states.specs.Kept.{keeps, KeptRepresents}
 use Rattle.stream_states.specs.declared.kept.KeptState.{KeptState}
-use Rattle.stream_meaning.specs.EndLaws.{first_fork}
+use Rattle.stream_meaning.specs.Ends.{fork_at}
 use Rattle.stream_meaning.specs.Emission.{Children, Otherwise, Fork, to, emissions}
 use Rattle.stream_meaning.specs.declared.entry.Entry.TheVariants.{Tick, Item as In}
 use Rattle.stream_meaning.specs.History.{History, ◌▸◌}
-use Rattle.stream_meaning.proofs.LiveLaws.{never_ended}
 use Rattle.stream_step.specs.declared.passed.Passed.TheVariants.{Keyed}
-use Rattle.stream_step.specs.Step.{AreAt, emissions_meant, HasNumbers, is_kept, Keeps, StateRepresents, QuietTicksKeepStates}
+use Rattle.stream_step.specs.Step.{AreAt, ended_by, emissions_meant, HasNumbers, is_kept, Keeps, StateRepresents, QuietTicksKeepStates}
 use Rattle.stream_step.specs.declared.state.State.{State}
 use Rattle.stream_step.specs.declared.state.State.TheVariants.{Bare, Rule, Kept, Forks}
 use Rattle.stream_step.proofs.KeptLaws.{kept_still}
@@ -135,10 +134,9 @@ all_put old new own said = ([], sym said ∙ sym (append-nil new))
 
 -- ---- what goes to forks
 
--- no key ends, so an event goes to the first fork of its key
-pub keyed : (fields : List Field) (key : List Value) (event : Event) (h : History) → key ≡ event_key event fields →
-    emissions_meant (Keyed key) (In (One event)) ≡ emissions (By fields None) (h ▸ In (One event))
-keyed fields key event h is =
-    ap (λ (k : List Value). to (Fork (first_fork k)) (One event)) is
-    ∙ ap (λ (number : ℕ). to (Fork (record { key = event_key event fields; number = number })) (One event))
-    (sym (never_ended fields (event_key event fields) h))
+-- an event goes to the fork of its key that began after the last end of the key
+pub keyed : (fields : List Field) (idle : Option ℕ) (key : List Value) (event : Event) (h : History) →
+    key ≡ event_key event fields →
+    emissions_meant (ended_by (By fields idle) h) (Keyed key) (In (One event))
+    ≡ emissions (By fields idle) (h ▸ In (One event))
+keyed fields idle key event h is = ap (λ (k : List Value). to (Fork (fork_at idle fields k h)) (One event)) is

@@ -1,14 +1,15 @@
 -- What one stream does at an entry, and what it keeps between entries.
-use Rattle.std.specs.Prelude.{◌≡◌, ℕ, zero, suc, Bool, true, false, List, [], ◌++◌, length, map, None}
+use Rattle.std.specs.Prelude.{◌≡◌, ℕ, zero, suc, Bool, true, false, List, [], ◌++◌, length, map}
 use Rattle.ev_types.specs.declared.item.Emission.{Emission as CodeEmission}
 use Rattle.ev_types.specs.declared.item.Output.{Output}
+use Rattle.ev_types.specs.declared.value.Value.{Value}
 use Rattle.pred_eval.specs.Truth.{searches}
 use Rattle.stream_plan.specs.Kinds.{is_in_range}
 use Rattle.stream_plan.specs.Tree.{KindTree, Where, By}
 use Rattle.stream_meaning.specs.declared.entry.Entry.{Entry}
 use Rattle.stream_meaning.specs.declared.entry.Entry.TheVariants.{Tick, Item as In}
 use Rattle.stream_meaning.specs.History.{History, ◌▸◌}
-use Rattle.stream_meaning.specs.EndLaws.{first_fork}
+use Rattle.stream_meaning.specs.Ends.{times_ended}
 use Rattle.stream_meaning.specs.Emission.{Branch as MeantBranch, Children as children, Otherwise as otherwise, Fork as fork, Emission, to, emissions}
 use Rattle.stream_meaning.specs.Laws.{own_outputs}
 use Rattle.stream_states.specs.Kept.{keeps, KeptRepresents}
@@ -38,12 +39,17 @@ abbrev pub passed_same : MeantBranch → Entry → List Emission
 passed_same branch Tick = []
 passed_same branch (In item) = to branch item
 
--- no key ends, so a key has its first fork alone
-abbrev pub emissions_meant : Passed → Entry → List Emission
-emissions_meant Nothing x = []
-emissions_meant (Same branch) x = passed_same (branch_meant branch) x
-emissions_meant (Made es) x = map emission_meant es
-emissions_meant (Keyed key) x = passed_same (fork (first_fork key)) x
+-- how often each key of a `by` ended
+abbrev pub ended_by : KindTree → History → List Value → ℕ
+ended_by (By fields idle) h key = times_ended idle fields key h
+ended_by kind h key = 0
+
+-- where each key ended so often: the fork of a key is the one that began after its last end
+abbrev pub emissions_meant : (List Value → ℕ) → Passed → Entry → List Emission
+emissions_meant ended Nothing x = []
+emissions_meant ended (Same branch) x = passed_same (branch_meant branch) x
+emissions_meant ended (Made es) x = map emission_meant es
+emissions_meant ended (Keyed key) x = passed_same (fork (record { key = key; number = ended key })) x
 
 -- ---- what is kept
 
@@ -56,11 +62,11 @@ pub record AreAt (own : List (List ℕ)) (first count : ℕ) (texts : List (List
   pub among : texts ≡ before ++ (own ++ after)
 
 -- A `where` keeps the numbers of its regular expressions among those of the whole plan, and a `by` the number from which
--- on its children have theirs; its forks do not end. The other kinds that keep nothing of what came need no number.
+-- on its children have theirs. The other kinds that keep nothing of what came need no number.
 abbrev pub HasNumbers : List (List ℕ) → KindTree → State → Type 0
 HasNumbers texts (Where rule) (Rule first count) = AreAt (searches rule) first count texts
 HasNumbers texts (Where rule) state = ⊥
-HasNumbers texts (By fields idle) (Forks first) = idle ≡ None
+HasNumbers texts (By fields idle) (Forks first) = Unit {0}
 HasNumbers texts (By fields idle) state = ⊥
 HasNumbers texts kind state = keeps kind ≡ false
 
@@ -90,4 +96,4 @@ QuietTicksKeepStates = (texts : List (List ℕ)) (kind : KindTree) (state : Stat
 pub record Acts (texts : List (List ℕ)) (kind : KindTree) (old new : State) (h : History) (x : Entry) (before after : List Output) (passed : Passed) : Type 0 where
   pub represents : StateRepresents texts kind new (h ▸ x)
   pub said : after ≡ before ++ own_outputs kind (h ▸ x)
-  pub passes : emissions_meant passed x ≡ emissions kind (h ▸ x)
+  pub passes : emissions_meant (ended_by kind h) passed x ≡ emissions kind (h ▸ x)

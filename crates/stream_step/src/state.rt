@@ -1,4 +1,4 @@
-ghost use Rattle.std.specs.Prelude.{◌≡◌, ℕ, true, false, ◌≤◌, ◌+◌, ◌^◌, List, [], ◌++◌, length, None, IfOk, OnOk};
+ghost use Rattle.std.specs.Prelude.{◌≡◌, ℕ, true, false, ◌≤◌, ◌+◌, ◌^◌, List, [], ◌++◌, length, Option, IfOk, OnOk};
 ghost use Rattle.ev_types.specs.declared.field.Field.{Field};
 ghost use Rattle.list_laws.specs.Counts.{greatest};
 ghost use Rattle.stream_meaning.specs.Deadlines.{next_deadline};
@@ -44,8 +44,8 @@ impl State {
             length (kind_patterns (kind_tree kind.now)) ≤ greatest →
             StateRepresents (before ++ (kind_patterns (kind_tree kind.now) ++ after))
             (kind_tree kind.now) state h) }
-        ensures forks { IfOk result (λ state. (fields : List Field) →
-            kind_tree kind.now ≡ By fields None → state ≡ State.Forks next.old) }
+        ensures forks { IfOk result (λ state. (fields : List Field) (idle : Option ℕ) →
+            kind_tree kind.now ≡ By fields idle → state ≡ State.Forks next.old) }
         ensures next { OnOk result
             (next.old + length (kind_patterns (kind_tree kind.now)) ≤ greatest →
             next.new ≡ next.old + length (kind_patterns (kind_tree kind.now))) }
@@ -65,14 +65,14 @@ impl State {
             HasNumbers (before ++ (kind_patterns (kind_tree kind.now) ++ after))
             (kind_tree kind.now) result }
         ensures bare { is_kept result ≡ false }
-        ensures forks { (fields : List Field) →
-            kind_tree kind.now ≡ By fields None → result ≡ State.Forks next.old }
+        ensures forks { (fields : List Field) (idle : Option ℕ) →
+            kind_tree kind.now ≡ By fields idle → result ≡ State.Forks next.old }
         ensures next { next.old + length (kind_patterns (kind_tree kind.now)) ≤ greatest →
             next.new ≡ next.old + length (kind_patterns (kind_tree kind.now)) }
     {
         match kind {
             Kind::Where(rule) => State::of_rule(rule, next),
-            Kind::By(_) => State::Forks { first: *next },
+            Kind::By { .. } => State::Forks { first: *next },
             _ => State::Bare,
         }
     }

@@ -1,5 +1,6 @@
 ghost use Rattle.std.specs.Prelude.{◌≡◌, ℕ, ◌+◌, ◌≤◌, ◌^◌, false, List, [], ◌++◌, length, take, drop, if◌then◌else◌, IfOk, IsOk, OnErr, OnOk};
 ghost use Rattle.ev_types.specs.declared.item.Item.TheVariants.{One, Many};
+ghost use Rattle.ev_types.specs.declared.value.Value.{Value};
 ghost use Rattle.list_laws.specs.Prefix.{IsPrefix};
 ghost use Rattle.pred_eval.specs.Search.{AreReadFrom};
 ghost use Rattle.pred_eval.specs.Tree.{Tree as RuleTree, tree_of};
@@ -11,7 +12,7 @@ ghost use Rattle.stream_meaning.specs.History.{History, ◌▸◌, moment_of};
 ghost use Rattle.stream_meaning.specs.Laws.{own_outputs};
 ghost use Rattle.stream_plan.specs.Tree.{KindTree, kind_tree, Where};
 ghost use Rattle.stream_states.specs.Kept.{KeptRepresents};
-ghost use Rattle.stream_step.specs.Step.{branch_meant, emissions_meant, HasNumbers, is_kept, StateRepresents, Acts};
+ghost use Rattle.stream_step.specs.Step.{branch_meant, ended_by, emissions_meant, HasNumbers, is_kept, StateRepresents, Acts};
 
 use crate::{Branch, Passed, State};
 use ev_types::{
@@ -83,7 +84,8 @@ fn advance(
         AreReadFrom texts context.now.patterns.now →
         StateRepresents texts (kind_tree kind.now) state.old h →
         moment_of (h ▸ entry.now) ≡ context.now.moment → context.now.moment ≤ 2 ^ 40 →
-        emissions_meant passed entry.now ≡ emissions (kind_tree kind.now) (h ▸ entry.now)) }
+        emissions_meant (ended_by (kind_tree kind.now) h) passed entry.now
+        ≡ emissions (kind_tree kind.now) (h ▸ entry.now)) }
     ensures quiet { (texts : List (List ℕ)) (h : History) →
         StateRepresents texts (kind_tree kind.now) state.old h → entry.now ≡ Tick →
         moment_of (h ▸ Tick) ≡ context.now.moment →
@@ -108,7 +110,8 @@ fn advance_kept(
         now ≤ 2 ^ 40 → KeptRepresents kind kept.new (h ▸ entry.now)) }
     ensures passes { IfOk result (λ passed. (kind : KindTree) (h : History) →
         KeptRepresents kind kept.old h → moment_of (h ▸ entry.now) ≡ now →
-        now ≤ 2 ^ 40 → emissions_meant passed entry.now ≡ emissions kind (h ▸ entry.now)) }
+        now ≤ 2 ^ 40 → emissions_meant (ended_by kind h) passed entry.now
+        ≡ emissions kind (h ▸ entry.now)) }
     ensures quiet { (kind : KindTree) (h : History) → KeptRepresents kind kept.old h →
         entry.now ≡ Tick → moment_of (h ▸ Tick) ≡ now →
         emissions kind (h ▸ Tick) ≡ [] → IsOk result }
@@ -126,7 +129,7 @@ fn tick_kept(alloc: Global, kept: &mut KeptState, now: u64) -> Result<Passed, Me
         KeptRepresents kind kept.new (h ▸ Tick)) }
     ensures passes { IfOk result (λ passed. (kind : KindTree) (h : History) →
         KeptRepresents kind kept.old h → moment_of h + 1 ≡ now → now ≤ 2 ^ 40 →
-        emissions_meant passed Tick ≡ emissions kind (h ▸ Tick)) }
+        emissions_meant (ended_by kind h) passed Tick ≡ emissions kind (h ▸ Tick)) }
     ensures quiet { (kind : KindTree) (h : History) → KeptRepresents kind kept.old h →
         moment_of h + 1 ≡ now → emissions kind (h ▸ Tick) ≡ [] → IsOk result }
 {
@@ -142,7 +145,8 @@ fn give_kept(alloc: Global, kept: &mut KeptState, item: &Item, now: u64) -> Resu
         KeptRepresents kind kept.new (h ▸ In item.now)) }
     ensures passes { IfOk result (λ passed. (kind : KindTree) (h : History) →
         KeptRepresents kind kept.old h → moment_of h ≡ now → now ≤ 2 ^ 40 →
-        emissions_meant passed (In item.now) ≡ emissions kind (h ▸ In item.now)) }
+        emissions_meant (ended_by kind h) passed (In item.now)
+        ≡ emissions kind (h ▸ In item.now)) }
 {
     match item {
         Item::One(event) => Ok(enter_kept(alloc, kept, event, now)?),
@@ -161,7 +165,8 @@ fn enter_kept(
         KeptRepresents kind kept.new (h ▸ In (One event.now))) }
     ensures passes { IfOk result (λ passed. (kind : KindTree) (h : History) →
         KeptRepresents kind kept.old h → moment_of h ≡ now → now ≤ 2 ^ 40 →
-        emissions_meant passed (In (One event.now)) ≡ emissions kind (h ▸ In (One event.now))) }
+        emissions_meant (ended_by kind h) passed (In (One event.now))
+        ≡ emissions kind (h ▸ In (One event.now))) }
 {
     let mut made = Emissions::fresh(alloc);
     kept.item(alloc, event.copy(alloc)?, now, &mut made)?;
@@ -231,7 +236,8 @@ fn pass_on(
     ensures passes { IfOk result (λ passed. (texts : List (List ℕ)) (h : History) →
         AreReadFrom texts patterns.now →
         HasNumbers texts (kind_tree kind.now) state.now →
-        emissions_meant passed entry.now ≡ emissions (kind_tree kind.now) (h ▸ entry.now)) }
+        emissions_meant (ended_by (kind_tree kind.now) h) passed entry.now
+        ≡ emissions (kind_tree kind.now) (h ▸ entry.now)) }
     ensures quiet { entry.now ≡ Tick → IsOk result }
 {
     match entry {
@@ -244,7 +250,7 @@ fn pass_on(
 /// What the stream passes on of a vector.
 fn pass_vector(alloc: Global, kind: &Kind, events: &Events) -> Result<Passed, Memory>
     ensures { IfOk result (λ passed. (h : History) →
-        emissions_meant passed (In (Many events.now))
+        emissions_meant (ended_by (kind_tree kind.now) h) passed (In (Many events.now))
         ≡ emissions (kind_tree kind.now) (h ▸ In (Many events.now))) }
 {
     match kind {
@@ -256,7 +262,8 @@ fn pass_vector(alloc: Global, kind: &Kind, events: &Events) -> Result<Passed, Me
 
 /// The event that is folded of a vector, where there is one.
 fn pass_fold(alloc: Global, fold: Fold, events: &Events) -> Result<Passed, Memory>
-    ensures { IfOk result (λ passed. emissions_meant passed (In (Many events.now))
+    ensures { IfOk result (λ passed. (ended : List Value → ℕ) →
+        emissions_meant ended passed (In (Many events.now))
         ≡ fold_of fold (In (Many events.now))) }
 {
     match apply_fold(alloc, fold, events)? {
@@ -276,7 +283,7 @@ fn pass_event(
     ensures { IfOk result (λ passed. (texts : List (List ℕ)) (h : History) →
         AreReadFrom texts patterns.now →
         HasNumbers texts (kind_tree kind.now) state.now →
-        emissions_meant passed (In (One event.now))
+        emissions_meant (ended_by (kind_tree kind.now) h) passed (In (One event.now))
         ≡ emissions (kind_tree kind.now) (h ▸ In (One event.now))) }
 {
     match kind {
@@ -288,15 +295,15 @@ fn pass_event(
         Kind::With(sets) => pass_made(alloc, apply_sets(alloc, sets, event.copy(alloc)?)?),
         Kind::Default(sets) => pass_made(alloc, apply_defaults(alloc, sets, event.copy(alloc)?)?),
         Kind::Tag(tags) => pass_made(alloc, apply_tags(alloc, tags, event.copy(alloc)?)?),
-        Kind::By(fields) => Ok(Passed::Keyed(key_of(alloc, event, fields)?)),
+        Kind::By { fields, .. } => Ok(Passed::Keyed(key_of(alloc, event, fields)?)),
         _ => Ok(Passed::Nothing),
     }
 }
 
 /// One event for the children.
 fn pass_made(alloc: Global, event: Event) -> Result<Passed, Memory>
-    ensures { IfOk result (λ passed. (x : CameEntry) →
-        emissions_meant passed x ≡ to children (One event)) }
+    ensures { IfOk result (λ passed. (ended : List Value → ℕ) (x : CameEntry) →
+        emissions_meant ended passed x ≡ to children (One event)) }
 {
     let mut made = Emissions::fresh(alloc);
     let emission = Emission {

@@ -1,38 +1,42 @@
 -- What comes to the branches below a stream, part by part.
-use Rattle.std.proofs.Common.{◌≡◌, ℕ, true, false, cond, List, [], ◌∷◌, ◌++◌, map, get_or, Option, Some, None, is_some, refl, sym, ap, ◌∙◌, subst, arith}
+use Rattle.std.proofs.Common.{◌≡◌, ℕ, ◌<◌, Bool, true, false, cond, eqb, List, [], ◌∷◌, ◌++◌, map, Option, Some, None, is_some, refl, sym, ap, ◌∙◌, subst, arith}
+use Rattle.std.specs.Prelude.{IfSome}
 use Rattle.std.proofs.lemmas.List.{append-nil, append_assoc, map-append}
-use Rattle.ev_types.specs.declared.field.Field.{Field}
 use Rattle.ev_types.specs.declared.item.Emission.{Emission as CodeEmission}
 use Rattle.ev_types.specs.declared.item.Item.{Item}
 use Rattle.ev_types.specs.declared.item.Output.{Output}
 use Rattle.ev_types.specs.declared.value.Value.{Value}
 use Rattle.fork_by.specs.declared.table.ForkTable.{ForkTable}
-use Rattle.fork_by.specs.Table.{fork_list}
+use Rattle.fork_by.specs.Table.{kept_forks}
 use Rattle.step_count.specs.Count.{StepCount}
 use Rattle.pred_eval.specs.Search.{AreReadFrom}
 use Rattle.regex.specs.declared.string.regex.Regex.{Regex}
 use Rattle.stream_plan.specs.declared.plan.Stream.{Stream, out-Stream}
 use Rattle.stream_plan.specs.Search.{opened}
-use Rattle.stream_plan.specs.Tree.{KindTree, StreamTree, StreamTrees, kind_tree, list_trees}
-use Rattle.stream_meaning.specs.Branches.{same_branch, after_emissions, with_key}
+use Rattle.stream_plan.specs.Tree.{KindTree, By, StreamTree, StreamTrees, kind_tree, list_trees}
+use Rattle.stream_meaning.specs.Branches.{same_branch, after_emissions}
 use Rattle.stream_meaning.specs.declared.entry.Entry.{Entry}
 use Rattle.stream_meaning.specs.declared.entry.Entry.TheVariants.{Tick, Item as In}
 use Rattle.stream_meaning.specs.Deadlines.{plan_deadline}
-use Rattle.stream_meaning.specs.Emission.{Branch, Children, Otherwise, Emission}
-use Rattle.stream_meaning.specs.History.{History, ◌▸◌}
+use Rattle.stream_meaning.specs.Emission.{Branch, Children, Otherwise, Fork, Emission}
+use Rattle.stream_meaning.specs.History.{History, ◌▸◌, begun}
 use Rattle.stream_meaning.specs.Outputs.{Effect, BranchEffects, branch_effects, at_tick, at_emissions, received_more, plan_effects}
+use Rattle.stream_meaning.proofs.KeptEvents.{all-weaker}
 use Rattle.stream_meaning.proofs.MomentLaws.{after_emissions-moments}
 use Rattle.stream_step.specs.declared.passed.Branch.{Branch as CodeBranch}
 use Rattle.stream_step.specs.declared.passed.Branch.TheVariants as code
-use Rattle.stream_step.specs.Step.{branch_meant, branch_numbered, emission_meant}
+use Rattle.stream_step.specs.declared.passed.Passed.{Passed}
+use Rattle.stream_step.specs.declared.passed.Passed.TheVariants.{Keyed}
+use Rattle.stream_step.specs.Step.{branch_meant, branch_numbered, emission_meant, emissions_meant}
 use Rattle.stream_tree.specs.declared.forest.Forest.{Forest}
 use Rattle.stream_tree.specs.declared.forest.Node.{Node}
-use Rattle.stream_tree.specs.Forest.{Meaning, nodes_of, Below, below_of, forked_by, key_fork, CanFork, ForksRepresent, BelowRepresents, ForestRepresents}
-use Rattle.stream_tree.specs.Forks.{FoundAt, IsFound}
-use Rattle.stream_tree.specs.Running.{ComesAt, Stops, ForestRuns, ForestStops, kind_of, children_of, otherwise_of, Received, BelowIs, effects_below, branches_by, FitsBranch, FitAll, with_branch, with_branches, UnseenHaveTicks, extended, entering, ForkComes, ForkRuns, ForkStops, DueRuns, DueStops, TickRuns, TickStops, BranchRuns, BranchStops, AllAreAt, EmissionsRun, EmissionsStop}
+use Rattle.stream_tree.specs.Ends.{idle_by}
+use Rattle.stream_tree.specs.Forest.{Meaning, nodes_of, Below, LiveKeys, below_of, forked_by, key_fork, CanFork, ForksRepresent, BelowRepresents, ForestRepresents}
+use Rattle.stream_tree.specs.Forks.{IsFound, FoundAt, Finds}
+use Rattle.stream_tree.specs.Running.{ComesAt, Stops, ForestRuns, ForestStops, kind_of, children_of, otherwise_of, Received, BelowIs, effects_below, branches_by, FitsBranch, FitAll, with_branch, with_branches, after_tick, UnseenHaveTicks, NonePast, extended, entering, ForkComes, ForkRuns, ForkStops, DueRuns, DueStops, TickRuns, TickStops, BranchRuns, BranchStops, AllAreAt, EmissionsRun, EmissionsStop}
 use Rattle.stream_tree.specs.Tree.{Performs, PerformsPart}
-use Rattle.stream_tree.proofs.DueLaws.{even_keys}
-use Rattle.stream_tree.proofs.ForkLaws.{fork_goes_on, unseen_goes_on, unseen_fits}
+use Rattle.stream_tree.proofs.ForkLaws.{fork_goes_on, extended_here, extended_elsewhere, unseen_goes_on, unseen_fits}
+use Rattle.stream_tree.proofs.KeptLaws.{Kept}
 use Rattle.stream_tree.proofs.PerformLaws.{grew_none, grew_then, part_none, part_more, part_then, stops_more, stops_then}
 use Rattle.stream_tree.proofs.StillLaws.{below_same, forks_tick}
 
@@ -50,91 +54,130 @@ pub otherwise_of-opened : (s : Stream) → otherwise_of (opened s) ≡ list_tree
 unfolding opened
 otherwise_of-opened s = refl
 
+abbrev branch_of_key : List Value → ℕ → Branch
+branch_of_key key ended = Fork (record { key = key; number = ended })
+
 -- ---- the nodes of one branch
 
+-- after how many seconds forks end, of a stream that has some
+abbrev idle_in : Option (Option ℕ) → Option ℕ
+idle_in None = None
+idle_in (Some idle) = idle
+
+item_leaves : (shape : Option (Option ℕ)) (now : ℕ) (item : Item) (live : LiveKeys)
+    → after_tick shape now (In item) live ≡ live
+item_leaves None now item live = refl
+item_leaves (Some idle) now item live = refl
+
+idle_same : (kind : KindTree) → idle_in (forked_by kind) ≡ idle_by kind
+idle_same (By fields idle) = refl
+idle_same kind = refl
+
 module _ (texts : List (List ℕ)) (plan : StreamTrees) (first : ℕ) (Means Beside : Meaning) where
-  children_stand : (shape : Option (List Field)) (keys : List (List Value)) (received : Received) (below : Below) →
-      FitsBranch shape Children →
-      BelowRepresents texts plan first Means Beside shape keys received below → Means below.children (received Children)
-  children_stand None keys received below fits represents = represents.children
-  children_stand (Some fields) keys received below fits represents = absurd fits
+  children_stand : (shape : Option (Option ℕ)) (live : LiveKeys) (received : Received) (below : Below) →
+      FitsBranch shape live.ended Children →
+      BelowRepresents texts plan first Means Beside shape live received below → Means below.children (received Children)
+  children_stand None live received below fits represents = represents.children
+  children_stand (Some idle) live received below fits represents = absurd fits
 
-  otherwise_stand : (shape : Option (List Field)) (keys : List (List Value)) (received : Received) (below : Below) →
-      FitsBranch shape Otherwise →
-      BelowRepresents texts plan first Means Beside shape keys received below →
+  otherwise_stand : (shape : Option (Option ℕ)) (live : LiveKeys) (received : Received) (below : Below) →
+      FitsBranch shape live.ended Otherwise →
+      BelowRepresents texts plan first Means Beside shape live received below →
       Beside below.otherwise (received Otherwise)
-  otherwise_stand None keys received below fits represents = represents.otherwise
-  otherwise_stand (Some fields) keys received below fits represents = absurd fits
+  otherwise_stand None live received below fits represents = represents.otherwise
+  otherwise_stand (Some idle) live received below fits represents = absurd fits
 
-  children_put : (shape : Option (List Field)) (keys : List (List Value)) (received : Received) (x : Entry)
+  children_put : (shape : Option (Option ℕ)) (live : LiveKeys) (received : Received) (x : Entry)
       (children otherwise : List Node) (forks : ForkTable Forest) (children' : List Node) →
-      FitsBranch shape Children →
-      BelowRepresents texts plan first Means Beside shape keys received
+      FitsBranch shape live.ended Children →
+      BelowRepresents texts plan first Means Beside shape live received
       (record { children = children; otherwise = otherwise; forks = forks }) →
       Means children' (received Children ▸ x) →
-      BelowRepresents texts plan first Means Beside shape keys (extended Children x received)
+      BelowRepresents texts plan first Means Beside shape live (extended Children x received)
       (record { children = children'; otherwise = otherwise; forks = forks })
-  children_put None keys received x children otherwise forks children' fits represents now = record {
+  children_put None live received x children otherwise forks children' fits represents now = record {
     children = now;
     otherwise = represents.otherwise;
     is_table = represents.is_table;
     no_forks = represents.no_forks;
   }
-  children_put (Some fields) keys received x children otherwise forks children' fits represents now = absurd fits
+  children_put (Some idle) live received x children otherwise forks children' fits represents now = absurd fits
 
-  otherwise_put : (shape : Option (List Field)) (keys : List (List Value)) (received : Received) (x : Entry)
+  otherwise_put : (shape : Option (Option ℕ)) (live : LiveKeys) (received : Received) (x : Entry)
       (children otherwise : List Node) (forks : ForkTable Forest) (otherwise' : List Node) →
-      FitsBranch shape Otherwise →
-      BelowRepresents texts plan first Means Beside shape keys received
+      FitsBranch shape live.ended Otherwise →
+      BelowRepresents texts plan first Means Beside shape live received
       (record { children = children; otherwise = otherwise; forks = forks }) →
       Beside otherwise' (received Otherwise ▸ x) →
-      BelowRepresents texts plan first Means Beside shape keys (extended Otherwise x received)
+      BelowRepresents texts plan first Means Beside shape live (extended Otherwise x received)
       (record { children = children; otherwise = otherwise'; forks = forks })
-  otherwise_put None keys received x children otherwise forks otherwise' fits represents now = record {
+  otherwise_put None live received x children otherwise forks otherwise' fits represents now = record {
     children = represents.children;
     otherwise = now;
     is_table = represents.is_table;
     no_forks = represents.no_forks;
   }
-  otherwise_put (Some fields) keys received x children otherwise forks otherwise' fits represents now = absurd fits
+  otherwise_put (Some idle) live received x children otherwise forks otherwise' fits represents now = absurd fits
 
-  forks_represent : (shape : Option (List Field)) (keys : List (List Value)) (received : Received) (key : List Value)
+  forks_represent : (shape : Option (Option ℕ)) (live : LiveKeys) (received : Received) (key : List Value) (number : ℕ)
       (below : Below) →
-      FitsBranch shape (key_fork key) →
-      BelowRepresents texts plan first Means Beside shape keys received below →
-      CanFork texts plan first × ForksRepresent Means (plan_deadline plan) keys (λ k. received (key_fork k)) below.forks
-  forks_represent None keys received key below fits represents = absurd fits
-  forks_represent (Some fields) keys received key below fits represents = (represents.can_fork, represents.forks)
+      FitsBranch shape live.ended (Fork (record { key = key; number = number })) →
+      BelowRepresents texts plan first Means Beside shape live received below →
+      CanFork texts plan first × IfSome (idle_in shape) (λ secs. 0 < secs)
+      × ForksRepresent Means (plan_deadline plan) (idle_in shape) live.keys live.last (λ k. received (key_fork live k))
+      below.forks
+      × (number ≡ live.ended key)
+  forks_represent None live received key number below fits represents = absurd fits
+  forks_represent (Some idle) live received key number below fits represents =
+      (represents.can_fork, represents.lasts, represents.forks, fits)
 
-  forks_put : (shape : Option (List Field)) (keys keys' : List (List Value)) (received received' : Received)
-      (key : List Value) (children otherwise : List Node) (forks forks' : ForkTable Forest) →
-      FitsBranch shape (key_fork key) →
-      BelowRepresents texts plan first Means Beside shape keys received
+  forks_put : (shape : Option (Option ℕ)) (now : ℕ) (live : LiveKeys) (received received' : Received)
+      (key : List Value) (number : ℕ) (children otherwise : List Node) (forks forks' : ForkTable Forest) →
+      FitsBranch shape live.ended (Fork (record { key = key; number = number })) →
+      BelowRepresents texts plan first Means Beside shape live received
       (record { children = children; otherwise = otherwise; forks = forks }) →
-      ForksRepresent Means (plan_deadline plan) keys' (λ k. received' (key_fork k)) forks' →
-      BelowRepresents texts plan first Means Beside shape keys' received'
+      (let after = with_branch now (Fork (record { key = key; number = number })) live in
+      ForksRepresent Means (plan_deadline plan) (idle_in shape) after.keys after.last (λ k. received' (key_fork live k))
+      forks') →
+      BelowRepresents texts plan first Means Beside shape
+      (with_branch now (Fork (record { key = key; number = number })) live) received'
       (record { children = children; otherwise = otherwise; forks = forks' })
-  forks_put None keys keys' received received' key children otherwise forks forks' fits represents now = absurd fits
-  forks_put (Some fields) keys keys' received received' key children otherwise forks forks' fits represents now =
+  forks_put None now live received received' key number children otherwise forks forks' fits represents done =
+      absurd fits
+  forks_put (Some idle) now live received received' key number children otherwise forks forks' fits represents done =
       record {
         can_fork = represents.can_fork;
-        forks = now;
+        lasts = represents.lasts;
+        forks = done;
         no_children = represents.no_children;
         no_otherwise = represents.no_otherwise;
       }
 
-fit_front : (shape : Option (List Field)) (es more : List Emission) → FitAll shape (es ++ more) → FitAll shape es
-fit_front shape [] more fit = tt
-fit_front shape (emission ∷ es) more fit = (fit.0, fit_front shape es more fit.1)
+fit_front : (shape : Option (Option ℕ)) (ended : List Value → ℕ) (es more : List Emission)
+    → FitAll shape ended (es ++ more) → FitAll shape ended es
+fit_front shape ended [] more fit = tt
+fit_front shape ended (emission ∷ es) more fit = (fit.0, fit_front shape ended es more fit.1)
 
-fit_back : (shape : Option (List Field)) (es more : List Emission) → FitAll shape (es ++ more) → FitAll shape more
-fit_back shape [] more fit = fit
-fit_back shape (emission ∷ es) more fit = fit_back shape es more fit.1
+fit_back : (shape : Option (Option ℕ)) (ended : List Value → ℕ) (es more : List Emission)
+    → FitAll shape ended (es ++ more) → FitAll shape ended more
+fit_back shape ended [] more fit = fit
+fit_back shape ended (emission ∷ es) more fit = fit_back shape ended es more fit.1
 
-keys-snoc : (es : List Emission) (emission : Emission) (keys : List (List Value))
-    → with_branches (es ++ emission ∷ []) keys ≡ with_branch emission.branch (with_branches es keys)
-keys-snoc [] emission keys = refl
-keys-snoc (first ∷ es) emission keys = keys-snoc es emission (with_branch first.branch keys)
+live-snoc : (now : ℕ) (es : List Emission) (emission : Emission) (live : LiveKeys)
+    → with_branches now (es ++ emission ∷ []) live ≡ with_branch now emission.branch (with_branches now es live)
+live-snoc now [] emission live = refl
+live-snoc now (first ∷ es) emission live = live-snoc now es emission (with_branch now first.branch live)
+
+-- an item ends no key
+branch_ended : (now : ℕ) (branch : Branch) (live : LiveKeys) → (with_branch now branch live).ended ≡ live.ended
+branch_ended now Children live = refl
+branch_ended now Otherwise live = refl
+branch_ended now (Fork fork) live = refl
+
+items_ended : (now : ℕ) (es : List Emission) (live : LiveKeys) → (with_branches now es live).ended ≡ live.ended
+items_ended now [] live = refl
+items_ended now (emission ∷ es) live =
+    items_ended now es (with_branch now emission.branch live) ∙ branch_ended now emission.branch live
 
 after_emissions-snoc : (branch : Branch) (es : List Emission) (emission : Emission) (h : History) →
     after_emissions branch (es ++ emission ∷ []) h
@@ -170,13 +213,16 @@ at_emissions-append effects_in received (first ∷ es) more =
     )
 
 -- what is not there still has ticks alone
-unseen_after : (shape : Option (List Field)) (es : List Emission) (keys : List (List Value)) (received : Received) →
-    UnseenHaveTicks shape keys received →
-    UnseenHaveTicks shape (with_branches es keys) (λ branch. after_emissions branch es (received branch))
-unseen_after shape [] keys received unseen = unseen
-unseen_after shape (emission ∷ es) keys received unseen =
-    unseen_after shape es (with_branch emission.branch keys) (extended emission.branch (In emission.item) received)
-    (unseen_goes_on shape emission.branch (In emission.item) keys received unseen)
+unseen_after : (shape : Option (Option ℕ)) (now : ℕ) (es : List Emission) (live : LiveKeys) (received : Received) →
+    FitAll shape live.ended es →
+    UnseenHaveTicks shape live received →
+    UnseenHaveTicks shape (with_branches now es live) (λ branch. after_emissions branch es (received branch))
+unseen_after shape now [] live received fit unseen = unseen
+unseen_after shape now (emission ∷ es) live received fit unseen =
+    unseen_after shape now es (with_branch now emission.branch live)
+    (extended emission.branch (In emission.item) received)
+    (subst (λ (ended : List Value → ℕ). FitAll shape ended es) (sym (branch_ended now emission.branch live)) fit.1)
+    (unseen_goes_on shape now emission.branch (In emission.item) live received fit.0 unseen)
 
 module _ (start moment : ℕ) where
   comes_here : (received : Received) (branch : Branch) (item : Item) → AllAreAt start moment received
@@ -192,42 +238,55 @@ module _ (start moment : ℕ) where
     small = stand.small;
   }
 
+  -- none has come past this moment
+  none_past : (received : Received) → AllAreAt start moment received → NonePast moment received
+  none_past received at branch = let here = at.represents branch in omega (arith, here)
+
   module _ (s : Stream) (streams : List Stream) (is : streams ≡ (out-Stream s).children.items) (first : ℕ)
-      (key : List Value) (x : Entry) (children otherwise : Forest) (forks found : ForkTable Forest) (number : ℕ)
-      (finds : IsFound (list_trees streams) first start key forks found number) where
+      (key : List Value) (ended : ℕ) (x : Entry) (children otherwise : Forest) (forks found : ForkTable Forest)
+      (number : ℕ)
+      (finds : Finds (list_trees streams) first start moment key forks found number) where
     -- the fork of the key is found
-    fork_found : (texts : List (List ℕ)) (keys : List (List Value)) (received : Received) →
-        FitsBranch (forked_by (kind_of (opened s))) (key_fork key) →
-        BelowIs texts (opened s) first keys received (below_of children otherwise forks) →
-        UnseenHaveTicks (forked_by (kind_of (opened s))) keys received →
-        ComesAt start moment (received (key_fork key)) x →
-        FoundAt texts (children_of (opened s)) key keys (λ k. received (key_fork k)) found number
-    fork_found texts keys received fits represents unseen comes =
+    fork_found : (texts : List (List ℕ)) (live : LiveKeys) (received : Received) →
+        FitsBranch (forked_by (kind_of (opened s))) live.ended (branch_of_key key ended) →
+        BelowIs texts (opened s) first live received (below_of children otherwise forks) →
+        UnseenHaveTicks (forked_by (kind_of (opened s))) live received → NonePast moment received →
+        ComesAt start moment (received (branch_of_key key ended)) x →
+        FoundAt texts (children_of (opened s)) (idle_in (forked_by (kind_of (opened s)))) key moment live.keys live.last
+        (λ k. received (key_fork live k)) found number
+    fork_found texts live received fits represents unseen past comes =
         let plan = children_of (opened s) in
         let trees : list_trees streams ≡ children_of (opened s) = ap list_trees is ∙ sym (children_of-opened s) in
         let here =
         forks_represent texts plan first (ForestRepresents texts plan)
-        (ForestRepresents texts (otherwise_of (opened s))) (forked_by (kind_of (opened s))) keys received key
+        (ForestRepresents texts (otherwise_of (opened s))) (forked_by (kind_of (opened s))) live received key ended
         (below_of children otherwise forks) fits represents in
-        subst (λ (trees : StreamTrees). IsFound trees first start key forks found number) trees finds texts keys
-        (λ k. received (key_fork k)) here.0 here.1
-        (unseen_fits (forked_by (kind_of (opened s))) keys received key fits unseen) comes.begins
+        let own : (branch_of_key key ended) ≡ key_fork live key = ap (λ (n : ℕ). Fork (record { key = key; number = n })) here.3 in
+        subst (λ (trees : StreamTrees). Finds trees first start moment key forks found number) trees finds texts
+        (idle_in (forked_by (kind_of (opened s)))) live.keys live.last
+        (λ k. received (key_fork live k)) here.0 here.2
+        (unseen_fits (forked_by (kind_of (opened s))) live received key ended fits unseen)
+        (ap (λ (b : Branch). begun (received b)) (sym own) ∙ comes.begins) (λ k. past (key_fork live k))
 
-    holds_there : (texts : List (List ℕ)) (keys : List (List Value)) (received : Received) →
-        FoundAt texts (children_of (opened s)) key keys (λ k. received (key_fork k)) found number →
-        ComesAt start moment (received (key_fork key)) x →
-        ForkComes start moment texts (children_of (opened s)) number found (received (key_fork key)) x
-    holds_there texts keys received at comes = record {
-      is_table = at.forks_represent.is_table;
-      within =
-          let even = even_keys found (with_key key keys) at.forks_represent.is_table at.forks_represent.keys_are in
-          omega (arith, even, at.within);
-      fork = λ other.
-          subst
-          (λ (k : List Value). ForestRepresents texts (children_of (opened s))
-          (nodes_of (get_or (fork_list found) number other)) (received (key_fork k)))
-          at.at_key
-          (at.forks_represent.each number other at.within);
+    holds_there : (texts : List (List ℕ)) (live : LiveKeys) (received : Received) →
+        (branch_of_key key ended) ≡ key_fork live key →
+        FoundAt texts (children_of (opened s)) (idle_in (forked_by (kind_of (opened s)))) key moment live.keys live.last
+        (λ k. received (key_fork live k)) found number →
+        ComesAt start moment (received (branch_of_key key ended)) x →
+        ForkComes start moment texts (children_of (opened s)) number found (received (branch_of_key key ended)) x
+    holds_there texts live received own at comes = record {
+      is_table = at.is_table;
+      has_fork = at.has_fork;
+      fork =
+          all-weaker
+          (IsFound (ForestRepresents texts (children_of (opened s))) (plan_deadline (children_of (opened s)))
+          (idle_in (forked_by (kind_of (opened s)))) key moment number live.last (λ k. received (key_fork live k)))
+          (λ (k : Kept). eqb k.number number ≡ true
+          → ForestRepresents texts (children_of (opened s)) (nodes_of k.fork) (received (branch_of_key key ended)))
+          (λ k found same.
+          subst (λ (b : Branch). ForestRepresents texts (children_of (opened s)) (nodes_of k.fork) (received b)) (sym own)
+          (found.here (sym found.numbered ∙ same)).0)
+          (kept_forks found) at.each;
       comes = comes;
     }
 
@@ -246,7 +305,7 @@ module _ {G : Type 0} (patterns : List Regex) (start moment : ℕ) where
       (λ (other : CodeBranch). BranchRuns patterns start moment a t b u x (opened s) first (branch_meant other)
       (below_of children otherwise forks) (below_of children' otherwise forks))
       (sym at)
-      (λ texts keys received from fits represents unseen comes.
+      (λ texts live received from fits represents unseen past comes.
       let plan = children_of (opened s) in
       let Means = ForestRepresents texts plan in
       let Beside = ForestRepresents texts (otherwise_of (opened s)) in
@@ -257,10 +316,10 @@ module _ {G : Type 0} (patterns : List Regex) (start moment : ℕ) where
       (λ (trees : StreamTrees).
       ForestRuns patterns start moment a t b u x trees (nodes_of children) (nodes_of children'))
       trees runs texts (received Children) from
-      (children_stand texts plan first Means Beside shape keys received (below_of children otherwise forks) fits
+      (children_stand texts plan first Means Beside shape live received (below_of children otherwise forks) fits
       represents)
       comes in (
-        children_put texts plan first Means Beside shape keys received x (nodes_of children) (nodes_of otherwise) forks
+        children_put texts plan first Means Beside shape live received x (nodes_of children) (nodes_of otherwise) forks
             (nodes_of children') fits represents ran.0,
         ran.1,
       ))
@@ -277,7 +336,7 @@ module _ {G : Type 0} (patterns : List Regex) (start moment : ℕ) where
       (λ (other : CodeBranch). BranchRuns patterns start moment a t b u x (opened s) first (branch_meant other)
       (below_of children otherwise forks) (below_of children otherwise' forks))
       (sym at)
-      (λ texts keys received from fits represents unseen comes.
+      (λ texts live received from fits represents unseen past comes.
       let plan = children_of (opened s) in
       let Means = ForestRepresents texts plan in
       let Beside = ForestRepresents texts (otherwise_of (opened s)) in
@@ -288,10 +347,10 @@ module _ {G : Type 0} (patterns : List Regex) (start moment : ℕ) where
       (λ (trees : StreamTrees).
       ForestRuns patterns start moment a t b u x trees (nodes_of otherwise) (nodes_of otherwise'))
       trees runs texts (received Otherwise) from
-      (otherwise_stand texts plan first Means Beside shape keys received (below_of children otherwise forks) fits
+      (otherwise_stand texts plan first Means Beside shape live received (below_of children otherwise forks) fits
       represents)
       comes in (
-        otherwise_put texts plan first Means Beside shape keys received x (nodes_of children) (nodes_of otherwise) forks
+        otherwise_put texts plan first Means Beside shape live received x (nodes_of children) (nodes_of otherwise) forks
             (nodes_of otherwise') fits represents ran.0,
         ran.1,
       ))
@@ -308,13 +367,13 @@ module _ {G : Type 0} (patterns : List Regex) (start moment : ℕ) where
       (λ (other : CodeBranch). BranchStops patterns start moment a t b u x (opened s) first (branch_meant other)
       (below_of children otherwise forks))
       (sym at)
-      (λ texts keys received from fits represents unseen comes.
+      (λ texts live received from fits represents unseen past comes.
       let plan = children_of (opened s) in
       let trees : list_trees streams ≡ children_of (opened s) = ap list_trees is ∙ sym (children_of-opened s) in
       (subst (λ (trees : StreamTrees). ForestStops patterns start moment a t b u x trees (nodes_of children)) trees
       stops texts (received Children) from
       (children_stand texts plan first (ForestRepresents texts plan) (ForestRepresents texts (otherwise_of (opened s)))
-      (forked_by (kind_of (opened s))) keys received (below_of children otherwise forks) fits represents)
+      (forked_by (kind_of (opened s))) live received (below_of children otherwise forks) fits represents)
       comes).part)
 
   pub otherwise_stop : (s : Stream) (streams : List Stream) (branch : CodeBranch) (x : Entry) (a b : List Output)
@@ -329,21 +388,21 @@ module _ {G : Type 0} (patterns : List Regex) (start moment : ℕ) where
       (λ (other : CodeBranch). BranchStops patterns start moment a t b u x (opened s) first (branch_meant other)
       (below_of children otherwise forks))
       (sym at)
-      (λ texts keys received from fits represents unseen comes.
+      (λ texts live received from fits represents unseen past comes.
       let plan = children_of (opened s) in
       let trees : list_trees streams ≡ otherwise_of (opened s) = ap list_trees is ∙ sym (otherwise_of-opened s) in
       (subst (λ (trees : StreamTrees). ForestStops patterns start moment a t b u x trees (nodes_of otherwise)) trees
       stops texts (received Otherwise) from
       (otherwise_stand texts plan first (ForestRepresents texts plan) (ForestRepresents texts (otherwise_of (opened s)))
-      (forked_by (kind_of (opened s))) keys received (below_of children otherwise forks) fits represents)
+      (forked_by (kind_of (opened s))) live received (below_of children otherwise forks) fits represents)
       comes).part)
 
   -- ---- a tick comes to both branches
 
-  both_case : (texts : List (List ℕ)) (plan beside : StreamTrees) (first : ℕ) (shape : Option (List Field))
-      (keys : List (List Value)) (received : Received) (a b c : List Output) (t u v : StepCount G)
+  both_case : (texts : List (List ℕ)) (plan beside : StreamTrees) (first : ℕ) (shape : Option (Option ℕ))
+      (live : LiveKeys) (received : Received) (a b c : List Output) (t u v : StepCount G)
       (children otherwise children' otherwise' : List Node) (forks : ForkTable Forest) → is_some shape ≡ false →
-      BelowRepresents texts plan first (ForestRepresents texts plan) (ForestRepresents texts beside) shape keys received
+      BelowRepresents texts plan first (ForestRepresents texts plan) (ForestRepresents texts beside) shape live received
       (record { children = children; otherwise = otherwise; forks = forks }) →
       (ForestRepresents texts plan children (received Children) →
       ForestRepresents texts plan children' (received Children ▸ Tick)
@@ -351,11 +410,12 @@ module _ {G : Type 0} (patterns : List Regex) (start moment : ℕ) where
       (ForestRepresents texts beside otherwise (received Otherwise) →
       ForestRepresents texts beside otherwise' (received Otherwise ▸ Tick)
       × Performs b u c v (plan_effects beside (received Otherwise ▸ Tick))) →
-      BelowRepresents texts plan first (ForestRepresents texts plan) (ForestRepresents texts beside) shape keys
+      BelowRepresents texts plan first (ForestRepresents texts plan) (ForestRepresents texts beside) shape
+      (after_tick shape moment Tick live)
       (λ branch. received branch ▸ Tick) (record { children = children'; otherwise = otherwise'; forks = forks })
       × Performs a t c v
-      (at_tick Tick (branch_effects (plan_effects plan) (plan_effects beside)) received (branches_by shape keys))
-  both_case texts plan beside first None keys received a b c t u v children otherwise children' otherwise' forks plain
+      (at_tick Tick (branch_effects (plan_effects plan) (plan_effects beside)) received (branches_by shape live))
+  both_case texts plan beside first None live received a b c t u v children otherwise children' otherwise' forks plain
       represents one two =
       let ran = one represents.children in
       let ran' = two represents.otherwise in
@@ -365,7 +425,7 @@ module _ {G : Type 0} (patterns : List Regex) (start moment : ℕ) where
         subst (λ (hs : List Effect). Performs a t c v (reported ++ hs)) (sym (append-nil reported'))
             (grew_then a b c t u v reported reported' ran.1 ran'.1),
       )
-  both_case texts plan beside first (Some fields) keys received a b c t u v children otherwise children' otherwise'
+  both_case texts plan beside first (Some idle) live received a b c t u v children otherwise children' otherwise'
       forks plain represents one two =
       absurd (cc)
 
@@ -386,7 +446,7 @@ module _ {G : Type 0} (patterns : List Regex) (start moment : ℕ) where
       (λ (y : Entry). TickRuns patterns start moment a t c v y (opened s) first (below_of children otherwise forks)
       (below_of children' otherwise' forks))
       (sym is)
-      (λ texts keys received from represents comes.
+      (λ texts live received from represents comes.
       let trees : list_trees children_streams ≡ children_of (opened s) =
       ap list_trees children_is ∙ sym (children_of-opened s) in
       let trees' : list_trees otherwise_streams ≡ otherwise_of (opened s) =
@@ -409,26 +469,26 @@ module _ {G : Type 0} (patterns : List Regex) (start moment : ℕ) where
       (λ (y : Entry). ForestRuns patterns start moment b u c v y (list_trees otherwise_streams) (nodes_of otherwise)
       (nodes_of otherwise'))
       is two) in
-      both_case texts (children_of (opened s)) (otherwise_of (opened s)) first (forked_by (kind_of (opened s))) keys
+      both_case texts (children_of (opened s)) (otherwise_of (opened s)) first (forked_by (kind_of (opened s))) live
       received a b c t u v
       (nodes_of children) (nodes_of otherwise) (nodes_of children') (nodes_of otherwise') forks
       (ap (λ (kind : KindTree). is_some (forked_by kind)) (kind_of-opened s) ∙ plain) represents
       (λ here. one' texts (received Children) from here (comes.each Children))
       (λ here. two' texts (received Otherwise) from here (comes.each Otherwise)))
 
-  one_stops_case : (texts : List (List ℕ)) (plan beside : StreamTrees) (first : ℕ) (shape : Option (List Field))
-      (keys : List (List Value)) (received : Received) (a b : List Output) (t u : StepCount G)
+  one_stops_case : (texts : List (List ℕ)) (plan beside : StreamTrees) (first : ℕ) (shape : Option (Option ℕ))
+      (live : LiveKeys) (received : Received) (a b : List Output) (t u : StepCount G)
       (below : Below) → is_some shape ≡ false →
-      BelowRepresents texts plan first (ForestRepresents texts plan) (ForestRepresents texts beside) shape keys received
+      BelowRepresents texts plan first (ForestRepresents texts plan) (ForestRepresents texts beside) shape live received
       below →
       (ForestRepresents texts plan below.children (received Children) →
       Stops a t b u Tick (plan_effects plan (received Children ▸ Tick))) →
       Stops a t b u Tick
-      (at_tick Tick (branch_effects (plan_effects plan) (plan_effects beside)) received (branches_by shape keys))
-  one_stops_case texts plan beside first None keys received a b t u below plain represents one =
+      (at_tick Tick (branch_effects (plan_effects plan) (plan_effects beside)) received (branches_by shape live))
+  one_stops_case texts plan beside first None live received a b t u below plain represents one =
       stops_more a b t u Tick (plan_effects plan (received Children ▸ Tick))
       (plan_effects beside (received Otherwise ▸ Tick) ++ []) (one represents.children)
-  one_stops_case texts plan beside first (Some fields) keys received a b t u below plain represents one = absurd (cc)
+  one_stops_case texts plan beside first (Some idle) live received a b t u below plain represents one = absurd (cc)
 
   pub one_stops : (s : Stream) (streams : List Stream) (x : Entry) (a b : List Output) (t u : StepCount G)
       (children otherwise : Forest) (forks : ForkTable Forest) →
@@ -439,7 +499,7 @@ module _ {G : Type 0} (patterns : List Regex) (start moment : ℕ) where
       subst
       (λ (y : Entry). TickStops patterns start moment a t b u y (opened s) first (below_of children otherwise forks))
       (sym is)
-      (λ texts keys received from represents comes.
+      (λ texts live received from represents comes.
       let trees : list_trees streams ≡ children_of (opened s) =
       ap list_trees children_is ∙ sym (children_of-opened s) in
       let one' =
@@ -447,14 +507,14 @@ module _ {G : Type 0} (patterns : List Regex) (start moment : ℕ) where
       (subst (λ (y : Entry). ForestStops patterns start moment a t b u y (list_trees streams) (nodes_of children)) is
       one) in
       one_stops_case texts (children_of (opened s)) (otherwise_of (opened s)) first (forked_by (kind_of (opened s)))
-      keys received a b t u (below_of children otherwise forks)
+      live received a b t u (below_of children otherwise forks)
       (ap (λ (kind : KindTree). is_some (forked_by kind)) (kind_of-opened s) ∙ plain) represents
       (λ here. one' texts (received Children) from here (comes.each Children)))
 
-  two_stops_case : (texts : List (List ℕ)) (plan beside : StreamTrees) (first : ℕ) (shape : Option (List Field))
-      (keys : List (List Value)) (received : Received) (a b c : List Output) (t u v : StepCount G)
+  two_stops_case : (texts : List (List ℕ)) (plan beside : StreamTrees) (first : ℕ) (shape : Option (Option ℕ))
+      (live : LiveKeys) (received : Received) (a b c : List Output) (t u v : StepCount G)
       (below : Below) (children' : List Node) → is_some shape ≡ false →
-      BelowRepresents texts plan first (ForestRepresents texts plan) (ForestRepresents texts beside) shape keys received
+      BelowRepresents texts plan first (ForestRepresents texts plan) (ForestRepresents texts beside) shape live received
       below →
       (ForestRepresents texts plan below.children (received Children) →
       ForestRepresents texts plan children' (received Children ▸ Tick)
@@ -462,13 +522,13 @@ module _ {G : Type 0} (patterns : List Regex) (start moment : ℕ) where
       (ForestRepresents texts beside below.otherwise (received Otherwise) →
       Stops b u c v Tick (plan_effects beside (received Otherwise ▸ Tick))) →
       Stops a t c v Tick
-      (at_tick Tick (branch_effects (plan_effects plan) (plan_effects beside)) received (branches_by shape keys))
-  two_stops_case texts plan beside first None keys received a b c t u v below children' plain represents one two =
+      (at_tick Tick (branch_effects (plan_effects plan) (plan_effects beside)) received (branches_by shape live))
+  two_stops_case texts plan beside first None live received a b c t u v below children' plain represents one two =
       let reported = plan_effects plan (received Children ▸ Tick) in
       let reported' = plan_effects beside (received Otherwise ▸ Tick) in
       subst (λ (hs : List Effect). Stops a t c v Tick (reported ++ hs)) (sym (append-nil reported'))
       (stops_then a b c t u v Tick reported reported' (one represents.children).1 (two represents.otherwise))
-  two_stops_case texts plan beside first (Some fields) keys received a b c t u v below children' plain represents one
+  two_stops_case texts plan beside first (Some idle) live received a b c t u v below children' plain represents one
       two =
       absurd (cc)
 
@@ -485,7 +545,7 @@ module _ {G : Type 0} (patterns : List Regex) (start moment : ℕ) where
       subst
       (λ (y : Entry). TickStops patterns start moment a t c v y (opened s) first (below_of children otherwise forks))
       (sym is)
-      (λ texts keys received from represents comes.
+      (λ texts live received from represents comes.
       let trees : list_trees children_streams ≡ children_of (opened s) =
       ap list_trees children_is ∙ sym (children_of-opened s) in
       let trees' : list_trees otherwise_streams ≡ otherwise_of (opened s) =
@@ -505,47 +565,51 @@ module _ {G : Type 0} (patterns : List Regex) (start moment : ℕ) where
       (λ (y : Entry). ForestStops patterns start moment b u c v y (list_trees otherwise_streams) (nodes_of otherwise))
       is two) in
       two_stops_case texts (children_of (opened s)) (otherwise_of (opened s)) first (forked_by (kind_of (opened s)))
-      keys received a b c t u v (below_of children otherwise forks) (nodes_of children')
+      live received a b c t u v (below_of children otherwise forks) (nodes_of children')
       (ap (λ (kind : KindTree). is_some (forked_by kind)) (kind_of-opened s) ∙ plain) represents
       (λ here. one' texts (received Children) from here (comes.each Children))
       (λ here. two' texts (received Otherwise) from here (comes.each Otherwise)))
 
   -- ---- a tick comes to the forks
 
-  due_case : (texts : List (List ℕ)) (plan beside : StreamTrees) (first : ℕ) (shape : Option (List Field))
-      (keys : List (List Value)) (received : Received) (a b : List Output) (t u : StepCount G)
+  due_case : (texts : List (List ℕ)) (plan beside : StreamTrees) (first : ℕ) (shape : Option (Option ℕ))
+      (idle : Option ℕ) (live : LiveKeys) (received : Received) (a b : List Output) (t u : StepCount G)
       (children otherwise : List Node) (forks forks' : ForkTable Forest) → is_some shape ≡ true →
-      AreReadFrom texts patterns →
-      BelowRepresents texts plan first (ForestRepresents texts plan) (ForestRepresents texts beside) shape keys received
+      idle_in shape ≡ idle → AreReadFrom texts patterns →
+      BelowRepresents texts plan first (ForestRepresents texts plan) (ForestRepresents texts beside) shape live received
       (record { children = children; otherwise = otherwise; forks = forks }) →
       ((branch : Branch) → ComesAt start moment (received branch) Tick) →
-      DueRuns patterns start moment a t b u plan forks forks' →
-      BelowRepresents texts plan first (ForestRepresents texts plan) (ForestRepresents texts beside) shape keys
+      DueRuns patterns start moment a t b u plan idle forks forks' →
+      BelowRepresents texts plan first (ForestRepresents texts plan) (ForestRepresents texts beside) shape
+      (after_tick shape moment Tick live)
       (λ branch. received branch ▸ Tick) (record { children = children; otherwise = otherwise; forks = forks' })
       × Performs a t b u
-      (at_tick Tick (branch_effects (plan_effects plan) (plan_effects beside)) received (branches_by shape keys))
-  due_case texts plan beside first None keys received a b t u children otherwise forks forks' forked from represents
-      comes runs =
-      absurd (cc)
-  due_case texts plan beside first (Some fields) keys received a b t u children otherwise forks forks' forked from
+      (at_tick Tick (branch_effects (plan_effects plan) (plan_effects beside)) received (branches_by shape live))
+  due_case texts plan beside first None idle live received a b t u children otherwise forks forks' forked idle_is from
       represents comes runs =
+      absurd (cc)
+  due_case texts plan beside first (Some own) idle live received a b t u children otherwise forks forks' forked idle_is
+      from represents comes runs =
       let ran =
-      runs texts keys (λ key. received (key_fork key)) from represents.can_fork.in_range represents.forks
-      (λ key. comes (key_fork key)) in (
+      subst (λ (i : Option ℕ). DueRuns patterns start moment a t b u plan i forks forks') (sym idle_is) runs texts live
+      (λ key. received (key_fork live key)) from represents.can_fork.in_range represents.can_fork.endless
+      represents.forks
+      (λ key. comes (key_fork live key)) in (
         record {
           can_fork = represents.can_fork;
+          lasts = represents.lasts;
           forks = ran.0;
           no_children = represents.no_children;
           no_otherwise = represents.no_otherwise;
         },
         subst (λ (hs : List Effect). Performs a t b u hs)
-            (sym (forks_tick (plan_effects plan) (plan_effects beside) received keys)) ran.1,
+            (sym (forks_tick (plan_effects plan) (plan_effects beside) received live)) ran.1,
       )
 
   pub due_run : (s : Stream) (x : Entry) (a b : List Output) (t u : StepCount G) (children otherwise : Forest)
       (forks forks' : ForkTable Forest) →
       is_some (forked_by (kind_tree (out-Stream s).kind)) ≡ true → x ≡ Tick →
-      DueRuns patterns start moment a t b u (children_of (opened s)) forks forks' →
+      DueRuns patterns start moment a t b u (children_of (opened s)) (idle_by (kind_of (opened s))) forks forks' →
       (first : ℕ) →
       TickRuns patterns start moment a t b u x (opened s) first (below_of children otherwise forks)
       (below_of children otherwise forks')
@@ -554,91 +618,123 @@ module _ {G : Type 0} (patterns : List Regex) (start moment : ℕ) where
       (λ (y : Entry). TickRuns patterns start moment a t b u y (opened s) first (below_of children otherwise forks)
       (below_of children otherwise forks'))
       (sym is)
-      (λ texts keys received from represents comes.
-      due_case texts (children_of (opened s)) (otherwise_of (opened s)) first (forked_by (kind_of (opened s))) keys
+      (λ texts live received from represents comes.
+      due_case texts (children_of (opened s)) (otherwise_of (opened s)) first (forked_by (kind_of (opened s)))
+      (idle_by (kind_of (opened s))) live
       received a b t u (nodes_of children) (nodes_of otherwise) forks forks'
-      (ap (λ (kind : KindTree). is_some (forked_by kind)) (kind_of-opened s) ∙ forked) from represents comes.each runs)
+      (ap (λ (kind : KindTree). is_some (forked_by kind)) (kind_of-opened s) ∙ forked) (idle_same (kind_of (opened s)))
+      from represents comes.each runs)
 
-  due_stops_case : (texts : List (List ℕ)) (plan beside : StreamTrees) (first : ℕ) (shape : Option (List Field))
-      (keys : List (List Value)) (received : Received) (a b : List Output) (t u : StepCount G)
-      (below : Below) → is_some shape ≡ true → AreReadFrom texts patterns →
-      BelowRepresents texts plan first (ForestRepresents texts plan) (ForestRepresents texts beside) shape keys received
+  due_stops_case : (texts : List (List ℕ)) (plan beside : StreamTrees) (first : ℕ) (shape : Option (Option ℕ))
+      (idle : Option ℕ) (live : LiveKeys) (received : Received) (a b : List Output) (t u : StepCount G)
+      (below : Below) → is_some shape ≡ true → idle_in shape ≡ idle → AreReadFrom texts patterns →
+      BelowRepresents texts plan first (ForestRepresents texts plan) (ForestRepresents texts beside) shape live received
       below →
       ((branch : Branch) → ComesAt start moment (received branch) Tick) →
-      DueStops patterns start moment a t b u plan below.forks →
+      DueStops patterns start moment a t b u plan idle below.forks →
       Stops a t b u Tick
-      (at_tick Tick (branch_effects (plan_effects plan) (plan_effects beside)) received (branches_by shape keys))
-  due_stops_case texts plan beside first None keys received a b t u below forked from represents comes stops =
+      (at_tick Tick (branch_effects (plan_effects plan) (plan_effects beside)) received (branches_by shape live))
+  due_stops_case texts plan beside first None idle live received a b t u below forked idle_is from represents comes
+      stops =
       absurd (cc)
-  due_stops_case texts plan beside first (Some fields) keys received a b t u below forked from represents comes stops =
+  due_stops_case texts plan beside first (Some own) idle live received a b t u below forked idle_is from represents comes
+      stops =
       subst (λ (hs : List Effect). Stops a t b u Tick hs)
-      (sym (forks_tick (plan_effects plan) (plan_effects beside) received keys))
-      (stops texts keys (λ key. received (key_fork key)) from represents.can_fork.in_range represents.forks
-      (λ key. comes (key_fork key)))
+      (sym (forks_tick (plan_effects plan) (plan_effects beside) received live))
+      (subst (λ (i : Option ℕ). DueStops patterns start moment a t b u plan i below.forks) (sym idle_is) stops texts
+      live (λ key. received (key_fork live key)) from represents.can_fork.in_range represents.can_fork.endless
+      represents.forks
+      (λ key. comes (key_fork live key)))
 
   pub due_stops : (s : Stream) (x : Entry) (a b : List Output) (t u : StepCount G) (children otherwise : Forest)
       (forks : ForkTable Forest) →
       is_some (forked_by (kind_tree (out-Stream s).kind)) ≡ true → x ≡ Tick →
-      DueStops patterns start moment a t b u (children_of (opened s)) forks →
+      DueStops patterns start moment a t b u (children_of (opened s)) (idle_by (kind_of (opened s))) forks →
       (first : ℕ) → TickStops patterns start moment a t b u x (opened s) first (below_of children otherwise forks)
   due_stops s x a b t u children otherwise forks forked is stops first =
       subst
       (λ (y : Entry). TickStops patterns start moment a t b u y (opened s) first (below_of children otherwise forks))
       (sym is)
-      (λ texts keys received from represents comes.
+      (λ texts live received from represents comes.
       due_stops_case texts (children_of (opened s)) (otherwise_of (opened s)) first (forked_by (kind_of (opened s)))
-      keys received a b t u (below_of children otherwise forks)
-      (ap (λ (kind : KindTree). is_some (forked_by kind)) (kind_of-opened s) ∙ forked) from represents comes.each stops)
+      (idle_by (kind_of (opened s))) live received a b t u (below_of children otherwise forks)
+      (ap (λ (kind : KindTree). is_some (forked_by kind)) (kind_of-opened s) ∙ forked) (idle_same (kind_of (opened s)))
+      from represents comes.each stops)
 
   -- an item is no tick
   pub item_waits : (s : StreamTree) (x : Entry) (item : Item) (a : List Output) (t : StepCount G) (below : Below)
       → x ≡ In item → (first : ℕ) → TickRuns patterns start moment a t a t x s first below below
   item_waits s x item a t below is first =
       subst (λ (y : Entry). TickRuns patterns start moment a t a t y s first below below) (sym is)
-      (λ texts keys received from represents comes. (represents, grew_none a t))
+      (λ texts live received from represents comes. (
+        subst
+            (λ (after : LiveKeys). BelowIs texts s first after received below)
+            (sym (item_leaves (forked_by (kind_of s)) moment item live)) represents,
+        grew_none a t,
+      ))
 
   -- ---- an item comes to a fork
 
   module _ (s : Stream) (streams : List Stream) (is : streams ≡ (out-Stream s).children.items) (first : ℕ)
       (key : List Value) (x : Entry) (children otherwise : Forest) (forks found : ForkTable Forest) (number : ℕ)
-      (finds : IsFound (list_trees streams) first start key forks found number) where
+      (finds : Finds (list_trees streams) first start moment key forks found number) (ended : ℕ) where
     pub key_run : (a b : List Output) (t u : StepCount G) (forks' : ForkTable Forest) →
-        ForkRuns patterns start moment a t b u x (children_of (opened s)) number found forks' →
-        BranchRuns patterns start moment a t b u x (opened s) first (key_fork key) (below_of children otherwise forks)
-        (below_of children otherwise forks')
-    key_run a b t u forks' runs texts keys received from fits represents unseen comes =
+        ForkRuns patterns start moment a t b u x (children_of (opened s)) (idle_by (kind_of (opened s))) number found
+        forks' →
+        BranchRuns patterns start moment a t b u x (opened s) first (Fork (record { key = key; number = ended }))
+        (below_of children otherwise forks) (below_of children otherwise forks')
+    key_run a b t u forks' runs texts live received from fits represents unseen past comes =
         let plan = children_of (opened s) in
+        let shape = forked_by (kind_of (opened s)) in
+        let idle = idle_in shape in
+        let here =
+        forks_represent texts plan first (ForestRepresents texts plan) (ForestRepresents texts (otherwise_of (opened s)))
+        shape live received key ended (below_of children otherwise forks) fits represents in
+        let own : (branch_of_key key ended) ≡ key_fork live key = ap (λ (n : ℕ). Fork (record { key = key; number = n })) here.3 in
         let at =
-        fork_found start moment s streams is first key x children otherwise forks found number finds texts keys received
-        fits represents unseen comes in
+        fork_found start moment s streams is first key ended x children otherwise forks found number finds texts live
+        received fits represents unseen past comes in
         let ran =
-        runs texts (received (key_fork key)) from
-        (holds_there start moment s streams is first key x children otherwise forks found number finds texts keys
-        received at comes) in (
+        subst (λ (i : Option ℕ). ForkRuns patterns start moment a t b u x plan i number found forks')
+        (sym (idle_same (kind_of (opened s)))) runs texts (received (branch_of_key key ended)) from
+        (holds_there start moment s streams is first key ended x children otherwise forks found number finds texts live
+        received own at comes) in
+        let after = with_branch moment (branch_of_key key ended) live in (
           forks_put texts plan first (ForestRepresents texts plan) (ForestRepresents texts (otherwise_of (opened s)))
-              (forked_by (kind_of (opened s))) keys (with_key key keys) received (extended (key_fork key) x received)
-              key
+              shape moment live received (extended (branch_of_key key ended) x received) key ended
               (nodes_of children) (nodes_of otherwise) forks forks' fits represents
-              (fork_goes_on texts plan x key keys received found forks' number at ran.0),
+              (fork_goes_on texts plan idle key moment live.keys live.last after.last
+              (λ k. received (key_fork live k)) (λ k. extended (branch_of_key key ended) x received (key_fork live k)) found forks'
+              number (received (branch_of_key key ended) ▸ x) here.1 comes.comes
+              (extended_here live key ended here.3 x received) (extended_elsewhere live key ended here.3 x received)
+              (λ k same. ap (λ (b : Bool). cond b (Some moment) (live.last k)) same)
+              (λ k other. ap (λ (b : Bool). cond b (Some moment) (live.last k)) other) at ran.0),
           ran.1,
         )
 
     pub key_stops : (a b : List Output) (t u : StepCount G) →
         ForkStops patterns start moment a t b u x (children_of (opened s)) number found →
-        BranchStops patterns start moment a t b u x (opened s) first (key_fork key) (below_of children otherwise forks)
-    key_stops a b t u stops texts keys received from fits represents unseen comes =
+        BranchStops patterns start moment a t b u x (opened s) first (Fork (record { key = key; number = ended }))
+        (below_of children otherwise forks)
+    key_stops a b t u stops texts live received from fits represents unseen past comes =
+        let plan = children_of (opened s) in
+        let shape = forked_by (kind_of (opened s)) in
+        let here =
+        forks_represent texts plan first (ForestRepresents texts plan) (ForestRepresents texts (otherwise_of (opened s)))
+        shape live received key ended (below_of children otherwise forks) fits represents in
+        let own : (branch_of_key key ended) ≡ key_fork live key = ap (λ (n : ℕ). Fork (record { key = key; number = n })) here.3 in
         let at =
-        fork_found start moment s streams is first key x children otherwise forks found number finds texts keys received
-        fits represents unseen comes in
-        stops texts (received (key_fork key)) from
-        (holds_there start moment s streams is first key x children otherwise forks found number finds texts keys
-        received at comes)
+        fork_found start moment s streams is first key ended x children otherwise forks found number finds texts live
+        received fits represents unseen past comes in
+        stops texts (received (branch_of_key key ended)) from
+        (holds_there start moment s streams is first key ended x children otherwise forks found number finds texts live
+        received own at comes)
 
   -- the fork was not found
   pub key_missed : (s : StreamTree) (x : Entry) (first : ℕ) (branch : Branch) (a : List Output) (t : StepCount G)
       (below : Below)
       → BranchStops patterns start moment a t a t x s first branch below
-  key_missed s x first branch a t below texts keys received from fits represents unseen comes =
+  key_missed s x first branch a t below texts live received from fits represents unseen past comes =
       part_none a t (entering (effects_below s) branch (received branch ▸ x))
 
   -- ---- emissions
@@ -646,16 +742,17 @@ module _ {G : Type 0} (patterns : List Regex) (start moment : ℕ) where
   -- no emission
   pub none_run : (s : StreamTree) (first : ℕ) (a : List Output) (t : StepCount G) (below : Below)
       → EmissionsRun patterns start moment a t a t [] s first below below
-  none_run s first a t below texts keys received from fit represents unseen stand = (represents, grew_none a t)
+  none_run s first a t below texts live received from fit represents unseen stand = (represents, grew_none a t)
 
   -- one emission alone
   pub one_run : (s : StreamTree) (first : ℕ) (branch : Branch) (item : Item) (a b : List Output) (t u : StepCount G)
       (below below' : Below) →
       BranchRuns patterns start moment a t b u (In item) s first branch below below' →
       EmissionsRun patterns start moment a t b u (record { branch = branch; item = item } ∷ []) s first below below'
-  one_run s first branch item a b t u below below' runs texts keys received from fit represents unseen stand =
+  one_run s first branch item a b t u below below' runs texts live received from fit represents unseen stand =
       let ran =
-      runs texts keys received from fit.0 represents unseen (comes_here start moment received branch item stand) in (
+      runs texts live received from fit.0 represents unseen (none_past start moment received stand)
+      (comes_here start moment received branch item stand) in (
         ran.0,
         subst (λ (hs : List Effect). Performs a t b u hs)
             (sym (append-nil (entering (effects_below s) branch (received branch ▸ In item)))) ran.1,
@@ -665,11 +762,48 @@ module _ {G : Type 0} (patterns : List Regex) (start moment : ℕ) where
       (below : Below) →
       BranchStops patterns start moment a t b u (In item) s first branch below →
       EmissionsStop patterns start moment a t b u (record { branch = branch; item = item } ∷ []) s first below
-  one_stop s first branch item a b t u below stops texts keys received from fit represents unseen stand = (
+  one_stop s first branch item a b t u below stops texts live received from fit represents unseen stand = (
     part_more a b t u (entering (effects_below s) branch (received branch ▸ In item)) []
-        (stops texts keys received from fit.0 represents unseen (comes_here start moment received branch item stand)),
+        (stops texts live received from fit.0 represents unseen (none_past start moment received stand)
+        (comes_here start moment received branch item stand)),
     λ none. cc,
   )
+
+  -- an item goes to the fork of a key
+  pub keyed_run : (s : StreamTree) (first : ℕ) (key : List Value) (item : Item) (passed : Passed) (x : Entry)
+      (a b : List Output) (t u : StepCount G) (below below' : Below) → passed ≡ Keyed key → x ≡ In item →
+      ((number : ℕ) → BranchRuns patterns start moment a t b u x s first (Fork (record { key = key; number = number }))
+      below below') →
+      (ended : List Value → ℕ) → EmissionsRun patterns start moment a t b u (emissions_meant ended passed x) s first
+      below below'
+  keyed_run s first key item passed x a b t u below below' passed_is x_is runs ended =
+      subst
+      (λ (p : Passed). EmissionsRun patterns start moment a t b u (emissions_meant ended p x) s first below below')
+      (sym passed_is)
+      (subst
+      (λ (y : Entry). EmissionsRun patterns start moment a t b u (emissions_meant ended (Keyed key) y) s first below
+      below')
+      (sym x_is)
+      (one_run s first (branch_of_key key (ended key)) item a b t u below below'
+      (subst
+      (λ (y : Entry). BranchRuns patterns start moment a t b u y s first (branch_of_key key (ended key)) below below')
+      x_is (runs (ended key)))))
+
+  pub keyed_stop : (s : StreamTree) (first : ℕ) (key : List Value) (item : Item) (passed : Passed) (x : Entry)
+      (a b : List Output) (t u : StepCount G) (below : Below) → passed ≡ Keyed key → x ≡ In item →
+      ((number : ℕ) → BranchStops patterns start moment a t b u x s first (Fork (record { key = key; number = number }))
+      below) →
+      (ended : List Value → ℕ) → EmissionsStop patterns start moment a t b u (emissions_meant ended passed x) s first
+      below
+  keyed_stop s first key item passed x a b t u below passed_is x_is stops ended =
+      subst (λ (p : Passed). EmissionsStop patterns start moment a t b u (emissions_meant ended p x) s first below)
+      (sym passed_is)
+      (subst
+      (λ (y : Entry). EmissionsStop patterns start moment a t b u (emissions_meant ended (Keyed key) y) s first below)
+      (sym x_is)
+      (one_stop s first (branch_of_key key (ended key)) item a b t u below
+      (subst (λ (y : Entry). BranchStops patterns start moment a t b u y s first (branch_of_key key (ended key)) below)
+      x_is (stops (ended key)))))
 
   -- one more emission
   emissions_more : (s : StreamTree) (first : ℕ) (a b c : List Output) (t u v : StepCount G)
@@ -677,24 +811,28 @@ module _ {G : Type 0} (patterns : List Regex) (start moment : ℕ) where
       EmissionsRun patterns start moment a t b u es s first below below' →
       BranchRuns patterns start moment b u c v (In emission.item) s first emission.branch below' below'' →
       EmissionsRun patterns start moment a t c v (es ++ emission ∷ []) s first below below''
-  emissions_more s first a b c t u v below below' below'' es emission so_far more texts keys received from fit
+  emissions_more s first a b c t u v below below' below'' es emission so_far more texts live received from fit
       represents unseen stand =
       let plan = children_of s in
       let Means = ForestRepresents texts plan in
       let Beside = ForestRepresents texts (otherwise_of s) in
       let shape = forked_by (kind_of s) in
-      let one = so_far texts keys received from (fit_front shape es (emission ∷ []) fit) represents unseen stand in
+      let one = so_far texts live received from (fit_front shape live.ended es (emission ∷ []) fit) represents unseen stand in
       let so = λ (branch : Branch). after_emissions branch es (received branch) in
-      let fits = (fit_back shape es (emission ∷ []) fit).0 in
+      let some = with_branches moment es live in
+      let fits = subst (λ (ended : List Value → ℕ). FitsBranch shape ended emission.branch)
+      (sym (items_ended moment es live)) (fit_back shape live.ended es (emission ∷ []) fit).0 in
       let two =
-      more texts (with_branches es keys) so from fits one.0 (unseen_after shape es keys received unseen)
+      more texts some so from fits one.0
+      (unseen_after shape moment es live received (fit_front shape live.ended es (emission ∷ []) fit) unseen)
+      (none_past start moment so (stand_after start moment es received stand))
       (comes_here start moment so emission.branch emission.item (stand_after start moment es received stand)) in
       let reported = entering (effects_below s) emission.branch (so emission.branch ▸ In emission.item) in (
         subst
-            (λ (ks : List (List Value)). BelowRepresents texts plan first Means Beside shape ks
+            (λ (after : LiveKeys). BelowRepresents texts plan first Means Beside shape after
             (λ branch. after_emissions branch (es ++ emission ∷ []) (received branch)) below'')
-            (sym (keys-snoc es emission keys))
-            (below_same texts plan first Means Beside shape (with_branch emission.branch (with_branches es keys))
+            (sym (live-snoc moment es emission live))
+            (below_same texts plan first Means Beside shape (with_branch moment emission.branch some)
             (extended emission.branch (In emission.item) so)
             (λ branch. after_emissions branch (es ++ emission ∷ []) (received branch)) below''
             (λ branch. sym (after_emissions-snoc branch es emission (received branch))) two.0),
@@ -725,15 +863,19 @@ module _ {G : Type 0} (patterns : List Regex) (start moment : ℕ) where
       EmissionsRun patterns start moment a t b u es s first below below' →
       BranchStops patterns start moment b u c v (In emission.item) s first emission.branch below' →
       EmissionsStop patterns start moment a t c v ((es ++ emission ∷ []) ++ rest) s first below
-  emissions_stop s first a b c t u v below below' es emission rest so_far stops texts keys received from fit represents
+  emissions_stop s first a b c t u v below below' es emission rest so_far stops texts live received from fit represents
       unseen stand =
       let shape = forked_by (kind_of s) in
-      let fit' = fit_front shape (es ++ emission ∷ []) rest fit in
-      let one = so_far texts keys received from (fit_front shape es (emission ∷ []) fit') represents unseen stand in
+      let fit' = fit_front shape live.ended (es ++ emission ∷ []) rest fit in
+      let one = so_far texts live received from (fit_front shape live.ended es (emission ∷ []) fit') represents unseen stand in
       let so = λ (branch : Branch). after_emissions branch es (received branch) in
-      let fits = (fit_back shape es (emission ∷ []) fit').0 in
+      let some = with_branches moment es live in
+      let fits = subst (λ (ended : List Value → ℕ). FitsBranch shape ended emission.branch)
+      (sym (items_ended moment es live)) (fit_back shape live.ended es (emission ∷ []) fit').0 in
       let two =
-      stops texts (with_branches es keys) so from fits one.0 (unseen_after shape es keys received unseen)
+      stops texts some so from fits one.0
+      (unseen_after shape moment es live received (fit_front shape live.ended es (emission ∷ []) fit') unseen)
+      (none_past start moment so (stand_after start moment es received stand))
       (comes_here start moment so emission.branch emission.item (stand_after start moment es received stand)) in
       let reported = entering (effects_below s) emission.branch (so emission.branch ▸ In emission.item) in
       let more = at_emissions-append (entering (effects_below s)) received (es ++ emission ∷ []) rest in (

@@ -1,322 +1,330 @@
 -- The forks of a `by`: the fork of a key, and an item that comes to it.
-use Rattle.std.proofs.Common.{◌≡◌, ◌≢◌, ℕ, zero, suc, ◌+◌, ◌<◌, ◌≤◌, ◌⊎◌, inl, inr, Bool, true, false, ◌||◌, ◌&&◌, ◌==◌, cond, eqb, List, [], ◌∷◌, ◌++◌, length, get_or, position, Option, Some, None, IsSome, refl, sym, ap, ◌∙◌, subst, arith, length-append}
+use Rattle.std.proofs.Common.{◌≡◌, ℕ, ◌+◌, ◌<◌, ◌≤◌, Bool, true, false, ◌&&◌, ◌==◌, cond, eqb, List, [], ◌∷◌, ◌++◌, map, length, Option, Some, None, refl, sym, ap, ◌∙◌, subst, arith}
 use mathlib.Core.Bool.{true≢false}
-use Rattle.std.specs.List.{AllByRecursion, IsDistinct, list_any}
-use Rattle.std.specs.Map.{keys_of}
-use Rattle.std.proofs.Math.Seq.{get_or-append_seam}
-use Rattle.std.proofs.lemmas.Bool.Decides.{nat_tests}
-use Rattle.std.proofs.lemmas.List.{get_or_append_left}
-use Rattle.std.proofs.lemmas.List.Elements.{All-contains}
-use Rattle.std.proofs.lemmas.List.Quantifiers.{position-Some}
-use Rattle.std.proofs.lemmas.Map.Lookups.{exact_unsigned}
-use Rattle.std.proofs.lemmas.Map.Views.{Contains-keys_from_lookup, tells_apart}
-use Rattle.ev_types.specs.declared.field.Field.{Field}
+use Rattle.std.specs.Prelude.{IfSome}
+use Rattle.std.specs.List.{AllByRecursion}
+use Rattle.std.proofs.lemmas.Bool.{eq-eqb}
+use Rattle.std.proofs.lemmas.List.{map-append}
 use Rattle.list_laws.specs.Counts.{greatest}
 use Rattle.ev_types.specs.declared.value.Value.{Value}
 use Rattle.ev_types.specs.Key.{same_key}
-use Rattle.ev_types.proofs.Values.{same_key_decides}
 use Rattle.fork_by.specs.declared.table.ForkTable.{ForkTable}
-use Rattle.fork_by.specs.Table.{fork_keys as table_keys, fork_list, fork_dues, fork_due, key_number, IsTable}
-use Rattle.fork_by.proofs.TableLaws.{none_passes}
+use Rattle.fork_by.specs.Table.{kept_forks, kept_number, fork_labels, fork_touched, AreApart, HasFork, IsTable}
+use Rattle.fork_by.specs.Labels.{IsLatest}
+use Rattle.fork_by.proofs.KeptForkLaws.{kept-apart, found-key, latest-kept}
 use Rattle.stream_plan.specs.Tree.{StreamTrees}
 use Rattle.stream_meaning.specs.Branches.{with_key}
 use Rattle.stream_meaning.specs.declared.entry.Entry.{Entry}
-use Rattle.stream_meaning.specs.Deadlines.{plan_deadline}
-use Rattle.stream_meaning.specs.Ends.{same_fork}
-use Rattle.stream_meaning.specs.EndLaws.{first_fork}
+use Rattle.stream_meaning.specs.Deadlines.{until, plan_deadline}
+use Rattle.stream_meaning.specs.Ends.{KeyFork, same_fork, idle_after}
 use Rattle.stream_meaning.specs.Emission.{Branch, Children, Otherwise, Fork}
-use Rattle.stream_meaning.specs.History.{History, ◌▸◌, TicksAlone}
+use Rattle.stream_meaning.specs.History.{History, ◌▸◌, moment_of, TicksAlone}
 use Rattle.stream_meaning.specs.Laws.{is_among}
-use Rattle.tick_schedule.specs.Queue.{moment_at}
-use Rattle.stream_tree.specs.declared.forest.Forest.{Forest}
-use Rattle.stream_tree.specs.Forest.{key_fork, Meaning, nodes_of, ForksRepresent, ForestRepresents}
-use Rattle.stream_tree.specs.Forks.{FoundAt, IsFound}
-use Rattle.stream_tree.specs.Fresh.{ForestIsFresh}
-use Rattle.stream_tree.specs.Running.{Received, FitsBranch, with_branch, UnseenHaveTicks, extended, ForkRan}
+use Rattle.stream_meaning.proofs.EndLaws.{key_is, key_same}
+use Rattle.stream_meaning.proofs.KeptEvents.{all-append, all-weaker}
 use Rattle.stream_meaning.proofs.ForkLaws.{not_among-before}
 use Rattle.stream_meaning.proofs.MetLaws.{and_false}
-use Rattle.stream_tree.proofs.DueLaws.{even_keys, ticks_due}
+use Rattle.stream_tree.specs.declared.forest.Forest.{Forest}
+use Rattle.stream_tree.specs.Forest.{Meaning, LiveKeys, key_fork, nodes_of, IsFork, ForksRepresent, ForestRepresents}
+use Rattle.stream_tree.specs.Forks.{IsFound, FoundAt, Finds}
+use Rattle.stream_tree.specs.Fresh.{ForestIsFresh}
+use Rattle.stream_tree.specs.Running.{Received, FitsBranch, with_branch, UnseenHaveTicks, extended, fork_after, ForkRan}
+use Rattle.stream_tree.proofs.KeptLaws.{Kept, Tied, keys_of_kept, all-both, all-to_map, all-front, all-last, apart_tied, at_number, among_at, no_number, new_key}
 
--- ---- keys
+abbrev Keys : Type 0
+Keys = List (List Value)
 
-same_self : (key : List Value) → same_key key key ≡ true
-same_self key = (same_key_decides key key).1 refl
-
--- the same key, asked from either side
-same_flip : (a b : List Value) → same_key a b ≡ same_key b a
-same_flip a b = by_test (same_key a b) (same_key b a) refl refl
-  where
-    by_test : (s t : Bool) → same_key a b ≡ s → same_key b a ≡ t → s ≡ t
-    by_test true true e f = refl
-    by_test false false e f = refl
-    by_test true false e f = absurd (true≢false (sym ((same_key_decides b a).1 (sym ((same_key_decides a b).0 e))) ∙ f))
-    by_test false true e f = absurd (true≢false (sym ((same_key_decides a b).1 (sym ((same_key_decides b a).0 f))) ∙ e))
-
-among_flip : (key : List Value) (keys : List (List Value)) → list_any (same_key key) keys ≡ is_among key keys
-among_flip key [] = refl
-among_flip key (other ∷ keys) =
-    ap (λ (b : Bool). b || list_any (same_key key) keys) (same_flip key other)
-    ∙ ap (λ (b : Bool). same_key other key || b) (among_flip key keys)
-
-among_at : (key : List Value) (keys : List (List Value)) (number : ℕ) → number < length keys
-    → get_or keys number [] ≡ key → is_among key keys ≡ true
-among_at key [] number within at = absurd (omega (arith, within))
-among_at key (other ∷ keys) zero within at =
-    ap (λ (b : Bool). b || is_among key keys) (ap (λ (k : List Value). same_key k key) at ∙ same_self key)
-among_at key (other ∷ keys) (suc number) within at =
-    or_true (same_key other key) (is_among key keys) (among_at key keys number (omega (arith, within)) at)
-  where
-    or_true : (s t : Bool) → t ≡ true → s || t ≡ true
-    or_true true t e = refl
-    or_true false t e = e
-
-apart_first : (first : List Value) (keys : List (List Value)) (n : ℕ)
-    → AllByRecursion (λ other. same_key first other ≡ false) keys → n < length keys
-    → same_key first (get_or keys n []) ≡ false
-apart_first first [] n all within = absurd (omega (arith, within))
-apart_first first (key ∷ keys) zero all within = all.0
-apart_first first (key ∷ keys) (suc n) all within = apart_first first keys n all.1 (omega (arith, within))
-
-apart_after : (keys : List (List Value)) (m n : ℕ) → IsDistinct same_key keys → m < n → n < length keys
-    → same_key (get_or keys m []) (get_or keys n []) ≡ false
-unfolding IsDistinct
-apart_after [] m n apart less within = absurd (omega (arith, within))
-apart_after (key ∷ keys) m zero apart less within = absurd (omega (arith, less))
-apart_after (key ∷ keys) zero (suc n) apart less within = apart_first key keys n apart.0 (omega (arith, within))
-apart_after (key ∷ keys) (suc m) (suc n) apart less within =
-    apart_after keys m n apart.1 (omega (arith, less)) (omega (arith, within))
-
--- the keys of two numbers differ
-pub apart_at : (keys : List (List Value)) (m n : ℕ) → IsDistinct same_key keys → m < length keys → n < length keys
-    → n ≢ m → same_key (get_or keys m []) (get_or keys n []) ≡ false
-apart_at keys m n apart within_m within_n other =
-    let way : (m < n) ⊎ (n < m) = grind arith in
-    elim way [
-      | inl less ↦ apart_after keys m n apart less within_n
-      | inr less ↦ same_flip (get_or keys m []) (get_or keys n []) ∙ apart_after keys n m apart less within_m
-    ]
-
-with_key_known : (key : List Value) (keys : List (List Value)) → is_among key keys ≡ true → with_key key keys ≡ keys
+with_key_known : (key : List Value) (keys : Keys) → is_among key keys ≡ true → with_key key keys ≡ keys
 with_key_known key keys e = ap (λ (b : Bool). cond b keys (keys ++ key ∷ [])) e
 
-with_key_new : (key : List Value) (keys : List (List Value)) → is_among key keys ≡ false
-    → with_key key keys ≡ keys ++ key ∷ []
+with_key_new : (key : List Value) (keys : Keys) → is_among key keys ≡ false → with_key key keys ≡ keys ++ key ∷ []
 with_key_new key keys e = ap (λ (b : Bool). cond b keys (keys ++ key ∷ [])) e
 
--- ---- the fork of a key
+-- a change of forks that leaves their keys
+pub keys_stay : (f : Kept → Kept) (ks : List Kept) → ((k : Kept) → (f k).key ≡ k.key)
+    → keys_of_kept (map f ks) ≡ keys_of_kept ks
+keys_stay f [] same = refl
+keys_stay f (k ∷ ks) same =
+    ap (λ (key : List Value). key ∷ keys_of_kept (map f ks)) (same k)
+    ∙ ap (λ (keys : Keys). k.key ∷ keys) (keys_stay f ks same)
+
+module _ (Means : Meaning) (deadline : History → Option ℕ) (idle : Option ℕ) (key : List Value) (now number : ℕ)
+    (last : List Value → Option ℕ) (received : List Value → History) where
+  abbrev Found : Kept → Type 0
+  Found = IsFound Means deadline idle key now number last received
+
+  abbrev Was : Kept → Type 0
+  Was k = IsFork Means deadline idle (last k.key) (received k.key) k
+
+  -- ---- a fork that is there
+
+  touched_found : (k : Kept) → Tied key number k → Was k → Found (fork_touched number now k)
+  touched_found k tied was = step (eqb k.number number) refl
+    where
+      put : Bool → Kept
+      put b = cond b (record k { moment = now }) k
+
+      step : (b : Bool) → eqb k.number number ≡ b → Found (fork_touched number now k)
+      step true e =
+          let same : same_key key k.key ≡ true = sym tied ∙ e in
+          let is : key ≡ k.key = key_is key k.key same in
+          subst Found (sym (ap put e)) (record {
+            numbered = tied;
+            here =
+                λ at.
+                (subst (λ (other : List Value). Means (nodes_of k.fork) (received other)) (sym is) was.represents, refl);
+            elsewhere = λ other. absurd (true≢false (sym same ∙ other));
+          })
+      step false e =
+          let other : same_key key k.key ≡ false = sym tied ∙ e in
+          subst Found (sym (ap put e)) (record {
+            numbered = tied;
+            here = λ at. absurd (true≢false (sym at ∙ other));
+            elsewhere = λ other. was;
+          })
+
+  touched_key : (k : Kept) → (fork_touched number now k).key ≡ k.key
+  touched_key k = step (eqb k.number number)
+    where
+      step : (b : Bool) → (cond b (record k { moment = now }) k).key ≡ k.key
+      step true = refl
+      step false = refl
+
+  -- ---- a fork that is made
+
+  waits : (k : Kept) → Tied key number k → same_key key k.key ≡ false → Was k → Found k
+  waits k tied other was = record {
+    numbered = tied;
+    here = λ at. absurd (true≢false (sym at ∙ other));
+    elsewhere = λ other. was;
+  }
+
+came_by : (Means : Meaning) (deadline : History → Option ℕ) (idle : Option ℕ) (last : List Value → Option ℕ)
+    (received : List Value → History) (now : ℕ) → ((other : List Value) → moment_of (received other) ≤ now) →
+    (ks : List Kept) →
+    AllByRecursion (λ k. IsFork Means deadline idle (last k.key) (received k.key) k) ks →
+    AllByRecursion (λ (k : Kept). k.moment ≤ now) ks
+came_by Means deadline idle last received now past ks all =
+    all-weaker (λ k. IsFork Means deadline idle (last k.key) (received k.key) k) (λ (k : Kept). k.moment ≤ now)
+    (λ k is. let at = past k.key in omega (arith, is.came, at)) ks all
 
 -- a fork that is there
-pub found_known : (streams : StreamTrees) (first start : ℕ) (key : List Value) (forks : ForkTable Forest) (number : ℕ) →
-    (IsTable forks → Some number ≡ key_number key (table_keys forks)) →
-    IsFound streams first start key forks forks number
-found_known streams first start key forks number found texts keys received can represents unseen begins =
-    let at : position (same_key key) keys ≡ Some number =
-    ap (key_number key) (sym represents.keys_are) ∙ sym (found represents.is_table) in
-    let place = position-Some (same_key key) keys number [] at in
-    let is : get_or keys number [] ≡ key = sym ((same_key_decides key (get_or keys number [])).0 place.1) in
-    let same : with_key key keys ≡ keys = with_key_known key keys (among_at key keys number place.0 is) in record {
-      forks_represent =
-          subst
-          (λ (ks : List (List Value)).
-          ForksRepresent (ForestRepresents texts streams) (plan_deadline streams) ks received forks)
-          (sym same) represents;
-      within = subst (λ (ks : List (List Value)). number < length ks) (sym same) place.0;
-      at_key = subst (λ (ks : List (List Value)). get_or ks number [] ≡ key) (sym same) is;
+pub found_known : (streams : StreamTrees) (first start now : ℕ) (key : List Value) (forks forks' : ForkTable Forest)
+    (number : ℕ) →
+    (IsTable forks → Some number ≡ kept_number key (kept_forks forks)) →
+    (IsTable forks → HasFork number forks) →
+    (IsLatest now (fork_labels forks) → kept_forks forks' ≡ map (fork_touched number now) (kept_forks forks)) →
+    (IsTable forks → IsTable forks') →
+    ((other : ℕ) → HasFork other forks → HasFork other forks') →
+    Finds streams first start now key forks forks' number
+found_known streams first start now key forks forks' number found has touched table still texts idle keys last received
+    can represents unseen begins past =
+    let Means : Meaning = ForestRepresents texts streams in
+    let deadline = plan_deadline streams in
+    let ks = kept_forks forks in
+    let is_table = represents.is_table in
+    let latest =
+    touched (latest-kept forks is_table now (came_by Means deadline idle last received now past ks represents.each)) in
+    let own = found-key forks is_table key number (sym (found is_table)) in
+    let there =
+    at_number (λ one. AllByRecursion (Tied one.key one.number) ks) number ks own.kept
+    (apart_tied ks (kept-apart forks is_table)) own.at in
+    let tied : AllByRecursion (Tied key number) ks =
+    subst (λ (k : List Value). AllByRecursion (Tied k number) ks) own.of_key
+    (subst (λ (n : ℕ). AllByRecursion (Tied own.kept.key n) ks) there.1 there.0) in
+    let among : is_among key keys ≡ true =
+    subst (λ (k : List Value). is_among k keys ≡ true) own.of_key
+    (subst (λ (l : Keys). is_among own.kept.key l ≡ true) represents.keys_are (among_at number ks own.kept own.at)) in
+    record {
+      is_table = table is_table;
+      has_fork = still number (has is_table);
+      keys_are =
+          ap keys_of_kept latest
+          ∙ keys_stay (fork_touched number now) ks (touched_key Means deadline idle key now number last received)
+          ∙ represents.keys_are ∙ sym (with_key_known key keys among);
+      each =
+          subst (AllByRecursion (IsFound Means deadline idle key now number last received)) (sym latest)
+          (all-to_map (IsFound Means deadline idle key now number last received) (fork_touched number now) ks
+          (all-both (Tied key number) (λ k. IsFork Means deadline idle (last k.key) (received k.key) k)
+          (λ k. IsFound Means deadline idle key now number last received (fork_touched number now k))
+          (touched_found Means deadline idle key now number last received) ks tied represents.each));
     }
-
-none_due_past : (forks : ForkTable Forest) → IsTable forks → fork_due (length (fork_list forks)) forks ≡ None
-none_due_past forks is_table = by_known (fork_due (length (fork_list forks)) forks) refl
-  where
-    by_known : (known : Option ℕ) → fork_due (length (fork_list forks)) forks ≡ known → known ≡ None
-    by_known None e = refl
-    by_known (Some moment) e =
-        let some : IsSome (moment_at (length (fork_list forks)) (fork_dues forks)) =
-        subst (λ (k : Option ℕ). IsSome k) (sym e) refl in
-        let less =
-        All-contains (λ n. n < length (fork_list forks)) (keys_of (fork_dues forks)) (length (fork_list forks))
-        is_table.within
-        (Contains-keys_from_lookup (tells_apart exact_unsigned) (length (fork_list forks)) (fork_dues forks) some) in
-        absurd (omega (arith, less))
 
 -- a fork that is made
-pub found_new : (streams : StreamTrees) (first start next : ℕ) (key : List Value) (forks forks' : ForkTable Forest)
+pub found_new : (streams : StreamTrees) (first start now next : ℕ) (key : List Value) (forks forks' : ForkTable Forest)
     (fork : Forest) (number : ℕ) →
-    (IsTable forks → None ≡ key_number key (table_keys forks)) →
-    ForestIsFresh streams start first next (nodes_of fork) → number ≡ length (fork_list forks) →
-    fork_list forks' ≡ fork_list forks ++ fork ∷ [] →
-    (key_number key (table_keys forks) ≡ None → table_keys forks' ≡ table_keys forks ++ key ∷ []) →
-    (key_number key (table_keys forks) ≡ None → IsTable forks → IsTable forks') → fork_dues forks' ≡ fork_dues forks →
-    IsFound streams first start key forks forks' number
-found_new streams first start next key forks forks' fork number absent fresh number_is list_is keys_are table same_dues
-    texts keys received can represents unseen begins =
+    (IsTable forks → None ≡ kept_number key (kept_forks forks)) →
+    ForestIsFresh streams start first next (nodes_of fork) →
+    (IsTable forks → IsLatest now (fork_labels forks) →
+    kept_forks forks'
+    ≡ kept_forks forks ++ record { key = key; number = number; fork = fork; moment = now; due = None } ∷ []) →
+    (IsTable forks → IsTable forks') →
+    (IsTable forks → HasFork number forks') →
+    Finds streams first start now key forks forks' number
+found_new streams first start now next key forks forks' fork number absent fresh added table has texts idle keys last
+    received can represents unseen begins past =
     let Means : Meaning = ForestRepresents texts streams in
-    let none : key_number key (table_keys forks) ≡ None = sym (absent represents.is_table) in
-    let here : position (same_key key) keys ≡ None = ap (key_number key) (sym represents.keys_are) ∙ none in
-    let new : is_among key keys ≡ false = sym (among_flip key keys) ∙ none_passes (same_key key) keys here in
-    let same : with_key key keys ≡ keys ++ key ∷ [] = with_key_new key keys new in
-    let even : length keys ≡ length (fork_list forks) = even_keys forks keys represents.is_table represents.keys_are in
-    let many : length (keys ++ key ∷ []) ≡ length keys + 1 = length-append keys (key ∷ []) in
-    let last : get_or (keys ++ key ∷ []) (length keys) [] ≡ key = get_or-append_seam keys key [] [] in
-    let alone : TicksAlone (received key) = unseen new in
-    let holds_new : Means (nodes_of fork) (received key) =
+    let deadline = plan_deadline streams in
+    let ks = kept_forks forks in
+    let is_table = represents.is_table in
+    let new : Kept = record { key = key; number = number; fork = fork; moment = now; due = None } in
+    let list_is : kept_forks forks' ≡ ks ++ new ∷ [] =
+    added is_table
+    (latest-kept forks is_table now (came_by Means deadline idle last received now past ks represents.each)) in
+    let none : kept_number key ks ≡ None = sym (absent is_table) in
+    let among : is_among key keys ≡ false =
+    subst (λ (l : Keys). is_among key l ≡ false) represents.keys_are (new_key key ks none) in
+    let tied : AllByRecursion (Tied key number) (ks ++ new ∷ []) =
+    all-last (λ one. AllByRecursion (Tied one.key one.number) (ks ++ new ∷ [])) ks new
+    (apart_tied (ks ++ new ∷ []) (subst AreApart list_is (kept-apart forks' (table is_table)))) in
+    let made : Means (nodes_of fork) (received key) =
     subst (λ (ts : List (List ℕ)). ForestRepresents ts streams (nodes_of fork) (received key)) (sym can.among)
-    (fresh.represents can.before can.after (received key) alone begins can.in_range can.begins
+    (fresh.represents can.before can.after true (received key) (unseen among) begins can.in_range can.endless can.begins
     (subst (λ (ts : List (List ℕ)). length ts ≤ greatest) can.among can.few)) in
-    let each : (n : ℕ) (other : Forest) → n < length (keys ++ key ∷ [])
-    → Means (nodes_of (get_or (fork_list forks') n other)) (received (get_or (keys ++ key ∷ []) n [])) =
-    λ n other within.
-    subst (λ (l : List Forest). Means (nodes_of (get_or l n other)) (received (get_or (keys ++ key ∷ []) n [])))
-    (sym list_is)
-    (each_new n other (omega (arith, within, many)) even holds_new) in
-    let dues : (n : ℕ) → n < length (keys ++ key ∷ [])
-    → fork_due n forks' ≡ plan_deadline streams (received (get_or (keys ++ key ∷ []) n [])) =
-    λ n within. ap (moment_at n) same_dues ∙ due_new n (omega (arith, within, many)) even alone in record {
-      forks_represent =
-          subst (λ (ks : List (List Value)). ForksRepresent Means (plan_deadline streams) ks received forks')
-          (sym same) (record {
-            is_table = table none represents.is_table;
-            keys_are = keys_are none ∙ ap (λ (ks : List (List Value)). ks ++ key ∷ []) represents.keys_are;
-            each = each;
-            dues = dues;
-          });
-      within = subst (λ (ks : List (List Value)). number < length ks) (sym same) (omega (arith, number_is, even, many));
-      at_key =
-          subst (λ (ks : List (List Value)). get_or ks number [] ≡ key) (sym same)
-          (ap (λ (n : ℕ). get_or (keys ++ key ∷ []) n []) (number_is ∙ sym even) ∙ last);
+    let there : IsFound Means deadline idle key now number last received new = record {
+      numbered = all-last (Tied key number) ks new tied;
+      here = λ same. (made, refl);
+      elsewhere = λ other. absurd (true≢false (sym (key_same key key refl) ∙ other));
+    } in
+    let others : AllByRecursion (IsFound Means deadline idle key now number last received) ks =
+    all-both (λ k. Tied key number k × (same_key key k.key ≡ false))
+    (λ k. IsFork Means deadline idle (last k.key) (received k.key) k)
+    (IsFound Means deadline idle key now number last received)
+    (λ k apart was. waits Means deadline idle key now number last received k apart.0 apart.1 was) ks
+    (all-both (Tied key number) (λ k. same_key key k.key ≡ false)
+    (λ k. Tied key number k × (same_key key k.key ≡ false)) (λ k a b. (a, b)) ks
+    (all-front (Tied key number) ks (new ∷ []) tied)
+    (no_number key ks none))
+    represents.each in
+    record {
+      is_table = table is_table;
+      has_fork = has is_table;
+      keys_are =
+          ap keys_of_kept list_is ∙ map-append (λ (k : Kept). k.key) ks (new ∷ [])
+          ∙ ap (λ (l : Keys). l ++ key ∷ []) represents.keys_are ∙ sym (with_key_new key keys among);
+      each =
+          subst (AllByRecursion (IsFound Means deadline idle key now number last received)) (sym list_is)
+          (all-append (IsFound Means deadline idle key now number last received) ks (new ∷ []) others (there, tt));
     }
-  where
-    split : (n m : ℕ) → n < m + 1 → (n < m) ⊎ (n ≡ m)
-    split n m h = grind arith
-
-    each_new : (n : ℕ) (other : Forest) → n < length keys + 1 → length keys ≡ length (fork_list forks) →
-        ForestRepresents texts streams (nodes_of fork) (received key) →
-        ForestRepresents texts streams (nodes_of (get_or (fork_list forks ++ fork ∷ []) n other))
-        (received (get_or (keys ++ key ∷ []) n []))
-    each_new n other within even made =
-        let known = λ (less : n < length keys).
-        subst (λ (f : Forest). ForestRepresents texts streams (nodes_of f) (received (get_or (keys ++ key ∷ []) n [])))
-        (sym (get_or_append_left (fork_list forks) (fork ∷ []) other n (omega (arith, less, even))))
-        (subst
-        (λ (k : List Value). ForestRepresents texts streams (nodes_of (get_or (fork_list forks) n other)) (received k))
-        (sym (get_or_append_left keys (key ∷ []) [] n less)) (represents.each n other less)) in
-        let new = λ (is : n ≡ length keys).
-        subst (λ (f : Forest). ForestRepresents texts streams (nodes_of f) (received (get_or (keys ++ key ∷ []) n [])))
-        (sym (ap (λ (m : ℕ). get_or (fork_list forks ++ fork ∷ []) m other) (is ∙ even)
-        ∙ get_or-append_seam (fork_list forks) fork [] other))
-        (subst (λ (k : List Value). ForestRepresents texts streams (nodes_of fork) (received k))
-        (sym (ap (λ (m : ℕ). get_or (keys ++ key ∷ []) m []) is ∙ get_or-append_seam keys key [] [])) made) in
-        elim (split n (length keys) within) [ inl less ↦ known less | inr is ↦ new is ]
-
-    due_new : (n : ℕ) → n < length keys + 1 → length keys ≡ length (fork_list forks) → TicksAlone (received key) →
-        fork_due n forks ≡ plan_deadline streams (received (get_or (keys ++ key ∷ []) n []))
-    due_new n within even alone =
-        let known =
-        λ (less : n < length keys). represents.dues n less
-        ∙ ap (λ (k : List Value). plan_deadline streams (received k))
-        (sym (get_or_append_left keys (key ∷ []) [] n less)) in
-        let new = λ (is : n ≡ length keys).
-        ap (λ (m : ℕ). fork_due m forks) (is ∙ even) ∙ none_due_past forks represents.is_table
-        ∙ sym (ticks_due streams (received key) can.in_range alone)
-        ∙ ap (λ (k : List Value). plan_deadline streams (received k))
-        (sym (ap (λ (m : ℕ). get_or (keys ++ key ∷ []) m []) is ∙ get_or-append_seam keys key [] [])) in
-        elim (split n (length keys) within) [ inl less ↦ known less | inr is ↦ new is ]
 
 -- ---- an item comes to the fork of a key
 
-pub fork_goes_on : (texts : List (List ℕ)) (streams : StreamTrees) (x : Entry) (key : List Value)
-    (keys : List (List Value)) (received : Received) (forks forks' : ForkTable Forest) (number : ℕ) →
-    FoundAt texts streams key keys (λ k. received (key_fork k)) forks number →
-    ForkRan texts streams number forks forks' (received (key_fork key) ▸ x) →
-    ForksRepresent (ForestRepresents texts streams) (plan_deadline streams) (with_key key keys)
-    (λ k. extended (key_fork key) x received (key_fork k)) forks'
-fork_goes_on texts streams x key keys received forks forks' number found ran = record {
-  is_table = ran.is_table;
-  keys_are = ran.keys ∙ found.forks_represent.keys_are;
-  each = λ n other within. each_at n other within (eqb n number) refl;
-  dues = λ n within. due_at n within (eqb n number) refl;
-}
-  where
-    is_same : (a b : ℕ) → eqb a b ≡ true → b ≡ a
-    is_same a b e = grind (arith, nat_tests)
+module _ (texts : List (List ℕ)) (streams : StreamTrees) (idle : Option ℕ) (key : List Value) (now : ℕ) (keys : Keys)
+    (last last' : List Value → Option ℕ) (received received' : List Value → History)
+    (forks forks' : ForkTable Forest) (number : ℕ) (h : History)
+    (lasts : IfSome idle (λ secs. 0 < secs)) (comes : moment_of h ≡ now)
+    (got : (k : List Value) → same_key key k ≡ true → received' k ≡ h)
+    (others : (k : List Value) → same_key key k ≡ false → received' k ≡ received k)
+    (came : (k : List Value) → same_key key k ≡ true → last' k ≡ Some now)
+    (others_came : (k : List Value) → same_key key k ≡ false → last' k ≡ last k) where
+  abbrev Means : Meaning
+  Means = ForestRepresents texts streams
 
-    is_other : (a b : ℕ) → eqb a b ≡ false → a ≢ b
-    is_other a b e = grind (arith, nat_tests)
+  abbrev deadline : History → Option ℕ
+  deadline = plan_deadline streams
 
-    distinct : IsDistinct same_key (with_key key keys)
-    distinct =
-        subst (λ (ks : List (List Value)). IsDistinct same_key ks) found.forks_represent.keys_are
-        found.forks_represent.is_table.distinct
+  after_key : (fork : Forest) (dl : Option ℕ) (k : Kept) → (fork_after idle number fork dl k).key ≡ k.key
+  after_key fork dl k = step (eqb k.number number)
+    where
+      step : (b : Bool)
+          → (cond b (record k { fork = fork; due = until (idle_after idle (Some k.moment)) dl }) k).key ≡ k.key
+      step true = refl
+      step false = refl
 
-    -- the fork of the key got the entry, and no other one
-    got : (k : List Value) (b : Bool) → same_key key k ≡ b
-        → extended (key_fork key) x received (key_fork k) ≡ cond b (received (key_fork k) ▸ x) (received (key_fork k))
-    got k b e = ap (λ (t : Bool). cond t (received (key_fork k) ▸ x) (received (key_fork k))) e
+  goes : (idle : Option ℕ) → IfSome idle (λ secs. 0 < secs) → (g : History) (moment : ℕ) → moment_of g ≡ now → moment ≡ now
+      → IfSome idle (λ secs. moment_of g < moment + secs)
+  goes None lasts g moment at is = tt
+  goes (Some secs) lasts g moment at is = omega (arith, lasts, at, is)
 
-    got_same : (k : List Value) → k ≡ key
-        → extended (key_fork key) x received (key_fork k) ≡ received (key_fork key) ▸ x
-    got_same k is =
-        got k true (ap (same_key key) is ∙ same_self key) ∙ ap (λ (k : List Value). received (key_fork k) ▸ x) is
+  now_after : (fork : Forest) → Means (nodes_of fork) h → (k : Kept) →
+      IsFound Means deadline idle key now number last received k →
+      IsFork Means deadline idle (last' k.key) (received' k.key) (fork_after idle number fork (deadline h) k)
+  now_after fork represents k found = step (same_key key k.key) refl
+    where
+      put : Bool → Kept
+      put b = cond b (record k { fork = fork; due = until (idle_after idle (Some k.moment)) (deadline h) }) k
 
-    apart : (n : ℕ) → n < length (with_key key keys) → n ≢ number
-        → same_key key (get_or (with_key key keys) n []) ≡ false
-    apart n within other =
-        subst (λ (k : List Value). same_key k (get_or (with_key key keys) n []) ≡ false) found.at_key
-        (apart_at (with_key key keys) number n distinct found.within within other)
+      step : (b : Bool) → same_key key k.key ≡ b
+          → IsFork Means deadline idle (last' k.key) (received' k.key) (fork_after idle number fork (deadline h) k)
+      step true e =
+          let here = found.here e in
+          let gets : received' k.key ≡ h = got k.key e in
+          let last_is : last' k.key ≡ Some k.moment = came k.key e ∙ ap Some (sym here.1) in
+          let at : moment_of (received' k.key) ≡ now = ap moment_of gets ∙ comes in
+          subst (IsFork Means deadline idle (last' k.key) (received' k.key)) (sym (ap put (found.numbered ∙ e))) (record {
+            represents = subst (Means (nodes_of fork)) (sym gets) represents;
+            last_is = last_is;
+            due_is =
+                ap (λ (l : Option ℕ). until (idle_after idle l) (deadline h)) (sym last_is)
+                ∙ ap (λ (g : History). until (idle_after idle (last' k.key)) (deadline g)) (sym gets);
+            came = omega (arith, at, here.1);
+            goes_on = goes idle lasts (received' k.key) k.moment at here.1;
+          })
+      step false e =
+          subst (IsFork Means deadline idle (last' k.key) (received' k.key)) (sym (ap put (found.numbered ∙ e)))
+          (subst (λ (l : Option ℕ). IsFork Means deadline idle l (received' k.key) k) (sym (others_came k.key e))
+          (subst (λ (g : History). IsFork Means deadline idle (last k.key) g k) (sym (others k.key e))
+          (found.elsewhere e)))
 
-    each_at : (n : ℕ) (other : Forest) → n < length (with_key key keys) → (b : Bool) → eqb n number ≡ b →
-        ForestRepresents texts streams (nodes_of (get_or (fork_list forks') n other))
-        (extended (key_fork key) x received (key_fork (get_or (with_key key keys) n [])))
-    each_at n other within true e =
-        let is : number ≡ n = is_same n number e in
-        subst (λ (h : History). ForestRepresents texts streams (nodes_of (get_or (fork_list forks') n other)) h)
-        (sym (got_same (get_or (with_key key keys) n [])
-        (ap (λ (m : ℕ). get_or (with_key key keys) m []) (sym is) ∙ found.at_key)))
-        (subst
-        (λ (m : ℕ).
-        ForestRepresents texts streams (nodes_of (get_or (fork_list forks') m other)) (received (key_fork key) ▸ x))
-        is (ran.here other))
-    each_at n other within false e =
-        subst (λ (h : History). ForestRepresents texts streams (nodes_of (get_or (fork_list forks') n other)) h)
-        (sym (got (get_or (with_key key keys) n []) false (apart n within (is_other n number e))))
-        (subst
-        (λ (f : Forest).
-        ForestRepresents texts streams (nodes_of f) (received (key_fork (get_or (with_key key keys) n []))))
-        (sym (ran.elsewhere n other (is_other n number e)))
-        (found.forks_represent.each n other within))
+  pub fork_goes_on : FoundAt texts streams idle key now keys last received forks number →
+      ForkRan texts streams idle number forks forks' h →
+      ForksRepresent Means deadline idle (with_key key keys) last' received' forks'
+  fork_goes_on found ran =
+      let ks = kept_forks forks in
+      let after = fork_after idle number ran.fork (deadline h) in record {
+        is_table = ran.is_table;
+        keys_are =
+            ap keys_of_kept ran.kept ∙ keys_stay after ks (after_key ran.fork (deadline h)) ∙ found.keys_are;
+        each =
+            subst (AllByRecursion (λ k. IsFork Means deadline idle (last' k.key) (received' k.key) k)) (sym ran.kept)
+            (all-to_map (λ k. IsFork Means deadline idle (last' k.key) (received' k.key) k) after ks
+            (all-weaker (IsFound Means deadline idle key now number last received)
+            (λ k. IsFork Means deadline idle (last' (after k).key) (received' (after k).key) (after k))
+            (λ k is. subst (λ (other : List Value). IsFork Means deadline idle (last' other) (received' other) (after k))
+            (sym (after_key ran.fork (deadline h) k))
+            (now_after ran.fork ran.represents k is)) ks found.each));
+      }
 
-    due_at : (n : ℕ) → n < length (with_key key keys) → (b : Bool) → eqb n number ≡ b
-        → fork_due n forks'
-        ≡ plan_deadline streams (extended (key_fork key) x received (key_fork (get_or (with_key key keys) n [])))
-    due_at n within true e =
-        ran.dues n
-        ∙ ap (λ (b : Bool). cond b (plan_deadline streams (received (key_fork key) ▸ x)) (fork_due n forks)) e
-        ∙ ap (plan_deadline streams)
-        (sym (got_same (get_or (with_key key keys) n [])
-        (ap (λ (m : ℕ). get_or (with_key key keys) m []) (sym (is_same n number e)) ∙ found.at_key)))
-    due_at n within false e =
-        ran.dues n
-        ∙ ap (λ (b : Bool). cond b (plan_deadline streams (received (key_fork key) ▸ x)) (fork_due n forks)) e
-        ∙ found.forks_represent.dues n within
-        ∙ ap (plan_deadline streams)
-        (sym (got (get_or (with_key key keys) n []) false (apart n within (is_other n number e))))
+-- the forks of keys, and one entry for one of them
+module _ (live : LiveKeys) (key : List Value) (number : ℕ) (own : number ≡ live.ended key) (x : Entry)
+    (received : Received) where
+  abbrev new_fork : KeyFork
+  new_fork = record { key = key; number = number }
+
+  pub extended_here : (k : List Value) → same_key key k ≡ true →
+      extended (Fork (record { key = key; number = number })) x received (key_fork live k)
+      ≡ received (Fork (record { key = key; number = number })) ▸ x
+  extended_here k same =
+      let is : key ≡ k = key_is key k same in
+      let fork_is : key_fork live k ≡ Fork new_fork =
+      ap (key_fork live) (sym is) ∙ ap (λ (n : ℕ). Fork (record { key = key; number = n })) (sym own) in
+      let yes : same_fork new_fork new_fork ≡ true =
+      ap (λ (b : Bool). b && same_key key key) (eq-eqb number number refl) ∙ key_same key key refl in
+      ap (extended (Fork new_fork) x received) fork_is
+      ∙ ap (λ (b : Bool). cond b (received (Fork new_fork) ▸ x) (received (Fork new_fork))) yes
+
+  pub extended_elsewhere : (k : List Value) → same_key key k ≡ false →
+      extended (Fork (record { key = key; number = number })) x received (key_fork live k) ≡ received (key_fork live k)
+  extended_elsewhere k other =
+      let unlike : same_fork new_fork (record { key = k; number = live.ended k }) ≡ false =
+      ap (λ (b : Bool). number == live.ended k && b) other ∙ and_false (number == live.ended k) in
+      ap (λ (b : Bool). cond b (received (key_fork live k) ▸ x) (received (key_fork live k))) unlike
 
 -- a fork that is not there still has ticks alone
-pub unseen_goes_on : (shape : Option (List Field)) (branch : Branch) (x : Entry) (keys : List (List Value))
-    (received : Received) →
-    UnseenHaveTicks shape keys received →
-    UnseenHaveTicks shape (with_branch branch keys) (extended branch x received)
-unseen_goes_on None branch x keys received unseen = tt
-unseen_goes_on (Some fields) Children x keys received unseen = λ key absent. unseen key absent
-unseen_goes_on (Some fields) Otherwise x keys received unseen = λ key absent. unseen key absent
-unseen_goes_on (Some fields) (Fork new) x keys received unseen = λ key absent.
-    let parts = not_among-before key new.key keys absent in
-    let other : same_fork new (first_fork key) ≡ false =
-    ap (λ (b : Bool). new.number == 0 && b) parts.1 ∙ and_false (new.number == 0) in
+pub unseen_goes_on : (shape : Option (Option ℕ)) (now : ℕ) (branch : Branch) (x : Entry) (live : LiveKeys)
+    (received : Received) → FitsBranch shape live.ended branch →
+    UnseenHaveTicks shape live received →
+    UnseenHaveTicks shape (with_branch now branch live) (extended branch x received)
+unseen_goes_on None now branch x live received fits unseen = tt
+unseen_goes_on (Some idle) now Children x live received fits unseen = absurd fits
+unseen_goes_on (Some idle) now Otherwise x live received fits unseen = absurd fits
+unseen_goes_on (Some idle) now (Fork new) x live received fits unseen = λ key absent.
+    let parts = not_among-before key new.key live.keys absent in
     subst (λ (h : History). TicksAlone h)
-    (sym (ap (λ (b : Bool). cond b (received (key_fork key) ▸ x) (received (key_fork key))) other)) (unseen key parts.0)
+    (sym (extended_elsewhere live new.key new.number fits x received key parts.1)) (unseen key parts.0)
 
-pub unseen_fits : (shape : Option (List Field)) (keys : List (List Value)) (received : Received) (key : List Value) →
-    FitsBranch shape (key_fork key) → UnseenHaveTicks shape keys received →
-    is_among key keys ≡ false → TicksAlone (received (key_fork key))
-unseen_fits None keys received key fits unseen = absurd fits
-unseen_fits (Some fields) keys received key fits unseen = unseen key
+pub unseen_fits : (shape : Option (Option ℕ)) (live : LiveKeys) (received : Received) (key : List Value) (number : ℕ) →
+    FitsBranch shape live.ended (Fork (record { key = key; number = number })) → UnseenHaveTicks shape live received →
+    is_among key live.keys ≡ false → TicksAlone (received (key_fork live key))
+unseen_fits None live received key number fits unseen = absurd fits
+unseen_fits (Some idle) live received key number fits unseen = unseen key

@@ -1,34 +1,37 @@
 -- Nodes that are made for streams represent ticks alone.
-use Rattle.std.proofs.Common.{◌≡◌, ℕ, ◌+◌, ◌<◌, ◌≤◌, true, false, List, [], ◌∷◌, ◌++◌, length, take, get_or, Option, Some, None, is_some, refl, sym, ap, ◌∙◌, subst, arith, length-append}
+use Rattle.std.specs.List.{AllByRecursion}
+use Rattle.std.proofs.Common.{◌≡◌, ℕ, ◌+◌, ◌<◌, ◌≤◌, Bool, true, false, ◌||◌, List, [], ◌∷◌, ◌++◌, length, take, get_or, Option, Some, None, is_some, refl, sym, ap, ◌∙◌, subst, arith, length-append}
 use Rattle.std.proofs.lemmas.List.{append-nil, append_assoc, take_more, take_all}
 use Rattle.list_laws.specs.Counts.{greatest}
 use Rattle.ev_types.specs.declared.field.Field.{Field}
 use Rattle.ev_types.specs.declared.value.Value.{Value}
 use Rattle.fork_by.specs.declared.table.ForkTable.{ForkTable}
-use Rattle.fork_by.specs.Table.{fork_keys as table_keys, IsTable}
+use Rattle.fork_by.specs.Table.{kept_forks, IsTable}
 use Rattle.stream_plan.specs.declared.plan.Stream.{Stream, out-Stream}
-use Rattle.stream_plan.specs.Kinds.{is_in_range}
+use Rattle.stream_plan.specs.Kinds.{is_by, is_in_range}
+use Rattle.stream_plan.specs.Nesting.{EndsOutermost, AllEndOutermost}
 use Rattle.stream_plan.specs.Ready.{kind_patterns, stream_patterns, plan_patterns}
 use Rattle.stream_plan.specs.Search.{opened}
 use Rattle.stream_plan.specs.Sound.{IsSound}
 use Rattle.stream_plan.specs.Tree.{KindTree, By, StreamTree, StreamTrees, stream, none, kind_tree, stream_tree, list_trees}
+use Rattle.stream_plan.proofs.NestingLaws.{ends_outermost}
 use Rattle.stream_plan.proofs.PatternLaws.{stream_patterns-opened}
 use Rattle.stream_plan.proofs.Trees.{stream_tree-opened}
-use Rattle.stream_meaning.specs.Branches.{child_history, fork_keys}
+use Rattle.stream_meaning.specs.Branches.{child_history}
 use Rattle.stream_meaning.specs.Deadlines.{plan_deadline}
 use Rattle.stream_meaning.specs.Emission.{Branch, Children, Otherwise}
-use Rattle.stream_meaning.specs.declared.entry.Entry.TheVariants.{Tick, Item as In}
-use Rattle.stream_meaning.specs.History.{History, since, ◌▸◌, begun, TicksAlone}
+use Rattle.stream_meaning.specs.History.{History, begun, TicksAlone}
 use Rattle.stream_meaning.proofs.TickLaws.{ticks_handed_on}
 use Rattle.stream_step.specs.declared.state.State.{State}
 use Rattle.stream_step.specs.declared.state.State.TheVariants.{Forks}
 use Rattle.stream_step.specs.Step.{StateRepresents}
 use Rattle.stream_tree.specs.declared.forest.Forest.{Forest}
 use Rattle.stream_tree.specs.declared.forest.Node.{Node, out-Node}
-use Rattle.stream_tree.specs.Forest.{IsStreamInRange, AreInRange, Meaning, Below, node_below, first_of, forked_by, key_fork, keys_by, ForksRepresent, BelowRepresents, PartsRepresent, NodeRepresents, ForestRepresents}
+use Rattle.stream_tree.specs.Forest.{IsStreamInRange, AreInRange, Meaning, Below, LiveKeys, node_below, first_of, forked_by, live_by, key_fork, IsFork, ForksRepresent, BelowRepresents, PartsRepresent, NodeRepresents, ForestRepresents}
 use Rattle.stream_tree.specs.Fresh.{ForestIsFresh, NodeIsFresh}
-use Rattle.stream_tree.proofs.EndlessLaws.{endless_of}
-use Rattle.stream_tree.proofs.KindLaws.{sound_in_range}
+use Rattle.stream_tree.proofs.KeptLaws.{keys_of_kept}
+use Rattle.stream_tree.proofs.KindLaws.{kind_range, sound_in_range}
+use Rattle.stream_tree.proofs.LiveLaws.{none_alone}
 
 abbrev Texts : Type 0
 Texts = List (List ℕ)
@@ -73,8 +76,9 @@ StateStands kind state start first =
 
 abbrev PartsFresh : KindTree → StreamTrees → StreamTrees → State → Below → ℕ → ℕ → Type 0
 PartsFresh kind children otherwise state below start first =
-    (before after : Texts) (h : History) → TicksAlone h → begun h ≡ start →
-    IsStreamInRange (stream kind children otherwise) → length before ≡ first →
+    (before after : Texts) (in_fork : Bool) (h : History) → TicksAlone h → begun h ≡ start →
+    IsStreamInRange (stream kind children otherwise) → EndsOutermost in_fork (stream kind children otherwise) →
+    length before ≡ first →
     length (before ++ ((kind_patterns kind ++ (plan_patterns children ++ plan_patterns otherwise)) ++ after))
     ≤ greatest →
     PartsRepresent (before ++ ((kind_patterns kind ++ (plan_patterns children ++ plan_patterns otherwise)) ++ after))
@@ -96,24 +100,25 @@ state_part kind children otherwise state start first own before after h alone be
     (own before ((c ++ o) ++ after) h alone begins range at (omega (arith, small, sizes before mine c o after)))
 
 -- a stream without forks
-plain_below : (texts : Texts) (plan : StreamTrees) (first : ℕ) (Means Beside : Meaning) (shape : Option (List Field))
-    (keys : List (List Value)) (received : Branch → History) (below : Below) →
+plain_below : (texts : Texts) (plan : StreamTrees) (first : ℕ) (Means Beside : Meaning) (shape : Option (Option ℕ))
+    (live : LiveKeys) (received : Branch → History) (below : Below) →
     is_some shape ≡ false →
-    Means below.children (received Children) → Beside below.otherwise (received Otherwise) → IsTable below.forks →
-    table_keys below.forks ≡ [] → BelowRepresents texts plan first Means Beside shape keys received below
-plain_below texts plan first Means Beside None keys received below plain one two is_table empty =
+    Means below.children (received Children) → Beside below.otherwise (received Otherwise) →
+    IsTable below.forks →
+    kept_forks below.forks ≡ [] → BelowRepresents texts plan first Means Beside shape live received below
+plain_below texts plan first Means Beside None live received below plain one two is_table empty =
     record { children = one; otherwise = two; is_table = is_table; no_forks = empty }
-plain_below texts plan first Means Beside (Some fields) keys received below plain one two is_table empty = absurd (cc)
+plain_below texts plan first Means Beside (Some idle) live received below plain one two is_table empty = absurd (cc)
 
 plain_fresh : (kind : KindTree) (children otherwise : StreamTrees) (state : State) (below : Below)
     (start first second third fourth : ℕ) →
     is_some (forked_by kind) ≡ false → StateStands kind state start first →
     (first + length (kind_patterns kind) ≤ greatest → second ≡ first + length (kind_patterns kind)) →
     ForestIsFresh children start second third below.children →
-    ForestIsFresh otherwise start third fourth below.otherwise → IsTable below.forks → table_keys below.forks ≡ [] →
+    ForestIsFresh otherwise start third fourth below.otherwise → IsTable below.forks → kept_forks below.forks ≡ [] →
     PartsFresh kind children otherwise state below start first
 plain_fresh kind children otherwise state below start first second third fourth plain own next children_fresh
-    otherwise_fresh is_table empty before after h alone begins ranges at small =
+    otherwise_fresh is_table empty before after in_fork h alone begins ranges nested at small =
     let mine = kind_patterns kind in
     let c = plan_patterns children in
     let o = plan_patterns otherwise in
@@ -123,17 +128,17 @@ plain_fresh kind children otherwise state below start first second third fourth 
     let third_is : third ≡ second + length c = children_fresh.following (omega (arith, small, size, at, second_is)) in
     let one : ForestRepresents texts children below.children h =
     subst (λ (ts : Texts). ForestRepresents ts children below.children h) (children_part before mine c o after)
-    (children_fresh.represents (before ++ mine) (o ++ after) h alone begins ranges.1
+    (children_fresh.represents (before ++ mine) (o ++ after) (is_by kind || in_fork) h alone begins ranges.1 nested.1
     (omega (arith, length-append before mine, at, second_is))
     (subst (λ (ts : Texts). length ts ≤ greatest) (sym (children_part before mine c o after)) small)) in
     let two : ForestRepresents texts otherwise below.otherwise h =
     subst (λ (ts : Texts). ForestRepresents ts otherwise below.otherwise h) (otherwise_part before mine c o after)
-    (otherwise_fresh.represents ((before ++ mine) ++ c) after h alone begins ranges.2
+    (otherwise_fresh.represents ((before ++ mine) ++ c) after (is_by kind || in_fork) h alone begins ranges.2 nested.2
     (omega (arith, length-append (before ++ mine) c, length-append before mine, at, second_is, third_is))
     (subst (λ (ts : Texts). length ts ≤ greatest) (sym (otherwise_part before mine c o after)) small)) in (
       state_part kind children otherwise state start first own before after h alone begins ranges.0 at small,
       plain_below texts children (first_of state) (ForestRepresents texts children) (ForestRepresents texts otherwise)
-          (forked_by kind) (keys_by (forked_by kind) h) (λ branch. child_history kind branch h) below plain
+          (forked_by kind) (live_by kind h) (λ branch. child_history kind branch h) below plain
           (subst (λ (g : History). ForestRepresents texts children below.children g)
           (sym (ticks_handed_on kind Children h alone)) one)
           (subst (λ (g : History). ForestRepresents texts otherwise below.otherwise g)
@@ -142,71 +147,59 @@ plain_fresh kind children otherwise state below start first second third fourth 
     )
 
 -- a `by` without forks
-no_forks : (Means : Meaning) (deadline : History → Option ℕ) (keys : List (List Value))
-    (received : List Value → History) (forks : ForkTable Forest) →
-    IsTable forks → table_keys forks ≡ [] → keys ≡ [] →
-    ForksRepresent Means deadline keys received forks
-no_forks Means deadline keys received forks is_table empty are = record {
+no_forks : (Means : Meaning) (deadline : History → Option ℕ) (idle : Option ℕ) (keys : List (List Value))
+    (last : List Value → Option ℕ) (received : List Value → History) (forks : ForkTable Forest) →
+    IsTable forks → kept_forks forks ≡ [] → keys ≡ [] →
+    ForksRepresent Means deadline idle keys last received forks
+no_forks Means deadline idle keys last received forks is_table empty are = record {
   is_table = is_table;
-  keys_are = empty ∙ sym are;
-  each =
-      λ number other within.
-      let few : number < 0 = subst (λ (ks : List (List Value)). number < length ks) are within in
-      absurd (omega (arith, few));
-  dues =
-      λ number within.
-      let few : number < 0 = subst (λ (ks : List (List Value)). number < length ks) are within in
-      absurd (omega (arith, few));
+  keys_are = ap keys_of_kept empty ∙ sym are;
+  each = subst (AllByRecursion (λ k. IsFork Means deadline idle (last k.key) (received k.key) k)) (sym empty) tt;
 }
-
-no_keys : (fields : List Field) (h : History) → TicksAlone h → fork_keys fields h ≡ []
-no_keys fields (since start) alone = refl
-no_keys fields (h ▸ Tick) alone = no_keys fields h alone
-no_keys fields (h ▸ In item) alone = absurd alone
 
 by_fresh : (kind : KindTree) (children otherwise : StreamTrees) (state : State) (below : Below) (start first : ℕ) →
     is_some (forked_by kind) ≡ true → StateStands kind state start first →
-    ((fields : List Field) → kind ≡ By fields None → state ≡ Forks first) → IsTable below.forks →
-    table_keys below.forks ≡ [] → below.children ≡ [] → below.otherwise ≡ [] →
+    ((fields : List Field) (idle : Option ℕ) → kind ≡ By fields idle → state ≡ Forks first) →
+    IsTable below.forks →
+    kept_forks below.forks ≡ [] → below.children ≡ [] → below.otherwise ≡ [] →
     PartsFresh kind children otherwise state below start first
 by_fresh (By fields idle) children otherwise state below start first forked own keeps is_table empty no_children
-    no_otherwise before after h alone begins ranges at small =
+    no_otherwise before after in_fork h alone begins ranges nested at small =
     let c = plan_patterns children in
     let o = plan_patterns otherwise in
     let texts : Texts = before ++ ((c ++ o) ++ after) in
-    let stands =
-    state_part (By fields idle) children otherwise state start first own before after h alone begins ranges.0 at
-    small in
-    let endless : idle ≡ None = endless_of texts (By fields idle) state h stands in (
+    let live = live_by (By fields idle) h in (
       state_part (By fields idle) children otherwise state start first own before after h alone begins ranges.0 at
           small,
       record {
         can_fork = record {
           in_range = ranges.1;
+          endless = nested.1;
           before = before;
           after = o ++ after;
-          begins = at ∙ ap first_of (sym (keeps fields (ap (λ (i : Option ℕ). By fields i) endless)));
+          begins = at ∙ ap first_of (sym (keeps fields idle refl));
           among = ap (λ (l : Texts). before ++ l) (append_assoc c o after);
           few = small;
         };
+        lasts = kind_range (By fields idle) ranges.0;
         forks =
-            no_forks (ForestRepresents texts children) (plan_deadline children) (fork_keys fields h)
-            (λ key. child_history (By fields idle) (key_fork key) h) below.forks is_table empty
-            (no_keys fields h alone);
+            no_forks (ForestRepresents texts children) (plan_deadline children) idle live.keys live.last
+            (λ key. child_history (By fields idle) (key_fork live key) h) below.forks is_table empty
+            (none_alone fields idle h alone);
         no_children = no_children;
         no_otherwise = no_otherwise;
       },
     )
 by_fresh kind children otherwise state below start first forked own keeps is_table empty no_children no_otherwise before
-    after h alone begins ranges at small =
+    after in_fork h alone begins ranges nested at small =
     absurd (cc)
 
 -- ---- the node of a stream
 
 abbrev OpenedFresh : Stream → State → Below → ℕ → ℕ → Type 0
 OpenedFresh s state below start first =
-    (before after : Texts) (h : History) → TicksAlone h → begun h ≡ start → IsStreamInRange (opened s) →
-    length before ≡ first →
+    (before after : Texts) (in_fork : Bool) (h : History) → TicksAlone h → begun h ≡ start →
+    IsStreamInRange (opened s) → EndsOutermost in_fork (opened s) → length before ≡ first →
     length (before ++ (stream_patterns (opened s) ++ after)) ≤ greatest →
     PartsRepresent (before ++ (stream_patterns (opened s) ++ after)) (opened s) state below h
 
@@ -219,7 +212,7 @@ pub node_holds : (s : Stream) (children otherwise : List Stream) (state : State)
     second ≡ first + length (kind_patterns (kind_tree (out-Stream s).kind))) →
     ForestIsFresh (list_trees children) start second third below.children →
     ForestIsFresh (list_trees otherwise) start third fourth below.otherwise → IsTable below.forks →
-    table_keys below.forks ≡ [] →
+    kept_forks below.forks ≡ [] →
     OpenedFresh s state below start first
 unfolding opened stream_patterns
 node_holds s children otherwise state below start first second third fourth children_is otherwise_is plain own next
@@ -235,8 +228,8 @@ node_holds s children otherwise state below start first second third fourth chil
 pub unforked_holds : (s : Stream) (state : State) (below : Below) (start first : ℕ) →
     is_some (forked_by (kind_tree (out-Stream s).kind)) ≡ true →
     StateStands (kind_tree (out-Stream s).kind) state start first →
-    ((fields : List Field) → kind_tree (out-Stream s).kind ≡ By fields None → state ≡ Forks first) →
-    IsTable below.forks → table_keys below.forks ≡ [] → below.children ≡ [] → below.otherwise ≡ [] →
+    ((fields : List Field) (idle : Option ℕ) → kind_tree (out-Stream s).kind ≡ By fields idle → state ≡ Forks first) →
+    IsTable below.forks → kept_forks below.forks ≡ [] → below.children ≡ [] → below.otherwise ≡ [] →
     OpenedFresh s state below start first
 unfolding opened stream_patterns
 unforked_holds s state below start first forked own keeps is_table empty no_children no_otherwise =
@@ -308,13 +301,13 @@ pub node_fresh : (s : Stream) (node : Node) (state : State) (below : Below) (sta
     (first + length (stream_patterns (opened s)) ≤ greatest → next ≡ first + length (stream_patterns (opened s))) →
     NodeIsFresh (opened s) start first next node
 node_fresh s node state below start first next state_is below_is represents following = record {
-  represents = λ before after h alone begins ranges at small.
+  represents = λ before after in_fork h alone begins ranges nested at small.
       subst
       (λ (st : State).
       PartsRepresent (before ++ (stream_patterns (opened s) ++ after)) (opened s) st (node_below node) h)
       (sym state_is)
       (subst (λ (b : Below). PartsRepresent (before ++ (stream_patterns (opened s) ++ after)) (opened s) state b h)
-      (sym below_is) (represents before after h alone begins ranges at small));
+      (sym below_is) (represents before after in_fork h alone begins ranges nested at small));
   following = following;
 }
 
@@ -343,10 +336,17 @@ in_range-snoc : (front : List Stream) (s : Stream) → AreInRange (list_trees (f
 in_range-snoc [] s ranges = (tt, ranges.0)
 in_range-snoc (first ∷ front) s ranges = let more = in_range-snoc front s ranges.1 in ((ranges.0, more.0), more.1)
 
+outermost-snoc : (in_fork : Bool) (front : List Stream) (s : Stream)
+    → AllEndOutermost in_fork (list_trees (front ++ s ∷ []))
+    → AllEndOutermost in_fork (list_trees front) × EndsOutermost in_fork (stream_tree s)
+outermost-snoc in_fork [] s nested = (tt, nested.0)
+outermost-snoc in_fork (first ∷ front) s nested =
+    let more = outermost-snoc in_fork front s nested.1 in ((nested.0, more.0), more.1)
+
 no_nodes : (start first : ℕ) → ForestIsFresh none start first first []
 unfolding plan_patterns
 no_nodes start first =
-    record { represents = λ before after h alone begins ranges at small. tt; following = λ small. omega arith }
+    record { represents = λ before after in_fork h alone begins ranges nested at small. tt; following = λ small. omega arith }
 
 fresh-snoc : (front : List Stream) (s : Stream) (nodes : List Node) (node : Node) (start first second third : ℕ) →
     ForestIsFresh (list_trees front) start first second nodes → NodeIsFresh (stream_tree s) start second third node →
@@ -358,8 +358,9 @@ fresh-snoc front s nodes node start first second third fresh one =
     let size : length (plan_patterns (list_trees (front ++ s ∷ []))) ≡ length ts + length more =
     omega (arith, ap (λ (ts : Texts). length ts) all, length-append ts more) in
     record {
-      represents = λ before after h alone begins ranges at small.
+      represents = λ before after in_fork h alone begins ranges nested at small.
           let parts = in_range-snoc front s ranges in
+          let ends = outermost-snoc in_fork front s nested in
           let small' : length (before ++ ((ts ++ more) ++ after)) ≤ greatest =
           subst (λ (l : Texts). length (before ++ (l ++ after)) ≤ greatest) all small in
           let total = length-append before ((ts ++ more) ++ after) in
@@ -372,10 +373,10 @@ fresh-snoc front s nodes node start first second third fresh one =
           let front_is : before ++ (ts ++ (more ++ after)) ≡ before ++ ((ts ++ more) ++ after) =
           ap (λ (l : Texts). before ++ l) (sym (append_assoc ts more after)) in
           let front_holds =
-          fresh.represents before (more ++ after) h alone begins parts.0 at
+          fresh.represents before (more ++ after) in_fork h alone begins parts.0 ends.0 at
           (subst (λ (l : Texts). length l ≤ greatest) (sym front_is) small') in
           let one_holds =
-          one.represents (before ++ ts) after h alone begins parts.1
+          one.represents (before ++ ts) after in_fork h alone begins parts.1 ends.1
           (omega (arith, length-append before ts, at, second_is))
           (subst (λ (l : Texts). length l ≤ greatest) (sym before_is) small') in
           subst
@@ -425,5 +426,5 @@ plan_fresh plan streams nodes start next is sound few fresh h alone begins =
     let fresh' : ForestIsFresh plan start 0 next nodes =
     subst (λ (trees : StreamTrees). ForestIsFresh trees start 0 next nodes) is fresh in
     subst (λ (ts : Texts). ForestRepresents ts plan nodes h) (append-nil (plan_patterns plan))
-    (fresh'.represents [] [] h alone begins (sound_in_range plan sound) refl
+    (fresh'.represents [] [] false h alone begins (sound_in_range plan sound) (ends_outermost plan sound) refl
     (subst (λ (ts : Texts). length ts ≤ greatest) (sym (append-nil (plan_patterns plan))) few))

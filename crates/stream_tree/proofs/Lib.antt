@@ -1,10 +1,12 @@
 pub mod PerformLaws
-pub mod EndlessLaws
+pub mod KeptLaws
+pub mod EndLaws
+pub mod LiveLaws
 pub mod KindLaws
 pub mod StillLaws
+pub mod ForkLaws
 pub mod DueLaws
 pub mod DueLoop
-pub mod ForkLaws
 pub mod GiveLaws
 pub mod BelowLaws
 pub mod EnterLaws

@@ -1,39 +1,34 @@
 -- When something is due next, part by part.
-use Rattle.std.proofs.Common.{◌≡◌, ℕ, zero, suc, ◌+◌, ◌<◌, ◌≤◌, ◌^◌, min, true, false, List, [], ◌∷◌, length, map, drop, get_or, Option, Some, None, is_some, refl, sym, ap, ◌∙◌, subst, arith}
+use Rattle.std.proofs.Common.{◌≡◌, ℕ, zero, suc, ◌+◌, ◌<◌, ◌≤◌, ◌^◌, min, Bool, true, false, ◌||◌, eqb, List, [], ◌∷◌, length, map, drop, get_or, Option, Some, None, is_some, refl, sym, ap, ◌∙◌, subst, arith}
 use Rattle.std.specs.Prelude.{IfSome}
-use Rattle.std.specs.BTreeMap.{is_at}
-use Rattle.std.specs.Cmp.{nat_cmp_total, eq_by_cmp_equiv}
-use Rattle.std.specs.Ordering.{nat_cmp}
-use Rattle.std.specs.Map.{keys_of, values_of}
+use Rattle.std.specs.List.{AllByRecursion, list_any, cons_option}
+use Rattle.std.proofs.lemmas.Bool.{eq-eqb}
 use Rattle.std.proofs.lemmas.List.{drop_more, drop_all}
-use Rattle.std.proofs.lemmas.List.Elements.{All-contains}
-use Rattle.std.proofs.lemmas.Map.Keys.{IsDistinct-from_sorted}
-use Rattle.std.proofs.lemmas.Map.Lookups.{exact_unsigned}
-use Rattle.std.proofs.lemmas.Map.Made.{Contains-from_values_of}
-use Rattle.std.proofs.lemmas.Map.Views.{lookup-from_Contains, Contains-keys_from_lookup, IfSome-lookup_from_All, tells_apart}
-use Rattle.ev_types.specs.declared.field.Field.{Field}
+use Rattle.std.proofs.lemmas.List.Elements.{recursion_from_All}
+use Rattle.std.proofs.lemmas.List.Folds.{list_any_at}
 use Rattle.ev_types.specs.declared.value.Value.{Value}
 use Rattle.fork_by.specs.declared.table.ForkTable.{ForkTable}
-use Rattle.fork_by.specs.Table.{fork_list, fork_dues}
+use Rattle.fork_by.specs.Table.{kept_forks, kept_dues, IsTable}
 use Rattle.stream_plan.specs.declared.plan.Stream.{Stream, out-Stream}
 use Rattle.stream_plan.specs.Search.{opened}
-use Rattle.stream_plan.specs.Tree.{KindTree, StreamTree, StreamTrees, stream, kind_tree, list_trees}
+use Rattle.stream_plan.specs.Tree.{KindTree, By, StreamTree, StreamTrees, stream, kind_tree, list_trees}
 use Rattle.stream_plan.proofs.Trees.{stream_tree-opened}
-use Rattle.stream_meaning.specs.Branches.{child_history, branches}
+use Rattle.stream_meaning.specs.Branches.{child_history}
 use Rattle.stream_meaning.specs.Deadlines.{next_deadline, earlier, earliest, deadline_of, branch_end, until, stream_deadline, plan_deadline}
 use Rattle.stream_meaning.specs.Emission.{Branch, Children, Otherwise}
+use Rattle.stream_meaning.specs.Ends.{idle_after}
 use Rattle.stream_meaning.specs.History.{History, moment_of}
+use Rattle.stream_meaning.proofs.KeptEvents.{all-weaker}
 use Rattle.stream_meaning.proofs.MomentLaws.{branch_moments}
 use Rattle.stream_step.specs.declared.state.State.{State}
 use Rattle.stream_step.specs.Step.{StateRepresents}
-use Rattle.tick_schedule.specs.Queue.{moment_at, IsNext}
+use Rattle.tick_schedule.specs.Queue.{IsLeast}
 use Rattle.stream_tree.specs.declared.forest.Forest.{Forest}
 use Rattle.stream_tree.specs.declared.forest.Node.{Node}
-use Rattle.stream_tree.specs.Forest.{Meaning, Below, first_of, forked_by, key_fork, keys_by, ForksRepresent, BelowRepresents, PartsRepresent, NodeRepresents, ForestRepresents}
+use Rattle.stream_tree.specs.Forest.{Meaning, Below, first_of, forked_by, live_by, key_fork, IsFork, ForksRepresent, BelowRepresents, PartsRepresent, NodeRepresents, ForestRepresents}
 use Rattle.stream_tree.specs.Running.{branches_by}
-use Rattle.stream_tree.proofs.DueLaws.{even_keys}
-use Rattle.stream_tree.proofs.EndlessLaws.{IsEndless, endless_of, no_end}
-use Rattle.stream_tree.proofs.KindLaws.{branches_are}
+use Rattle.stream_tree.proofs.KeptLaws.{Kept, eqb-is, map-map, map-pointwise}
+use Rattle.stream_tree.proofs.LiveLaws.{branches_are}
 
 -- ---- the lesser of two
 
@@ -61,103 +56,97 @@ both_above m None b p q = q
 both_above m (Some a) None p q = p
 both_above m (Some a) (Some b) p q = omega (arith, p, q)
 
--- ---- the least of the moments of keys
+-- ---- the least of moments
 
-module _ (f : List Value → Option ℕ) where
-  none_earliest : (keys : List (List Value)) → ((n : ℕ) → n < length keys → f (get_or keys n []) ≡ None)
-      → earliest (map f keys) ≡ None
-  none_earliest [] none = refl
-  none_earliest (key ∷ keys) none =
-      ap (λ (a : Option ℕ). earlier a (earliest (map f keys))) (none 0 (omega arith))
-      ∙ none_earliest keys (λ n within. none (suc n) (omega (arith, within)))
+least_of : (m : ℕ) (ms : List ℕ) → AllByRecursion (λ other. m ≤ other) ms → list_any (λ other. eqb other m) ms ≡ true
+    → earliest (map Some ms) ≡ Some m
+least_of m [] above there = cc
+least_of m (x ∷ ms) above there = step (eqb x m) refl there (least_of m ms above.1)
+  where
+    all_above : (ms : List ℕ) → AllByRecursion (λ other. m ≤ other) ms → IfSome (earliest (map Some ms)) (λ d. m ≤ d)
+    all_above [] above = tt
+    all_above (x ∷ ms) above = both_above m (Some x) (earliest (map Some ms)) above.0 (all_above ms above.1)
 
-  above_earliest : (m : ℕ) (keys : List (List Value))
-      → ((n : ℕ) → n < length keys → IfSome (f (get_or keys n [])) (λ d. m ≤ d))
-      → IfSome (earliest (map f keys)) (λ d. m ≤ d)
-  above_earliest m [] above = tt
-  above_earliest m (key ∷ keys) above =
-      both_above m (f key) (earliest (map f keys)) (above 0 (omega arith))
-      (above_earliest m keys (λ n within. above (suc n) (omega (arith, within))))
+    step : (b : Bool) → eqb x m ≡ b → b || list_any (λ other. eqb other m) ms ≡ true
+        → (list_any (λ other. eqb other m) ms ≡ true → earliest (map Some ms) ≡ Some m)
+        → earliest (map Some (x ∷ ms)) ≡ Some m
+    step true e there rest =
+        ap (λ (n : ℕ). earlier (Some n) (earliest (map Some ms))) (eqb-is x m e)
+        ∙ earlier_less m (earliest (map Some ms)) (all_above ms above.1)
+    step false e there rest = ap (earlier (Some x)) (rest there) ∙ earlier_more m (Some x) above.0
 
-  some_earliest : (m : ℕ) (keys : List (List Value)) (n : ℕ) → n < length keys → f (get_or keys n []) ≡ Some m →
-      ((k : ℕ) → k < length keys → IfSome (f (get_or keys k [])) (λ d. m ≤ d)) →
-      earliest (map f keys) ≡ Some m
-  some_earliest m [] n within is above = absurd (omega (arith, within))
-  some_earliest m (key ∷ keys) zero within is above =
-      ap (λ (a : Option ℕ). earlier a (earliest (map f keys))) is
-      ∙ earlier_less m (earliest (map f keys))
-      (above_earliest m keys (λ n within. above (suc n) (omega (arith, within))))
-  some_earliest m (key ∷ keys) (suc n) within is above =
-      ap (earlier (f key))
-      (some_earliest m keys n (omega (arith, within)) is (λ k within. above (suc k) (omega (arith, within))))
-      ∙ earlier_more m (f key) (above 0 (omega arith))
+least_is : (ms : List ℕ) (next : Option ℕ) → IsLeast ms next → next ≡ earliest (map Some ms)
+least_is ms None least = ap (λ (l : List ℕ). earliest (map Some l)) (sym least)
+least_is ms (Some m) least =
+    sym (least_of m ms (recursion_from_All (λ other. m ≤ other) ms least.1)
+    (list_any_at (λ other. eqb other m) ms least.0.0 m least.0.1 (eq-eqb _ m least.0.2)))
 
-no_moment : (es : List (ℕ × ℕ)) (n : ℕ) → values_of es ≡ [] → moment_at n es ≡ None
-no_moment [] n e = refl
-no_moment (entry ∷ es) n e = cc
+-- forks without a due moment count for nothing
+dues_alone : (ks : List Kept) → earliest (map Some (kept_dues ks)) ≡ earliest (map (λ (k : Kept). k.due) ks)
+dues_alone [] = refl
+dues_alone (k ∷ ks) = step k.due (dues_alone ks)
+  where
+    step : (due : Option ℕ) → earliest (map Some (kept_dues ks)) ≡ earliest (map (λ (k : Kept). k.due) ks)
+        → earliest (map Some (cons_option due (kept_dues ks))) ≡ earlier due (earliest (map (λ (k : Kept). k.due) ks))
+    step None rest = rest
+    step (Some m) rest = ap (earlier (Some m)) rest
 
 -- what the table says of the least moment of its forks
-pub next_is : (Means : Meaning) (deadline : History → Option ℕ) (keys : List (List Value))
-    (received : List Value → History) (forks : ForkTable Forest) (next : Option ℕ) →
-    ForksRepresent Means deadline keys received forks →
-    IsNext (fork_dues forks) next → next ≡ earliest (map (λ key. deadline (received key)) keys)
-next_is Means deadline keys received forks None represents least =
-    sym (none_earliest (λ key. deadline (received key)) keys
-    (λ n within. sym (represents.dues n within) ∙ no_moment (fork_dues forks) n least))
-next_is Means deadline keys received forks (Some m) represents least =
-    let at = Contains-from_values_of (fork_dues forks) m least.0 in
-    let known : moment_at at.0 (fork_dues forks) ≡ Some m =
-    lookup-from_Contains (eq_by_cmp_equiv nat_cmp_total) at.0 m (fork_dues forks)
-    (IsDistinct-from_sorted nat_cmp (keys_of (fork_dues forks)) represents.is_table.rising) at.1 in
-    let inside : at.0 < length (fork_list forks) =
-    All-contains (λ n. n < length (fork_list forks)) (keys_of (fork_dues forks)) at.0 represents.is_table.within
-    (Contains-keys_from_lookup (tells_apart exact_unsigned) at.0 (fork_dues forks) (ap is_some known)) in
-    let within : at.0 < length keys =
-    let even = even_keys forks keys represents.is_table represents.keys_are in omega (arith, even, inside) in
-    sym (some_earliest (λ key. deadline (received key)) m keys at.0 within (sym (represents.dues at.0 within) ∙ known)
-    (λ k less. subst (λ (d : Option ℕ). IfSome d (λ d. m ≤ d)) (represents.dues k less)
-    (IfSome-lookup_from_All (λ d. m ≤ d) (is_at (nat_cmp k)) (fork_dues forks) least.1)))
+pub next_is : (Means : Meaning) (deadline : History → Option ℕ) (idle : Option ℕ) (keys : List (List Value))
+    (last : List Value → Option ℕ) (received : List Value → History) (forks : ForkTable Forest) (next : Option ℕ) →
+    ForksRepresent Means deadline idle keys last received forks →
+    (IsTable forks → IsLeast (kept_dues (kept_forks forks)) next) →
+    next ≡ earliest (map (λ key. until (idle_after idle (last key)) (deadline (received key))) keys)
+next_is Means deadline idle keys last received forks next represents least =
+    let ks = kept_forks forks in
+    let cut = λ (key : List Value). until (idle_after idle (last key)) (deadline (received key)) in
+    least_is (kept_dues ks) next (least represents.is_table) ∙ dues_alone ks
+    ∙ ap earliest
+    (map-pointwise (λ (k : Kept). k.due) (λ (k : Kept). cut k.key) ks
+    (all-weaker (λ k. IsFork Means deadline idle (last k.key) (received k.key) k) (λ (k : Kept). k.due ≡ cut k.key)
+    (λ k is. is.due_is) ks represents.each)
+    ∙ sym (map-map cut (λ (k : Kept). k.key) ks) ∙ ap (map cut) represents.keys_are)
 
 -- ---- what is below a stream
 
-map_twice : (f : Branch → Option ℕ) (keys : List (List Value))
-    → map f (map key_fork keys) ≡ map (λ key. f (key_fork key)) keys
-map_twice f [] = refl
-map_twice f (key ∷ keys) = ap (λ (l : List (Option ℕ)). f (key_fork key) ∷ l) (map_twice f keys)
-
-plain_below : (texts : List (List ℕ)) (plan beside : StreamTrees) (first : ℕ) (shape : Option (List Field))
-    (keys : List (List Value)) (received : Branch → History) (below : Below) (one two : Option ℕ) →
-    is_some shape ≡ false →
-    BelowRepresents texts plan first (ForestRepresents texts plan) (ForestRepresents texts beside) shape keys received
-    below →
-    (ForestRepresents texts plan below.children (received Children) → one ≡ plan_deadline plan (received Children)) →
-    (ForestRepresents texts beside below.otherwise (received Otherwise) →
-    two ≡ plan_deadline beside (received Otherwise)) →
+plain_below : (kind : KindTree) (texts : List (List ℕ)) (plan beside : StreamTrees) (first : ℕ)
+    (h : History) (below : Below) (one two : Option ℕ) →
+    is_some (forked_by kind) ≡ false →
+    BelowRepresents texts plan first (ForestRepresents texts plan) (ForestRepresents texts beside) (forked_by kind)
+    (live_by kind h) (λ branch. child_history kind branch h) below →
+    (ForestRepresents texts plan below.children (child_history kind Children h) →
+    one ≡ plan_deadline plan (child_history kind Children h)) →
+    (ForestRepresents texts beside below.otherwise (child_history kind Otherwise h) →
+    two ≡ plan_deadline beside (child_history kind Otherwise h)) →
     earlier one two
-    ≡ earliest (map (λ branch. deadline_of (plan_deadline plan) (plan_deadline beside) branch (received branch))
-    (branches_by shape keys))
-plain_below texts plan beside first None keys received below one two plain represents first_is second_is =
+    ≡ earliest (map (λ branch. until (branch_end kind branch h)
+    (deadline_of (plan_deadline plan) (plan_deadline beside) branch (child_history kind branch h)))
+    (branches_by (forked_by kind) (live_by kind h)))
+plain_below (By fields idle) texts plan beside first h below one two plain represents first_is second_is = absurd (cc)
+plain_below kind texts plan beside first h below one two plain represents first_is second_is =
     ap (λ (d : Option ℕ). earlier d two) (first_is represents.children)
-    ∙ ap (earlier (plan_deadline plan (received Children)))
-    (second_is represents.otherwise ∙ sym (earlier-none (plan_deadline beside (received Otherwise))))
-plain_below texts plan beside first (Some fields) keys received below one two plain represents first_is second_is =
-    absurd (cc)
+    ∙ ap (earlier (plan_deadline plan (child_history kind Children h)))
+    (second_is represents.otherwise ∙ sym (earlier-none (plan_deadline beside (child_history kind Otherwise h))))
 
-forked_below : (texts : List (List ℕ)) (plan beside : StreamTrees) (first : ℕ) (shape : Option (List Field))
-    (keys : List (List Value)) (received : Branch → History) (below : Below) (next : Option ℕ) →
-    is_some shape ≡ true →
-    BelowRepresents texts plan first (ForestRepresents texts plan) (ForestRepresents texts beside) shape keys received
-    below →
-    IsNext (fork_dues below.forks) next →
+forked_below : (kind : KindTree) (texts : List (List ℕ)) (plan beside : StreamTrees) (first : ℕ)
+    (h : History) (below : Below) (next : Option ℕ) →
+    is_some (forked_by kind) ≡ true →
+    BelowRepresents texts plan first (ForestRepresents texts plan) (ForestRepresents texts beside) (forked_by kind)
+    (live_by kind h) (λ branch. child_history kind branch h) below →
+    (IsTable below.forks → IsLeast (kept_dues (kept_forks below.forks)) next) →
     next
-    ≡ earliest (map (λ branch. deadline_of (plan_deadline plan) (plan_deadline beside) branch (received branch))
-    (branches_by shape keys))
-forked_below texts plan beside first None keys received below next forked represents least = absurd (cc)
-forked_below texts plan beside first (Some fields) keys received below next forked represents least =
-    next_is (ForestRepresents texts plan) (plan_deadline plan) keys (λ key. received (key_fork key)) below.forks next
-    represents.forks least
-    ∙ ap earliest
-    (sym (map_twice (λ branch. deadline_of (plan_deadline plan) (plan_deadline beside) branch (received branch)) keys))
+    ≡ earliest (map (λ branch. until (branch_end kind branch h)
+    (deadline_of (plan_deadline plan) (plan_deadline beside) branch (child_history kind branch h)))
+    (branches_by (forked_by kind) (live_by kind h)))
+forked_below (By fields idle) texts plan beside first h below next forked represents least =
+    let live = live_by (By fields idle) h in
+    let cut = λ (branch : Branch).
+    until (branch_end (By fields idle) branch h)
+    (deadline_of (plan_deadline plan) (plan_deadline beside) branch (child_history (By fields idle) branch h)) in
+    next_is (ForestRepresents texts plan) (plan_deadline plan) idle live.keys live.last
+    (λ key. child_history (By fields idle) (key_fork live key) h) below.forks next represents.forks least
+    ∙ ap earliest (sym (map-map cut (key_fork live) live.keys))
+forked_below kind texts plan beside first h below next forked represents least = absurd (cc)
 
 -- ---- one stream
 
@@ -175,21 +164,6 @@ OwnDue state due =
     (texts : List (List ℕ)) (kind : KindTree) (h : History) → StateRepresents texts kind state h → moment_of h ≤ 2 ^ 40
     → due ≡ next_deadline kind h
 
-map_same : (f g : Branch → Option ℕ) → ((branch : Branch) → f branch ≡ g branch) → (bs : List Branch)
-    → map f bs ≡ map g bs
-map_same f g e [] = refl
-map_same f g e (branch ∷ bs) =
-    ap (λ (d : Option ℕ). d ∷ map f bs) (e branch) ∙ ap (λ (l : List (Option ℕ)). g branch ∷ l) (map_same f g e bs)
-
--- no deadline is cut
-uncut : (kind : KindTree) (h : History) (deadline : Branch → Option ℕ) → IsEndless kind →
-    earliest (map deadline (branches kind h))
-    ≡ earliest (map (λ branch. until (branch_end kind branch h) (deadline branch)) (branches kind h))
-uncut kind h deadline endless =
-    ap earliest (map_same deadline (λ branch. until (branch_end kind branch h) (deadline branch))
-    (λ branch. sym (ap (λ (end : Option ℕ). until end (deadline branch)) (no_end kind branch h endless)))
-    (branches kind h))
-
 parts_plain : (kind : KindTree) (children otherwise : StreamTrees) (state : State) (below : Below)
     (own one two : Option ℕ) →
     is_some (forked_by kind) ≡ false → OwnDue state own → DueOf children below.children one →
@@ -197,35 +171,32 @@ parts_plain : (kind : KindTree) (children otherwise : StreamTrees) (state : Stat
     (texts : List (List ℕ)) (h : History) → PartsRepresent texts (stream kind children otherwise) state below h →
     moment_of h ≤ 2 ^ 40 → earlier own (earlier one two) ≡ stream_deadline (stream kind children otherwise) h
 parts_plain kind children otherwise state below own one two plain own_is one_is two_is texts h represents small =
-    let deadline =
+    let cut =
     λ (branch : Branch).
-    deadline_of (plan_deadline children) (plan_deadline otherwise) branch (child_history kind branch h) in
+    until (branch_end kind branch h)
+    (deadline_of (plan_deadline children) (plan_deadline otherwise) branch (child_history kind branch h)) in
     ap (λ (d : Option ℕ). earlier d (earlier one two)) (own_is texts kind h represents.0 small)
     ∙ ap (earlier (next_deadline kind h))
-    (plain_below texts children otherwise (first_of state) (forked_by kind) (keys_by (forked_by kind) h)
-    (λ branch. child_history kind branch h) below one two plain represents.1
+    (plain_below kind texts children otherwise (first_of state) h below one two plain represents.1
     (λ here. one_is texts (child_history kind Children h) here (small_below kind Children h small))
     (λ here. two_is texts (child_history kind Otherwise h) here (small_below kind Otherwise h small))
-    ∙ ap (λ (bs : List Branch). earliest (map deadline bs))
-    (sym (branches_are kind h (endless_of texts kind state h represents.0)))
-    ∙ uncut kind h deadline (endless_of texts kind state h represents.0))
+    ∙ ap (λ (bs : List Branch). earliest (map cut bs)) (sym (branches_are kind h)))
 
 parts_forked : (kind : KindTree) (children otherwise : StreamTrees) (state : State) (below : Below)
     (own next : Option ℕ) →
-    is_some (forked_by kind) ≡ true → OwnDue state own → IsNext (fork_dues below.forks) next →
+    is_some (forked_by kind) ≡ true → OwnDue state own →
+    (IsTable below.forks → IsLeast (kept_dues (kept_forks below.forks)) next) →
     (texts : List (List ℕ)) (h : History) → PartsRepresent texts (stream kind children otherwise) state below h →
     moment_of h ≤ 2 ^ 40 → earlier own next ≡ stream_deadline (stream kind children otherwise) h
 parts_forked kind children otherwise state below own next forked own_is least texts h represents small =
-    let deadline =
+    let cut =
     λ (branch : Branch).
-    deadline_of (plan_deadline children) (plan_deadline otherwise) branch (child_history kind branch h) in
+    until (branch_end kind branch h)
+    (deadline_of (plan_deadline children) (plan_deadline otherwise) branch (child_history kind branch h)) in
     ap (λ (d : Option ℕ). earlier d next) (own_is texts kind h represents.0 small)
     ∙ ap (earlier (next_deadline kind h))
-    (forked_below texts children otherwise (first_of state) (forked_by kind) (keys_by (forked_by kind) h)
-    (λ branch. child_history kind branch h) below next forked represents.1 least
-    ∙ ap (λ (bs : List Branch). earliest (map deadline bs))
-    (sym (branches_are kind h (endless_of texts kind state h represents.0)))
-    ∙ uncut kind h deadline (endless_of texts kind state h represents.0))
+    (forked_below kind texts children otherwise (first_of state) h below next forked represents.1 least
+    ∙ ap (λ (bs : List Branch). earliest (map cut bs)) (sym (branches_are kind h)))
 
 pub node_plain : (s : Stream) (children otherwise : List Stream) (state : State) (below : Below)
     (own one two : Option ℕ) →
@@ -243,7 +214,7 @@ node_plain s children otherwise state below own one two plain children_is otherw
 
 pub node_forked : (s : Stream) (state : State) (below : Below) (own next : Option ℕ) →
     is_some (forked_by (kind_tree (out-Stream s).kind)) ≡ true → OwnDue state own →
-    IsNext (fork_dues below.forks) next →
+    (IsTable below.forks → IsLeast (kept_dues (kept_forks below.forks)) next) →
     (texts : List (List ℕ)) (h : History) → PartsRepresent texts (opened s) state below h → moment_of h ≤ 2 ^ 40 →
     earlier own next ≡ stream_deadline (opened s) h
 unfolding opened

@@ -1,7 +1,6 @@
 -- What is said and counted, one part after another.
-use Rattle.std.proofs.Common.{◌≡◌, ◌+◌, List, [], ◌∷◌, ◌++◌, Option, Some, None, refl, sym, ap, ◌∙◌, subst, arith}
+use Rattle.std.proofs.Common.{◌≡◌, ℕ, ◌+◌, List, [], ◌∷◌, ◌++◌, Option, Some, None, refl, sym, ap, ◌∙◌, subst, arith}
 use Rattle.std.proofs.lemmas.List.{append-nil, append_assoc}
-use Rattle.ev_types.specs.declared.field.Field.{Field}
 use Rattle.ev_types.specs.declared.item.Item.TheVariants.{One, Many}
 use Rattle.ev_types.specs.declared.item.Output.{Output}
 use Rattle.list_laws.specs.Prefix.{IsPrefix}
@@ -81,9 +80,9 @@ item_counts (By fields idle) h (In item) plain = cc
 item_counts kind h (In item) plain = (refl, refl)
 
 -- the effects that a stream itself performs: what is given to a fork is counted where the fork is entered
-abbrev pub acted : Option (List Field) → List Effect → List Effect
+abbrev pub acted : Option (Option ℕ) → List Effect → List Effect
 acted None effects = effects
-acted (Some fields) effects = []
+acted (Some idle) effects = []
 
 module _ {G : Type 0} where
   pub grew_none : (out : List Output) (steps : StepCount G) → Performs out steps out steps []
@@ -160,7 +159,7 @@ module _ {G : Type 0} where
   -- ---- what a stream does itself
 
   pub own_grew : (kind : KindTree) (h : History) (x : Entry) (a b : List Output) (s : StepCount G)
-      (shape : Option (List Field)) →
+      (shape : Option (Option ℕ)) →
       forked_by kind ≡ shape → b ≡ a ++ own_outputs kind (h ▸ x) →
       Performs a s b s (acted shape (own_effects kind (h ▸ x)))
   own_grew kind h x a b s None is said =
@@ -170,17 +169,17 @@ module _ {G : Type 0} where
         entries = omega (arith, counts.0);
         began = refl;
       }
-  own_grew kind h x a b s (Some fields) is said =
+  own_grew kind h x a b s (Some idle) is said =
       subst (λ (out : List Output). Performs a s out s [])
       (sym (said ∙ ap (λ (l : List Output). a ++ l) (forks_say_nothing kind h x is) ∙ append-nil a)) (grew_none a s)
     where
-      forks_say_nothing : (kind : KindTree) (h : History) (x : Entry) → forked_by kind ≡ Some fields
+      forks_say_nothing : (kind : KindTree) (h : History) (x : Entry) → forked_by kind ≡ Some idle
           → own_outputs kind (h ▸ x) ≡ []
       forks_say_nothing kind h Tick is = refl
       forks_say_nothing Index h (In item) is = cc
       forks_say_nothing (Notice name) h (In item) is = cc
-      forks_say_nothing (By other idle) h (In (One event)) is = refl
-      forks_say_nothing (By other idle) h (In (Many es)) is = refl
+      forks_say_nothing (By fields other) h (In (One event)) is = refl
+      forks_say_nothing (By fields other) h (In (Many es)) is = refl
       forks_say_nothing kind h (In item) is = refl
 
   -- a part of what it does

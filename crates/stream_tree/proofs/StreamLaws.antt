@@ -14,23 +14,27 @@ use Rattle.stream_plan.specs.Tree.{KindTree, By, StreamTrees, stream, kind_tree,
 use Rattle.stream_meaning.specs.Branches.{ticked, child_history, branches}
 use Rattle.stream_meaning.specs.declared.entry.Entry.{Entry}
 use Rattle.stream_meaning.specs.declared.entry.Entry.TheVariants.{Tick, Item as In}
-use Rattle.stream_meaning.specs.Emission.{Branch, Emission, emissions}
-use Rattle.stream_meaning.specs.History.{History, ◌▸◌, begun, moment_of, TicksAlone}
+use Rattle.stream_meaning.specs.Deadlines.{plan_deadline}
+use Rattle.stream_meaning.specs.Emission.{Branch, Fork, Emission, emissions}
+use Rattle.stream_meaning.specs.Ends.{times_ended}
+use Rattle.stream_meaning.specs.History.{History, ◌▸◌, begun, moment_of}
 use Rattle.stream_meaning.specs.Laws.{own_outputs}
 use Rattle.stream_meaning.specs.Outputs.{Effect, branch_effects, own_effects, at_tick, at_emissions, stream_effects, plan_effects}
+use Rattle.stream_meaning.proofs.KeptEvents.{all-weaker}
 use Rattle.stream_meaning.proofs.MomentLaws.{branch_moments}
 use Rattle.stream_step.specs.declared.passed.Passed.{Passed}
 use Rattle.stream_step.specs.declared.state.State.{State}
 use Rattle.stream_step.specs.stream_states.Kept.{keeps}
 use Rattle.stream_step.specs.declared.state.State.TheVariants as variant
 use Rattle.stream_step.proofs.KeptLaws.{kept_keeps}
-use Rattle.stream_step.specs.Step.{emissions_meant, is_kept, StateRepresents, Acts}
-use Rattle.stream_tree.specs.Forest.{Meaning, Below, first_of, forked_by, key_fork, keys_by, BelowRepresents, PartsRepresent, ForestRepresents}
-use Rattle.stream_tree.specs.Running.{ComesAt, Stops, StreamRuns, StreamStops, UnseenHaveTicks, entering, AllCome, AllAreAt, TickRuns, TickStops, EmissionsRun, EmissionsStop}
+use Rattle.stream_step.specs.Step.{ended_by, emissions_meant, is_kept, StateRepresents, Acts}
+use Rattle.stream_tree.specs.Forest.{Meaning, Below, LiveKeys, first_of, forked_by, live_by, key_fork, BelowRepresents, PartsRepresent, ForestRepresents}
+use Rattle.stream_tree.specs.Running.{ComesAt, Stops, StreamRuns, StreamStops, with_branches, keys_left, after_tick, UnseenHaveTicks, entering, AllCome, AllAreAt, TickRuns, TickStops, EmissionsRun, EmissionsStop}
 use Rattle.stream_tree.specs.Tree.{Performs, PerformsPart}
-use Rattle.stream_tree.proofs.EndlessLaws.{IsEndless, endless_of, unseen_endless}
-use Rattle.stream_tree.proofs.KindLaws.{branches_are, emissions_fit, keys_go_on, all_effects, no_emission}
+use Rattle.stream_tree.proofs.KindLaws.{emissions_fit, all_effects, no_emission}
+use Rattle.stream_tree.proofs.LiveLaws.{branches_are, unseen_now, live_ticked, ended_left, left_now, live_goes_on}
 use Rattle.stream_tree.proofs.PerformLaws.{acted, grew_then, part_then, part_more, stops_more, stops_then, own_grew, own_part}
+use Rattle.stream_tree.proofs.StillLaws.{forks_same}
 
 same_moment : (a b : History) (x : Entry) → moment_of a ≡ moment_of b → moment_of (a ▸ x) ≡ moment_of (b ▸ x)
 same_moment a b Tick same = ap (λ (m : ℕ). m + 1) same
@@ -44,17 +48,12 @@ ticked_begun : (h : History) (x : Entry) → begun (ticked x h) ≡ begun h
 ticked_begun h Tick = refl
 ticked_begun h (In item) = refl
 
-still_alone : (h : History) (x : Entry) → TicksAlone h → TicksAlone (ticked x h)
-still_alone h Tick alone = alone
-still_alone h (In item) alone = alone
-
 -- a fork that is not there has received ticks alone, also after a tick
-unseen_ticked : (kind : KindTree) (h : History) (x : Entry) → IsEndless kind
-    → UnseenHaveTicks (forked_by kind) (keys_by (forked_by kind) h) (λ branch. ticked x (child_history kind branch h))
-unseen_ticked (By fields idle) h x endless =
-    λ key absent.
-    still_alone (child_history (By fields idle) (key_fork key) h) x (unseen_endless fields idle key h endless absent)
-unseen_ticked kind h x endless = tt
+unseen_ticked : (kind : KindTree) (h : History) (x : Entry)
+    → UnseenHaveTicks (forked_by kind) (live_ticked kind x h) (λ branch. ticked x (child_history kind branch h))
+unseen_ticked (By fields idle) h Tick = unseen_now (By fields idle) (h ▸ Tick)
+unseen_ticked (By fields idle) h (In item) = unseen_now (By fields idle) h
+unseen_ticked kind h x = tt
 
 -- the state of a `by` has a number alone
 by_keeps_nothing : (texts : List (List ℕ)) (fields : List Field) (idle : Option ℕ) (state : State) (h : History)
@@ -65,14 +64,57 @@ by_keeps_nothing texts fields idle state h represents = refl
 
 -- so the number stays
 below_first : (kind : KindTree) (texts : List (List ℕ)) (plan : StreamTrees) (Means Beside : Meaning)
-    (keys : List (List Value)) (received : Branch → History) (below : Below) (state state' : State) (h : History) →
+    (live : LiveKeys) (received : Branch → History) (below : Below) (state state' : State) (h : History) →
     StateRepresents texts kind state h → (is_kept state ≡ false → state' ≡ state) →
-    BelowRepresents texts plan (first_of state) Means Beside (forked_by kind) keys received below →
-    BelowRepresents texts plan (first_of state') Means Beside (forked_by kind) keys received below
-below_first (By fields idle) texts plan Means Beside keys received below state state' h represents same here =
-    subst (λ (s : State). BelowRepresents texts plan (first_of s) Means Beside (Some fields) keys received below)
+    BelowRepresents texts plan (first_of state) Means Beside (forked_by kind) live received below →
+    BelowRepresents texts plan (first_of state') Means Beside (forked_by kind) live received below
+below_first (By fields idle) texts plan Means Beside live received below state state' h represents same here =
+    subst (λ (s : State). BelowRepresents texts plan (first_of s) Means Beside (Some idle) live received below)
     (sym (same (by_keeps_nothing texts fields idle state h represents))) here
-below_first kind texts plan Means Beside keys received below state state' h represents same here = here
+below_first kind texts plan Means Beside live received below state state' h represents same here = here
+
+-- a tick has come to what is below a stream, where the entry is one: the keys that are left are those that are live now
+below_ticked : (kind : KindTree) (texts : List (List ℕ)) (plan : StreamTrees) (first : ℕ) (Means Beside : Meaning)
+    (below : Below) (h : History) (x : Entry) (now : ℕ) → moment_of (h ▸ x) ≡ now →
+    BelowRepresents texts plan first Means Beside (forked_by kind) (after_tick (forked_by kind) now x (live_by kind h))
+    (λ branch. ticked x (child_history kind branch h)) below →
+    BelowRepresents texts plan first Means Beside (forked_by kind) (live_ticked kind x h)
+    (λ branch. ticked x (child_history kind branch h)) below
+below_ticked (By fields idle) texts plan first Means Beside below h (In item) now is represents = represents
+below_ticked (By fields idle) texts plan first Means Beside below h Tick now is represents =
+    let live = live_by (By fields idle) h in
+    let live' = live_by (By fields idle) (h ▸ Tick) in
+    let received = λ (branch : Branch). child_history (By fields idle) branch h ▸ Tick in record {
+      can_fork = represents.can_fork;
+      lasts = represents.lasts;
+      forks =
+          forks_same Means (plan_deadline plan) idle (keys_left idle now live) live'.keys live.last
+          (λ key. received (key_fork live key)) (λ key. received (key_fork live' key)) below.forks
+          (left_now idle fields h now is)
+          (all-weaker (λ key. times_ended idle fields key (h ▸ Tick) ≡ times_ended idle fields key h)
+          (λ key. received (key_fork live key) ≡ received (key_fork live' key))
+          (λ key e. ap (λ (n : ℕ). received (Fork (record { key = key; number = n }))) (sym e)) live'.keys
+          (ended_left idle fields h))
+          represents.forks;
+      no_children = represents.no_children;
+      no_otherwise = represents.no_otherwise;
+    }
+below_ticked kind texts plan first Means Beside below h x now is represents = represents
+
+-- the emissions of the entry have come to what is below a stream
+below_came : (kind : KindTree) (texts : List (List ℕ)) (plan : StreamTrees) (first : ℕ) (Means Beside : Meaning)
+    (below : Below) (h : History) (x : Entry) (now : ℕ) → moment_of (h ▸ x) ≡ now →
+    BelowRepresents texts plan first Means Beside (forked_by kind)
+    (with_branches now (emissions kind (h ▸ x)) (live_ticked kind x h))
+    (λ branch. child_history kind branch (h ▸ x)) below →
+    BelowRepresents texts plan first Means Beside (forked_by kind) (live_by kind (h ▸ x))
+    (λ branch. child_history kind branch (h ▸ x)) below
+below_came (By fields idle) texts plan first Means Beside below h x now is represents =
+    subst
+    (λ (live : LiveKeys). BelowRepresents texts plan first Means Beside (Some idle) live
+    (λ branch. child_history (By fields idle) branch (h ▸ x)) below)
+    (live_goes_on fields idle h x now is) represents
+below_came kind texts plan first Means Beside below h x now is represents = represents
 
 come : (start moment : ℕ) (kind : KindTree) (x : Entry) (h : History) → ComesAt start moment h x
     → AllCome start moment (λ branch. child_history kind branch h) x
@@ -108,9 +150,9 @@ module _ {G : Type 0} (patterns : List Regex) (start moment : ℕ) (kind : KindT
   pub record HalfRun (texts : List (List ℕ)) (h : History) (state state' : State) (passed : Passed) (below' : Below)
       (a c : List Output) (t u : StepCount G) : Type 0 where
     pub represents : StateRepresents texts kind state' (h ▸ x)
-    pub passes : emissions_meant passed x ≡ emissions kind (h ▸ x)
+    pub passes : emissions_meant (ended_by kind h) passed x ≡ emissions kind (h ▸ x)
     pub below : BelowRepresents texts children (first_of state') (ForestRepresents texts children)
-        (ForestRepresents texts otherwise) (forked_by kind) (keys_by (forked_by kind) h)
+        (ForestRepresents texts otherwise) (forked_by kind) (live_ticked kind x h)
         (λ branch. ticked x (child_history kind branch h)) below'
     pub grew : Performs a t c u
         (acted (forked_by kind) (own_effects kind (h ▸ x))
@@ -129,26 +171,29 @@ module _ {G : Type 0} (patterns : List Regex) (start moment : ℕ) (kind : KindT
       let acted_so = acts texts h from represents.0 comes.comes comes.small in
       let here =
       below_first kind texts children (ForestRepresents texts children) (ForestRepresents texts otherwise)
-      (keys_by (forked_by kind) h) received below state state' h represents.0 same represents.1 in
+      (live_by kind h) received below state state' h represents.0 same represents.1 in
       let tick =
-      ticks texts (keys_by (forked_by kind) h) received from here (come start moment kind x h comes) in record {
+      ticks texts (live_by kind h) received from here (come start moment kind x h comes) in record {
         represents = acted_so.represents;
         passes = acted_so.passes;
-        below = tick.0;
+        below =
+            below_ticked kind texts children (first_of state') (ForestRepresents texts children)
+            (ForestRepresents texts otherwise) below' h x moment comes.comes tick.0;
         grew =
             grew_then a b c t t u (acted (forked_by kind) (own_effects kind (h ▸ x)))
             (at_tick x effects_in received (branches kind h))
             (own_grew kind h x a b t (forked_by kind) refl acted_so.said)
             (subst (λ (bs : List Branch). Performs b t c u (at_tick x effects_in received bs))
-            (sym (branches_are kind h (endless_of texts kind state h represents.0))) tick.1);
+            (sym (branches_are kind h)) tick.1);
       }
 
   parts_run : (state state' : State) (passed : Passed) (a b c d : List Output) (t u v : StepCount G)
       (below below' below'' : Below) →
       StateActs patterns moment kind x state state' passed a b → (is_kept state ≡ false → state' ≡ state) →
       TickRuns patterns start moment b t c u x (stream kind children otherwise) (first_of state') below below' →
-      EmissionsRun patterns start moment c u d v (emissions_meant passed x) (stream kind children otherwise)
-      (first_of state') below' below'' →
+      ((ended : List Value → ℕ) →
+      EmissionsRun patterns start moment c u d v (emissions_meant ended passed x) (stream kind children otherwise)
+      (first_of state') below' below'') →
       StreamRuns patterns start moment a t d v x (stream kind children otherwise) state below state' below''
   parts_run state state' passed a b c d t u v below below' below'' acts same ticks runs texts h from represents comes =
       let effects_in = branch_effects (plan_effects children) (plan_effects otherwise) in
@@ -161,16 +206,14 @@ module _ {G : Type 0} (patterns : List Regex) (start moment : ℕ) (kind : KindT
       subst
       (λ (es : List Emission).
       EmissionsRun patterns start moment c u d v es (stream kind children otherwise) (first_of state') below' below'')
-      half.passes runs in
+      half.passes (runs (ended_by kind h)) in
       let last =
-      passes texts (keys_by (forked_by kind) h) after from (emissions_fit kind h x) half.below
-      (unseen_ticked kind h x (endless_of texts kind state h represents.0)) (stand start moment kind x h comes) in (
+      passes texts (live_ticked kind x h) after from (emissions_fit kind h x) half.below
+      (unseen_ticked kind h x) (stand start moment kind x h comes) in (
         (
           half.represents,
-          subst (λ (keys : List (List Value)). BelowRepresents texts children (first_of state')
-              (ForestRepresents texts children) (ForestRepresents texts otherwise) (forked_by kind) keys
-              (λ branch. child_history kind branch (h ▸ x)) below'')
-              (sym (keys_go_on kind h x)) last.0,
+          below_came kind texts children (first_of state') (ForestRepresents texts children)
+              (ForestRepresents texts otherwise) below'' h x moment comes.comes last.0,
         ),
         subst (λ (hs : List Effect). Performs a t d v hs)
             (all_effects kind h x effects_in received after (branches kind h))
@@ -215,8 +258,8 @@ module _ {G : Type 0} (patterns : List Regex) (start moment : ℕ) (kind : KindT
       let acted_so = acts texts h from represents.0 comes.comes comes.small in
       let here =
       below_first kind texts children (ForestRepresents texts children) (ForestRepresents texts otherwise)
-      (keys_by (forked_by kind) h) received below state state' h represents.0 same represents.1 in
-      let stop = stops texts (keys_by (forked_by kind) h) received from here (come start moment kind x h comes) in
+      (live_by kind h) received below state state' h represents.0 same represents.1 in
+      let stop = stops texts (live_by kind h) received from here (come start moment kind x h comes) in
       let own = acted (forked_by kind) (own_effects kind (h ▸ x)) in
       let tick = at_tick x effects_in received (branches kind h) in
       subst (λ (hs : List Effect). Stops a t c u x hs)
@@ -224,14 +267,15 @@ module _ {G : Type 0} (patterns : List Regex) (start moment : ℕ) (kind : KindT
       (stops_more a c t u x (own ++ tick) (at_emissions (entering effects_in) after (emissions kind (h ▸ x)))
       (stops_then a b c t t u x own tick (own_grew kind h x a b t (forked_by kind) refl acted_so.said)
       (subst (λ (bs : List Branch). Stops b t c u x (at_tick x effects_in received bs))
-      (sym (branches_are kind h (endless_of texts kind state h represents.0))) stop)))
+      (sym (branches_are kind h)) stop)))
 
   passed_stops : (state state' : State) (passed : Passed) (a b c d : List Output) (t u v : StepCount G)
       (below below' : Below) →
       StateActs patterns moment kind x state state' passed a b → (is_kept state ≡ false → state' ≡ state) →
       TickRuns patterns start moment b t c u x (stream kind children otherwise) (first_of state') below below' →
-      EmissionsStop patterns start moment c u d v (emissions_meant passed x) (stream kind children otherwise)
-      (first_of state') below' →
+      ((ended : List Value → ℕ) →
+      EmissionsStop patterns start moment c u d v (emissions_meant ended passed x) (stream kind children otherwise)
+      (first_of state') below') →
       StreamStops patterns start moment a t d v x (stream kind children otherwise) state below
   passed_stops state state' passed a b c d t u v below below' acts same ticks stops texts h from represents comes =
       let effects_in = branch_effects (plan_effects children) (plan_effects otherwise) in
@@ -244,10 +288,10 @@ module _ {G : Type 0} (patterns : List Regex) (start moment : ℕ) (kind : KindT
       subst
       (λ (es : List Emission).
       EmissionsStop patterns start moment c u d v es (stream kind children otherwise) (first_of state') below')
-      half.passes stops in
+      half.passes (stops (ended_by kind h)) in
       let last =
-      passes texts (keys_by (forked_by kind) h) after from (emissions_fit kind h x) half.below
-      (unseen_ticked kind h x (endless_of texts kind state h represents.0))
+      passes texts (live_ticked kind x h) after from (emissions_fit kind h x) half.below
+      (unseen_ticked kind h x)
       (stand start moment kind x h comes) in record {
         part =
             subst (λ (hs : List Effect). PerformsPart a t d v hs)
@@ -269,8 +313,9 @@ module _ {G : Type 0} (patterns : List Regex) (start moment : ℕ) (s : Stream) 
       StateActs patterns moment (kind_tree (out-Stream s).kind) x state state' passed a b →
       (is_kept state ≡ false → state' ≡ state) →
       TickRuns patterns start moment b t c u x (opened s) (first_of state') below below' →
-      EmissionsRun patterns start moment c u d v (emissions_meant passed x) (opened s) (first_of state') below'
-      below'' →
+      ((ended : List Value → ℕ) →
+      EmissionsRun patterns start moment c u d v (emissions_meant ended passed x) (opened s) (first_of state') below'
+      below'') →
       StreamRuns patterns start moment a t d v x (opened s) state below state' below''
   unfolding opened
   stream_runs =
@@ -304,7 +349,8 @@ module _ {G : Type 0} (patterns : List Regex) (start moment : ℕ) (s : Stream) 
       StateActs patterns moment (kind_tree (out-Stream s).kind) x state state' passed a b →
       (is_kept state ≡ false → state' ≡ state) →
       TickRuns patterns start moment b t c u x (opened s) (first_of state') below below' →
-      EmissionsStop patterns start moment c u d v (emissions_meant passed x) (opened s) (first_of state') below' →
+      ((ended : List Value → ℕ) →
+      EmissionsStop patterns start moment c u d v (emissions_meant ended passed x) (opened s) (first_of state') below') →
       StreamStops patterns start moment a t d v x (opened s) state below
   unfolding opened
   stream_passed_stops =

@@ -1,3 +1,4 @@
+pub mod Ends
 pub mod Forest
 pub mod Fresh
 pub mod Forks

@@ -1,29 +1,30 @@
 -- What one entry does to streams, to one stream, and to what is below a stream.
-use Rattle.std.specs.Prelude.{◌≡◌, ◌≢◌, ℕ, zero, suc, ◌≤◌, ◌<◌, ◌^◌, false, if◌then◌else◌, List, [], ◌∷◌, ◌++◌, map, length, take, slice_index_or, Option, Some, None}
-use Rattle.std.specs.List.{flat_map}
-use Rattle.ev_types.specs.declared.field.Field.{Field}
+use Rattle.std.specs.Prelude.{◌≡◌, ℕ, zero, suc, ◌≤◌, ◌^◌, Bool, true, false, not, eqb, if◌then◌else◌, List, [], ◌∷◌, ◌++◌, map, filter, take, Option, Some, None}
+use Rattle.std.specs.List.{AllByRecursion, flat_map}
 use Rattle.ev_types.specs.declared.item.Output.{Output}
 use Rattle.ev_types.specs.declared.value.Value.{Value}
+use Rattle.ev_types.specs.Key.{same_key}
 use Rattle.fork_by.specs.declared.table.ForkTable.{ForkTable}
-use Rattle.fork_by.specs.Table.{fork_keys as table_keys, fork_list, fork_dues, IsTable}
+use Rattle.fork_by.specs.Table.{KeptFork, kept_forks, HasFork, IsTable}
 use Rattle.step_count.specs.Count.{StepCount}
-use Rattle.tick_schedule.specs.Queue.{Sets}
 use Rattle.pred_eval.specs.Search.{AreReadFrom}
 use Rattle.regex.specs.declared.string.regex.Regex.{Regex}
 use Rattle.stream_plan.specs.declared.plan.Stream.{Stream}
 use Rattle.stream_plan.specs.Tree.{KindTree, StreamTree, StreamTrees, stream, none, also, list_trees}
 use Rattle.stream_meaning.specs.Branches.{same_branch, after_emissions, ticked, with_key}
 use Rattle.stream_meaning.specs.declared.entry.Entry.{Entry}
-use Rattle.stream_meaning.specs.declared.entry.Entry.TheVariants.{Tick}
-use Rattle.stream_meaning.specs.Deadlines.{plan_deadline}
+use Rattle.stream_meaning.specs.declared.entry.Entry.TheVariants.{Tick, Item as In}
+use Rattle.stream_meaning.specs.Deadlines.{plan_deadline, until}
 use Rattle.stream_meaning.specs.Emission.{Branch, Children, Otherwise, Fork, Emission}
-use Rattle.stream_meaning.specs.History.{History, ◌▸◌, begun, moment_of, TicksAlone}
+use Rattle.stream_meaning.specs.Ends.{idle_after}
+use Rattle.stream_meaning.specs.History.{History, ◌▸◌, begun, moment_of, is_at, TicksAlone}
 use Rattle.stream_meaning.specs.Laws.{is_among}
 use Rattle.stream_meaning.specs.Outputs.{Effect, Given, BranchEffects, branch_effects, due_if_any, at_tick, at_emissions, stream_effects, plan_effects}
 use Rattle.stream_step.specs.declared.state.State.{State}
 use Rattle.stream_tree.specs.declared.forest.Forest.{Forest}
 use Rattle.stream_tree.specs.declared.forest.Node.{Node}
-use Rattle.stream_tree.specs.Forest.{nodes_of, Below, forked_by, key_fork, AreInRange, ForksRepresent, BelowRepresents, PartsRepresent, NodeRepresents, ForestRepresents}
+use Rattle.stream_plan.specs.Nesting.{AllEndOutermost}
+use Rattle.stream_tree.specs.Forest.{nodes_of, Below, LiveKeys, forked_by, key_fork, AreInRange, ForksRepresent, BelowRepresents, PartsRepresent, NodeRepresents, ForestRepresents}
 use Rattle.stream_tree.specs.Tree.{Performs, PerformsPart}
 
 -- ---- an entry that comes
@@ -54,43 +55,60 @@ otherwise_of (stream kind children otherwise) = otherwise
 abbrev pub Received : Type 0
 Received = Branch → History
 
-abbrev pub BelowIs : List (List ℕ) → StreamTree → ℕ → List (List Value) → Received → Below → Type 0
-BelowIs texts s first keys received below =
-    BelowRepresents texts (children_of s) first (ForestRepresents texts (children_of s)) (ForestRepresents texts (otherwise_of s)) (forked_by (kind_of s)) keys received below
+abbrev pub BelowIs : List (List ℕ) → StreamTree → ℕ → LiveKeys → Received → Below → Type 0
+BelowIs texts s first live received below =
+    BelowRepresents texts (children_of s) first (ForestRepresents texts (children_of s)) (ForestRepresents texts (otherwise_of s)) (forked_by (kind_of s)) live received below
 
 abbrev pub effects_below : StreamTree → BranchEffects
 effects_below s = branch_effects (plan_effects (children_of s)) (plan_effects (otherwise_of s))
 
 -- the branches below a stream
-abbrev pub branches_by : Option (List Field) → List (List Value) → List Branch
-branches_by None keys = Children ∷ (Otherwise ∷ [])
-branches_by (Some fields) keys = map key_fork keys
+abbrev pub branches_by : Option (Option ℕ) → LiveKeys → List Branch
+branches_by None live = Children ∷ (Otherwise ∷ [])
+branches_by (Some idle) live = map (key_fork live) live.keys
 
--- an emission of the stream can go to this branch
-abbrev pub FitsBranch : Option (List Field) → Branch → Type 0
-FitsBranch None (Fork fork) = ⊥
-FitsBranch None branch = Unit {0}
-FitsBranch (Some fields) (Fork fork) = Unit {0}
-FitsBranch (Some fields) branch = ⊥
+-- an emission of the stream can go to this branch, if each key ended so often
+abbrev pub FitsBranch : Option (Option ℕ) → (List Value → ℕ) → Branch → Type 0
+FitsBranch None ended (Fork fork) = ⊥
+FitsBranch None ended branch = Unit {0}
+FitsBranch (Some idle) ended (Fork fork) = fork.number ≡ ended fork.key
+FitsBranch (Some idle) ended branch = ⊥
 
-abbrev pub FitAll : Option (List Field) → List Emission → Type 0
-FitAll shape [] = Unit {0}
-FitAll shape (emission ∷ more) = FitsBranch shape emission.branch × FitAll shape more
+abbrev pub FitAll : Option (Option ℕ) → (List Value → ℕ) → List Emission → Type 0
+FitAll shape ended [] = Unit {0}
+FitAll shape ended (emission ∷ more) = FitsBranch shape ended emission.branch × FitAll shape ended more
 
--- the keys, and that of the fork where the branch is one
-abbrev pub with_branch : Branch → List (List Value) → List (List Value)
-with_branch Children keys = keys
-with_branch Otherwise keys = keys
-with_branch (Fork fork) keys = with_key fork.key keys
+-- an item comes to the branch at this moment
+abbrev pub with_branch : ℕ → Branch → LiveKeys → LiveKeys
+with_branch now Children live = live
+with_branch now Otherwise live = live
+with_branch now (Fork fork) live = record {
+  keys = with_key fork.key live.keys;
+  ended = live.ended;
+  last = λ key. if same_key fork.key key then Some now else live.last key;
+}
 
-abbrev pub with_branches : List Emission → List (List Value) → List (List Value)
-with_branches [] keys = keys
-with_branches (emission ∷ more) keys = with_branches more (with_branch emission.branch keys)
+abbrev pub with_branches : ℕ → List Emission → LiveKeys → LiveKeys
+with_branches now [] live = live
+with_branches now (emission ∷ more) live = with_branches now more (with_branch now emission.branch live)
+
+-- a key does not end at this moment
+abbrev pub lives_on : Option ℕ → ℕ → Option ℕ → Bool
+lives_on idle now last = not (is_at now (idle_after idle last))
+
+-- after a tick at this moment the keys are gone that end at it
+abbrev pub keys_left : Option ℕ → ℕ → LiveKeys → List (List Value)
+keys_left idle now live = filter (λ key. lives_on idle now (live.last key)) live.keys
+
+abbrev pub after_tick : Option (Option ℕ) → ℕ → Entry → LiveKeys → LiveKeys
+after_tick None now x live = live
+after_tick (Some idle) now (In item) live = live
+after_tick (Some idle) now Tick live = record { keys = keys_left idle now live; ended = live.ended; last = live.last }
 
 -- the fork of a key that is not there has received nothing but ticks
-abbrev pub UnseenHaveTicks : Option (List Field) → List (List Value) → Received → Type 0
-UnseenHaveTicks None keys received = Unit {0}
-UnseenHaveTicks (Some fields) keys received = (key : List Value) → is_among key keys ≡ false → TicksAlone (received (key_fork key))
+abbrev pub UnseenHaveTicks : Option (Option ℕ) → LiveKeys → Received → Type 0
+UnseenHaveTicks None live received = Unit {0}
+UnseenHaveTicks (Some idle) live received = (key : List Value) → is_among key live.keys ≡ false → TicksAlone (received (key_fork live key))
 
 -- one more entry for one branch
 abbrev pub extended : Branch → Entry → Received → Received
@@ -113,25 +131,33 @@ FirstRepresent texts (suc i) none nodes h x = ForestRepresents texts none nodes 
 FirstRepresent texts (suc i) (also first more) [] h x = ⊥
 FirstRepresent texts (suc i) (also first more) (node ∷ nodes) h x = NodeRepresents texts first node (h ▸ x) × FirstRepresent texts i more nodes h x
 
+-- a fork that got an entry: what it keeps, and the moment at which it is due, up to its end
+abbrev pub fork_after : Option ℕ → ℕ → Forest → Option ℕ → KeptFork Forest → KeptFork Forest
+fork_after idle number fork deadline kept =
+    if eqb kept.number number then record kept { fork = fork; due = until (idle_after idle (Some kept.moment)) deadline } else kept
+
 -- the fork of the number represents this history, and all else is as it was
-pub record ForkRan (texts : List (List ℕ)) (streams : StreamTrees) (number : ℕ) (forks forks' : ForkTable Forest) (h : History) : Type 0 where
+pub record ForkRan (texts : List (List ℕ)) (streams : StreamTrees) (idle : Option ℕ) (number : ℕ) (forks forks' : ForkTable Forest) (h : History) : Type 0 where
   pub is_table : IsTable forks'
-  pub keys : table_keys forks' ≡ table_keys forks
-  pub many : length (fork_list forks') ≡ length (fork_list forks)
-  pub here : (other : Forest) → ForestRepresents texts streams (nodes_of (slice_index_or (fork_list forks') number other)) h
-  pub elsewhere : (n : ℕ) (other : Forest) → n ≢ number → slice_index_or (fork_list forks') n other ≡ slice_index_or (fork_list forks) n other
-  pub dues : Sets (fork_dues forks) (fork_dues forks') number (plan_deadline streams h)
+  pub has_forks : (other : ℕ) → HasFork other forks → HasFork other forks'
+  pub fork : Forest
+  pub represents : ForestRepresents texts streams (nodes_of fork) h
+  pub kept : kept_forks forks' ≡ map (fork_after idle number fork (plan_deadline streams h)) (kept_forks forks)
 
 -- the fork of the number represents a history to which the entry comes
 pub record ForkComes (start moment : ℕ) (texts : List (List ℕ)) (streams : StreamTrees) (number : ℕ) (forks : ForkTable Forest) (h : History) (x : Entry) : Type 0 where
   pub is_table : IsTable forks
-  pub within : number < length (fork_list forks)
-  pub fork : (other : Forest) → ForestRepresents texts streams (nodes_of (slice_index_or (fork_list forks) number other)) h
+  pub has_fork : HasFork number forks
+  pub fork : AllByRecursion (λ kept. eqb kept.number number ≡ true → ForestRepresents texts streams (nodes_of kept.fork) h) (kept_forks forks)
   pub comes : ComesAt start moment h x
 
 -- the entry comes to each branch
 pub record AllCome (start moment : ℕ) (received : Received) (x : Entry) : Type 0 where
   pub each : (branch : Branch) → ComesAt start moment (received branch) x
+
+-- no branch has come past this moment
+abbrev pub NonePast : ℕ → Received → Type 0
+NonePast moment received = (branch : Branch) → moment_of (received branch) ≤ moment
 
 -- each branch has come to this moment
 pub record AllAreAt (start moment : ℕ) (received : Received) : Type 0 where
@@ -172,10 +198,10 @@ module _ {G : Type 0} (patterns : List Regex) (start moment : ℕ) (old : List O
 
   -- ---- one fork
 
-  abbrev pub ForkRuns : Entry → StreamTrees → ℕ → ForkTable Forest → ForkTable Forest → Type 0
-  ForkRuns x streams number forks forks' = (texts : List (List ℕ)) (h : History) → AreReadFrom texts patterns →
+  abbrev pub ForkRuns : Entry → StreamTrees → Option ℕ → ℕ → ForkTable Forest → ForkTable Forest → Type 0
+  ForkRuns x streams idle number forks forks' = (texts : List (List ℕ)) (h : History) → AreReadFrom texts patterns →
       ForkComes start moment texts streams number forks h x →
-      ForkRan texts streams number forks forks' (h ▸ x) × Performs old before new after (Given ∷ plan_effects streams (h ▸ x))
+      ForkRan texts streams idle number forks forks' (h ▸ x) × Performs old before new after (Given ∷ plan_effects streams (h ▸ x))
 
   abbrev pub ForkStops : Entry → StreamTrees → ℕ → ForkTable Forest → Type 0
   ForkStops x streams number forks = (texts : List (List ℕ)) (h : History) → AreReadFrom texts patterns →
@@ -184,51 +210,57 @@ module _ {G : Type 0} (patterns : List Regex) (start moment : ℕ) (old : List O
 
   -- ---- what is below a stream
 
-  -- a tick comes to each fork, also to those that are not entered
-  abbrev pub DueRuns : StreamTrees → ForkTable Forest → ForkTable Forest → Type 0
-  DueRuns streams forks forks' = (texts : List (List ℕ)) (keys : List (List Value)) (received : List Value → History) → AreReadFrom texts patterns → AreInRange streams →
-      ForksRepresent (ForestRepresents texts streams) (plan_deadline streams) keys received forks → ((key : List Value) → ComesAt start moment (received key) Tick) →
-      ForksRepresent (ForestRepresents texts streams) (plan_deadline streams) keys (λ key. received key ▸ Tick) forks'
-      × Performs old before new after (flat_map (λ key. due_if_any (plan_effects streams (received key ▸ Tick))) keys)
+  -- a tick comes to each fork, also to those that are not entered; then the forks are dropped that end at it
+  abbrev pub DueRuns : StreamTrees → Option ℕ → ForkTable Forest → ForkTable Forest → Type 0
+  DueRuns streams idle forks forks' = (texts : List (List ℕ)) (live : LiveKeys) (received : List Value → History) → AreReadFrom texts patterns →
+      AreInRange streams → AllEndOutermost true streams →
+      ForksRepresent (ForestRepresents texts streams) (plan_deadline streams) idle live.keys live.last received forks → ((key : List Value) → ComesAt start moment (received key) Tick) →
+      ForksRepresent (ForestRepresents texts streams) (plan_deadline streams) idle (keys_left idle moment live) live.last (λ key. received key ▸ Tick) forks'
+      × Performs old before new after (flat_map (λ key. due_if_any (plan_effects streams (received key ▸ Tick))) live.keys)
 
-  abbrev pub DueStops : StreamTrees → ForkTable Forest → Type 0
-  DueStops streams forks = (texts : List (List ℕ)) (keys : List (List Value)) (received : List Value → History) → AreReadFrom texts patterns → AreInRange streams →
-      ForksRepresent (ForestRepresents texts streams) (plan_deadline streams) keys received forks → ((key : List Value) → ComesAt start moment (received key) Tick) →
-      Stops old before new after Tick (flat_map (λ key. due_if_any (plan_effects streams (received key ▸ Tick))) keys)
+  abbrev pub DueStops : StreamTrees → Option ℕ → ForkTable Forest → Type 0
+  DueStops streams idle forks = (texts : List (List ℕ)) (live : LiveKeys) (received : List Value → History) → AreReadFrom texts patterns →
+      AreInRange streams → AllEndOutermost true streams →
+      ForksRepresent (ForestRepresents texts streams) (plan_deadline streams) idle live.keys live.last received forks → ((key : List Value) → ComesAt start moment (received key) Tick) →
+      Stops old before new after Tick (flat_map (λ key. due_if_any (plan_effects streams (received key ▸ Tick))) live.keys)
 
   -- a tick comes to each branch, and an item to none
   abbrev pub TickRuns : Entry → StreamTree → ℕ → Below → Below → Type 0
-  TickRuns x s first below below' = (texts : List (List ℕ)) (keys : List (List Value)) (received : Received) → AreReadFrom texts patterns →
-      BelowIs texts s first keys received below → AllCome start moment received x →
-      BelowIs texts s first keys (λ branch. ticked x (received branch)) below'
-      × Performs old before new after (at_tick x (effects_below s) received (branches_by (forked_by (kind_of s)) keys))
+  TickRuns x s first below below' = (texts : List (List ℕ)) (live : LiveKeys) (received : Received) → AreReadFrom texts patterns →
+      BelowIs texts s first live received below → AllCome start moment received x →
+      BelowIs texts s first (after_tick (forked_by (kind_of s)) moment x live) (λ branch. ticked x (received branch)) below'
+      × Performs old before new after (at_tick x (effects_below s) received (branches_by (forked_by (kind_of s)) live))
 
   abbrev pub TickStops : Entry → StreamTree → ℕ → Below → Type 0
-  TickStops x s first below = (texts : List (List ℕ)) (keys : List (List Value)) (received : Received) → AreReadFrom texts patterns →
-      BelowIs texts s first keys received below → AllCome start moment received x →
-      Stops old before new after x (at_tick x (effects_below s) received (branches_by (forked_by (kind_of s)) keys))
+  TickStops x s first below = (texts : List (List ℕ)) (live : LiveKeys) (received : Received) → AreReadFrom texts patterns →
+      BelowIs texts s first live received below → AllCome start moment received x →
+      Stops old before new after x (at_tick x (effects_below s) received (branches_by (forked_by (kind_of s)) live))
 
   -- wherever the branches represented what they had received, an entry for one of them comes to it
   abbrev pub BranchRuns : Entry → StreamTree → ℕ → Branch → Below → Below → Type 0
-  BranchRuns x s first branch below below' = (texts : List (List ℕ)) (keys : List (List Value)) (received : Received) → AreReadFrom texts patterns → FitsBranch (forked_by (kind_of s)) branch →
-      BelowIs texts s first keys received below → UnseenHaveTicks (forked_by (kind_of s)) keys received → ComesAt start moment (received branch) x →
-      BelowIs texts s first (with_branch branch keys) (extended branch x received) below'
+  BranchRuns x s first branch below below' = (texts : List (List ℕ)) (live : LiveKeys) (received : Received) → AreReadFrom texts patterns →
+      FitsBranch (forked_by (kind_of s)) live.ended branch → BelowIs texts s first live received below → UnseenHaveTicks (forked_by (kind_of s)) live received →
+      NonePast moment received → ComesAt start moment (received branch) x →
+      BelowIs texts s first (with_branch moment branch live) (extended branch x received) below'
       × Performs old before new after (entering (effects_below s) branch (received branch ▸ x))
 
   abbrev pub BranchStops : Entry → StreamTree → ℕ → Branch → Below → Type 0
-  BranchStops x s first branch below = (texts : List (List ℕ)) (keys : List (List Value)) (received : Received) → AreReadFrom texts patterns → FitsBranch (forked_by (kind_of s)) branch →
-      BelowIs texts s first keys received below → UnseenHaveTicks (forked_by (kind_of s)) keys received → ComesAt start moment (received branch) x →
+  BranchStops x s first branch below = (texts : List (List ℕ)) (live : LiveKeys) (received : Received) → AreReadFrom texts patterns →
+      FitsBranch (forked_by (kind_of s)) live.ended branch → BelowIs texts s first live received below → UnseenHaveTicks (forked_by (kind_of s)) live received →
+      NonePast moment received → ComesAt start moment (received branch) x →
       PerformsPart old before new after (entering (effects_below s) branch (received branch ▸ x))
 
   -- these emissions come, each to its branch
   abbrev pub EmissionsRun : List Emission → StreamTree → ℕ → Below → Below → Type 0
-  EmissionsRun es s first below below' = (texts : List (List ℕ)) (keys : List (List Value)) (received : Received) → AreReadFrom texts patterns → FitAll (forked_by (kind_of s)) es →
-      BelowIs texts s first keys received below → UnseenHaveTicks (forked_by (kind_of s)) keys received → AllAreAt start moment received →
-      BelowIs texts s first (with_branches es keys) (λ branch. after_emissions branch es (received branch)) below'
+  EmissionsRun es s first below below' = (texts : List (List ℕ)) (live : LiveKeys) (received : Received) → AreReadFrom texts patterns →
+      FitAll (forked_by (kind_of s)) live.ended es → BelowIs texts s first live received below → UnseenHaveTicks (forked_by (kind_of s)) live received →
+      AllAreAt start moment received →
+      BelowIs texts s first (with_branches moment es live) (λ branch. after_emissions branch es (received branch)) below'
       × Performs old before new after (at_emissions (entering (effects_below s)) received es)
 
   -- a part of the effects is performed, and there are emissions
   abbrev pub EmissionsStop : List Emission → StreamTree → ℕ → Below → Type 0
-  EmissionsStop es s first below = (texts : List (List ℕ)) (keys : List (List Value)) (received : Received) → AreReadFrom texts patterns → FitAll (forked_by (kind_of s)) es →
-      BelowIs texts s first keys received below → UnseenHaveTicks (forked_by (kind_of s)) keys received → AllAreAt start moment received →
+  EmissionsStop es s first below = (texts : List (List ℕ)) (live : LiveKeys) (received : Received) → AreReadFrom texts patterns →
+      FitAll (forked_by (kind_of s)) live.ended es → BelowIs texts s first live received below → UnseenHaveTicks (forked_by (kind_of s)) live received →
+      AllAreAt start moment received →
       PerformsPart old before new after (at_emissions (entering (effects_below s)) received es) × (es ≡ [] → ⊥)

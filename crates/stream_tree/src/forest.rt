@@ -1,6 +1,6 @@
 ghost use Rattle.std.specs.Prelude.{◌≡◌, ◌+◌, ◌≤◌, [], length, is_some, IfOk};
 ghost use Rattle.list_laws.specs.Counts.{greatest};
-ghost use Rattle.fork_by.specs.Table.{fork_keys, IsTable};
+ghost use Rattle.fork_by.specs.Table.{kept_forks, IsTable};
 ghost use Rattle.stream_plan.specs.declared.plan.Stream.{out-Stream};
 ghost use Rattle.stream_plan.specs.Ready.{plan_patterns};
 ghost use Rattle.stream_plan.specs.Search.{opened};
@@ -37,7 +37,7 @@ pub(crate) struct Node {
 pub(crate) fn is_by(kind: &Kind) -> bool
     ensures { result ≡ is_some (forked_by (kind_tree kind.now)) }
 {
-    matches!(kind, Kind::By(_))
+    matches!(kind, Kind::By { .. })
 }
 
 /// The nodes of streams that begin at the moment `start` and to which nothing but ticks has come. Their regular
@@ -82,7 +82,7 @@ fn fresh_node(alloc: Global, stream: &Stream, next: &mut usize, start: u64) -> R
 fn unforked(alloc: Global, stream: &Stream, state: State, next: &mut usize) -> Node
     ensures state { (out-Node result).state ≡ state }
     ensures table { IsTable (out-Node result).forks }
-    ensures keys { fork_keys (out-Node result).forks ≡ [] }
+    ensures forks { kept_forks (out-Node result).forks ≡ [] }
     ensures children { nodes_of (out-Node result).children ≡ [] }
     ensures otherwise { nodes_of (out-Node result).otherwise ≡ [] }
     ensures next { next.old + length (plan_patterns

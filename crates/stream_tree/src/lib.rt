@@ -2,6 +2,7 @@
 #![tactic(auto)]
 
 mod by_value;
+mod ends;
 mod forest;
 mod fork;
 mod give;

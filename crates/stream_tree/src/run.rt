@@ -1,15 +1,19 @@
 //! One entry on its way down the streams.
-ghost use Rattle.std.specs.Prelude.{◌≡◌, ℕ, ◌≤◌, length, OnOk, OnErr, map};
+ghost use Rattle.std.specs.Prelude.{◌≡◌, ℕ, ◌≤◌, List, length, OnOk, OnErr, map};
+ghost use Rattle.ev_types.specs.declared.value.Value.{Value};
 ghost use Rattle.fork_by.specs.declared.table.ForkTable.{ForkTable as Table};
 ghost use Rattle.list_laws.specs.Prefix.{IsPrefix};
+ghost use Rattle.stream_meaning.specs.Emission.{Fork};
 ghost use Rattle.stream_plan.specs.Search.{opened};
 ghost use Rattle.stream_plan.specs.Tree.{list_trees};
 ghost use Rattle.stream_step.specs.Step.{branch_meant, branch_numbered, emission_meant, emissions_meant};
 ghost use Rattle.stream_tree.specs.declared.forest.Forest.{Forest as Nodes};
 ghost use Rattle.stream_tree.specs.declared.forest.Node.{out-Node};
-ghost use Rattle.stream_tree.specs.Forest.{nodes_of, below_of, node_below, first_of, key_fork};
-ghost use Rattle.stream_tree.specs.Running.{children_of, FirstRun, ForestRuns, ForestStops, StreamRuns, StreamStops, ForkRuns, ForkStops, DueRuns, DueStops, TickRuns, TickStops, BranchRuns, BranchStops, EmissionsRun, EmissionsStop};
+ghost use Rattle.stream_tree.specs.Ends.{idle_by};
+ghost use Rattle.stream_tree.specs.Forest.{nodes_of, below_of, node_below, first_of};
+ghost use Rattle.stream_tree.specs.Running.{kind_of, children_of, FirstRun, ForestRuns, ForestStops, StreamRuns, StreamStops, ForkRuns, ForkStops, DueRuns, DueStops, TickRuns, TickStops, BranchRuns, BranchStops, EmissionsRun, EmissionsStop};
 
+use crate::ends::{drop_ended, due_before_end};
 use crate::forest::{Forest, Node, is_by};
 use crate::fork::find_fork;
 use crate::next::forest_due;
@@ -204,6 +208,7 @@ fn run_tick<G: Ledger>(
 }
 
 /// A tick comes to the forks. Those in which nothing is due are not entered: they are as they would be after the tick.
+/// Those that end at it are dropped.
 #[cycle(run)]
 fn run_due<G: Ledger>(
     alloc: Global,
@@ -215,10 +220,11 @@ fn run_due<G: Ledger>(
 ) -> Result<(), Memory>
     ensures runs { OnOk result (DueRuns context.now.patterns.now context.now.start
         context.now.moment out.old steps.old out.new steps.new
-        (children_of (opened stream.now)) forks.old forks.new) }
+        (children_of (opened stream.now)) (idle_by (kind_of (opened stream.now)))
+        forks.old forks.new) }
     ensures stops { OnErr result (DueStops context.now.patterns.now context.now.start
         context.now.moment out.old steps.old out.new steps.new
-        (children_of (opened stream.now)) forks.old) }
+        (children_of (opened stream.now)) (idle_by (kind_of (opened stream.now))) forks.old) }
     ensures prefix { IsPrefix out.old out.new }
 {
     let mut numbers = Ids::fresh(alloc);
@@ -235,6 +241,7 @@ fn run_due<G: Ledger>(
             steps,
         )?;
     }
+    drop_ended(&stream.kind, forks, context.moment);
     Ok(())
 }
 
@@ -253,23 +260,25 @@ fn run_fork<G: Ledger>(
 ) -> Result<(), Memory>
     ensures runs { OnOk result (ForkRuns context.now.patterns.now context.now.start
         context.now.moment out.old steps.old out.new steps.new entry.now
-        (children_of (opened stream.now)) number forks.old forks.new) }
+        (children_of (opened stream.now)) (idle_by (kind_of (opened stream.now))) number
+        forks.old forks.new) }
     ensures stops { OnErr result (ForkStops context.now.patterns.now context.now.start
         context.now.moment out.old steps.old out.new steps.new entry.now
         (children_of (opened stream.now)) number forks.old) }
     ensures prefix { IsPrefix out.old out.new }
 {
-    if number >= forks.len() {
+    if !forks.contains(number) {
         return Ok(());
     }
     let fork = forks.enter(number, steps);
     run_forest(alloc, &stream.children, fork, entry, context, out, steps)?;
     let due = forest_due(&stream.children, fork);
+    let due = due_before_end(&stream.kind, forks.moment(number), due);
     forks.set_due(alloc, number, due)?;
     Ok(())
 }
 
-/// The entry comes to the fork of the key, which is made where there is none.
+/// The item comes to the fork of the key, which is made where there is none.
 #[cycle(run)]
 fn run_key<G: Ledger>(
     alloc: Global,
@@ -282,18 +291,19 @@ fn run_key<G: Ledger>(
     out: &mut Outputs,
     steps: &mut Steps<G>,
 ) -> Result<(), Memory>
-    ensures runs { OnOk result ((children otherwise : Nodes) →
+    ensures runs { OnOk result ((children otherwise : Nodes) (ended : ℕ) →
         BranchRuns context.now.patterns.now context.now.start
         context.now.moment out.old steps.old out.new steps.new entry.now
-        (opened stream.now) first (key_fork key)
+        (opened stream.now) first (Fork (record { key = key; number = ended }))
         (below_of children otherwise forks.old) (below_of children otherwise forks.new)) }
-    ensures stops { OnErr result ((children otherwise : Nodes) →
+    ensures stops { OnErr result ((children otherwise : Nodes) (ended : ℕ) →
         BranchStops context.now.patterns.now context.now.start
         context.now.moment out.old steps.old out.new steps.new entry.now
-        (opened stream.now) first (key_fork key) (below_of children otherwise forks.old)) }
+        (opened stream.now) first (Fork (record { key = key; number = ended }))
+        (below_of children otherwise forks.old)) }
     ensures prefix { IsPrefix out.old out.new }
 {
-    let number = find_fork(alloc, &stream.children, forks, key, first, context.start)?;
+    let number = find_fork(alloc, &stream.children, forks, key, first, context)?;
     run_fork(alloc, stream, forks, number, entry, context, out, steps)?;
     Ok(())
 }
@@ -313,14 +323,16 @@ fn run_passed<G: Ledger>(
     out: &mut Outputs,
     steps: &mut Steps<G>,
 ) -> Result<(), Memory>
-    ensures runs { OnOk result (EmissionsRun context.now.patterns.now context.now.start
+    ensures runs { OnOk result ((ended : List Value → ℕ) →
+        EmissionsRun context.now.patterns.now context.now.start
         context.now.moment out.old steps.old out.new steps.new
-        (emissions_meant passed entry.now)
+        (emissions_meant ended passed entry.now)
         (opened stream.now) first (below_of children.old otherwise.old forks.old)
         (below_of children.new otherwise.new forks.new)) }
-    ensures stops { OnErr result (EmissionsStop context.now.patterns.now context.now.start
+    ensures stops { OnErr result ((ended : List Value → ℕ) →
+        EmissionsStop context.now.patterns.now context.now.start
         context.now.moment out.old steps.old out.new steps.new
-        (emissions_meant passed entry.now)
+        (emissions_meant ended passed entry.now)
         (opened stream.now) first (below_of children.old otherwise.old forks.old)) }
     ensures prefix { IsPrefix out.old out.new }
 {

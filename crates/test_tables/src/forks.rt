@@ -14,38 +14,32 @@ fn key(alloc: Global, number: i64) -> Result<Key, Memory> {
     Ok(key)
 }
 
-/// Whether a fork with the value is added under the key of the number, and gets this place.
-fn is_added(
+/// Adds a fork with the value under the key of the number, whose last item came at the moment, and gives its number, unless
+/// the key is there.
+fn added(
     alloc: Global,
     table: &mut ForkTable<u64>,
     number: i64,
     value: u64,
-    place: usize,
-) -> Result<bool, Memory> {
+    now: u64,
+) -> Result<Option<usize>, Memory> {
     let key = key(alloc, number)?;
-    Ok(table.add(alloc, key, value)? == place)
+    if table.find(&key).is_some() {
+        return Ok(None);
+    }
+    let number = table.add(alloc, key, value, now)?;
+    Ok(Some(number))
 }
 
-/// Whether the fork of the key of the number has this place.
+/// Whether the key of the number has this fork number.
 fn is_found(
     alloc: Global,
     table: &ForkTable<u64>,
     number: i64,
-    place: Option<usize>,
+    fork: Option<usize>,
 ) -> Result<bool, Memory> {
     let key = key(alloc, number)?;
-    Ok(table.find(&key) == place)
-}
-
-/// Whether two forks have the numbers of their order.
-fn are_added(alloc: Global, table: &mut ForkTable<u64>) -> Result<bool, Memory> {
-    Ok(
-        is_added(alloc, table, 8, 10, 0)?
-            && is_added(alloc, table, -9, 20, 1)?
-            && is_found(alloc, table, -9, Some(1))?
-            && is_found(alloc, table, 9, None)?
-            && table.len() == 2,
-    )
+    Ok(table.find(&key) == fork)
 }
 
 /// Sets when the fork of the number is due, if there is such a fork.
@@ -55,34 +49,22 @@ fn set_due(
     number: usize,
     due: u64,
 ) -> Result<(), Memory> {
-    if number < table.len() {
+    if table.contains(number) {
         table.set_due(alloc, number, Some(due))?;
     }
     Ok(())
 }
 
-/// Sets that the forks are due at the moments 7 and 5, and says whether the next one is due at 5.
-fn are_due(alloc: Global, table: &mut ForkTable<u64>) -> Result<bool, Memory> {
-    set_due(alloc, table, 1, 5)?;
-    set_due(alloc, table, 0, 7)?;
-    Ok(table.next_due() == Some(5))
-}
-
-/// Whether the forks 0 and 1 are given at moment 7, once though it is asked twice.
-fn are_given_once(
-    alloc: Global,
-    table: &mut ForkTable<u64>,
-    steps: &mut Steps<CountLedger>,
-) -> bool {
-    let mut ids = Ids::fresh(alloc);
-    let first = table.due_forks(alloc, 7, &mut ids, steps).is_ok();
-    let second = table.due_forks(alloc, 7, &mut ids, steps).is_ok();
-    first && second && ids.as_slice() == [0, 1].as_slice() && table.next_due().is_none()
+/// Notes an item of the fork of the number, if there is such a fork.
+fn touch(table: &mut ForkTable<u64>, number: usize, now: u64) {
+    if table.contains(number) {
+        table.touch(number, now);
+    }
 }
 
 /// Adds one to the value of the fork of the number, and returns what it was, if there is such a fork.
 fn enter(table: &mut ForkTable<u64>, number: usize, steps: &mut Steps<CountLedger>) -> Option<u64> {
-    if number >= table.len() {
+    if !table.contains(number) {
         return None;
     }
     let value = table.enter(number, steps);
@@ -91,16 +73,91 @@ fn enter(table: &mut ForkTable<u64>, number: usize, steps: &mut Steps<CountLedge
     Some(old)
 }
 
-/// Whether forks are added, due once, and entered by count.
+/// Whether the first and the second fork, which are due at the moments 7 and 5, are given at moment 7 in the order in which
+/// they were added, once though it is asked twice.
+fn are_given_once(
+    alloc: Global,
+    table: &mut ForkTable<u64>,
+    first: usize,
+    second: usize,
+    steps: &mut Steps<CountLedger>,
+) -> Result<bool, Memory> {
+    set_due(alloc, table, second, 5)?;
+    set_due(alloc, table, first, 7)?;
+    let mut ids = Ids::fresh(alloc);
+    let next = table.next_due();
+    table.due_forks(alloc, 7, &mut ids, steps)?;
+    table.due_forks(alloc, 7, &mut ids, steps)?;
+    Ok(
+        next == Some(5)
+            && ids.as_slice() == [first, second].as_slice()
+            && table.next_due().is_none(),
+    )
+}
+
+/// Whether two forks have numbers of their own, are due once, and are entered by count.
 fn is_kept(alloc: Global, table: &mut ForkTable<u64>) -> Result<bool, Memory> {
     let mut steps = counter();
+    let first = added(alloc, table, 8, 10, 0)?;
+    let second = added(alloc, table, -9, 20, 0)?;
+    let (Some(first), Some(second)) = (first, second) else {
+        return Ok(false);
+    };
     Ok(
-        are_added(alloc, table)?
-            && are_due(alloc, table)?
-            && are_given_once(alloc, table, &mut steps)
-            && enter(table, 1, &mut steps) == Some(20)
-            && enter(table, 1, &mut steps) == Some(21)
-            && is_counted(&steps, 2, 2),
+        first != second
+            && is_found(alloc, table, -9, Some(second))?
+            && is_found(alloc, table, 9, None)?
+            && table.len() == 2
+            && are_given_once(alloc, table, first, second, &mut steps)?
+            && enter(table, second, &mut steps) == Some(20)
+            && enter(table, second, &mut steps) == Some(21)
+            && enter(table, first, &mut steps) == Some(10)
+            && is_counted(&steps, 3, 2),
+    )
+}
+
+/// Whether of the forks 10, 20 and 30, which begin at the moments 1, 2 and 3, the second ends at 2 if the first got an item
+/// at 3; and whether a fork that is added then has its number and comes last.
+fn ends_in_order(alloc: Global, table: &mut ForkTable<u64>) -> Result<bool, Memory> {
+    let mut steps = counter();
+    let first = added(alloc, table, 8, 10, 1)?;
+    let second = added(alloc, table, -9, 20, 2)?;
+    let third = added(alloc, table, 7, 30, 3)?;
+    let (Some(first), Some(second), Some(third)) = (first, second, third) else {
+        return Ok(false);
+    };
+    touch(table, first, 3);
+    table.drop_idle(2);
+    let ended = table.len() == 2
+        && is_found(alloc, table, -9, None)?
+        && is_found(alloc, table, 7, Some(third))?
+        && table.moment(first) == 3
+        && enter(table, third, &mut steps) == Some(30)
+        && !table.contains(second);
+    let fourth = added(alloc, table, -9, 40, 4)?;
+    Ok(ended && fourth == Some(second) && are_due(alloc, table, first, second, third)?)
+}
+
+/// Whether the forks are given at moment 7 in the order in which they were added.
+fn are_due(
+    alloc: Global,
+    table: &mut ForkTable<u64>,
+    first: usize,
+    second: usize,
+    third: usize,
+) -> Result<bool, Memory> {
+    let mut steps = counter();
+    set_due(alloc, table, second, 5)?;
+    set_due(alloc, table, third, 7)?;
+    set_due(alloc, table, first, 6)?;
+    let mut ids = Ids::fresh(alloc);
+    let next = table.next_due();
+    table.due_forks(alloc, 7, &mut ids, &mut steps)?;
+    Ok(
+        next == Some(5)
+            && ids.as_slice() == [first, third, second].as_slice()
+            && table.next_due().is_none()
+            && is_counted(&steps, 0, 3),
     )
 }
 
@@ -108,4 +165,10 @@ fn is_kept(alloc: Global, table: &mut ForkTable<u64>) -> Result<bool, Memory> {
 fn a_due_fork_is_given_once_and_entered_by_count(rt: HostRuntime) {
     let mut table: ForkTable<u64> = ForkTable::fresh(rt.alloc());
     assert!(rt; matches!(is_kept(rt.alloc(), &mut table), Ok(true)));
+}
+
+#[test]
+fn a_fork_ends_and_its_number_is_used_again(rt: HostRuntime) {
+    let mut table: ForkTable<u64> = ForkTable::fresh(rt.alloc());
+    assert!(rt; matches!(ends_in_order(rt.alloc(), &mut table), Ok(true)));
 }

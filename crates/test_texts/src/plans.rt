@@ -138,7 +138,8 @@ impl Parts {
             return tower(alloc, self.number(0));
         }
         let (count, secs) = (self.number(0), self.number(1));
-        let kind = match plain_kind(alloc, name, self.sets)? {
+        let idle = self.numbers.first().copied();
+        let kind = match plain_kind(alloc, name, self.sets, idle)? {
             Some(kind) => kind,
             None => ranged_kind(name, count, secs).ok_or(RowFault::Unreadable)?,
         };
@@ -169,8 +170,13 @@ fn leaf(alloc: Global, kind: Kind) -> Stream {
     }
 }
 
-/// The kinds without numbers. `never` is a `where` that no event meets.
-fn plain_kind(alloc: Global, name: &str, sets: Sets) -> Result<Option<Kind>, Memory> {
+/// The kinds that need no number. `never` is a `where` that no event meets.
+fn plain_kind(
+    alloc: Global,
+    name: &str,
+    sets: Sets,
+    idle: Option<u32>,
+) -> Result<Option<Kind>, Memory> {
     Ok(Some(match name {
         "index" => Kind::Index,
         "notice" => Kind::Notice(Text::from_str(alloc, "n")?),
@@ -180,7 +186,10 @@ fn plain_kind(alloc: Global, name: &str, sets: Sets) -> Result<Option<Kind>, Mem
         "with" => Kind::With(sets),
         "default" => Kind::Default(sets),
         "tag" => Kind::Tag(Tags::fresh(alloc)),
-        "by" => Kind::By(Fields::fresh(alloc)),
+        "by" => Kind::By {
+            fields: Fields::fresh(alloc),
+            idle,
+        },
         "changed" => Kind::Changed {
             field: Field::State,
             init: None,

@@ -22,8 +22,8 @@ decreases-parts_onto l = 4 * weight (form_trees l.forms.now) + 1
 
 abbrev pub invariant-parts_onto-parts : goal.invariant-parts_onto-parts
 invariant-parts_onto-parts l =
-    (all_read (below_in l.below) (parts_in l.may_else l.env (form_trees l.left))
-    ≡ all_read (below_in l.fn.before) (parts_in l.may_else l.env (form_trees l.forms)))
+    (all_read (below_in l.below) (parts_in l.position.may_else l.position.in_fork l.env (form_trees l.left))
+    ≡ all_read (below_in l.fn.before) (parts_in l.position.may_else l.position.in_fork l.env (form_trees l.forms)))
     × (weight (form_trees l.left) ≤ weight (form_trees l.forms))
 
 abbrev pub decreases-parts_onto-parts : goal.decreases-parts_onto-parts

@@ -2,7 +2,7 @@ use Rattle.std.proofs.Common.{List, ◌++◌, ◌∷◌, [], ℕ, ◌∙◌, ap}
 use Rattle.std.specs.Map.{lookup}
 use Rattle.ev_types.specs.declared.value.Value.{Value}
 use Rattle.ev_types.specs.Key.{same_key}
-use Rattle.fork_by.proofs.ChangeLaws.{inserted-new}
+use Rattle.fork_by.proofs.NewNumberLaws.{inserted-new}
 use Rattle.fork_by.proofs.register.link.Goals as goal
 
 pub returns-clause-entries : goal.returns-clause-entries

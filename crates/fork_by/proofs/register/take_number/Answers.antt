@@ -1,6 +1,6 @@
 use Rattle.std.proofs.Common.{◌∙◌, ap}
 use Rattle.linked_slots.specs.IdLists.{without}
-use Rattle.fork_by.proofs.ChangeLaws.{listed-new, without-new}
+use Rattle.fork_by.proofs.NewNumberLaws.{listed-new, without-new}
 use Rattle.fork_by.proofs.register.take_number.Goals as goal
 
 pub unlink-requires : goal.unlink-requires

@@ -1,4 +1,4 @@
-use Rattle.std.proofs.Common.{List, ℕ, Option, sym, ◌∙◌, ap}
+use Rattle.std.proofs.Common.{List, ℕ, Option, sym, ap}
 use Rattle.std.specs.Option.{option_map}
 use Rattle.ev_types.specs.declared.value.Value.{Value}
 use Rattle.fork_by.specs.Register.{number_at}

@@ -1,5 +1,4 @@
-use Rattle.std.proofs.Common.{refl, sym, ◌∙◌}
-use Rattle.fork_by.proofs.RenewLaws.{renews, same-renews}
+use Rattle.fork_by.proofs.RenewLaws.{renews}
 use Rattle.fork_by.proofs.renew.next_order.Goals as goal
 
 pub returns-clause-renews : goal.returns-clause-renews

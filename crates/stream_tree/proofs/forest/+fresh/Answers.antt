@@ -13,21 +13,21 @@ fresh_node-returns-then-is_by t c =
     c.args.next.now c.unforked.new.next c.unforked.ensures.state refl
     (unforked_holds c.args.stream.now c.in_ok-state.state (node_below c.unforked.result) c.args.start c.args.next.now
     (sym c.is_by.ensures ∙ c.if-is_by.true)
-    c.in_ok-state.ensures.represents c.in_ok-state.ensures.forks c.unforked.ensures.table c.unforked.ensures.keys
+    c.in_ok-state.ensures.represents c.in_ok-state.ensures.forks c.unforked.ensures.table c.unforked.ensures.forks
     c.unforked.ensures.children c.unforked.ensures.otherwise)
     (unforked_following c.args.stream.now c.args.next.now c.fresh.new.next c.unforked.new.next
     c.in_ok-state.ensures.next c.unforked.ensures.next)
 
 pub fresh_node-returns : goal.fresh_node-returns
 fresh_node-returns t c = record {
-  represents = λ before after h alone begins ranges at small.
+  represents = λ before after in_fork h alone begins ranges nested at small.
       rw out-roll-Node
       (node_holds c.args.stream.now c.deref.result.now c.deref-2.result.now c.in_ok-state.state
       (below_of c.in_ok-children.children c.in_ok-otherwise.otherwise c.fresh-2.result) c.args.start
       c.args.next.now c.fresh.new.next c.fresh_forest.new.next c.fresh_forest-2.new.next c.deref.ensures.value
       c.deref-2.ensures.value (sym c.is_by.ensures ∙ c.if-is_by.false)
       c.in_ok-state.ensures.represents c.in_ok-state.ensures.next c.in_ok-children.ensures c.in_ok-otherwise.ensures
-      c.fresh-2.ensures.table c.fresh-2.ensures.keys before after h alone begins ranges at small);
+      c.fresh-2.ensures.table c.fresh-2.ensures.forks before after in_fork h alone begins ranges nested at small);
   following =
       node_following c.args.stream.now c.deref.result.now c.deref-2.result.now _ _ c.args.start c.args.next.now
       c.fresh.new.next c.fresh_forest.new.next c.fresh_forest-2.new.next

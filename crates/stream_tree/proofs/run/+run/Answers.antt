@@ -1,21 +1,22 @@
-use Rattle.std.proofs.Common.{◌≡◌, refl, ap, sym, subst, ◌∙◌, ◌+◌, ◌++◌, arith, ℕ, List, length, get_or}
+use Rattle.std.proofs.Common.{◌≡◌, refl, ap, sym, subst, ◌∙◌, ◌+◌, ◌++◌, arith, ℕ, List, length, get_or, Option}
 use Rattle.std.proofs.Math.ListN.{set}
 use Rattle.std.specs.Vec.{with_item}
 use Rattle.std.proofs.lemmas.List.{length-set}
 use Rattle.std.specs.Vec.Iter.{into_iter_items}
-use Rattle.fork_by.specs.Table.{fork_dues}
+use Rattle.fork_by.specs.Table.{kept_forks, fork_labels}
+use Rattle.fork_by.specs.Labels.{due_numbers}
 use Rattle.pred_eval.proofs.BuildLaws.{on_error}
 use Rattle.stream_plan.specs.Search.{opened}
 use Rattle.stream_step.specs.Step.{branch_meant, emissions_meant}
-use Rattle.tick_schedule.specs.Queue.{due_ids}
 use Rattle.stream_tree.specs.declared.forest.Forest.{out-Forest}
 use Rattle.stream_tree.specs.declared.forest.Forest.TheViews.{roll-Forest, out-roll-Forest}
 use Rattle.stream_tree.specs.declared.forest.Node.{Node}
 use Rattle.stream_tree.specs.Forest.{nodes_of, below_of, first_of}
-use Rattle.stream_tree.specs.Running.{children_of, EmissionsRun, EmissionsStop}
-use Rattle.stream_tree.proofs.BelowLaws.{branch_children, branch_otherwise, children_stop, otherwise_stop, both_run, one_stops, two_stops, due_run, due_stops, key_run, key_stops, one_more_emission, one_more_stops}
+use Rattle.stream_tree.specs.Ends.{idle_by, not_ended}
+use Rattle.stream_tree.specs.Running.{kind_of, children_of, EmissionsRun, EmissionsStop}
+use Rattle.stream_tree.proofs.BelowLaws.{branch_children, branch_otherwise, children_stop, otherwise_stop, both_run, one_stops, two_stops, due_run, due_stops, key_run, key_stops, keyed_run, keyed_stop, one_more_emission, one_more_stops}
 use Rattle.stream_tree.proofs.DueLoop.{loop_begins, loop_more, loop_ends, loop_stops, due_stop, item_is, items_within, items_past}
-use Rattle.stream_tree.proofs.EnterLaws.{fork_runs, fork_unset, fork_stops, due_same}
+use Rattle.stream_tree.proofs.EnterLaws.{idle_opened, fork_runs, fork_unset, fork_stops, fork_missing_runs, due_same}
 use Rattle.stream_tree.proofs.ForestLaws.{ForestRan, forest_more, forest_stops, forest_ends}
 use Rattle.stream_tree.proofs.PerformLaws.{rest_more, extends_none, extends_then}
 use Rattle.stream_tree.proofs.StreamLaws.{stream_runs, stream_act_stops, stream_tick_stops, stream_passed_stops}
@@ -65,7 +66,8 @@ pub run_due-returns-in_err-due_forks-clause-stops : goal.run_due-returns-in_err-
 run_due-returns-in_err-due_forks-clause-stops g t c =
     on_error c.from_residual.result
     (due_stop c.args.context.now.patterns.now c.args.context.now.start c.args.context.now.moment c.args.out.now
-    c.args.steps.now c.args.steps.now (children_of (opened c.args.stream.now)) c.args.forks.now c.due_forks.new.steps
+    c.args.steps.now c.args.steps.now (children_of (opened c.args.stream.now))
+    (idle_by (kind_of (opened c.args.stream.now))) c.args.forks.now c.due_forks.new.steps
     c.due_forks.ensures.forks c.due_forks.ensures.at_most c.due_forks.ensures.at_least c.due_forks.ensures.began
     (λ none. let bad = c.in_err-due_forks.ensures.quiet none in cc))
 
@@ -74,8 +76,9 @@ run_due-loop-number-init g t c =
     record {
       ran =
           loop_begins c.args.context.now.patterns.now c.args.context.now.start c.args.context.now.moment c.args.out.now
-          c.args.steps.now c.due_forks.new.steps (children_of (opened c.args.stream.now)) c.args.forks.now
-          c.due_forks.new.self c.due_forks.ensures.table c.due_forks.ensures.same c.in_ok-due_forks.ensures.later;
+          c.args.steps.now c.due_forks.new.steps (children_of (opened c.args.stream.now))
+          (idle_by (kind_of (opened c.args.stream.now))) c.args.forks.now
+          c.due_forks.new.self c.due_forks.ensures.table c.in_ok-due_forks.ensures.later c.due_forks.ensures.has;
       taken = record {
         forks = c.due_forks.ensures.forks;
         entries = c.in_ok-due_forks.ensures.entries;
@@ -83,7 +86,7 @@ run_due-loop-number-init g t c =
       };
       numbers =
           c.as_slice-number-items.ensures ∙ c.in_ok-due_forks.ensures.numbers
-          ∙ ap (λ (l : List ℕ). l ++ (due_ids c.args.context.now.moment (fork_dues c.args.forks.now)))
+          ∙ ap (λ (l : List ℕ). l ++ (due_numbers c.args.context.now.moment (fork_labels c.args.forks.now)))
           c.fresh-numbers.ensures;
       prefix = extends_none c.args.out.now;
     }
@@ -92,12 +95,13 @@ pub run_due-returns-in_err-run_fork-clause-stops : goal.run_due-returns-in_err-r
 run_due-returns-in_err-run_fork-clause-stops g t c =
     on_error c.from_residual-in_err-run_fork.result
     (loop_stops c.args.context.now.patterns.now c.args.context.now.start c.args.context.now.moment c.args.out.now
-    c.args.steps.now c.due_forks.new.steps (children_of (opened c.args.stream.now)) c.args.forks.now
+    c.args.steps.now c.due_forks.new.steps (children_of (opened c.args.stream.now))
+    (idle_by (kind_of (opened c.args.stream.now))) c.args.forks.now
     c.loop-number.number-index (get_or c.as_slice-number-items.result.now c.loop-number.number-index 0)
     c.loop-number.forks c.loop-number.out c.run_fork.new.out c.loop-number.steps c.run_fork.new.steps
-    (items_within c.as_slice-number-items.result.now (due_ids c.args.context.now.moment (fork_dues c.args.forks.now))
+    (items_within c.as_slice-number-items.result.now (due_numbers c.args.context.now.moment (fork_labels c.args.forks.now))
     c.loop-number.number-index c.loop-number.invariant.numbers c.loop-number-test.true)
-    (item_is c.as_slice-number-items.result.now (due_ids c.args.context.now.moment (fork_dues c.args.forks.now))
+    (item_is c.as_slice-number-items.result.now (due_numbers c.args.context.now.moment (fork_labels c.args.forks.now))
     c.loop-number.number-index c.loop-number.invariant.numbers c.loop-number-test.true)
     c.loop-number.invariant.taken c.loop-number.invariant.ran c.in_err-run_fork.ensures.stops)
 
@@ -106,14 +110,15 @@ run_due-loop-number-preserved g t c =
     record {
       ran =
           loop_more c.args.context.now.patterns.now c.args.context.now.start c.args.context.now.moment c.args.out.now
-          c.args.steps.now c.due_forks.new.steps (children_of (opened c.args.stream.now)) c.args.forks.now
+          c.args.steps.now c.due_forks.new.steps (children_of (opened c.args.stream.now))
+          (idle_by (kind_of (opened c.args.stream.now))) c.args.forks.now
           c.loop-number.number-index (get_or c.as_slice-number-items.result.now c.loop-number.number-index 0)
           c.loop-number.forks c.run_fork.new.forks c.loop-number.out c.run_fork.new.out c.loop-number.steps
           c.run_fork.new.steps
           (items_within c.as_slice-number-items.result.now
-          (due_ids c.args.context.now.moment (fork_dues c.args.forks.now)) c.loop-number.number-index
+          (due_numbers c.args.context.now.moment (fork_labels c.args.forks.now)) c.loop-number.number-index
           c.loop-number.invariant.numbers c.loop-number-test.true)
-          (item_is c.as_slice-number-items.result.now (due_ids c.args.context.now.moment (fork_dues c.args.forks.now))
+          (item_is c.as_slice-number-items.result.now (due_numbers c.args.context.now.moment (fork_labels c.args.forks.now))
           c.loop-number.number-index c.loop-number.invariant.numbers c.loop-number-test.true)
           c.loop-number.invariant.ran c.in_ok-run_fork.ensures.runs;
       taken = c.loop-number.invariant.taken;
@@ -126,11 +131,16 @@ run_due-loop-number-preserved g t c =
 pub run_due-returns-clause-runs : goal.run_due-returns-clause-runs
 run_due-returns-clause-runs g t c =
     loop_ends c.args.context.now.patterns.now c.args.context.now.start c.args.context.now.moment c.args.out.now
-    c.args.steps.now c.due_forks.new.steps (children_of (opened c.args.stream.now)) c.args.forks.now
-    c.loop-number.number-index c.loop-number.forks c.loop-number.out c.loop-number.steps
-    (items_past c.as_slice-number-items.result.now (due_ids c.args.context.now.moment (fork_dues c.args.forks.now))
+    c.args.steps.now c.due_forks.new.steps (children_of (opened c.args.stream.now))
+    (idle_by (kind_of (opened c.args.stream.now))) c.args.forks.now
+    c.loop-number.number-index c.loop-number.forks c.drop_ended.new.forks c.loop-number.out c.loop-number.steps
+    (items_past c.as_slice-number-items.result.now (due_numbers c.args.context.now.moment (fork_labels c.args.forks.now))
     c.loop-number.number-index c.loop-number.invariant.numbers c.loop-number-test.false)
     c.loop-number.invariant.taken c.loop-number.invariant.ran
+    (λ is_table. c.drop_ended.ensures.kept is_table
+    ∙ ap (λ (idle : Option ℕ). not_ended idle c.args.context.now.moment (kept_forks c.loop-number.forks))
+    (idle_opened c.args.stream.now))
+    c.drop_ended.ensures.table
 
 pub run_emissions-loop-emission-preserved-in_ok-run_branch : goal.run_emissions-loop-emission-preserved-in_ok-run_branch
 run_emissions-loop-emission-preserved-in_ok-run_branch g t c =
@@ -242,7 +252,8 @@ run_fork-returns-in_err-run_forest-clause-stops g t c =
     on_error c.from_residual.result
     (fork_stops c.args.context.now.patterns.now c.args.context.now.start c.args.context.now.moment c.args.stream.now
     c.deref.result.now c.deref.ensures.value c.args.number c.args.forks.now c.enter-fork.result.now c.args.entry.now
-    c.enter-fork.ensures.value c.args.out.now c.run_forest.new.out c.args.steps.now c.enter-fork.new.steps
+    (c.contains.ensures.0 c.if-not-contains.false)
+    c.enter-fork.ensures.kept c.args.out.now c.run_forest.new.out c.args.steps.now c.enter-fork.new.steps
     c.run_forest.new.steps c.enter-fork.ensures.forks c.enter-fork.ensures.entries c.enter-fork.ensures.began
     c.in_err-run_forest.ensures.stops)
 
@@ -251,7 +262,8 @@ run_fork-returns-in_err-set_due-clause-stops g t c =
     on_error c.from_residual-in_err-set_due.result
     (fork_unset c.args.context.now.patterns.now c.args.context.now.start c.args.context.now.moment c.args.stream.now
     c.deref.result.now c.deref.ensures.value c.args.number c.args.forks.now c.enter-fork.result.now c.args.entry.now
-    c.enter-fork.ensures.value c.args.out.now c.run_forest.new.out c.args.steps.now c.enter-fork.new.steps
+    (c.contains.ensures.0 c.if-not-contains.false)
+    c.enter-fork.ensures.kept c.args.out.now c.run_forest.new.out c.args.steps.now c.enter-fork.new.steps
     c.run_forest.new.steps c.enter-fork.ensures.forks c.enter-fork.ensures.entries c.enter-fork.ensures.began
     c.run_forest.new.forest c.in_ok-run_forest.ensures.runs)
 
@@ -259,27 +271,61 @@ pub run_fork-returns-clause-runs : goal.run_fork-returns-clause-runs
 run_fork-returns-clause-runs g t c =
     fork_runs c.args.context.now.patterns.now c.args.context.now.start c.args.context.now.moment c.args.stream.now
     c.deref.result.now c.deref.ensures.value c.args.number c.args.forks.now c.enter-fork.result.now c.args.entry.now
-    c.enter-fork.ensures.value c.args.out.now c.run_forest.new.out c.args.steps.now c.enter-fork.new.steps
+    (c.contains.ensures.0 c.if-not-contains.false)
+    c.enter-fork.ensures.kept c.args.out.now c.run_forest.new.out c.args.steps.now c.enter-fork.new.steps
     c.run_forest.new.steps c.enter-fork.ensures.forks c.enter-fork.ensures.entries c.enter-fork.ensures.began
-    c.run_forest.new.forest c.set_due.new.self c.forest_due-due.result c.in_ok-run_forest.ensures.runs
+    c.run_forest.new.forest c.set_due.new.self c.moment.result c.forest_due-due.result c.due_before_end-due.result
+    c.in_ok-run_forest.ensures.runs
     (due_same c.deref-2.result.now c.deref.result.now (nodes_of c.run_forest.new.forest) c.forest_due-due.result
     (c.deref-2.ensures.value ∙ sym c.deref.ensures.value) c.forest_due-due.ensures)
-    c.set_due.ensures.same c.set_due.ensures.table c.in_ok-set_due.ensures.ok
+    c.due_before_end-due.ensures c.moment.ensures
+    c.in_ok-set_due.ensures.ok c.set_due.ensures.table c.set_due.ensures.has
+
+pub run_fork-returns-then-not-contains-clause-runs : goal.run_fork-returns-then-not-contains-clause-runs
+run_fork-returns-then-not-contains-clause-runs g t c =
+    fork_missing_runs c.args.context.now.patterns.now c.args.context.now.start c.args.context.now.moment c.args.out.now
+    c.args.steps.now c.args.entry.now (children_of (opened c.args.stream.now))
+    (idle_by (kind_of (opened c.args.stream.now))) c.args.number c.args.forks.now
+    (λ has. let there = c.contains.ensures.1 has in let none = c.if-not-contains.true in cc)
 
 pub run_key-returns-clause-runs : goal.run_key-returns-clause-runs
 run_key-returns-clause-runs g t c =
-    λ children otherwise. key_run c.args.context.now.patterns.now c.args.context.now.start c.args.context.now.moment
+    λ children otherwise ended. key_run c.args.context.now.patterns.now c.args.context.now.start
+    c.args.context.now.moment
     c.args.stream.now c.deref.result.now c.deref.ensures.value c.args.first c.args.key c.args.entry.now children
-    otherwise c.args.forks.now c.find_fork.new.forks c.in_ok-number.number c.in_ok-number.ensures.found c.args.out.now
+    otherwise c.args.forks.now c.find_fork.new.forks c.in_ok-number.number c.in_ok-number.ensures.found ended
+    c.args.out.now
     c.run_fork.new.out c.args.steps.now c.run_fork.new.steps c.run_fork.new.forks c.in_ok-run_fork.ensures.runs
 
 pub run_key-returns-in_err-run_fork-clause-stops : goal.run_key-returns-in_err-run_fork-clause-stops
 run_key-returns-in_err-run_fork-clause-stops g t c =
     on_error c.from_residual-in_err-run_fork.result
-    (λ children otherwise. key_stops c.args.context.now.patterns.now c.args.context.now.start c.args.context.now.moment
+    (λ children otherwise ended. key_stops c.args.context.now.patterns.now c.args.context.now.start
+    c.args.context.now.moment
     c.args.stream.now c.deref.result.now c.deref.ensures.value c.args.first c.args.key c.args.entry.now children
-    otherwise c.args.forks.now c.find_fork.new.forks c.in_ok-number.number c.in_ok-number.ensures.found c.args.out.now
+    otherwise c.args.forks.now c.find_fork.new.forks c.in_ok-number.number c.in_ok-number.ensures.found ended
+    c.args.out.now
     c.run_fork.new.out c.args.steps.now c.run_fork.new.steps c.in_err-run_fork.ensures.stops)
+
+pub run_passed-returns-in_ok-run_key-in-Keyed-Item-clause-runs :
+    goal.run_passed-returns-in_ok-run_key-in-Keyed-Item-clause-runs
+run_passed-returns-in_ok-run_key-in-Keyed-Item-clause-runs g t c =
+    keyed_run c.args.context.now.patterns.now c.args.context.now.start c.args.context.now.moment
+    (opened c.args.stream.now) c.args.first c.in-Keyed-Item.key c.in-Keyed-Item.field-0-1 c.args.passed c.args.entry.now
+    c.args.out.now c.run_key.new.out c.args.steps.now c.run_key.new.steps
+    (below_of c.args.children.now c.args.otherwise.now c.args.forks.now)
+    (below_of c.args.children.now c.args.otherwise.now c.run_key.new.forks) c.in-Keyed-Item.is-0 c.in-Keyed-Item.is-1
+    (c.in_ok-run_key-in-Keyed-Item.ensures.runs c.args.children.now c.args.otherwise.now)
+
+pub run_passed-returns-in_err-run_key-in-Keyed-Item-clause-stops :
+    goal.run_passed-returns-in_err-run_key-in-Keyed-Item-clause-stops
+run_passed-returns-in_err-run_key-in-Keyed-Item-clause-stops g t c =
+    on_error c.from_residual-in_err-run_key-in-Keyed-Item.result
+    (keyed_stop c.args.context.now.patterns.now c.args.context.now.start c.args.context.now.moment
+    (opened c.args.stream.now) c.args.first c.in-Keyed-Item.key c.in-Keyed-Item.field-0-1 c.args.passed c.args.entry.now
+    c.args.out.now c.run_key.new.out c.args.steps.now c.run_key.new.steps
+    (below_of c.args.children.now c.args.otherwise.now c.args.forks.now) c.in-Keyed-Item.is-0 c.in-Keyed-Item.is-1
+    (c.in_err-run_key-in-Keyed-Item.ensures.stops c.args.children.now c.args.otherwise.now))
 
 pub run_stream-returns-in_err-passed-clause-stops : goal.run_stream-returns-in_err-passed-clause-stops
 run_stream-returns-in_err-passed-clause-stops g t c =
@@ -308,12 +354,12 @@ run_stream-returns-in_err-run_passed-clause-stops g t c =
     (below_of c.args.children.now c.args.otherwise.now c.args.forks.now)
     (below_of c.run_tick.new.children c.run_tick.new.otherwise c.run_tick.new.forks)
     c.in_ok-passed.ensures.acts c.act.ensures.same (c.in_ok-run_tick.ensures.runs (first_of c.act.new.state))
-    (subst
+    (λ ended. subst
     (λ (n : ℕ). EmissionsStop c.args.context.now.patterns.now c.args.context.now.start c.args.context.now.moment
     c.run_tick.new.out c.run_tick.new.steps c.run_passed.new.out c.run_passed.new.steps
-    (emissions_meant c.in_ok-passed.passed c.args.entry.now) (opened c.args.stream.now) n
+    (emissions_meant ended c.in_ok-passed.passed c.args.entry.now) (opened c.args.stream.now) n
     (below_of c.run_tick.new.children c.run_tick.new.otherwise c.run_tick.new.forks))
-    c.first_pattern-first.ensures c.in_err-run_passed.ensures.stops))
+    c.first_pattern-first.ensures (c.in_err-run_passed.ensures.stops ended)))
 
 pub run_stream-returns-clause-runs : goal.run_stream-returns-clause-runs
 run_stream-returns-clause-runs g t c =
@@ -324,13 +370,13 @@ run_stream-returns-clause-runs g t c =
     (below_of c.run_tick.new.children c.run_tick.new.otherwise c.run_tick.new.forks)
     (below_of c.run_passed.new.children c.run_passed.new.otherwise c.run_passed.new.forks)
     c.in_ok-passed.ensures.acts c.act.ensures.same (c.in_ok-run_tick.ensures.runs (first_of c.act.new.state))
-    (subst
+    (λ ended. subst
     (λ (n : ℕ). EmissionsRun c.args.context.now.patterns.now c.args.context.now.start c.args.context.now.moment
     c.run_tick.new.out c.run_tick.new.steps c.run_passed.new.out c.run_passed.new.steps
-    (emissions_meant c.in_ok-passed.passed c.args.entry.now) (opened c.args.stream.now) n
+    (emissions_meant ended c.in_ok-passed.passed c.args.entry.now) (opened c.args.stream.now) n
     (below_of c.run_tick.new.children c.run_tick.new.otherwise c.run_tick.new.forks)
     (below_of c.run_passed.new.children c.run_passed.new.otherwise c.run_passed.new.forks))
-    c.first_pattern-first.ensures c.in_ok-run_passed.ensures.runs)
+    c.first_pattern-first.ensures (c.in_ok-run_passed.ensures.runs ended))
 
 pub run_tick-returns-in_err-run_due-clause-stops : goal.run_tick-returns-in_err-run_due-clause-stops
 run_tick-returns-in_err-run_due-clause-stops g t c =

@@ -1,14 +1,15 @@
 use Rattle.std.proofs.Common.{◌≡◌, ℕ, ◌++◌, length, map}
 use Rattle.std.specs.Vec.Iter.{into_iter_items}
 use Rattle.fork_by.specs.declared.table.ForkTable.{ForkTable}
-use Rattle.fork_by.specs.Table.{fork_dues}
+use Rattle.fork_by.specs.Table.{fork_labels}
+use Rattle.fork_by.specs.Labels.{due_numbers}
 use Rattle.stream_plan.specs.Search.{opened}
 use Rattle.list_laws.specs.Prefix.{IsPrefix}
 use Rattle.stream_step.specs.Step.{emission_meant}
-use Rattle.tick_schedule.specs.Queue.{due_ids}
 use Rattle.stream_tree.specs.declared.forest.Forest.{Forest}
+use Rattle.stream_tree.specs.Ends.{idle_by}
 use Rattle.stream_tree.specs.Forest.{nodes_of, below_of}
-use Rattle.stream_tree.specs.Running.{children_of, EmissionsRun}
+use Rattle.stream_tree.specs.Running.{kind_of, children_of, EmissionsRun}
 use Rattle.stream_tree.proofs.DueLoop.{LoopRan, Taken}
 use Rattle.stream_tree.proofs.ForestLaws.{ForestRan}
 use Rattle.stream_tree.proofs.run.+run.Given as goal
@@ -37,9 +38,10 @@ invariant-run_first-loop-i g l = record {
 abbrev pub invariant-run_due-loop-number : goal.invariant-run_due-loop-number
 invariant-run_due-loop-number g l = record {
   ran : LoopRan l.context.patterns.now l.context.start l.context.moment l.fn.out l.fn.steps l.initial.steps
-      (children_of (opened l.stream)) l.fn.forks l.number-index l.forks l.out l.steps;
+      (children_of (opened l.stream)) (idle_by (kind_of (opened l.stream))) l.fn.forks l.number-index l.forks l.out
+      l.steps;
   taken : Taken l.context.patterns.now l.context.start l.context.moment l.fn.out l.fn.steps l.initial.steps
-      (children_of (opened l.stream)) l.fn.forks;
-  numbers : l.number-items ≡ due_ids l.context.moment (fork_dues l.fn.forks);
+      (children_of (opened l.stream)) (idle_by (kind_of (opened l.stream))) l.fn.forks;
+  numbers : l.number-items ≡ due_numbers l.context.moment (fork_labels l.fn.forks);
   prefix : IsPrefix l.fn.out l.out;
 }

@@ -2,10 +2,12 @@ use Rattle.std.proofs.Common.{List, ℕ, Option, None, Some, cond, eqb, max, ◌
 use Rattle.linked_slots.specs.IdLists.{list_at, last_of}
 use Rattle.tick_schedule.proofs.ListLaws.{on_err}
 use Rattle.fork_by.specs.declared.slots.Slot.{Slot}
-use Rattle.fork_by.specs.Labels.{AreSound, IsLatest, Label, label_at, number_of}
+use Rattle.fork_by.specs.Labels.{IsLatest, Label, label_at, number_of}
 use Rattle.fork_by.specs.Register.{AreKept, labels_of, latest_of, numbers_after}
 use Rattle.fork_by.specs.Slots.{slot_at, slot_with, SetsSlot}
-use Rattle.fork_by.proofs.ChangeLaws.{added-kept, added-labels, is_now, label_from, late-max, no_number, same-kept, same-labels}
+use Rattle.fork_by.proofs.AddedLaws.{added-kept, added-labels, same-kept, same-labels}
+use Rattle.fork_by.proofs.ChangedSlotLaws.{label_from}
+use Rattle.fork_by.proofs.MomentLaws.{is_now, late-max, no_number}
 use Rattle.fork_by.proofs.KeptLaws.{absent, find_is, numbers-added, sound}
 use Rattle.fork_by.proofs.RenewLaws.{are-ordered, renewed-kept, renewed-labels}
 use Rattle.fork_by.proofs.register.Register.add.Goals as goal

@@ -1,4 +1,4 @@
-use Rattle.fork_by.proofs.ChangeLaws.{kept-nothing}
+use Rattle.fork_by.proofs.AddedLaws.{kept-nothing}
 use Rattle.fork_by.proofs.register.Register.fresh.Goals as goal
 
 pub invariant_of-result : goal.invariant_of-result

@@ -1,9 +1,9 @@
-use Rattle.std.proofs.Common.{List, ℕ, Option, Some, ◌<◌, length, arith, [], sym, ◌∙◌, ap, subst}
+use Rattle.std.proofs.Common.{List, ℕ, Option, Some, ◌<◌, length, [], sym, ◌∙◌, ap, subst}
 use Rattle.std.specs.Option.{option_map}
 use Rattle.fork_by.specs.Labels.{Label, dropped, index_at}
 use Rattle.fork_by.specs.Register.{AreKept, labels_of, numbers_after}
-use Rattle.fork_by.specs.Slots.{index_in, slot_at}
-use Rattle.fork_by.proofs.ChangeLaws.{dropped-kept, dropped-labels, index_within, listed_here, live_here}
+use Rattle.fork_by.proofs.DroppedLaws.{dropped-kept, dropped-labels}
+use Rattle.fork_by.proofs.MomentLaws.{index_within, listed_here, live_here}
 use Rattle.fork_by.proofs.KeptLaws.{found, numbers-removed, sound}
 use Rattle.fork_by.proofs.register.Register.remove.Goals as goal
 

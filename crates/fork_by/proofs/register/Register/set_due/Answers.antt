@@ -1,7 +1,7 @@
 use Rattle.std.proofs.Common.{List, ℕ, Option, None, Some, sym, ◌∙◌, ap, subst}
 use Rattle.fork_by.specs.Labels.{AreSound, dues_set}
 use Rattle.fork_by.specs.Register.{labels_of, numbers_after}
-use Rattle.fork_by.proofs.ChangeLaws.{live_here}
+use Rattle.fork_by.proofs.MomentLaws.{live_here}
 use Rattle.fork_by.proofs.DueLaws.{set-kept, set-labels}
 use Rattle.fork_by.proofs.KeptLaws.{sound}
 use Rattle.fork_by.proofs.register.Register.set_due.Goals as goal

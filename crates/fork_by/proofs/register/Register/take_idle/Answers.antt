@@ -3,7 +3,7 @@ use Rattle.std.specs.List.{All}
 use Rattle.std.specs.Option.{IfNone, option_map}
 use Rattle.fork_by.specs.Labels.{AreSound, IsLive, Label, label_at}
 use Rattle.fork_by.specs.Register.{label_of, numbers_after}
-use Rattle.fork_by.proofs.ChangeLaws.{all-later, idle-first}
+use Rattle.fork_by.proofs.MomentLaws.{all-later, idle-first}
 use Rattle.fork_by.proofs.KeptLaws.{found, sound}
 use Rattle.fork_by.proofs.register.Register.take_idle.Goals as goal
 

@@ -1,8 +1,9 @@
-use Rattle.std.proofs.Common.{List, ◌≡◌, ◌≤◌, ◌<◌, max, sym, ◌∙◌, ap, subst}
-use Rattle.linked_slots.specs.IdLists.{list_at, last_of, times_in}
+use Rattle.std.proofs.Common.{List, max, sym, ◌∙◌, ap, subst}
+use Rattle.linked_slots.specs.IdLists.{list_at, last_of}
 use Rattle.fork_by.specs.Labels.{IsLatest, Label, touched}
 use Rattle.fork_by.specs.Register.{latest_of, numbers_after}
-use Rattle.fork_by.proofs.ChangeLaws.{dated-kept, dated-labels, is_now, late-max, listed_here, live_here}
+use Rattle.fork_by.proofs.MomentLaws.{is_now, late-max, listed_here, live_here}
+use Rattle.fork_by.proofs.TouchedLaws.{dated-kept, dated-labels}
 use Rattle.fork_by.proofs.KeptLaws.{sound}
 use Rattle.fork_by.proofs.register.Register.touch.Goals as goal
 

@@ -1,16 +1,23 @@
-use Rattle.std.proofs.Common.{ℕ, ◌<◌, List, length, not, nat_le, sym, subst}
-use Rattle.std.specs.List.{All}
-use Rattle.std.specs.Map.{keys_of}
-use Rattle.fork_by.proofs.TableLaws.{within_some}
+use Rattle.std.proofs.Common.{refl, ◌∙◌, ap}
+use Rattle.std.specs.List.{filter_map}
+use Rattle.fork_by.specs.Table.{fork_with}
+use Rattle.fork_by.proofs.TableLaws.{kept-cleared}
+use Rattle.fork_by.proofs.KeptForkLaws.{cleared-has, due-kept, same-has}
 use Rattle.fork_by.proofs.table.ForkTable.due_forks.Goals as goal
 
-pub returns-clause-table : goal.returns-clause-table
-returns-clause-table g c table = record {
-  even = table.even;
-  distinct = table.distinct;
-  rising = c.take_due.ensures.rising;
-  within = let P : List (ℕ × ℕ) → Type 0 = λ dues. All (λ n. n < length c.args.self.now.forks.items) (keys_of dues) in
-      subst P (sym c.in_ok-take_due.ensures.later)
-      (within_some (length c.args.self.now.forks.items) (λ e. not (nat_le e.1 c.args.now)) c.args.self.now.due
-      table.within);
-}
+pub returns-clause-later : goal.returns-clause-later
+returns-clause-later g c =
+    ap (filter_map (fork_with c.args.self.now.forks.items)) c.in_ok-due_forks.ensures.later
+    ∙ kept-cleared c.args.self.now.forks.items c.args.now c.args.self.now.labels
+
+pub returns-clause-kept : goal.returns-clause-kept
+returns-clause-kept g c table = due-kept c.args.self.now table c.args.now
+
+pub returns-in_err-due_forks-clause-kept : goal.returns-in_err-due_forks-clause-kept
+returns-in_err-due_forks-clause-kept g c table = due-kept c.args.self.now table c.args.now
+
+pub returns-clause-has : goal.returns-clause-has
+returns-clause-has g c = cleared-has c.args.self.now _ refl c.args.now c.in_ok-due_forks.ensures.later
+
+pub returns-in_err-due_forks-clause-has : goal.returns-in_err-due_forks-clause-has
+returns-in_err-due_forks-clause-has g c = same-has c.args.self.now _ refl c.in_err-due_forks.ensures.err

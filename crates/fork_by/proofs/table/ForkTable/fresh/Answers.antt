@@ -1,7 +1,10 @@
-use Rattle.fork_by.proofs.TableLaws.{no_forks}
+use Rattle.std.proofs.Common.{List, length, sym, ◌∙◌, ap, subst}
+use Rattle.fork_by.specs.Labels.{AreSound, Label}
+use Rattle.fork_by.proofs.LabelLaws.{sound_nothing}
 use Rattle.fork_by.proofs.table.ForkTable.fresh.Goals as goal
 
 pub returns-clause-table : goal.returns-clause-table
-returns-clause-table g c =
-    no_forks (record { keys = c.new.result; forks = c.new-2.result; due = c.fresh.result }) c.new.ensures.empty
-    c.new-2.ensures.items c.new.ensures.unique c.fresh.ensures
+returns-clause-table g c = record {
+  even = ap length c.new.ensures.items ∙ sym (ap (λ (ls : List Label). length ls) c.fresh.ensures);
+  sound = subst AreSound (sym c.fresh.ensures) sound_nothing;
+}

@@ -1,23 +1,17 @@
-use Rattle.std.proofs.Common.{length, None, Some}
-use Rattle.fork_by.proofs.TableLaws.{within_set}
+use Rattle.std.proofs.Common.{refl, ◌∙◌, ap}
+use Rattle.std.specs.List.{filter_map}
+use Rattle.fork_by.specs.Table.{fork_with}
+use Rattle.fork_by.proofs.TableLaws.{kept-dated}
+use Rattle.fork_by.proofs.KeptForkLaws.{dated-has, same-has}
 use Rattle.fork_by.proofs.table.ForkTable.set_due.Goals as goal
 
-pub returns-in_ok-set-in-Some-clause-table : goal.returns-in_ok-set-in-Some-clause-table
-returns-in_ok-set-in-Some-clause-table g c table = record {
-  even = table.even;
-  distinct = table.distinct;
-  rising = c.in_ok-set-in-Some.ensures.rising;
-  within =
-      within_set c.args.self.now.due c.set.new.self c.args.number (length c.args.self.now.forks.items)
-      (Some c.in-Some.due)
-      c.in_ok-set-in-Some.ensures.ok c.requires table.within;
-}
+pub returns-clause-ok : goal.returns-clause-ok
+returns-clause-ok g c =
+    ap (filter_map (fork_with c.args.self.now.forks.items)) c.in_ok-set_due.ensures.ok
+    ∙ kept-dated c.args.self.now.forks.items c.args.number c.args.due c.args.self.now.labels
 
-pub returns-in-None-clause-table : goal.returns-in-None-clause-table
-returns-in-None-clause-table g c table = record {
-  even = table.even;
-  distinct = table.distinct;
-  rising = c.clear.ensures.rising;
-  within = within_set c.args.self.now.due c.clear.new.self c.args.number (length c.args.self.now.forks.items) None
-      c.clear.ensures.cleared c.requires table.within;
-}
+pub returns-clause-has : goal.returns-clause-has
+returns-clause-has g c = dated-has c.args.self.now _ refl c.args.number c.args.due c.in_ok-set_due.ensures.ok
+
+pub returns-in_err-set_due-clause-has : goal.returns-in_err-set_due-clause-has
+returns-in_err-set_due-clause-has g c = same-has c.args.self.now _ refl c.in_err-set_due.ensures.err
