@@ -1,8 +1,9 @@
 pub mod AddsLaws
 pub mod TakenLaws
 pub mod TurnLaws
+pub mod QuietLaws
 pub mod LoopLaws
 pub mod EndLaws
+pub mod PlainLaws
 pub use Rattle.conn_core.proofs.HubMeaningLinkLaws
 pub use Rattle.conn_core.proofs.HubMeaningPrefixLaws
-pub mod QuietLaws

@@ -51,7 +51,7 @@ entries_more turns last =
     flat_map-append entries_of_turn turns (last ∷ [])
     ∙ ap (λ (run : List Entry). entries_of turns ++ run) (append-nil (entries_of_turn last))
 
-verdicts_more : (turns : List TakenTurn) (last : TakenTurn)
+pub verdicts_more : (turns : List TakenTurn) (last : TakenTurn)
     → verdicts_of (turns ++ last ∷ []) ≡ verdicts_of turns ++ last.verdicts
 verdicts_more turns last =
     flat_map-append verdicts_of_turn turns (last ∷ [])
@@ -84,7 +84,7 @@ lines_then a b c first second one two = record {
 
 -- ---- keys
 
-keys_have_own : (config : CoreConfig) (arrivals : List Arrival)
+pub keys_have_own : (config : CoreConfig) (arrivals : List Arrival)
     → KeysHaveTheirOwn config arrivals (notices_by config arrivals)
 keys_have_own config arrivals fields apart = record {
   one = notices_of_one fields config.plan config.expiry config.start arrivals apart;
@@ -149,7 +149,7 @@ module _ (config : CoreConfig) (old mid new : RunReport) (hub hub' : Hub) (turns
       }
 
   -- the hub stopped in the middle of it
-  pub stops_more : (fault : RunFault) (stop : Stop) → (fault ≡ Sink → stop ≡ SinkFault)
+  abbrev pub stops_more : (fault : RunFault) (stop : Stop) → (fault ≡ Sink → stop ≡ SinkFault)
       → (does : Turns turn piece hub hub' mid.patterns new.patterns mid.forks new.forks mid.sink new.sink (Err stop)
       config (steps_of turns) calls)
       → StopsIn config fault old new turns (taken_turn (wants_in hub) turn piece does.verdicts calls)

@@ -1,5 +1,5 @@
 -- What a run comes to whose first turns put no lines.
-use Rattle.std.specs.Prelude.{◌≡◌, ℕ, ◌⊎◌, Bool, true, false, List, [], ◌∷◌, ◌++◌, take, None, Result, Ok, Err}
+use Rattle.std.specs.Prelude.{◌≡◌, ℕ, ◌<◌, ◌≤◌, ◌⊎◌, Bool, true, false, List, [], ◌++◌, length, take, None, Result, Ok, Err}
 use Rattle.conn_core.specs.Hub.{Follows}
 use Rattle.conn_core.specs.Turning.{GotLines}
 use Rattle.conn_core.specs.declared.hub.Hub.{Hub}
@@ -28,20 +28,23 @@ mute report = record { patterns = report.patterns; forks = report.forks; sink = 
 
 -- ---- the lines of turns
 
--- The lines of the notices of these turns were put, but for those of the first `quiet` turns.
+-- The lines of the notices of these turns were put, but for those of the first `quiet` turns. While all are quiet, the
+-- sink stays as it is.
 pub record PutsLater (config : CoreConfig) (quiet : ℕ) (turns : List TakenTurn) (old new : SinkReport) : Type 0 where
   pub put : List Notice
   pub notices : notices_after config (steps_of turns) ≡ notices_after config (steps_of (take quiet turns)) ++ put
   pub lines : GotLines old put new
+  pub still : length turns ≤ quiet → new ≡ old
 
--- the same, and then a prefix of the lines of the notices that the next turn made
-pub record PutsPart (config : CoreConfig) (quiet : ℕ) (turns : List TakenTurn) (last : TakenTurn) (old new : SinkReport) : Type 0 where
+-- The same, and then a prefix of the lines of these notices, which the next turn made. If that turn is quiet too, the sink
+-- stays as it is.
+pub record PutsPart (config : CoreConfig) (quiet : ℕ) (turns : List TakenTurn) (made : List Notice)
+    (old new : SinkReport) : Type 0 where
   pub put : List Notice
   pub notices : notices_after config (steps_of turns) ≡ notices_after config (steps_of (take quiet turns)) ++ put
-  pub made : List Notice
-  pub made_are : notices_after config (steps_of (turns ++ last ∷ [])) ≡ notices_after config (steps_of turns) ++ made
   pub count : ℕ
   pub lines : Got old.text (lines_of put ++ take count (lines_of made)) new.text
+  pub still : length turns < quiet → new ≡ old
 
 -- what became of the lines of the notices that one turn made: nothing if it is quiet
 abbrev pub PutsLines : Bool → Result (Unit {0}) Stop → List Notice → SinkReport → SinkReport → Type 0
@@ -78,7 +81,7 @@ pub record LostQuietly (config : CoreConfig) (limit quiet : ℕ) (old new : RunR
 
 pub record CutQuietly (config : CoreConfig) (limit quiet : ℕ) (fault : RunFault) (old new : RunReport) (run : List Entry) : Type 0 where
   pub cut : CutShort config limit fault (mute old) (mute new) run
-  pub puts : PutsPart config quiet cut.turns cut.last old.sink new.sink
+  pub puts : PutsPart config quiet cut.turns cut.stops.made old.sink new.sink
 
 pub record GoneQuietly (config : CoreConfig) (limit quiet : ℕ) (old new : RunReport) (run : List Entry) : Type 0 where
   pub gone : MemoryGone config limit (mute old) (mute new) run
@@ -107,7 +110,7 @@ pub record LosesQuietly (setup : Setup) (limit quiet : ℕ) (old new : RunReport
 
 pub record ShortQuietly (setup : Setup) (limit quiet : ℕ) (fault : RunFault) (old new : RunReport) (run : List Entry) : Type 0 where
   pub short : StopsShort setup limit fault (mute old) (mute new) run
-  pub puts : PutsPart (config_at setup short.secs) quiet short.turns short.last old.sink new.sink
+  pub puts : PutsPart (config_at setup short.secs) quiet short.turns short.stops.made old.sink new.sink
 
 pub record OutQuietly (setup : Setup) (limit quiet : ℕ) (old new : RunReport) (run : List Entry) : Type 0 where
   pub out : RunsOut setup limit (mute old) (mute new) run

@@ -102,12 +102,3 @@ pub record MemoryGone (config : CoreConfig) (limit : ℕ) (old new : RunReport) 
   pub are : run ≡ entries_of turns
   pub takes : TakesTurns config old new turns
   pub going : MayGoOn limit turns
-
-abbrev pub TurnsTo : CoreConfig → ℕ → RunReport → RunReport → Hub → Result (Unit {0}) RunFault → List Entry → Type 0
-TurnsTo config limit old new hub (Ok done) run = AllTaken config limit old new hub run
-TurnsTo config limit old new hub (Err Links) run = LinksLost config limit old new run
-TurnsTo config limit old new hub (Err Sink) run = CutShort config limit Sink old new run
-TurnsTo config limit old new hub (Err Memory) run = MemoryGone config limit old new run ⊎ CutShort config limit Memory old new run
-
-abbrev pub TakesAll : Hub → Hub → ℕ → RunReport → RunReport → Result (Unit {0}) RunFault → List Entry → Type 0
-TakesAll hub hub' limit old new result run = (config : CoreConfig) → Follows hub config [] → TurnsTo config limit old new hub' result run

@@ -2,7 +2,6 @@
 #![tactic(auto)]
 
 mod fault;
-mod quiet;
 mod server;
 mod setup;
 mod start;
@@ -11,6 +10,5 @@ mod turn;
 pub use conn_core;
 pub use conn_core::{event_core, hub_meaning};
 pub use fault::RunFault;
-pub use quiet::run_quietly;
-pub use server::run;
+pub use server::{run, run_quietly};
 pub use setup::Setup;

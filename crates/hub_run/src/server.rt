@@ -1,9 +1,9 @@
-ghost use Rattle.std.specs.Prelude.{◌≡◌, ◌≢◌, length, Err};
+ghost use Rattle.std.specs.Prelude.{◌≡◌, ◌≢◌, Err, OnOk, length, nat_lt};
 ghost use Rattle.conn_core.specs.Hub.{wants_in};
 ghost use Rattle.conn_core.specs.Known.{AreUnclosed};
 ghost use Rattle.ev_types.specs.Interval.{IsInterval};
+ghost use Rattle.hub_run.specs.Quiet.{RunsQuietly, TakesAllQuietly, TakesQuietly};
 ghost use Rattle.hub_run.specs.Runs.{AddsRun, RunsTo, run_report};
-ghost use Rattle.hub_run.specs.Taking.{TakesAll};
 ghost use Rattle.ports.specs.Counts.{Rose};
 
 use crate::fault::RunFault;
@@ -11,7 +11,7 @@ use crate::setup::Setup;
 use crate::start::{buffer, listen, open_hub};
 use crate::turn::{is_last, take_turn};
 use conn_core::Hub;
-use ports::{Links, PIECE_LIMIT, Sink, What};
+use ports::{CountSink, Links, PIECE_LIMIT, Sink, Turn, What};
 use pred_eval::Patterns;
 use std::alloc::Global;
 use step_count::{Ledger, Steps};
@@ -40,37 +40,23 @@ pub fn run<L: Links, O: Sink, P: Patterns, G: Ledger>(
     ensures sink_quiet { result ≢ Err RunFault.Sink → (O.report sink.new).faults ≡
         (O.report sink.old).faults }
 {
-    let mut buf = buffer(alloc)?;
-    let secs = listen(alloc, &setup.address, links)?;
-    let mut hub = open_hub(alloc, setup, secs)?;
-    take_turns(
-        alloc,
-        &mut hub,
-        turns,
-        buf.as_mut_slice(),
-        links,
-        sink,
-        patterns,
-        steps,
-    )?;
-    Ok(hub)
+    run_quietly(alloc, setup, turns, 0, links, sink, patterns, steps)
 }
 
-/// Takes turns until one is the last, or until `turns` of them were taken.
-fn take_turns<L: Links, O: Sink, P: Patterns, G: Ledger>(
+/// Runs a server as [`run`] does, but the lines of its first `quiet` turns are not put.
+pub fn run_quietly<L: Links, O: Sink, P: Patterns, G: Ledger>(
     alloc: Global,
-    hub: &mut Hub,
+    setup: Setup,
     turns: u64,
-    buf: &mut [u8],
+    quiet: u64,
     links: &mut L,
     sink: &mut O,
     patterns: &mut P,
     steps: &mut Steps<G>,
-) -> Result<(), RunFault>
-    requires whole { length buf.old ≡ PIECE_LIMIT }
-    requires known { AreUnclosed (L.report links.old).log (wants_in hub.old) }
-    ensures takes { AddsRun (L.report links.old) (L.report links.new)
-        (TakesAll hub.old hub.new turns
+) -> Result<Hub, RunFault>
+    requires interval { IsInterval setup.expiry }
+    ensures runs { AddsRun (L.report links.old) (L.report links.new)
+        (RunsQuietly setup turns quiet
         (run_report (P.report patterns.old) steps.old.forks (O.report sink.old))
         (run_report (P.report patterns.new) steps.new.forks (O.report sink.new)) result) }
     ensures links_fault { result ≡ Err RunFault.Links →
@@ -82,11 +68,90 @@ fn take_turns<L: Links, O: Sink, P: Patterns, G: Ledger>(
     ensures sink_quiet { result ≢ Err RunFault.Sink → (O.report sink.new).faults ≡
         (O.report sink.old).faults }
 {
-    for _taken in 0..turns {
-        let turn = take_turn(alloc, hub, buf, links, sink, patterns, steps)?;
+    let mut buf = buffer(alloc)?;
+    let secs = listen(alloc, &setup.address, links)?;
+    let mut hub = open_hub(alloc, setup, secs)?;
+    take_turns(
+        alloc,
+        &mut hub,
+        turns,
+        quiet,
+        buf.as_mut_slice(),
+        links,
+        sink,
+        patterns,
+        steps,
+    )?;
+    Ok(hub)
+}
+
+/// Takes turns until one is the last, or until `turns` of them were taken. The lines of the first `quiet` are not put.
+fn take_turns<L: Links, O: Sink, P: Patterns, G: Ledger>(
+    alloc: Global,
+    hub: &mut Hub,
+    turns: u64,
+    quiet: u64,
+    buf: &mut [u8],
+    links: &mut L,
+    sink: &mut O,
+    patterns: &mut P,
+    steps: &mut Steps<G>,
+) -> Result<(), RunFault>
+    requires whole { length buf.old ≡ PIECE_LIMIT }
+    requires known { AreUnclosed (L.report links.old).log (wants_in hub.old) }
+    ensures takes { AddsRun (L.report links.old) (L.report links.new)
+        (TakesAllQuietly hub.old hub.new turns quiet
+        (run_report (P.report patterns.old) steps.old.forks (O.report sink.old))
+        (run_report (P.report patterns.new) steps.new.forks (O.report sink.new)) result) }
+    ensures links_fault { result ≡ Err RunFault.Links →
+        Rose (L.report links.old).faults (L.report links.new).faults }
+    ensures links_quiet { result ≢ Err RunFault.Links → (L.report links.new).faults ≡
+        (L.report links.old).faults }
+    ensures sink_fault { result ≡ Err RunFault.Sink →
+        Rose (O.report sink.old).faults (O.report sink.new).faults }
+    ensures sink_quiet { result ≢ Err RunFault.Sink → (O.report sink.new).faults ≡
+        (O.report sink.old).faults }
+{
+    for taken in 0..turns {
+        let turn = take_next(alloc, hub, taken, quiet, buf, links, sink, patterns, steps)?;
         if is_last(turn) {
             return Ok(());
         }
     }
     Ok(())
+}
+
+/// Takes one turn after `taken` others. Its lines are put unless it is one of the first `quiet`.
+fn take_next<L: Links, O: Sink, P: Patterns, G: Ledger>(
+    alloc: Global,
+    hub: &mut Hub,
+    taken: u64,
+    quiet: u64,
+    buf: &mut [u8],
+    links: &mut L,
+    sink: &mut O,
+    patterns: &mut P,
+    steps: &mut Steps<G>,
+) -> Result<Turn, RunFault>
+    requires whole { length buf.old ≡ PIECE_LIMIT }
+    requires known { AreUnclosed (L.report links.old).log (wants_in hub.old) }
+    ensures known { OnOk result (AreUnclosed (L.report links.new).log (wants_in hub.new)) }
+    ensures takes { AddsRun (L.report links.old) (L.report links.new)
+        (TakesQuietly (nat_lt taken quiet) hub.old hub.new
+        (run_report (P.report patterns.old) steps.old.forks (O.report sink.old))
+        (run_report (P.report patterns.new) steps.new.forks (O.report sink.new)) result) }
+    ensures links_fault { result ≡ Err RunFault.Links →
+        Rose (L.report links.old).faults (L.report links.new).faults }
+    ensures links_quiet { result ≢ Err RunFault.Links → (L.report links.new).faults ≡
+        (L.report links.old).faults }
+    ensures sink_fault { result ≡ Err RunFault.Sink →
+        Rose (O.report sink.old).faults (O.report sink.new).faults }
+    ensures sink_quiet { result ≢ Err RunFault.Sink → (O.report sink.new).faults ≡
+        (O.report sink.old).faults }
+{
+    if taken < quiet {
+        let mut none = CountSink { puts: 0 };
+        return take_turn(alloc, hub, buf, links, &mut none, patterns, steps);
+    }
+    take_turn(alloc, hub, buf, links, sink, patterns, steps)
 }

@@ -1,80 +1,19 @@
-use Rattle.std.proofs.Common.{Ok, Err}
-use Rattle.std.proofs.lemmas.Result.{err_from_is_err_and}
+use Rattle.hub_run.specs.Quiet.{RunsQuietly}
 use Rattle.hub_run.specs.Runs.{RunsTo, run_report}
-use Rattle.hub_run.specs.Taking.{ListensOn, TakesAll}
-use Rattle.hub_run.specs.declared.fault.RunFault.TheVariants.{Memory}
-use Rattle.hub_run.proofs.AddsLaws.{adds_nothing, adds_then, adds_weaken}
-use Rattle.hub_run.proofs.EndLaws.{ends_at_once, ends_badly, ends_unheard, ends_unopened, ends_well, unclosed_nothing}
+use Rattle.hub_run.proofs.AddsLaws.{adds_weaken}
+use Rattle.hub_run.proofs.PlainLaws.{runs_plainly}
 use Rattle.hub_run.proofs.server.run.Goals as goal
-
-pub take_turns-requires-clause-known : goal.take_turns-requires-clause-known
-take_turns-requires-clause-known g c =
-    unclosed_nothing (g.L.Links.report c.listen.new.links).log _ c.in_ok-hub.ensures.wants
-
-pub returns-in_err-buf-clause-runs : goal.returns-in_err-buf-clause-runs
-returns-in_err-buf-clause-runs g c =
-    let p = err_from_is_err_and c.from_residual.result c.from_residual.ensures.1 in
-    let old =
-    run_report (g.P.Patterns.report c.args.patterns.now) c.args.steps.now.forks (g.O.Sink.report c.args.sink.now) in
-    rw (p.1, p.2) (adds_nothing (g.L.Links.report c.args.links.now)
-    (RunsTo c.args.setup c.args.turns old old (Err Memory)) (ends_at_once c.args.setup c.args.turns old))
-
-pub returns-in_err-secs-clause-runs : goal.returns-in_err-secs-clause-runs
-returns-in_err-secs-clause-runs g c =
-    let p = err_from_is_err_and c.from_residual-in_err-secs.result c.from_residual-in_err-secs.ensures.1 in
-    let old =
-    run_report (g.P.Patterns.report c.args.patterns.now) c.args.steps.now.forks (g.O.Sink.report c.args.sink.now) in
-    rw (p.1, p.2) (adds_weaken (g.L.Links.report c.args.links.now) (g.L.Links.report c.listen.new.links)
-    (ListensOn c.args.setup.address (Err _))
-    (RunsTo c.args.setup c.args.turns old old (Err _)) (ends_unheard c.args.setup c.args.turns old _)
-    c.in_err-secs.ensures.listens)
-
-pub returns-in_err-hub-clause-runs : goal.returns-in_err-hub-clause-runs
-returns-in_err-hub-clause-runs g c =
-    let p = err_from_is_err_and c.from_residual-in_err-hub.result c.from_residual-in_err-hub.ensures.1 in
-    let secs = c.in_ok-secs.secs in
-    let old =
-    run_report (g.P.Patterns.report c.args.patterns.now) c.args.steps.now.forks (g.O.Sink.report c.args.sink.now) in
-    rw (p.1, p.2) (adds_weaken (g.L.Links.report c.args.links.now) (g.L.Links.report c.listen.new.links)
-    (ListensOn c.args.setup.address (Ok secs))
-    (RunsTo c.args.setup c.args.turns old old (Err Memory)) (ends_unopened c.args.setup c.args.turns old secs)
-    c.in_ok-secs.ensures.listens)
-
-pub returns-in_err-take_turns-clause-runs : goal.returns-in_err-take_turns-clause-runs
-returns-in_err-take_turns-clause-runs g c =
-    let p = err_from_is_err_and c.from_residual-in_err-take_turns.result c.from_residual-in_err-take_turns.ensures.1 in
-    let setup = c.args.setup in
-    let limit = c.args.turns in
-    let secs = c.in_ok-secs.secs in
-    let hub = c.in_ok-hub.hub in
-    let hub' = c.take_turns.new.hub in
-    let old =
-    run_report (g.P.Patterns.report c.args.patterns.now) c.args.steps.now.forks (g.O.Sink.report c.args.sink.now) in
-    let new =
-    run_report (g.P.Patterns.report c.take_turns.new.patterns) c.take_turns.new.steps.forks
-    (g.O.Sink.report c.take_turns.new.sink) in
-    rw (p.1, p.2) (adds_then (g.L.Links.report c.args.links.now) (g.L.Links.report c.listen.new.links)
-    (g.L.Links.report c.take_turns.new.links)
-    (ListensOn setup.address (Ok secs)) (TakesAll hub hub' limit old new (Err _)) (RunsTo setup limit old new (Err _))
-    c.in_ok-secs.ensures.listens c.in_err-take_turns.ensures.takes
-    (λ first second listens takes.
-    ends_badly setup limit old new hub hub' secs first second listens c.in_ok-hub.ensures.follows _ takes))
 
 pub returns-clause-runs : goal.returns-clause-runs
 returns-clause-runs g c =
     let setup = c.args.setup in
     let limit = c.args.turns in
-    let secs = c.in_ok-secs.secs in
-    let hub = c.in_ok-hub.hub in
-    let hub' = c.take_turns.new.hub in
+    let result = c.run_quietly.result in
     let old =
     run_report (g.P.Patterns.report c.args.patterns.now) c.args.steps.now.forks (g.O.Sink.report c.args.sink.now) in
     let new =
-    run_report (g.P.Patterns.report c.take_turns.new.patterns) c.take_turns.new.steps.forks
-    (g.O.Sink.report c.take_turns.new.sink) in
-    adds_then (g.L.Links.report c.args.links.now) (g.L.Links.report c.listen.new.links)
-    (g.L.Links.report c.take_turns.new.links)
-    (ListensOn setup.address (Ok secs)) (TakesAll hub hub' limit old new (Ok tt)) (RunsTo setup limit old new (Ok hub'))
-    c.in_ok-secs.ensures.listens c.in_ok-take_turns.ensures.takes
-    (λ first second listens takes.
-    ends_well setup limit old new hub hub' secs first second listens c.in_ok-hub.ensures.follows takes)
+    run_report (g.P.Patterns.report c.run_quietly.new.patterns) c.run_quietly.new.steps.forks
+    (g.O.Sink.report c.run_quietly.new.sink) in
+    adds_weaken (g.L.Links.report c.args.links.now) (g.L.Links.report c.run_quietly.new.links)
+    (RunsQuietly setup limit 0 old new result) (RunsTo setup limit old new result)
+    (runs_plainly setup limit old new result) c.run_quietly.ensures.runs

@@ -7,7 +7,7 @@ use Rattle.hub_run.proofs.server.take_turns.Goals as goal
 pub loop-taken-init : goal.loop-taken-init
 loop-taken-init g c = record {
   whole = c.requires.whole;
-  so_far = so_far_nothing (g.L.Links.report c.args.links.now) c.args.hub.now
+  so_far = so_far_nothing (g.L.Links.report c.args.links.now) c.args.quiet c.args.hub.now
       (run_report (g.P.Patterns.report c.args.patterns.now) c.args.steps.now.forks (g.O.Sink.report c.args.sink.now))
       c.requires.known;
   links_still = refl;
@@ -23,15 +23,16 @@ loop-taken-preserved g c =
     let mid =
     run_report (g.P.Patterns.report c.loop-taken.patterns) c.loop-taken.steps.forks
     (g.O.Sink.report c.loop-taken.sink) in
-    let log'' = g.L.Links.report c.take_turn.new.links in
+    let log'' = g.L.Links.report c.take_next.new.links in
     let new =
-    run_report (g.P.Patterns.report c.take_turn.new.patterns) c.take_turn.new.steps.forks
-    (g.O.Sink.report c.take_turn.new.sink) in
+    run_report (g.P.Patterns.report c.take_next.new.patterns) c.take_next.new.steps.forks
+    (g.O.Sink.report c.take_next.new.sink) in
     let turn = c.in_ok-turn.turn in
     record {
-      whole = omega (arith, c.take_turn.auto.buf, c.loop-taken.invariant.whole);
+      whole = omega (arith, c.take_next.auto.buf, c.loop-taken.invariant.whole);
       so_far =
-          so_far_more log log' log'' c.args.hub.now c.loop-taken.hub c.take_turn.new.hub old mid new c.loop-taken._taken
+          so_far_more log log' log'' c.args.quiet c.args.hub.now c.loop-taken.hub c.take_next.new.hub old mid new
+          c.loop-taken.taken
           c.loop-taken.invariant.so_far
           turn (not_last c.is_last.result turn c.is_last.ensures c.if-is_last.false) c.in_ok-turn.ensures.known
           c.in_ok-turn.ensures.takes;
@@ -48,12 +49,13 @@ returns-then-is_last-clause-takes g c =
     let mid =
     run_report (g.P.Patterns.report c.loop-taken.patterns) c.loop-taken.steps.forks
     (g.O.Sink.report c.loop-taken.sink) in
-    let log'' = g.L.Links.report c.take_turn.new.links in
+    let log'' = g.L.Links.report c.take_next.new.links in
     let new =
-    run_report (g.P.Patterns.report c.take_turn.new.patterns) c.take_turn.new.steps.forks
-    (g.O.Sink.report c.take_turn.new.sink) in
+    run_report (g.P.Patterns.report c.take_next.new.patterns) c.take_next.new.steps.forks
+    (g.O.Sink.report c.take_next.new.sink) in
     let turn = c.in_ok-turn.turn in
-    so_far_stopped log log' log'' c.args.hub.now c.loop-taken.hub c.take_turn.new.hub old mid new c.loop-taken._taken
+    so_far_stopped log log' log'' c.args.quiet c.args.hub.now c.loop-taken.hub c.take_next.new.hub old mid new
+    c.loop-taken.taken
     c.loop-taken.invariant.so_far
     c.args.turns (omega arith) turn (is_stopped c.is_last.result turn c.is_last.ensures c.if-is_last.true)
     c.in_ok-turn.ensures.takes
@@ -67,13 +69,14 @@ returns-in_err-turn-clause-takes g c =
     let mid =
     run_report (g.P.Patterns.report c.loop-taken.patterns) c.loop-taken.steps.forks
     (g.O.Sink.report c.loop-taken.sink) in
-    let log'' = g.L.Links.report c.take_turn.new.links in
+    let log'' = g.L.Links.report c.take_next.new.links in
     let new =
-    run_report (g.P.Patterns.report c.take_turn.new.patterns) c.take_turn.new.steps.forks
-    (g.O.Sink.report c.take_turn.new.sink) in
+    run_report (g.P.Patterns.report c.take_next.new.patterns) c.take_next.new.steps.forks
+    (g.O.Sink.report c.take_next.new.sink) in
     let p = err_from_is_err_and c.from_residual.result c.from_residual.ensures.1 in
-    rw (p.1, p.2) (so_far_failed log log' log'' c.args.hub.now c.loop-taken.hub c.take_turn.new.hub old mid new
-    c.loop-taken._taken c.loop-taken.invariant.so_far
+    rw (p.1, p.2)
+    (so_far_failed log log' log'' c.args.quiet c.args.hub.now c.loop-taken.hub c.take_next.new.hub old mid new
+    c.loop-taken.taken c.loop-taken.invariant.so_far
     c.args.turns (omega arith) _ c.in_err-turn.ensures.takes)
 
 pub returns-clause-takes : goal.returns-clause-takes
@@ -85,5 +88,6 @@ returns-clause-takes g c =
     let mid =
     run_report (g.P.Patterns.report c.loop-taken.patterns) c.loop-taken.steps.forks
     (g.O.Sink.report c.loop-taken.sink) in
-    so_far_at_limit log log' c.args.hub.now c.loop-taken.hub old mid c.loop-taken._taken c.args.turns (omega arith)
+    so_far_at_limit log log' c.args.quiet c.args.hub.now c.loop-taken.hub old mid c.loop-taken.taken c.args.turns
+    (omega arith)
     c.loop-taken.invariant.so_far

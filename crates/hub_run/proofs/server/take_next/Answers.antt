@@ -4,7 +4,7 @@ use Rattle.hub_run.specs.Quiet.{TakesQuietly}
 use Rattle.hub_run.specs.Runs.{run_report}
 use Rattle.hub_run.proofs.AddsLaws.{adds_weaken}
 use Rattle.hub_run.proofs.QuietLaws.{never_rose, takes_loud, takes_quiet, takes_some}
-use Rattle.hub_run.proofs.quiet.take_some.Goals as goal
+use Rattle.hub_run.proofs.server.take_next.Goals as goal
 
 pub returns-then-taken-quiet-clause-takes : goal.returns-then-taken-quiet-clause-takes
 returns-then-taken-quiet-clause-takes g c =
