@@ -143,7 +143,7 @@ not_memory (event.Ended link) = refl
 not_memory (event.Broken link) = refl
 not_memory (event.Room link) = refl
 
-not_failed : (given : TurnEvent) → is_failed_turn (what_of given) ≡ false
+pub not_failed : (given : TurnEvent) → is_failed_turn (what_of given) ≡ false
 not_failed event.Listen = refl
 not_failed event.Idle = refl
 not_failed (event.Opened link) = refl

@@ -1,7 +1,7 @@
 -- What a crash leaves of the turns that were handed out, for the other calls and at the start.
-use Rattle.std.proofs.Common.{◌≡◌, inl, inr, ℕ, ◌<◌, Bool, true, false, not, List, [], ◌∷◌, ◌++◌, ◌&&◌, drop, length, refl, ap, sym, ◌∙◌, subst, append-nil, append_assoc, arith}
-use Rattle.std.specs.List.{flat_map, list_all}
-use Rattle.std.proofs.lemmas.Grind.{flat_map-append}
+use Rattle.std.proofs.Common.{◌≡◌, inl, inr, ℕ, ◌<◌, Bool, true, false, not, List, [], ◌∷◌, ◌++◌, ◌&&◌, drop, length, refl, ap, sym, ◌∙◌, subst, append_assoc, arith}
+use Rattle.std.specs.List.{list_all}
+use Rattle.std.proofs.lemmas.List.{map-append}
 use Rattle.disk_port.specs.Past.{synced}
 use Rattle.journal_format.specs.Journals.{AreRecords}
 use Rattle.journal_format.specs.Spelling.{is_listen}
@@ -9,8 +9,8 @@ use Rattle.journal_format.specs.declared.turn_record.TurnEvent.{TurnEvent}
 use Rattle.journal_format.specs.declared.turn_record.TurnEvent.TheVariants as event
 use Rattle.journal_format.specs.declared.turn_record.TurnRecord.{TurnRecord}
 use Rattle.journal_links.specs.Steps.{Progress, close_again, close_passed, listen_again, listen_first, listen_unasked, send_again, send_memory, send_passed}
-use Rattle.journal_links.specs.Turns.{AreTurns, BegunKeepsTurns, BeginsWithListen, CloseKeepsTurns, KeepsTurns, ListenKeepsTurns, PlainTurn, ResumedKeepsTurns, SendKeepsTurns, StaysJournal, handed, handed_by, is_turn, listened, plain, turns_in}
-use Rattle.journal_links.proofs.TurnLaws.{added, none_left, plain_is, quiet, still}
+use Rattle.journal_links.specs.Turns.{AreTurns, BegunKeepsTurns, BeginsWithListen, CloseKeepsTurns, KeepsTurns, ListenKeepsTurns, PlainTurn, ResumedKeepsTurns, SendKeepsTurns, StaysJournal, handed, is_turn, plain, turns_in}
+use Rattle.journal_links.proofs.TurnLaws.{added, none_left, plain_is, quiet, still, turns_of}
 use Rattle.ports.specs.Links.{listen_entries, send_entries}
 use Rattle.ports.specs.declared.entry.Entry.{Entry}
 use Rattle.ports.specs.declared.entry.Entry.TheVariants.{Close}
@@ -19,19 +19,16 @@ use Rattle.ports.specs.declared.links.ListenAnswer.TheVariants as listen
 use Rattle.ports.specs.declared.links.SendAnswer.{SendAnswer}
 use Rattle.ports.specs.declared.links.SendAnswer.TheVariants as send
 use Rattle.recorded_links.specs.Keeping.{HandsListen, Kept, is_ready, listen_entry}
+use Rattle.recorded_links.specs.Noting.{after_listen, noted}
+use Rattle.recorded_links.proofs.NoteLaws.{close_noted, listen_noted, send_noted}
 use Rattle.recorded_links.specs.Steps.{ListenStep, listen_refused, listen_taken}
 
 -- ---- `send` and `close`
 
-handed_send : (log : List Entry) (link : ℕ) (bytes : List ℕ) (answer : SendAnswer) → handed (log ++ send_entries link bytes answer) ≡ handed log
-handed_send log link bytes answer =
-    flat_map-append handed_by log (send_entries link bytes answer) ∙ (ap (λ (turns : List PlainTurn). handed log ++ turns) (by_answer answer) ∙ append-nil (handed log))
-  where
-    by_answer : (answer : SendAnswer) → flat_map handed_by (send_entries link bytes answer) ≡ []
-    by_answer (send.Took count) = refl
-    by_answer send.Later = refl
-    by_answer send.Failed = refl
-    by_answer send.Memory = refl
+handed_send : (log : List Entry) (link : ℕ) (bytes : List ℕ) (answer : SendAnswer)
+    → handed (log ++ send_entries link bytes answer) ≡ handed log
+handed_send log link bytes answer = ap turns_of (send_noted log (log ++ send_entries link bytes answer) link bytes
+    answer refl)
 
 pub send_keeps : SendKeepsTurns
 send_keeps old new was is link bytes answer log keeps (send_again over answer_is left records given opened rests spent) =
@@ -42,7 +39,7 @@ send_keeps old new was is link bytes answer log keeps (send_memory over answer_i
     still log was old.kept keeps (log ++ send_entries link bytes answer) new.kept is true unsent.kept (handed_send log link bytes answer) stays.records stays.given
 
 handed_close : (log : List Entry) (link : ℕ) → handed (log ++ Close link ∷ []) ≡ handed log
-handed_close log link = flat_map-append handed_by log (Close link ∷ []) ∙ append-nil (handed log)
+handed_close log link = ap turns_of (close_noted log (log ++ Close link ∷ []) link refl)
 
 pub close_keeps : CloseKeepsTurns
 close_keeps old new was is link log keeps (close_again none opened records given left rests spent) =
@@ -52,13 +49,12 @@ close_keeps old new was is link log keeps (close_passed number at step stays) =
 
 -- ---- `listen`
 
-handed_listen : (log : List Entry) (address : List ℕ) (answer : ListenAnswer) → handed (log ++ listen_entries address answer) ≡ handed log ++ listened answer
-handed_listen log address answer = flat_map-append handed_by log (listen_entries address answer) ∙ ap (λ (turns : List PlainTurn). handed log ++ turns) (by_answer answer)
-  where
-    by_answer : (answer : ListenAnswer) → flat_map handed_by (listen_entries address answer) ≡ listened answer
-    by_answer (listen.Ready secs) = refl
-    by_answer listen.Failed = refl
-    by_answer listen.Memory = refl
+handed_ready : (log : List Entry) (address : List ℕ) (answer : ListenAnswer) (secs : ℕ) → answer ≡ listen.Ready secs
+    → handed (log ++ listen_entries address answer) ≡ handed log ++ record { secs = secs; event = event.Listen } ∷ []
+handed_ready log address answer secs is =
+    ap turns_of (listen_noted log (log ++ listen_entries address answer) address answer refl
+    ∙ ap (after_listen (noted log)) is)
+    ∙ map-append plain (noted log).records (listen_entry (noted log).sends secs ∷ [])
 
 is_listen_event : (given : TurnEvent) → is_listen given ≡ true → event.Listen ≡ given
 is_listen_event event.Listen is = refl
@@ -101,7 +97,7 @@ listen_keeps old new was is address answer log keeps begins (listen_again again)
         let turn : PlainTurn = record { secs = secs; event = event.Listen } in
         let plain_same : turn ≡ plain at.entry = plain_is secs at.entry.secs event.Listen at.entry.event given.secs_is event_is in
         let handed_more : handed (log ++ listen_entries address answer) ≡ handed log ++ plain at.entry ∷ [] =
-        handed_listen log address answer ∙ (ap (λ (a : ListenAnswer). handed log ++ listened a) answer_is ∙ ap (λ (t : PlainTurn). handed log ++ t ∷ []) plain_same) in
+        handed_ready log address answer secs answer_is ∙ ap (λ (t : PlainTurn). handed log ++ t ∷ []) plain_same in
         ap (λ (entries : List TurnRecord). handed log ++ turns_in entries) all
         ∙ (sym (append_assoc (handed log) (plain at.entry ∷ []) (turns_in at.later))
         ∙ (ap (λ (turns : List PlainTurn). turns ++ turns_in at.later) (sym handed_more)
@@ -115,7 +111,7 @@ listen_keeps old new was is address answer log keeps begins (listen_first over s
     by_step (listen_taken takes) = by_asked takes.asked refl
       where
         by_way : (secs : ℕ) → HandsListen (listen.Ready secs) answer → is_ready answer ≡ true → handed (log ++ listen_entries address answer) ≡ handed log ++ plain (listen_entry old.sends secs) ∷ []
-        by_way secs (inl same) ready = handed_listen log address answer ∙ ap (λ (a : ListenAnswer). handed log ++ listened a) same
+        by_way secs (inl same) ready = handed_ready log address answer secs same
         by_way secs (inr (inl lost)) ready = let none : is_ready answer ≡ false = ap is_ready lost in absurd (cc (ready, none))
         by_way secs (inr (inr out)) ready = let none : is_ready answer ≡ false = ap is_ready out in absurd (cc (ready, none))
 

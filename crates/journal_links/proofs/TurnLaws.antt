@@ -1,8 +1,6 @@
 -- What a crash leaves of the turns that were handed out.
 use Rattle.std.proofs.Common.{◌≡◌, ◌⊎◌, inl, inr, ℕ, zero, suc, ◌<◌, Bool, true, false, not, cond, List, [], ◌∷◌, ◌++◌, drop, length, refl, ap, sym, ◌∙◌, subst, append-nil, append_assoc, arith}
-use Rattle.std.specs.List.{flat_map}
 use Rattle.std.proofs.lemmas.Bool.{leb-false, leb-true}
-use Rattle.std.proofs.lemmas.Grind.{flat_map-append}
 use Rattle.std.proofs.lemmas.List.{drop_all, map-append}
 use Rattle.disk_port.proofs.PastLaws.{begins, weaker}
 use Rattle.disk_port.specs.Past.{Leaves}
@@ -12,7 +10,7 @@ use Rattle.journal_format.specs.declared.turn_record.TurnEvent.{TurnEvent}
 use Rattle.journal_format.specs.declared.turn_record.TurnEvent.TheVariants as event
 use Rattle.journal_format.specs.declared.turn_record.TurnRecord.{TurnRecord}
 use Rattle.journal_links.specs.Steps.{Progress, is_over, last_secs, next_again, next_broken, next_inner, next_unasked}
-use Rattle.journal_links.specs.Turns.{AreTurns, HoldsTurns, KeepsTurns, NextKeepsTurns, PlainTurn, StaysJournal, handed, handed_by, is_done, is_turn, plain, turned, turns_in}
+use Rattle.journal_links.specs.Turns.{AreTurns, HoldsTurns, KeepsTurns, NextKeepsTurns, PlainTurn, StaysJournal, handed, is_done, is_turn, plain, turns_in}
 use Rattle.journal_links.proofs.GiveLaws.{Next, next}
 use Rattle.ports.specs.Links.{is_failed_turn, is_memory_turn, next_entries, piece_of}
 use Rattle.ports.specs.declared.entry.Entry.{Entry}
@@ -21,7 +19,9 @@ use Rattle.ports.specs.declared.links.Want.{Want}
 use Rattle.ports.specs.declared.links.What.{What}
 use Rattle.ports.specs.declared.links.What.TheVariants.{Idle, Opened, Read, Ended, Broken, Room, Stopped, Failed, Memory}
 use Rattle.recorded_links.specs.Keeping.{AddsRecord, HandsOut, Kept, entry_of, event_of, is_recorded}
+use Rattle.recorded_links.specs.Noting.{Noted, noted}
 use Rattle.recorded_links.specs.Steps.{NextStep, OwnStep, next_full, next_refused, next_taken, own_full, own_refused, own_taken}
+use Rattle.recorded_links.proofs.NoteLaws.{turn_added, turn_quiet}
 use Rattle.turn_journal.specs.Standing.{Adds, HoldsOrWith, Stands}
 use Rattle.turn_replay.specs.Replaying.{bytes_of, what_of}
 
@@ -75,28 +75,20 @@ plain_is secs secs' given given' same other =
 abbrev plain_turn : Turn → List ℕ → PlainTurn
 plain_turn turn buf = record { secs = turn.secs; event = event_of turn.what (piece_of turn.what buf) }
 
--- the turn that a call of `next` adds
-handed_next : (log : List Entry) (wants : List Want) (buf : List ℕ) (turn : Turn) → handed (log ++ next_entries wants buf turn) ≡ handed log ++ turned turn (piece_of turn.what buf)
-handed_next log wants buf turn = flat_map-append handed_by log (next_entries wants buf turn) ∙ ap (λ (turns : List PlainTurn). handed log ++ turns) (by_what turn.what refl)
-  where
-    by_what : (what : What) → turn.what ≡ what → flat_map handed_by (next_entries wants buf turn) ≡ turned turn (piece_of turn.what buf)
-    by_what Idle is = rw is refl
-    by_what (Opened link) is = rw is refl
-    by_what (Read link count) is = rw is refl
-    by_what (Ended link) is = rw is refl
-    by_what (Broken link) is = rw is refl
-    by_what (Room link) is = rw is refl
-    by_what Stopped is = rw is refl
-    by_what Failed is = rw is refl
-    by_what Memory is = rw is refl
+-- the turns of the records so far
+abbrev pub turns_of : Noted → List PlainTurn
+turns_of so_far = turns_in so_far.records
 
-handed_none : (log : List Entry) (wants : List Want) (buf : List ℕ) (turn : Turn) → is_recorded turn.what ≡ false → handed (log ++ next_entries wants buf turn) ≡ handed log
-handed_none log wants buf turn is =
-    handed_next log wants buf turn
-    ∙ (ap (λ (t : Bool). handed log ++ cond t (plain_turn turn buf ∷ []) []) is ∙ append-nil (handed log))
+pub handed_none : (log : List Entry) (wants : List Want) (buf : List ℕ) (turn : Turn) → is_recorded turn.what ≡ false
+    → handed (log ++ next_entries wants buf turn) ≡ handed log
+handed_none log wants buf turn is = ap turns_of (turn_quiet log (log ++ next_entries wants buf turn) wants buf turn refl
+    is)
 
-handed_one : (log : List Entry) (wants : List Want) (buf : List ℕ) (turn : Turn) → is_recorded turn.what ≡ true → handed (log ++ next_entries wants buf turn) ≡ handed log ++ plain_turn turn buf ∷ []
-handed_one log wants buf turn is = handed_next log wants buf turn ∙ ap (λ (t : Bool). handed log ++ cond t (plain_turn turn buf ∷ []) []) is
+handed_one : (log : List Entry) (wants : List Want) (buf : List ℕ) (turn : Turn) → is_recorded turn.what ≡ true
+    → handed (log ++ next_entries wants buf turn) ≡ handed log ++ plain_turn turn buf ∷ []
+handed_one log wants buf turn is =
+    ap turns_of (turn_added log (log ++ next_entries wants buf turn) wants buf turn refl is)
+    ∙ map-append plain (noted log).records (entry_of (noted log).sends turn (piece_of turn.what buf) ∷ [])
 
 -- ---- a call that adds no record
 

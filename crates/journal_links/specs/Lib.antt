@@ -1,3 +1,4 @@
 pub mod Steps
 pub mod Resuming
+pub mod Seeing
 pub mod Turns

@@ -1,23 +1,22 @@
 -- The turns that a run handed out, and those that its journal has.
 use Rattle.std.specs.Prelude.{◌≡◌, ℕ, ◌≤◌, Bool, true, false, not, if◌then◌else◌, List, [], ◌∷◌, ◌++◌, drop, length, map, Some}
-use Rattle.std.specs.List.{flat_map, list_all}
+use Rattle.std.specs.List.{list_all}
 use Rattle.disk_port.specs.Past.{LeavesOnly, Past, synced}
 use Rattle.journal_format.specs.Journals.{Holds, Journal}
 use Rattle.journal_format.specs.Spelling.{is_listen}
 use Rattle.journal_format.specs.declared.turn_record.TurnEvent.{TurnEvent}
-use Rattle.journal_format.specs.declared.turn_record.TurnEvent.TheVariants as event
 use Rattle.journal_format.specs.declared.turn_record.TurnRecord.{TurnRecord}
 use Rattle.journal_links.specs.Resuming.{Resumes}
 use Rattle.journal_links.specs.Steps.{CloseOf, ListenOf, NextOf, Progress, SendOf}
 use Rattle.ports.specs.Links.{is_failed_turn, is_memory_turn, listen_entries, next_entries, send_entries}
 use Rattle.ports.specs.declared.entry.Entry.{Entry}
-use Rattle.ports.specs.declared.entry.Entry.TheVariants.{Listen, Next, Send, Close}
+use Rattle.ports.specs.declared.entry.Entry.TheVariants.{Close}
 use Rattle.ports.specs.declared.links.ListenAnswer.{ListenAnswer}
-use Rattle.ports.specs.declared.links.ListenAnswer.TheVariants as listen
 use Rattle.ports.specs.declared.links.SendAnswer.{SendAnswer}
 use Rattle.ports.specs.declared.links.Turn.{Turn}
 use Rattle.ports.specs.declared.links.Want.{Want}
-use Rattle.recorded_links.specs.Keeping.{Kept, event_of, is_ready, is_recorded}
+use Rattle.recorded_links.specs.Keeping.{Kept, is_ready}
+use Rattle.recorded_links.specs.Noting.{noted}
 use Rattle.recorded_links.specs.Steps.{Seen}
 use Rattle.turn_journal.specs.Beginning.{StandsBlank}
 use Rattle.turn_journal.specs.Standing.{Stands}
@@ -33,24 +32,9 @@ plain entry = record { secs = entry.secs; event = entry.event }
 abbrev pub turns_in : List TurnRecord → List PlainTurn
 turns_in records = map plain records
 
--- the turn of an answer, if it is recorded
-abbrev pub listened : ListenAnswer → List PlainTurn
-listened (listen.Ready secs) = record { secs = secs; event = event.Listen } ∷ []
-listened listen.Failed = []
-listened listen.Memory = []
-
-abbrev pub turned : Turn → List ℕ → List PlainTurn
-turned turn piece = if is_recorded turn.what then record { secs = turn.secs; event = event_of turn.what piece } ∷ [] else []
-
-abbrev pub handed_by : Entry → List PlainTurn
-handed_by (Listen address answer) = listened answer
-handed_by (Next wants turn piece) = turned turn piece
-handed_by (Send link bytes answer) = []
-handed_by (Close link) = []
-
 -- all turns that were handed out in these calls but Stopped
 abbrev pub handed : List Entry → List PlainTurn
-handed log = flat_map handed_by log
+handed log = turns_in (noted log).records
 
 -- only the first record is that of a `listen`
 abbrev pub is_turn : TurnRecord → Bool

@@ -1,5 +1,5 @@
 -- What is known of links and of a disk after a run over links that resume one.
-use Rattle.std.proofs.Common.{◌≡◌, ℕ, ◌-◌, false, List, [], length, Err, inl, refl, sym, ◌∙◌, subst}
+use Rattle.std.proofs.Common.{◌≡◌, ℕ, ◌-◌, List, [], length, Err, inl, refl, sym, ◌∙◌, subst}
 use Rattle.std.proofs.Math.Logic.{∥∥₁_map}
 use Rattle.std.proofs.lemmas.Grind.{merely}
 use Rattle.std.specs.Prelude.{Result}
@@ -19,15 +19,18 @@ use Rattle.journal_run.specs.declared.fault.JournalRunFault.TheVariants.{Memory}
 use Rattle.ports.proofs.CallLemmas.{no_calls}
 use Rattle.ports.specs.Calls.{LinksReport}
 use Rattle.ports.specs.declared.entry.Entry.{Entry}
-use Rattle.recorded_links.specs.Keeping.{Kept, kept_of}
+use Rattle.recorded_links.specs.Keeping.{Kept}
 use Rattle.recorded_links.specs.Steps.{Seen}
+use Rattle.recorded_runs.specs.Making.{none_yet}
 use Rattle.replayed_links.specs.Opened.{first_free}
 use Rattle.resumed_runs.specs.Asking.{AsksFor, none_made}
 use Rattle.resumed_runs.specs.Lending.{Asked, LentJournal}
-use Rattle.resumed_runs.specs.Making.{Made}
-use Rattle.resumed_runs.specs.Moments.{none_yet}
-use Rattle.resumed_runs.proofs.MadeLaws.{made_begun}
-use Rattle.turn_replay.specs.Replaying.{summaries_next}
+use Rattle.resumed_runs.specs.Making.{Made, State, unresumed}
+use Rattle.resumed_runs.specs.Moments.{none_yet as no_moments}
+
+-- the state of links of which this is seen
+abbrev pub state_at : Seen → Progress → State
+state_at seen progress = record { seen = seen; progress = progress }
 
 -- ---- the journal
 
@@ -61,15 +64,16 @@ ran_lent : (setup : Setup) (limit quiet : ℕ) (lent : LentJournal) (calls : Lis
     (old new : RunReport) (result : Result Hub JournalRunFault) → quiet ≡ length lent.records - 2
     → first ≡ first_free lent.records → kept.past ≡ disk'.past
     → RunsQuietly setup limit quiet old new (run_result result) calls → ∥ KeepsSome lent calls progress kept ∥₁
-    → ∥ Asked first lent calls seen progress ∥₁ → seen.kept.past ≡ disk'.past
-    → ∥ Made lent.lent.found lent.records lent.lent.links lent.lent.disk calls seen progress ∥₁
+    → ∥ Asked first lent calls seen progress ∥₁ → seen.kept.past ≡ disk'.past → seen.faults ≡ disk'.faults
+    → ∥ Made lent.lent.found lent.records lent.lent.links lent.lent.disk calls (state_at seen progress) ∥₁
     → RunsResumed setup limit lent.lent.found lent.records lent.lent.links seen.inner lent.lent.disk disk' old new
     result
 ran_lent setup limit quiet lent calls seen progress kept first disk' old new result quiet_is first_is same runs keeps
-    asked there made = record {
+    asked there faults made = record {
       calls = calls;
-      made = ∥∥₁_map made (λ (all : Made lent.lent.found lent.records lent.lent.links lent.lent.disk calls seen progress).
-          record { now = seen; progress = progress; made = all; inner = refl; past = there });
+      made = ∥∥₁_map made
+          (λ (all : Made lent.lent.found lent.records lent.lent.links lent.lent.disk calls (state_at seen progress)).
+          record { now = state_at seen progress; made = all; inner = refl; past = there; faults = faults });
       runs = subst (λ (n : ℕ). RunsQuietly setup limit n old new (run_result result) calls) quiet_is runs;
       asked = asks_of lent calls seen progress first first_is asked;
       journal = resumed_in lent calls progress kept disk' same keeps;
@@ -82,11 +86,11 @@ pub ran_resumed : (setup : Setup) (limit quiet : ℕ) (lent : LentJournal) (foun
     → lent.lent.found ≡ found → lent.records ≡ records → lent.lent.links ≡ links → lent.lent.disk ≡ disk
     → quiet ≡ length lent.records - 2 → first ≡ first_free lent.records → kept.past ≡ disk'.past
     → RunsQuietly setup limit quiet old new (run_result result) calls → ∥ KeepsSome lent calls progress kept ∥₁
-    → ∥ Asked first lent calls seen progress ∥₁ → seen.kept.past ≡ disk'.past
-    → ∥ Made lent.lent.found lent.records lent.lent.links lent.lent.disk calls seen progress ∥₁
+    → ∥ Asked first lent calls seen progress ∥₁ → seen.kept.past ≡ disk'.past → seen.faults ≡ disk'.faults
+    → ∥ Made lent.lent.found lent.records lent.lent.links lent.lent.disk calls (state_at seen progress) ∥₁
     → RunsResumed setup limit found records links seen.inner disk disk' old new result
 ran_resumed setup limit quiet lent found records links disk calls seen progress kept first disk' old new result found_is
-    records_are links_are disk_is quiet_is first_is same runs keeps asked there made =
+    records_are links_are disk_is quiet_is first_is same runs keeps asked there faults made =
     subst (λ (end : Found). RunsResumed setup limit end records links seen.inner disk disk' old new result) found_is
     (subst
     (λ (entries : List TurnRecord).
@@ -101,21 +105,7 @@ ran_resumed setup limit quiet lent found records links disk calls seen progress 
     RunsResumed setup limit lent.lent.found lent.records lent.lent.links seen.inner report disk' old new result)
     disk_is
     (ran_lent setup limit quiet lent calls seen progress kept first disk' old new result quiet_is first_is same runs
-    keeps asked there made))))
-
--- before the first call
-abbrev nothing_seen : Found → List TurnRecord → LinksReport → DiskReport → Seen
-nothing_seen found records links disk = record {
-  inner = links;
-  first = first_free records;
-  kept = kept_of disk.past found.gate found.has_record;
-  faults = disk.faults;
-  sends = [];
-  spent = false;
-}
-
-abbrev nothing_given : List TurnRecord → Progress
-nothing_given records = record { records = records; given = 0; left = summaries_next records; opened = [] }
+    keeps asked there faults made))))
 
 -- memory ran out before anything was done
 pub nothing_resumed : (setup : Setup) (limit : ℕ) (found : Found) (records : List TurnRecord) (links : LinksReport)
@@ -125,11 +115,11 @@ nothing_resumed setup limit found records links disk report = record {
   calls = [];
   runs = inl (record { is = refl; same = refl });
   made = merely (record {
-    now = nothing_seen found records links disk;
-    progress = nothing_given records;
-    made = made_begun found records links disk [] (nothing_seen found records links disk) (nothing_given records) refl refl refl refl refl refl refl refl refl refl refl;
+    now = unresumed found records links disk;
+    made = none_yet refl refl;
     inner = refl;
     past = refl;
+    faults = refl;
   });
   asked = merely (record { later = []; asked = []; adds = no_calls links; asks = none_made refl refl refl });
   journal = λ past config told resumes.
@@ -138,7 +128,7 @@ nothing_resumed setup limit found records links disk report = record {
         told,
         record {
           progress = record { records = records; given = 0; left = []; opened = [] };
-          moments = none_yet refl refl;
+          moments = no_moments refl refl;
         },
       );
 }

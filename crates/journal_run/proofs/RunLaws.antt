@@ -74,6 +74,15 @@ ran_lent : (setup : Setup) (limit : ℕ) (lent : Lent) (calls : List Entry) (lin
 ran_lent setup limit lent calls links' first disk' gate has sends spent old new result is runs traces = record {
   calls = calls;
   runs = runs;
+  made = ∥∥₁_map traces (λ (all : Traces lent calls (seen links' first disk' gate has sends spent)).
+      record {
+        now = seen links' first disk' gate has sends spent;
+        made = all.made;
+        inner = refl;
+        past = refl;
+        faults =
+            refl;
+      });
   passed = passed_by lent calls (seen links' first disk' gate has sends spent) is traces;
   journal = records_in lent calls (seen links' first disk' gate has sends spent) disk' refl traces;
 }

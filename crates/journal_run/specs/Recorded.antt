@@ -15,7 +15,8 @@ use Rattle.ports.specs.Calls.{LinksReport}
 use Rattle.ports.specs.declared.entry.Entry.{Entry}
 use Rattle.recorded_runs.specs.Laws.{AreAll, AreFirst, HoldsMore}
 use Rattle.recorded_runs.specs.Lending.{Passed}
-use Rattle.recorded_runs.specs.Noting.{noted}
+use Rattle.recorded_runs.specs.Making.{LeadsTo, recording, uncalled}
+use Rattle.recorded_links.specs.Noting.{noted}
 use Rattle.recorded_runs.specs.Recording.{Recorded}
 use Rattle.turn_journal.specs.Standing.{Stands}
 
@@ -46,6 +47,8 @@ pub record RunsRecorded (setup : Setup) (limit : ℕ) (found : Found) (links lin
   -- the calls of the links that record, with each turn that was handed out
   pub calls : List Entry
   pub runs : RunsTo setup limit old new (run_result result) calls
+  -- Each of them does what links that record do: so it says what was asked, and what the journal got before the answer.
+  pub made : ∥ LeadsTo recording (uncalled 0 found links disk) calls links' disk' ∥₁
   -- the calls that were made for them of the links that were lent
   pub passed : ∥ Passed 0 links calls links' ∥₁
   pub journal : RecordsIn found disk disk' calls

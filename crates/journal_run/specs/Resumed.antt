@@ -15,11 +15,11 @@ use Rattle.journal_run.specs.declared.fault.JournalRunFault.{JournalRunFault}
 use Rattle.ports.specs.Calls.{AddsCalls, LinksReport}
 use Rattle.ports.specs.declared.entry.Entry.{Entry}
 use Rattle.recorded_links.specs.Keeping.{Kept}
-use Rattle.recorded_links.specs.Steps.{Seen}
+use Rattle.recorded_runs.specs.Making.{LeadsTo}
 use Rattle.replayed_links.specs.Opened.{first_free}
 use Rattle.resumed_runs.specs.Asking.{AsksFor}
 use Rattle.resumed_runs.specs.Lending.{KeepsJournal, LentJournal}
-use Rattle.resumed_runs.specs.Making.{Made}
+use Rattle.resumed_runs.specs.Making.{resuming, unresumed}
 use Rattle.resumed_runs.specs.Moments.{IsKeptIn}
 
 -- what became of the journal of links that resume a run, whether or not their run has ended
@@ -48,15 +48,6 @@ pub record AsksOf (records : List TurnRecord) (links links' : LinksReport) (call
   pub adds : AddsCalls links links' asked
   pub asks : AsksFor (first_free records) (last_secs records) calls later asked
 
--- All calls of these links, one after another, led from the journal that was lent to what the links and the disk report now.
--- Each says what was asked, what the journal got, and what was given again.
-pub record MakesCalls (found : Found) (records : List TurnRecord) (links links' : LinksReport) (disk disk' : DiskReport) (calls : List Entry) : Type 0 where
-  pub now : Seen
-  pub progress : Progress
-  pub made : Made found records links disk calls now progress
-  pub inner : now.inner ≡ links'
-  pub past : now.kept.past ≡ disk'.past
-
 -- A server was run over links that give the turns of a journal with these records again, and record those after them.
 pub record RunsResumed (setup : Setup) (limit : ℕ) (found : Found) (records : List TurnRecord)
     (links links' : LinksReport)
@@ -65,7 +56,9 @@ pub record RunsResumed (setup : Setup) (limit : ℕ) (found : Found) (records : 
   pub calls : List Entry
   -- The lines of the journal's turns before its last were not put. Its first record is that of a `listen`.
   pub runs : RunsQuietly setup limit (length records - 2) old new (run_result result) calls
-  pub made : ∥ MakesCalls found records links links' disk disk' calls ∥₁
+  -- Each of them does what links that keep a journal do: so it says what was asked, what the journal got, and what was
+  -- given again.
+  pub made : ∥ LeadsTo resuming (unresumed found records links disk) calls links' disk' ∥₁
   -- so these were made of the links that were lent
   pub asked : ∥ AsksOf records links links' calls ∥₁
   pub journal : ResumesIn found records disk disk' calls

@@ -5,7 +5,7 @@ ghost use Rattle.journal_format.specs.Limits.{journal_limit, step_limit};
 ghost use Rattle.journal_run.specs.Recorded.{RunsRecorded, run_result};
 ghost use Rattle.list_laws.specs.Counts.{Rose};
 ghost use Rattle.recorded_links.specs.Numbers.{first_after};
-ghost use Rattle.recorded_links.specs.Steps.{seen};
+ghost use Rattle.recorded_links.specs.Seeing.{seen_of};
 ghost use Rattle.recorded_runs.specs.Lending.{Traces};
 ghost use Rattle.turn_journal.specs.Standing.{IsWithin};
 
@@ -90,6 +90,7 @@ fn run_traced<'a, L: Links, D: Disk, O: Sink, P: Patterns, G: Ledger, K: Loan>(
     } ≡ K.lent.found }
     requires fresh { links.log ≡ [] }
     requires unsent { links.recorder.sends.now.summaries.items ≡ [] }
+    requires unspent { links.spent ≡ false }
     requires first { first_after links.last ≡ 0 }
     ensures links_name { result.inner.ghost_name ≡ K.lent.links_name }
     ensures disk_name { result.recorder.journal.disk.ghost_name ≡ K.lent.disk_name }
@@ -98,10 +99,7 @@ fn run_traced<'a, L: Links, D: Disk, O: Sink, P: Patterns, G: Ledger, K: Loan>(
         (run_report (P.report patterns.old) steps.old.forks (O.report sink.old))
         (run_report (P.report patterns.new) steps.new.forks (O.report sink.new))
         (run_result ran.new) result.log }
-    ensures traces { ∥ Traces K.lent result.log (seen (L.report result.inner.now)
-        (first_after result.last) (D.report result.recorder.journal.disk.now)
-        result.recorder.journal.gate result.recorder.journal.has_record
-        result.recorder.sends.now.summaries.items result.spent) ∥₁ }
+    ensures traces { ∥ Traces K.lent result.log (seen_of result) ∥₁ }
     ensures opened { (D.report result.recorder.journal.disk.now).opened ≡ K.lent.disk.opened }
     ensures disk_fault { ran.new ≡ Err JournalRunFault.Disk →
         Rose K.lent.disk.faults (D.report result.recorder.journal.disk.now).faults }

@@ -4,16 +4,15 @@ ghost use Rattle.ev_types.specs.Interval.{IsInterval};
 ghost use Rattle.hub_run.specs.Quiet.{RunsQuietly};
 ghost use Rattle.hub_run.specs.Runs.{run_report};
 ghost use Rattle.journal_format.specs.Limits.{journal_limit, step_limit};
-ghost use Rattle.journal_links.specs.Steps.{progress_of};
+ghost use Rattle.journal_links.specs.Seeing.{reached};
 ghost use Rattle.journal_run.specs.Recorded.{run_result};
 ghost use Rattle.journal_run.specs.Resumed.{KeepsSome, RunsResumed};
 ghost use Rattle.list_laws.specs.Counts.{Rose};
-ghost use Rattle.recorded_links.specs.Keeping.{kept_of};
 ghost use Rattle.recorded_links.specs.Numbers.{first_after};
-ghost use Rattle.recorded_links.specs.Steps.{seen};
-ghost use Rattle.replayed_links.specs.Opened.{first_free, is_before};
+ghost use Rattle.recorded_links.specs.Seeing.{seen_of};
+ghost use Rattle.replayed_links.specs.Opened.{first_free};
 ghost use Rattle.resumed_runs.specs.Lending.{Asked};
-ghost use Rattle.resumed_runs.specs.Making.{Made};
+ghost use Rattle.resumed_runs.specs.Making.{Made, state_of};
 ghost use Rattle.turn_journal.specs.Standing.{IsWithin};
 ghost use Rattle.turn_replay.specs.Reading.{has_event};
 ghost use Rattle.turn_replay.specs.Replaying.{summaries_next};
@@ -21,14 +20,13 @@ ghost use Rattle.turn_replay.specs.Replaying.{summaries_next};
 use crate::fault::JournalRunFault;
 use crate::recorded::ended_so;
 use disk_port::Disk;
-use ev_types::Blob;
 use hub_run::conn_core::Hub;
 use hub_run::{Setup, run_quietly};
 use journal_format::Found;
-use journal_links::{JournalLinks, ReplayRoom};
+use journal_links::JournalLinks;
 use ports::{Links, Sink};
 use pred_eval::Patterns;
-use recorded_links::{CallLog, RecordedLinks, TurnRoom};
+use recorded_links::{RecordedLinks, TurnRoom};
 use replayed_links::{OpenLinks, last_opened};
 use resumed_runs::{JournalLoan, ResumedLinks};
 use std::alloc::Global;
@@ -75,22 +73,22 @@ pub fn run_resumed<L: Links, D: Disk, O: Sink, P: Patterns, G: Ledger>(
         (O.report sink.old).faults }
 {
     let quiet = quiet_turns(records.len());
-    match ReplayRoom::over(alloc, Blob::fresh(alloc), records) {
-        Ok(room) => run_in(
-            alloc, setup, turns, quiet, found, room, links, disk, sink, patterns, steps,
+    match Replay::over(alloc, records) {
+        Ok(replay) => run_in(
+            alloc, setup, turns, quiet, found, replay, links, disk, sink, patterns, steps,
         ),
         Err(_) => Err(JournalRunFault::Memory),
     }
 }
 
-/// The same, with the turns of the journal in a room.
+/// The same, before the first turn of the journal is given again.
 fn run_in<L: Links, D: Disk, O: Sink, P: Patterns, G: Ledger>(
     alloc: Global,
     setup: Setup,
     turns: u64,
     quiet: u64,
     found: Found,
-    room: ReplayRoom,
+    replay: Replay,
     links: &mut L,
     disk: &mut D,
     sink: &mut O,
@@ -98,13 +96,12 @@ fn run_in<L: Links, D: Disk, O: Sink, P: Patterns, G: Ledger>(
     steps: &mut Steps<G>,
 ) -> Result<Hub, JournalRunFault>
     requires interval { IsInterval setup.expiry }
-    requires quiet { quiet ≡ length room.replay.records - 2 }
+    requires quiet { quiet ≡ length replay.records - 2 }
     requires within { IsWithin (D.report disk.old).past found.gate }
     requires room { found.has_record ≡ false → found.gate + step_limit < journal_limit }
-    requires given { room.replay.given ≡ 0 }
-    requires left { room.replay.left.items ≡ summaries_next room.replay.records }
-    requires unopened { room.opened.numbers.keys ≡ [] }
-    ensures runs { RunsResumed setup turns found room.replay.records (L.report links.old)
+    requires given { replay.given ≡ 0 }
+    requires left { replay.left.items ≡ summaries_next replay.records }
+    ensures runs { RunsResumed setup turns found replay.records (L.report links.old)
         (L.report links.new) (D.report disk.old) (D.report disk.new)
         (run_report (P.report patterns.old) steps.old.forks (O.report sink.old))
         (run_report (P.report patterns.new) steps.new.forks (O.report sink.new)) result }
@@ -122,42 +119,19 @@ fn run_in<L: Links, D: Disk, O: Sink, P: Patterns, G: Ledger>(
     ensures sink_quiet { result ≢ Err JournalRunFault.Sink → (O.report sink.new).faults ≡
         (O.report sink.old).faults }
 {
-    let mut room = room;
+    let mut replay = replay;
+    let mut opened = OpenLinks::fresh(alloc);
     let mut noted = TurnRoom::fresh(alloc);
     let mut written = Vec::new(alloc);
     let mut ran: Result<Hub, JournalRunFault> = Err(JournalRunFault::Memory);
     let journal = JournalFile::over(disk, &mut written, found.gate, found.has_record);
-    let last = last_opened(room.replay.records.as_slice());
+    let last = last_opened(replay.records.as_slice());
     let recorded = RecordedLinks::over(links, journal, last, &mut noted);
-    let resumed = resumed_over(recorded, &mut room.replay, &mut room.opened, &room.config);
+    let resumed = JournalLinks::over(recorded, &mut replay, &mut opened);
     let _ended = run_noted::<L, D, O, P, G, Brand>(
         alloc, setup, turns, quiet, resumed, sink, patterns, steps, &mut ran,
     );
     ran
-}
-
-/// Links that give these turns again, and record those after them.
-fn resumed_over<'a, L: Links, D: Disk>(
-    recorded: RecordedLinks<'a, L, D>,
-    replay: &'a mut Replay,
-    opened: &'a mut OpenLinks,
-    config: &'a Blob,
-) -> JournalLinks<'a, L, D>
-    requires fresh { recorded.log ≡ [] }
-    requires before { list_all (is_before (first_after recorded.last)) replay.old.records
-        ≡ true }
-    ensures recorded { result.recorded ≡ recorded.entry }
-    ensures replay { result.replay.now ≡ replay.old }
-    ensures opened { result.opened.now ≡ opened.old }
-    ensures log { result.log ≡ [] }
-{
-    JournalLinks {
-        recorded,
-        replay,
-        opened,
-        log: CallLog::fresh(),
-        config,
-    }
 }
 
 /// How many turns of a journal put no lines: all but the last. The first record is that of a `listen`, which is no turn.
@@ -207,25 +181,11 @@ fn run_noted<'a, L: Links, D: Disk, O: Sink, P: Patterns, G: Ledger, K: JournalL
         (run_report (P.report patterns.new) steps.new.forks (O.report sink.new))
         (run_result ran.new) result.log }
     ensures keeps { ∥ KeepsSome K.lent result.log
-        (progress_of result.replay.now.records result.replay.now.given
-        result.replay.now.left.items result.opened.now.numbers.keys)
-        (kept_of (D.report result.recorded.recorder.journal.disk.now).past
-        result.recorded.recorder.journal.gate result.recorded.recorder.journal.has_record) ∥₁ }
+        (reached result) (seen_of result.recorded).kept ∥₁ }
     ensures made { ∥ Made K.lent.lent.found K.lent.records K.lent.lent.links K.lent.lent.disk
-        result.log
-        (seen (L.report result.recorded.inner.now) (first_after result.recorded.last)
-        (D.report result.recorded.recorder.journal.disk.now)
-        result.recorded.recorder.journal.gate result.recorded.recorder.journal.has_record
-        result.recorded.recorder.sends.now.summaries.items result.recorded.spent)
-        (progress_of result.replay.now.records result.replay.now.given
-        result.replay.now.left.items result.opened.now.numbers.keys) ∥₁ }
+        result.log (state_of result) ∥₁ }
     ensures asked { ∥ Asked (first_after result.recorded.last) K.lent result.log
-        (seen (L.report result.recorded.inner.now) (first_after result.recorded.last)
-        (D.report result.recorded.recorder.journal.disk.now)
-        result.recorded.recorder.journal.gate result.recorded.recorder.journal.has_record
-        result.recorded.recorder.sends.now.summaries.items result.recorded.spent)
-        (progress_of result.replay.now.records result.replay.now.given
-        result.replay.now.left.items result.opened.now.numbers.keys) ∥₁ }
+        (seen_of result.recorded) (reached result) ∥₁ }
     ensures opened { (D.report result.recorded.recorder.journal.disk.now).opened
         ≡ K.lent.lent.disk.opened }
     ensures disk_fault { ran.new ≡ Err JournalRunFault.Disk → Rose K.lent.lent.disk.faults

@@ -2,4 +2,6 @@ pub mod Marks
 pub mod Sending
 pub mod Numbers
 pub mod Keeping
+pub mod Noting
 pub mod Steps
+pub mod Seeing

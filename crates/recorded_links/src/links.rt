@@ -1,6 +1,5 @@
-ghost use Rattle.std.specs.Prelude.{◌≡◌, ◌≢◌, ℕ, List, ◌+◌, ◌<◌, ◌≤◌, [], ◌∷◌, ◌++◌, None, false, true, length, take, IfOk, OnOk};
-ghost use Rattle.std.specs.Option.{ForSome};
-ghost use Rattle.journal_format.specs.Limits.{config_limit, journal_limit, step_limit};
+ghost use Rattle.std.specs.Prelude.{◌≡◌, ◌≢◌, ℕ, List, ◌+◌, ◌<◌, ◌≤◌, [], ◌∷◌, ◌++◌, false, true, length, take};
+ghost use Rattle.journal_format.specs.Limits.{journal_limit, step_limit};
 ghost use Rattle.ports.specs.Calls.{AddsCalls};
 ghost use Rattle.ports.specs.Counts.{Rose};
 ghost use Rattle.ports.specs.Links.{HasListenCause, HasNextCause, IsPieceWithin, IsWithin, MayClose, listen_entries, next_entries, piece_of, send_entries};
@@ -8,18 +7,17 @@ ghost use Rattle.ports.specs.declared.entry.Entry.TheVariants.{Close};
 ghost use Rattle.recorded_links.specs.Keeping.{FailedIf, is_lost, is_lost_listen};
 ghost use Rattle.recorded_links.specs.Numbers.{Knows, first_after};
 ghost use Rattle.recorded_links.specs.Steps.{CloseStep, ListenStep, NextStep, SendStep, Unsent, own_report, seen};
-ghost use Rattle.turn_journal.specs.Beginning.{StandsBlank};
 
 use crate::ask::{ask, inner_number};
 use crate::call_log::CallLog;
 use crate::recorder::TurnRecorder;
-use crate::room::{RecordRoom, TurnRoom};
+use crate::room::TurnRoom;
 use disk_port::Disk;
-use ev_types::{Memory, Text};
+use ev_types::Text;
 use journal_format::{JOURNAL_LIMIT, STEP_LIMIT};
 use ports::{Links, ListenAnswer, PIECE_LIMIT, SendAnswer, Turn, Wants, What};
 use std::alloc::Global;
-use turn_journal::{JournalFault, JournalFile};
+use turn_journal::JournalFile;
 
 /// Links that are lent, and whose answers to `listen` and `next` are recorded in a journal before they are handed out. They
 /// hold references alone, so that a caller gets back all that it lent. Contracts see what calls were made of links and
@@ -72,47 +70,6 @@ impl<'a, L: Links, D: Disk> RecordedLinks<'a, L, D> {
             disk_failed: false,
             log: CallLog::fresh(),
             wants: &mut room.wants,
-        }
-    }
-
-    /// Begins a journal of this configuration in the disk's file, in which the links record. What is known after an error
-    /// [`turn_journal::begin_on`] says.
-    pub fn record(
-        alloc: Global,
-        inner: &'a mut L,
-        disk: &'a mut D,
-        room: &'a mut RecordRoom,
-        config: &[u8],
-    ) -> Result<RecordedLinks<'a, L, D>, JournalFault>
-        requires { length config.now ≤ config_limit }
-        ensures begun { IfOk result (λ links. ForSome (D.report disk.entry.now).past (λ _.
-            StandsBlank config.now (record {
-              gate = links.recorder.journal.gate;
-              has_record = links.recorder.journal.has_record;
-            }) (D.report links.recorder.journal.disk.now).past)) }
-        ensures unbegun { IfOk result (λ links. links.recorder.journal.has_record ≡ false) }
-        ensures inner { IfOk result (λ links. links.inner.now ≡ inner.entry.now) }
-        ensures inner_same { IfOk result (λ links.
-            links.inner.ghost_name ≡ inner.entry.ghost_name) }
-        ensures disk_same { IfOk result (λ links.
-            links.recorder.journal.disk.ghost_name ≡ disk.entry.ghost_name) }
-        ensures no_fault { IfOk result (λ links.
-            (D.report links.recorder.journal.disk.now).faults
-            ≡ (D.report disk.entry.now).faults) }
-        ensures opened { IfOk result (λ links.
-            (D.report links.recorder.journal.disk.now).opened
-            ≡ (D.report disk.entry.now).opened) }
-        ensures sends { IfOk result (λ links. links.recorder.sends.now.summaries.items ≡ []) }
-        ensures last { IfOk result (λ links. links.last ≡ None) }
-        ensures ready { IfOk result (λ links. links.spent ≡ false) }
-        ensures log { IfOk result (λ links. links.log ≡ []) }
-    {
-        match JournalFile::begin(alloc, disk, &mut room.written, config) {
-            Ok(journal) => {
-                let links = RecordedLinks::over(inner, journal, None, &mut room.turns);
-                Ok(links)
-            }
-            Err(fault) => Err(fault),
         }
     }
 }

@@ -1,13 +1,12 @@
 -- What each call of links that record does to the journal.
-use Rattle.std.proofs.Common.{◌≡◌, ◌≢◌, ◌⊎◌, inl, inr, ℕ, Bool, true, false, cond, not, List, [], ◌∷◌, ◌++◌, fold, refl, sym, ◌∙◌, ap, subst}
+use Rattle.std.proofs.Common.{◌≡◌, ◌≢◌, ◌⊎◌, inl, inr, ℕ, Bool, true, false, not, List, [], ◌∷◌, ◌++◌, refl, sym, ◌∙◌, ap, subst}
 use Rattle.std.specs.Prelude.{◌&&◌}
-use Rattle.std.proofs.lemmas.List.Sums.{fold-append}
 use Rattle.journal_format.specs.Spelling.{IsRecord, Spells, is_listen, record_bytes}
 use Rattle.journal_format.specs.declared.turn_record.Summary.{Summary}
 use Rattle.journal_format.specs.declared.turn_record.TurnRecord.{TurnRecord}
 use Rattle.ports.specs.Links.{is_failed_turn, listen_entries, next_entries, piece_of, send_entries}
 use Rattle.ports.specs.declared.entry.Entry.{Entry}
-use Rattle.ports.specs.declared.entry.Entry.TheVariants.{Listen, Send, Close}
+use Rattle.ports.specs.declared.entry.Entry.TheVariants.{Close}
 use Rattle.ports.specs.declared.links.ListenAnswer.{ListenAnswer}
 use Rattle.ports.specs.declared.links.ListenAnswer.TheVariants as listen
 use Rattle.ports.specs.declared.links.SendAnswer.{SendAnswer}
@@ -18,43 +17,13 @@ use Rattle.ports.specs.declared.links.What.{What}
 use Rattle.ports.specs.declared.links.What.TheVariants.{Idle, Opened, Read, Ended, Broken, Room, Stopped, Failed, Memory}
 use Rattle.recorded_links.specs.Keeping.{AddsRecord, HandsListen, HandsOut, entry_of, event_of, is_lost_listen, is_ready, is_recorded, listen_entry}
 use Rattle.recorded_links.specs.Sending.{after_send}
+use Rattle.recorded_links.proofs.NoteLaws.{close_noted, listen_noted, listen_quiet, send_noted, turn_added, turn_quiet, with_send}
 use Rattle.recorded_links.specs.Steps.{CloseStep, ListenStep, NextStep, Seen, SendStep, Takes, TakesListen, Unsent, listen_refused, listen_taken, next_full, next_refused, next_taken}
 use Rattle.recorded_runs.specs.Lending.{Keeps, Lent}
-use Rattle.recorded_runs.specs.Noting.{Noted, after_call, after_listen, after_turn, noted, with_entry}
+use Rattle.recorded_links.specs.Noting.{after_listen, noted}
 use Rattle.recorded_runs.proofs.JournalLaws.{keeps_added, keeps_lost, keeps_same}
 
-pub noted_more : (calls more : List Entry) → noted (calls ++ more) ≡ fold after_call (noted calls) more
-noted_more calls more = fold-append after_call (record { records = []; sends = [] }) calls more
-
 -- ---- `next`
-
--- the entry of a turn, if it has one
-noted_turn : (so_far : Noted) (wants : List Want) (buf : List ℕ) (turn : Turn) → fold after_call so_far (next_entries wants buf turn) ≡ after_turn so_far turn (piece_of turn.what buf)
-noted_turn so_far wants buf turn = by_what turn.what refl
-  where
-    by_what : (what : What) → turn.what ≡ what → fold after_call so_far (next_entries wants buf turn) ≡ after_turn so_far turn (piece_of turn.what buf)
-    by_what Idle is = rw is refl
-    by_what (Opened other) is = rw is refl
-    by_what (Read other count) is = rw is refl
-    by_what (Ended other) is = rw is refl
-    by_what (Broken other) is = rw is refl
-    by_what (Room other) is = rw is refl
-    by_what Stopped is = rw is refl
-    by_what Failed is = rw is refl
-    by_what Memory is = rw is refl
-
-turn_noted : (calls calls' : List Entry) (wants : List Want) (buf : List ℕ) (turn : Turn) → calls' ≡ calls ++ next_entries wants buf turn
-    → noted calls' ≡ cond (is_recorded turn.what) (with_entry (entry_of (noted calls).sends turn (piece_of turn.what buf)) (noted calls)) (noted calls)
-turn_noted calls calls' wants buf turn log = ap noted log ∙ noted_more calls (next_entries wants buf turn) ∙ noted_turn (noted calls) wants buf turn
-
-pub turn_added : (calls calls' : List Entry) (wants : List Want) (buf : List ℕ) (turn : Turn) → calls' ≡ calls ++ next_entries wants buf turn → is_recorded turn.what ≡ true
-    → noted calls' ≡ with_entry (entry_of (noted calls).sends turn (piece_of turn.what buf)) (noted calls)
-turn_added calls calls' wants buf turn log is =
-    turn_noted calls calls' wants buf turn log ∙ ap (λ (flag : Bool). cond flag (with_entry (entry_of (noted calls).sends turn (piece_of turn.what buf)) (noted calls)) (noted calls)) is
-
-pub turn_quiet : (calls calls' : List Entry) (wants : List Want) (buf : List ℕ) (turn : Turn) → calls' ≡ calls ++ next_entries wants buf turn → is_recorded turn.what ≡ false → noted calls' ≡ noted calls
-turn_quiet calls calls' wants buf turn log is =
-    turn_noted calls calls' wants buf turn log ∙ ap (λ (flag : Bool). cond flag (with_entry (entry_of (noted calls).sends turn (piece_of turn.what buf)) (noted calls)) (noted calls)) is
 
 -- what is not recorded is handed out as what is not
 unrecorded_out : (asked turn : Turn) → HandsOut asked.what asked turn → is_recorded asked.what ≡ false → is_recorded turn.what ≡ false
@@ -112,27 +81,68 @@ no_listen Memory piece = refl
 abbrev entry_at : List ℕ → List Summary → Turn → TurnRecord
 entry_at buf sends turn = entry_of sends turn (piece_of turn.what buf)
 
-keeps_takes : (lent : Lent) (calls calls' : List Entry) (old new : Seen) (wants : List Want) (buf : List ℕ) (turn : Turn) → Keeps lent calls old.kept old.sends old.spent → calls' ≡ calls ++ next_entries wants buf turn
+spelled : (old : Seen) (buf : List ℕ) (sends : List Summary) (turn : Turn) → old.kept.has_record ≡ true
+    → IsRecord (entry_at buf sends turn)
+    → Spells (not old.kept.has_record) (entry_at buf sends turn) (record_bytes (entry_at buf sends turn))
+spelled old buf sends turn begun allowed =
+    record { allowed = allowed; order = no_listen turn.what (piece_of turn.what buf) ∙ sym (ap not begun); text = refl }
+
+-- a turn of the inner links that was handed out as it is
+keeps_asked : (lent : Lent) (calls calls' : List Entry) (old new : Seen) (wants : List Want) (buf : List ℕ)
+    (turn : Turn) (spent : Bool)
+    → Keeps lent calls old.kept old.sends old.spent → calls' ≡ calls ++ next_entries wants buf turn
+    → (takes : Takes old new wants buf turn) → is_recorded takes.asked.what ≡ true → turn ≡ takes.asked
+    → Keeps lent calls' new.kept new.sends spent
+keeps_asked lent calls calls' old new wants buf turn spent keeps log takes is same =
+    let also : is_recorded turn.what ≡ true = ap (λ (turn : Turn). is_recorded turn.what) same ∙ is in
+    let entry_is : entry_at buf old.sends takes.asked ≡ entry_at buf (noted calls).sends turn =
+    ap (entry_at buf old.sends) (sym same) ∙ ap (λ (sends : List Summary). entry_at buf sends turn)
+    (sym keeps.sends_are) in
+    let added : AddsRecord (record_bytes (entry_at buf (noted calls).sends turn)) true old.kept new.kept =
+    subst (λ (flag : Bool). AddsRecord (record_bytes (entry_at buf (noted calls).sends turn)) flag old.kept new.kept)
+    also
+    (subst (λ (entry : TurnRecord). AddsRecord (record_bytes entry) (is_recorded turn.what) old.kept new.kept) entry_is
+    (takes.records is)) in
+    keeps_added lent calls calls' old.kept new.kept old.sends new.sends old.spent spent
+    (entry_at buf (noted calls).sends turn)
+    (record_bytes (entry_at buf (noted calls).sends turn)) keeps takes.ready.unspent
+    (spelled old buf (noted calls).sends turn takes.ready.begun (subst IsRecord entry_is (takes.allowed is))) added
+    (turn_added calls calls' wants buf turn log also) (takes.cleared also)
+
+-- a turn that is recorded, whether or not the links are spent after it
+pub keeps_handed : (lent : Lent) (calls calls' : List Entry) (old new : Seen) (wants : List Want) (buf : List ℕ)
+    (turn : Turn) (spent : Bool)
+    → Keeps lent calls old.kept old.sends old.spent → calls' ≡ calls ++ next_entries wants buf turn
+    → NextStep old new wants buf turn
+    → is_recorded turn.what ≡ true → Keeps lent calls' new.kept new.sends spent
+keeps_handed lent calls calls' old new wants buf turn spent keeps log (next_refused why memory rests) recorded =
+    absurd (cc (ap is_recorded memory, recorded))
+keeps_handed lent calls calls' old new wants buf turn spent keeps log (next_full ready full stopped rests) recorded =
+    absurd (cc (ap (λ (turn : Turn). is_recorded turn.what) stopped, recorded))
+keeps_handed lent calls calls' old new wants buf turn spent keeps log (next_taken takes) recorded =
+    by_recorded (is_recorded takes.asked.what) refl
+  where
+    by_recorded : (t : Bool) → is_recorded takes.asked.what ≡ t → Keeps lent calls' new.kept new.sends spent
+    by_recorded false is = absurd (cc (unrecorded_out takes.asked turn takes.hands is, recorded))
+    by_recorded true is = elim (recorded_out takes.asked turn takes.hands is) [
+      | inl same ↦ keeps_asked lent calls calls' old new wants buf turn spent keeps log takes is same
+      | inr gone ↦ elim gone [
+        | inl failed ↦ absurd (cc (ap is_recorded failed, recorded))
+        | inr memory ↦ absurd (cc (ap is_recorded memory, recorded))
+      ]
+    ]
+
+keeps_takes : (lent : Lent) (calls calls' : List Entry) (old new : Seen) (wants : List Want) (buf : List ℕ)
+    (turn : Turn)
+    → Keeps lent calls old.kept old.sends old.spent → calls' ≡ calls ++ next_entries wants buf turn
     → Takes old new wants buf turn → (turn.what ≡ Memory → new.spent ≡ true) → Keeps lent calls' new.kept new.sends new.spent
 keeps_takes lent calls calls' old new wants buf turn keeps log takes spends = by_recorded (is_recorded takes.asked.what) refl
   where
-    spelled : (sends : List Summary) (turn : Turn) → IsRecord (entry_at buf sends turn) → Spells (not old.kept.has_record) (entry_at buf sends turn) (record_bytes (entry_at buf sends turn))
-    spelled sends turn allowed = record { allowed = allowed; order = no_listen turn.what (piece_of turn.what buf) ∙ sym (ap not takes.ready.begun); text = refl }
-
-    handed : is_recorded takes.asked.what ≡ true → turn ≡ takes.asked → Keeps lent calls' new.kept new.sends new.spent
-    handed is same =
-        let also : is_recorded turn.what ≡ true = ap (λ (turn : Turn). is_recorded turn.what) same ∙ is in
-        let entry_is : entry_at buf old.sends takes.asked ≡ entry_at buf (noted calls).sends turn = ap (entry_at buf old.sends) (sym same) ∙ ap (λ (sends : List Summary). entry_at buf sends turn) (sym keeps.sends_are) in
-        let added : AddsRecord (record_bytes (entry_at buf (noted calls).sends turn)) true old.kept new.kept =
-        subst (λ (flag : Bool). AddsRecord (record_bytes (entry_at buf (noted calls).sends turn)) flag old.kept new.kept) also
-        (subst (λ (entry : TurnRecord). AddsRecord (record_bytes entry) (is_recorded turn.what) old.kept new.kept) entry_is (takes.records is)) in
-        keeps_added lent calls calls' old.kept new.kept old.sends new.sends old.spent new.spent (entry_at buf (noted calls).sends turn) (record_bytes (entry_at buf (noted calls).sends turn)) keeps takes.ready.unspent
-        (spelled (noted calls).sends turn (subst IsRecord entry_is (takes.allowed is))) added (turn_added calls calls' wants buf turn log also) (takes.cleared also)
-
     lost : is_recorded takes.asked.what ≡ true → is_recorded turn.what ≡ false → new.spent ≡ true → Keeps lent calls' new.kept new.sends new.spent
     lost is unrecorded spent_is =
         keeps_lost lent calls calls' old.kept new.kept old.sends new.sends old.spent new.spent (is_recorded turn.what) (entry_at buf old.sends takes.asked) (record_bytes (entry_at buf old.sends takes.asked)) keeps takes.ready.unspent
-        (spelled old.sends takes.asked (takes.allowed is)) (takes.records is) (turn_quiet calls calls' wants buf turn log unrecorded) (takes.uncleared unrecorded) spent_is
+        (spelled old buf old.sends takes.asked takes.ready.begun (takes.allowed is)) (takes.records is)
+        (turn_quiet calls calls' wants buf turn log unrecorded) (takes.uncleared unrecorded) spent_is
 
     by_recorded : (t : Bool) → is_recorded takes.asked.what ≡ t → Keeps lent calls' new.kept new.sends new.spent
     by_recorded false is =
@@ -141,7 +151,7 @@ keeps_takes lent calls calls' old new wants buf turn keeps log takes spends = by
         keeps_same lent calls calls' old.kept new.kept old.sends new.sends old.spent new.spent keeps (ap (λ so_far. so_far.records) same) (ap (λ so_far. so_far.sends) same ∙ keeps.sends_are ∙ sym (takes.uncleared unrecorded)) (takes.other is)
         (λ was. absurd (cc (takes.ready.unspent, was)))
     by_recorded true is = elim (recorded_out takes.asked turn takes.hands is) [
-      | inl same ↦ handed is same
+      | inl same ↦ keeps_asked lent calls calls' old new wants buf turn new.spent keeps log takes is same
       | inr gone ↦ elim gone [
         | inl failed ↦ lost is (ap is_recorded failed) (takes.spent (ap (λ (asked : Bool). not asked && is_failed_turn turn.what) (unfailed takes.asked.what is) ∙ ap is_failed_turn failed))
         | inr memory ↦ lost is (ap is_recorded memory) (spends memory)
@@ -159,16 +169,6 @@ keeps_next lent calls calls' old new wants buf turn keeps log (next_full ready f
 keeps_next lent calls calls' old new wants buf turn keeps log (next_taken takes) spends = keeps_takes lent calls calls' old new wants buf turn keeps log takes spends
 
 -- ---- `listen`
-
-listen_noted : (calls calls' : List Entry) (address : List ℕ) (answer : ListenAnswer) → calls' ≡ calls ++ listen_entries address answer → noted calls' ≡ after_listen (noted calls) answer
-listen_noted calls calls' address (listen.Ready secs) log = ap noted log ∙ noted_more calls (Listen address (listen.Ready secs) ∷ [])
-listen_noted calls calls' address listen.Failed log = ap noted log ∙ noted_more calls (Listen address listen.Failed ∷ [])
-listen_noted calls calls' address listen.Memory log = ap noted log ∙ noted_more calls []
-
-listen_quiet : (calls calls' : List Entry) (address : List ℕ) (answer : ListenAnswer) → calls' ≡ calls ++ listen_entries address answer → is_ready answer ≡ false → noted calls' ≡ noted calls
-listen_quiet calls calls' address (listen.Ready secs) log is = absurd (cc is)
-listen_quiet calls calls' address listen.Failed log is = listen_noted calls calls' address listen.Failed log
-listen_quiet calls calls' address listen.Memory log is = listen_noted calls calls' address listen.Memory log
 
 keeps_listens : (lent : Lent) (calls calls' : List Entry) (old new : Seen) (address : List ℕ) (answer : ListenAnswer) → Keeps lent calls old.kept old.sends old.spent → calls' ≡ calls ++ listen_entries address answer
     → TakesListen old new address answer → (answer ≡ listen.Memory → new.spent ≡ true) → Keeps lent calls' new.kept new.sends new.spent
@@ -225,16 +225,6 @@ keeps_listen lent calls calls' old new address answer keeps log (listen_taken ta
 
 -- ---- `send` and `close`
 
--- the record after next has one send more
-abbrev with_send : ℕ → SendAnswer → Noted → Noted
-with_send link answer so_far = record { records = so_far.records; sends = after_send link answer so_far.sends }
-
-pub send_noted : (calls calls' : List Entry) (link : ℕ) (bytes : List ℕ) (answer : SendAnswer) → calls' ≡ calls ++ send_entries link bytes answer → noted calls' ≡ with_send link answer (noted calls)
-send_noted calls calls' link bytes (send.Took count) log = ap noted log ∙ noted_more calls (Send link bytes (send.Took count) ∷ [])
-send_noted calls calls' link bytes send.Later log = ap noted log ∙ noted_more calls (Send link bytes send.Later ∷ [])
-send_noted calls calls' link bytes send.Failed log = ap noted log ∙ noted_more calls (Send link bytes send.Failed ∷ [])
-send_noted calls calls' link bytes send.Memory log = ap noted log ∙ noted_more calls []
-
 pub keeps_send : (lent : Lent) (calls calls' : List Entry) (old new : Seen) (link : ℕ) (bytes : List ℕ) (answer : SendAnswer) → Keeps lent calls old.kept old.sends old.spent → calls' ≡ calls ++ send_entries link bytes answer
     → (answer ≢ send.Memory → SendStep old new link bytes answer) → (answer ≡ send.Memory → Unsent old new) → (answer ≡ send.Memory → new.spent ≡ true) → Keeps lent calls' new.kept new.sends new.spent
 keeps_send lent calls calls' old new link bytes answer keeps log step unsent spends = by_answer answer refl
@@ -258,5 +248,5 @@ keeps_send lent calls calls' old new link bytes answer keeps log step unsent spe
 pub keeps_close : (lent : Lent) (calls calls' : List Entry) (old new : Seen) (link : ℕ) → Keeps lent calls old.kept old.sends old.spent → calls' ≡ calls ++ Close link ∷ [] → CloseStep old new link
     → Keeps lent calls' new.kept new.sends new.spent
 keeps_close lent calls calls' old new link keeps log step =
-    let same : noted calls' ≡ noted calls = ap noted log ∙ noted_more calls (Close link ∷ []) in
+    let same = close_noted calls calls' link log in
     keeps_same lent calls calls' old.kept new.kept old.sends new.sends old.spent new.spent keeps (ap (λ so_far. so_far.records) same) (ap (λ so_far. so_far.sends) same ∙ keeps.sends_are ∙ sym step.sends) step.kept step.spent

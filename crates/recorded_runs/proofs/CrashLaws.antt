@@ -6,8 +6,8 @@ use Rattle.journal_format.specs.Journals.{Holds, Journal}
 use Rattle.journal_format.specs.declared.turn_record.TurnRecord.{TurnRecord}
 use Rattle.ports.specs.declared.entry.Entry.{Entry}
 use Rattle.recorded_runs.specs.Laws.{AreAll, AreFirst, HoldsMore}
-use Rattle.recorded_runs.specs.Noting.{noted}
-use Rattle.recorded_runs.specs.Recording.{IsBegun, KeepsTurns, Recorded, none_yet, one_more, with_records}
+use Rattle.recorded_links.specs.Noting.{noted}
+use Rattle.recorded_runs.specs.Recording.{IsBegun, AreKept, Recorded, none_yet, one_more, with_records}
 use Rattle.recorded_runs.proofs.JournalLaws.{with_more, with_none}
 use Rattle.turn_journal.specs.Standing.{HoldsOrWith}
 
@@ -21,7 +21,8 @@ one_or_both : (journal : Journal) (before : List TurnRecord) (entry : TurnRecord
 one_or_both journal before entry P one both image (inl holds) = (before, holds, one)
 one_or_both journal before entry P one both image (inr holds) = (before ++ entry ∷ [], subst (λ (journal : Journal). Holds journal image) (with_more journal before entry) holds, both)
 
-turns_left : (journal : Journal) (start : Past) (turns : List TurnRecord) (now : Past) → ((image : List ℕ) → Leaves start image → Holds journal image) → KeepsTurns journal start turns now
+turns_left : (journal : Journal) (start : Past) (turns : List TurnRecord) (now : Past)
+    → ((image : List ℕ) → Leaves start image → Holds journal image) → AreKept journal start turns now
     → LeavesOnly start now (HoldsMore journal (IsFront turns))
 turns_left journal start turns now held (none_yet none same) =
     subst (λ (past : Past). LeavesOnly start past (HoldsMore journal (IsFront turns))) (sym same)
@@ -52,7 +53,9 @@ leaves_first journal start now calls held recorded = by_last recorded.last
         (one_or_both journal (noted calls).records begun.entry (AreFirst (noted calls).records) (inl ([], append-nil (noted calls).records)) (inr (begun.entry, refl))) begun.leaves)
 
 -- what a crash leaves once the last turn was handed out
-turns_kept : (journal : Journal) (start : Past) (turns : List TurnRecord) (past : Past) → ((image : List ℕ) → Leaves start image → Holds journal image) → KeepsTurns journal start turns past → (image : List ℕ) → Leaves past image
+turns_kept : (journal : Journal) (start : Past) (turns : List TurnRecord) (past : Past)
+    → ((image : List ℕ) → Leaves start image → Holds journal image) → AreKept journal start turns past
+    → (image : List ℕ) → Leaves past image
     → Holds (with_records journal turns) image
 turns_kept journal start turns now held (none_yet none same) image leaves =
     subst (λ (journal : Journal). Holds journal image) (with_none journal ∙ ap (with_records journal) (sym none)) (held image (subst (λ (past : Past). Leaves past image) same leaves))

@@ -10,8 +10,8 @@ use Rattle.journal_format.specs.declared.turn_record.TurnRecord.{TurnRecord}
 use Rattle.ports.specs.declared.entry.Entry.{Entry}
 use Rattle.recorded_links.specs.Keeping.{AddsRecord, Kept, kept_of}
 use Rattle.recorded_runs.specs.Lending.{Keeps, KeepsJournal, Lent}
-use Rattle.recorded_runs.specs.Noting.{noted, with_entry}
-use Rattle.recorded_runs.specs.Recording.{IsBegun, KeepsTurns, none_yet, one_more, with_records}
+use Rattle.recorded_links.specs.Noting.{noted, with_entry}
+use Rattle.recorded_runs.specs.Recording.{IsBegun, AreKept, none_yet, one_more, with_records}
 use Rattle.turn_journal.specs.Standing.{Adds, HoldsOrWith, Stands, Told}
 
 -- a journal with no record more, and with one more
@@ -58,7 +58,8 @@ keeps_same lent calls calls' kept kept' sends sends' spent spent' keeps records_
           reported = before.reported;
           recorded = record {
             past = before.recorded.past;
-            turns = subst (λ (entries : List TurnRecord). KeepsTurns journal start entries before.recorded.past) (sym records_are) before.recorded.turns;
+            turns = subst (λ (entries : List TurnRecord). AreKept journal start entries before.recorded.past)
+                (sym records_are) before.recorded.turns;
             last = subst (λ (entries : List TurnRecord). (before.now ≡ before.recorded.past) ⊎ IsBegun (with_records journal entries) before.recorded.past before.now) (sym records_are) before.recorded.last;
           };
           unbegun = λ unspent. before.unbegun (unspent_before spent spent' stays unspent);
@@ -132,7 +133,8 @@ keeps_lost lent calls calls' kept kept' sends sends' spent spent' added entry by
           reported = moment.1;
           recorded = record {
             past = before.recorded.past;
-            turns = subst (λ (entries : List TurnRecord). KeepsTurns journal start entries before.recorded.past) same_records before.recorded.turns;
+            turns = subst (λ (entries : List TurnRecord). AreKept journal start entries before.recorded.past)
+                same_records before.recorded.turns;
             last = inr (subst (λ (entries : List TurnRecord). IsBegun (with_records journal entries) before.recorded.past moment.0) same_records (record {
               entry = entry;
               allowed = spells.allowed;

@@ -4,3 +4,4 @@ pub mod FaultLaws
 pub mod CrashLaws
 pub mod PassLaws
 pub mod TraceLaws
+pub mod LastLaws

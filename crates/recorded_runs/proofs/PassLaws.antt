@@ -18,7 +18,7 @@ use Rattle.recorded_links.specs.Numbers.{inner_number}
 use Rattle.recorded_links.specs.Sending.{may_note}
 use Rattle.recorded_links.specs.Steps.{Asks, CloseStep, ListenStep, NextStep, Seen, SendStep, Unsent, answered, listen_refused, listen_taken, next_full, next_refused, next_taken, not_asked}
 use Rattle.recorded_runs.specs.Lending.{Passed}
-use Rattle.recorded_runs.specs.Noting.{noted}
+use Rattle.recorded_links.specs.Noting.{noted}
 use Rattle.recorded_runs.specs.Passing.{IsPassed, closed, closed_own, listens, none_made, one_made, sent, stops, turns, unasked, unsent}
 
 -- ---- before the first call

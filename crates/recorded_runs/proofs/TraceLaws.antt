@@ -1,6 +1,9 @@
 -- What each call of links that record does to the journal and to the inner links.
-use Rattle.std.proofs.Common.{◌≡◌, ◌≢◌, ℕ, true, List, [], ◌∷◌, ◌++◌, sym, subst}
+use Rattle.std.proofs.Common.{◌≡◌, ◌≢◌, ℕ, Bool, true, false, List, [], ◌∷◌, ◌++◌, refl, ap, sym, subst}
 use Rattle.std.proofs.Math.Logic.{∥∥₁_map}
+use Rattle.disk_port.specs.Calls.{DiskReport}
+use Rattle.journal_format.specs.declared.finder.Found.{Found}
+use Rattle.journal_format.specs.declared.turn_record.Summary.{Summary}
 use Rattle.ports.specs.Calls.{LinksReport}
 use Rattle.ports.specs.Links.{listen_entries, next_entries, send_entries}
 use Rattle.ports.specs.declared.entry.Entry.{Entry}
@@ -12,16 +15,34 @@ use Rattle.ports.specs.declared.links.SendAnswer.TheVariants as send
 use Rattle.ports.specs.declared.links.Turn.{Turn}
 use Rattle.ports.specs.declared.links.Want.{Want}
 use Rattle.ports.specs.declared.links.What.TheVariants.{Memory}
-use Rattle.recorded_links.specs.Keeping.{kept_of}
-use Rattle.recorded_links.specs.Steps.{CloseStep, ListenStep, NextStep, Seen, SendStep, Unsent}
+use Rattle.recorded_links.specs.Steps.{CloseStep, ListenStep, NextStep, Seen, SendStep, Unsent, seen}
 use Rattle.recorded_runs.specs.Lending.{Lent, Passed, Traces}
+use Rattle.recorded_runs.specs.Making.{closed, listened, none_yet, one_more, sent, turned, uncalled}
 use Rattle.recorded_runs.proofs.CallLaws.{keeps_close, keeps_listen, keeps_next, keeps_send}
 use Rattle.recorded_runs.proofs.JournalLaws.{keeps_begun}
 use Rattle.recorded_runs.proofs.PassLaws.{passed_close, passed_listen, passed_next, passed_none, passed_send}
 
-pub traces_begun : (lent : Lent) (calls : List Entry) (seen : Seen) → calls ≡ [] → seen.kept ≡ kept_of lent.disk.past lent.found.gate lent.found.has_record → seen.sends ≡ [] → seen.inner ≡ lent.links → Traces lent calls seen
-traces_begun lent calls seen fresh kept_is unsent same =
-    subst (λ (calls : List Entry). Traces lent calls seen) (sym fresh) (record { keeps = keeps_begun lent seen.kept seen.sends seen.spent kept_is unsent; passed = passed_none seen.first lent.links seen.inner same })
+-- before the first call
+pub seen_uncalled : (first first' : ℕ) (found : Found) (links links' : LinksReport) (disk disk' : DiskReport) (gate : ℕ)
+    (has : Bool) (sends : List Summary) (spent : Bool) → first ≡ first' → links ≡ links' → disk ≡ disk'
+    → ◌≡◌ {A = Found} (record { gate = gate; has_record = has }) found → sends ≡ [] → spent ≡ false
+    → seen links first disk gate has sends spent ≡ uncalled first' found links' disk'
+seen_uncalled first first' found links links' disk disk' gate has sends spent first_is links_are disk_is end unsent
+    unspent =
+    let gate_is : gate ≡ found.gate = ap (λ (end : Found). end.gate) end in
+    let has_is : has ≡ found.has_record = ap (λ (end : Found). end.has_record) end in
+    cc
+
+pub traces_begun : (lent : Lent) (calls : List Entry) (now : Seen) → calls ≡ []
+    → now ≡ uncalled 0 lent.found lent.links lent.disk → Traces lent calls now
+traces_begun lent calls now fresh is =
+    let start : Seen = uncalled 0 lent.found lent.links lent.disk in
+    let begun : Traces lent [] start = record {
+      made = none_yet refl refl;
+      keeps = keeps_begun lent start.kept start.sends start.spent refl refl;
+      passed = passed_none start.first lent.links start.inner refl;
+    } in
+    subst (λ (calls : List Entry). Traces lent calls now) (sym fresh) (subst (Traces lent []) (sym is) begun)
 
 -- the numbers of the inner links begin where they did
 renumbered : (lent : LinksReport) (calls : List Entry) (old new : Seen) → new.first ≡ old.first → Passed old.first lent calls new.inner → Passed new.first lent calls new.inner
@@ -30,6 +51,7 @@ renumbered lent calls old new same = subst (λ (first : ℕ). Passed first lent 
 pub traces_next : (lent : Lent) (calls calls' : List Entry) (old new : Seen) (wants : List Want) (buf : List ℕ) (turn : Turn) → ∥ Traces lent calls old ∥₁ → calls' ≡ calls ++ next_entries wants buf turn → new.first ≡ old.first
     → NextStep old new wants buf turn → (turn.what ≡ Memory → new.spent ≡ true) → ∥ Traces lent calls' new ∥₁
 traces_next lent calls calls' old new wants buf turn traces log same step spends = ∥∥₁_map traces (λ (before : Traces lent calls old). record {
+  made = one_more calls (next_entries wants buf turn) old before.made (turned wants buf turn step spends refl) same log;
   keeps = keeps_next lent calls calls' old new wants buf turn before.keeps log step spends;
   passed = renumbered lent.links calls' old new same (passed_next lent.links old new calls calls' wants buf turn before.passed log step);
 })
@@ -37,6 +59,8 @@ traces_next lent calls calls' old new wants buf turn traces log same step spends
 pub traces_listen : (lent : Lent) (calls calls' : List Entry) (old new : Seen) (address : List ℕ) (answer : ListenAnswer) → ∥ Traces lent calls old ∥₁ → calls' ≡ calls ++ listen_entries address answer → new.first ≡ old.first
     → ListenStep old new address answer → (answer ≡ listen.Memory → new.spent ≡ true) → ∥ Traces lent calls' new ∥₁
 traces_listen lent calls calls' old new address answer traces log same step spends = ∥∥₁_map traces (λ (before : Traces lent calls old). record {
+  made = one_more calls (listen_entries address answer) old before.made (listened address answer step spends refl) same
+      log;
   keeps = keeps_listen lent calls calls' old new address answer before.keeps log step spends;
   passed = renumbered lent.links calls' old new same (passed_listen lent.links old new calls calls' address answer before.passed log step);
 })
@@ -44,12 +68,15 @@ traces_listen lent calls calls' old new address answer traces log same step spen
 pub traces_send : (lent : Lent) (calls calls' : List Entry) (old new : Seen) (link : ℕ) (bytes : List ℕ) (answer : SendAnswer) → ∥ Traces lent calls old ∥₁ → calls' ≡ calls ++ send_entries link bytes answer → new.first ≡ old.first
     → (answer ≢ send.Memory → SendStep old new link bytes answer) → (answer ≡ send.Memory → Unsent old new) → (answer ≡ send.Memory → new.spent ≡ true) → ∥ Traces lent calls' new ∥₁
 traces_send lent calls calls' old new link bytes answer traces log same step unsent spends = ∥∥₁_map traces (λ (before : Traces lent calls old). record {
+  made = one_more calls (send_entries link bytes answer) old before.made
+      (sent link bytes answer (step, unsent) spends refl) same log;
   keeps = keeps_send lent calls calls' old new link bytes answer before.keeps log step unsent spends;
   passed = renumbered lent.links calls' old new same (passed_send lent.links old new calls calls' link bytes answer before.passed before.keeps.sends_are log step unsent);
 })
 
 pub traces_close : (lent : Lent) (calls calls' : List Entry) (old new : Seen) (link : ℕ) → ∥ Traces lent calls old ∥₁ → calls' ≡ calls ++ Close link ∷ [] → new.first ≡ old.first → CloseStep old new link → ∥ Traces lent calls' new ∥₁
 traces_close lent calls calls' old new link traces log same step = ∥∥₁_map traces (λ (before : Traces lent calls old). record {
+  made = one_more calls (Close link ∷ []) old before.made (closed link step refl) same log;
   keeps = keeps_close lent calls calls' old new link before.keeps log step;
   passed = renumbered lent.links calls' old new same (passed_close lent.links old new calls calls' link before.passed log step);
 })

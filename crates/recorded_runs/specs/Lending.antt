@@ -10,7 +10,8 @@ use Rattle.ports.specs.Counts.{greatest}
 use Rattle.ports.specs.declared.entry.Entry.{Entry}
 use Rattle.recorded_links.specs.Keeping.{Kept}
 use Rattle.recorded_links.specs.Steps.{Seen}
-use Rattle.recorded_runs.specs.Noting.{noted}
+use Rattle.recorded_runs.specs.Making.{AreCalls, recording, uncalled}
+use Rattle.recorded_links.specs.Noting.{noted}
 use Rattle.recorded_runs.specs.Passing.{Passes}
 use Rattle.recorded_runs.specs.Recording.{Recorded, with_records}
 use Rattle.turn_journal.specs.Standing.{Stands}
@@ -58,6 +59,8 @@ pub record Passed (first : ℕ) (lent : LinksReport) (calls : List Entry) (links
 
 -- all that became of the journal and of the links since they were lent, in these calls
 pub record Traces (lent : Lent) (calls : List Entry) (seen : Seen) : Type 0 where
+  -- the calls, one after another, each as links that record say of it
+  pub made : AreCalls recording (uncalled 0 lent.found lent.links lent.disk) calls seen
   pub keeps : Keeps lent calls seen.kept seen.sends seen.spent
   pub passed : Passed seen.first lent.links calls seen.inner
 

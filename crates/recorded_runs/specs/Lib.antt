@@ -1,5 +1,5 @@
-pub mod Noting
 pub mod Passing
 pub mod Recording
+pub mod Making
 pub mod Lending
 pub mod Laws

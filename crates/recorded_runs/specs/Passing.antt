@@ -13,7 +13,7 @@ use Rattle.ports.specs.declared.links.What.TheVariants.{Stopped}
 use Rattle.recorded_links.specs.Keeping.{HandsListen, HandsOut}
 use Rattle.recorded_links.specs.Numbers.{inner_number, inner_wants, own_turn}
 use Rattle.recorded_links.specs.Sending.{may_note}
-use Rattle.recorded_runs.specs.Noting.{noted}
+use Rattle.recorded_links.specs.Noting.{noted}
 
 -- One call of links that record, as an entry of their log, and the call of the inner links that was made for it, whose
 -- numbers begin there with `first`. `sends` is what came of the sends since the last record.
@@ -23,7 +23,7 @@ pub data IsPassed (first : ℕ) (sends : List Summary) (made asked : List Entry)
   listens : (address : List ℕ) (given answer : ListenAnswer) → HandsListen given answer → made ≡ listen_entries address answer → asked ≡ listen_entries address given → IsPassed first sends made asked
   turns : (wants : List Want) (buf : List ℕ) (given turn : Turn) → (let own = own_turn first given in HandsOut own.what own turn) → made ≡ next_entries wants buf turn → asked ≡ next_entries (inner_wants first wants) buf given
       → IsPassed first sends made asked
-  -- the links stop the run themselves; that the journal is full then is said of each call (`next_full`)
+  -- the links stop the run themselves; that the journal is full then, `AreCalls` says (`next_full`)
   stops : (wants : List Want) → made ≡ Next wants (record { secs = 0; what = Stopped }) [] ∷ [] → asked ≡ [] → IsPassed first sends made asked
   sent : (link number : ℕ) (bytes : List ℕ) (answer : SendAnswer) → inner_number first link ≡ Some number → may_note link (length bytes) sends ≡ true → made ≡ send_entries link bytes answer → asked ≡ send_entries number bytes answer
       → IsPassed first sends made asked

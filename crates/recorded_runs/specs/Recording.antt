@@ -5,7 +5,7 @@ use Rattle.journal_format.specs.Journals.{Holds, Journal, with_record}
 use Rattle.journal_format.specs.Spelling.{IsRecord}
 use Rattle.journal_format.specs.declared.turn_record.TurnRecord.{TurnRecord}
 use Rattle.ports.specs.declared.entry.Entry.{Entry}
-use Rattle.recorded_runs.specs.Noting.{noted}
+use Rattle.recorded_links.specs.Noting.{noted}
 use Rattle.turn_journal.specs.Standing.{HoldsOrWith}
 
 -- the journal with these records more
@@ -19,10 +19,12 @@ pub record IsKept (journal : Journal) (entry : TurnRecord) (past now : Past) : T
 
 -- Each of these turns was handed out once its record was kept, after those before it. `now` is what was done to the file
 -- when the last of them was.
-pub data KeepsTurns (journal : Journal) (start : Past) : List TurnRecord → Past → Type 0 where
-  none_yet : {turns : List TurnRecord} {now : Past} → turns ≡ [] → now ≡ start → KeepsTurns journal start turns now
-  one_more : {turns : List TurnRecord} {now : Past} → (before : List TurnRecord) (entry : TurnRecord) (past : Past) → KeepsTurns journal start before past
-      → turns ≡ before ++ entry ∷ [] → IsKept (with_records journal before) entry past now → KeepsTurns journal start turns now
+pub data AreKept (journal : Journal) (start : Past) : List TurnRecord → Past → Type 0 where
+  none_yet : {turns : List TurnRecord} {now : Past} → turns ≡ [] → now ≡ start → AreKept journal start turns now
+  one_more : {turns : List TurnRecord} {now : Past} → (before : List TurnRecord) (entry : TurnRecord) (past : Past)
+      → AreKept journal start before past
+      → turns ≡ before ++ entry ∷ [] → IsKept (with_records journal before) entry past now
+      → AreKept journal start turns now
 
 -- The record of one turn more was begun. A crash leaves the journal, or the journal with this record whole.
 pub record IsBegun (journal : Journal) (past now : Past) : Type 0 where
@@ -35,5 +37,5 @@ pub record IsBegun (journal : Journal) (past now : Past) : Type 0 where
 pub record Recorded (journal : Journal) (start : Past) (calls : List Entry) (now : Past) : Type 0 where
   -- when the last turn was handed out
   pub past : Past
-  pub turns : KeepsTurns journal start (noted calls).records past
+  pub turns : AreKept journal start (noted calls).records past
   pub last : (now ≡ past) ⊎ IsBegun (with_records journal (noted calls).records) past now

@@ -5,6 +5,6 @@ mod law;
 mod loan;
 mod traced;
 
-pub use law::crashes_leave_turns;
+pub use law::{crashes_leave_turns, last_turn_is_kept};
 pub use loan::Loan;
 pub use traced::TracedLinks;

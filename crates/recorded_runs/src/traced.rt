@@ -2,7 +2,7 @@ ghost use Rattle.std.specs.Prelude.{◌≡◌, ◌≤◌, ◌||◌, [], false, t
 ghost use Rattle.std.proofs.Props.{props};
 ghost use Rattle.list_laws.specs.Counts.{Rose};
 ghost use Rattle.recorded_links.specs.Numbers.{first_after};
-ghost use Rattle.recorded_links.specs.Steps.{seen};
+ghost use Rattle.recorded_links.specs.Seeing.{seen_of};
 ghost use Rattle.recorded_runs.specs.Lending.{Traces, traced_report};
 
 use crate::loan::Loan;
@@ -32,10 +32,7 @@ pub struct TracedLinks<'a, L: Links, D: Disk, K: Loan> {
     pub ghost disk_faults: { K.lent.disk.faults ≤ (D.report links.recorder.journal.disk.now).faults },
     pub ghost opened: { (D.report links.recorder.journal.disk.now).opened
         ≡ K.lent.disk.opened } by { Prim.hlevel props },
-    pub ghost traces: { ∥ Traces K.lent links.log (seen (L.report links.inner.now)
-        (first_after links.last) (D.report links.recorder.journal.disk.now)
-        links.recorder.journal.gate links.recorder.journal.has_record
-        links.recorder.sends.now.summaries.items links.spent) ∥₁ },
+    pub ghost traces: { ∥ Traces K.lent links.log (seen_of links) ∥₁ },
 }
 
 impl<'a, L: Links, D: Disk, K: Loan> TracedLinks<'a, L, D, K> {
@@ -51,6 +48,7 @@ impl<'a, L: Links, D: Disk, K: Loan> TracedLinks<'a, L, D, K> {
         } ≡ K.lent.found }
         requires fresh { links.log ≡ [] }
         requires unsent { links.recorder.sends.now.summaries.items ≡ [] }
+        requires unspent { links.spent ≡ false }
         requires first { first_after links.last ≡ 0 }
         ensures links { result.links ≡ links.entry }
         ensures unfailed { result.disk_failed ≡ false }

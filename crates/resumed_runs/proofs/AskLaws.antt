@@ -21,9 +21,10 @@ use Rattle.recorded_links.specs.Keeping.{HandsOut, is_recorded}
 use Rattle.recorded_links.specs.Sending.{after_send}
 use Rattle.recorded_links.specs.Steps.{OwnStep, Seen, own_full, own_refused, own_taken}
 use Rattle.recorded_runs.specs.Lending.{Keeps, nothing_lent}
-use Rattle.recorded_runs.specs.Noting.{noted}
+use Rattle.recorded_links.specs.Noting.{noted}
 use Rattle.recorded_runs.specs.Passing.{closed_own, stops, unasked}
-use Rattle.recorded_runs.proofs.CallLaws.{keeps_listen, keeps_next, noted_more, send_noted, turn_added, turn_quiet}
+use Rattle.recorded_links.proofs.NoteLaws.{noted_more, send_noted, turn_added, turn_quiet}
+use Rattle.recorded_runs.proofs.CallLaws.{keeps_listen, keeps_next}
 use Rattle.resumed_runs.specs.Asking.{AsksFor, IsAfter, IsAgain, breaks, closes_again, closes_inner, gives_again, listens_again, none_again, none_made, one_after, one_again, passes_on, sends_again}
 use Rattle.resumed_runs.specs.Lending.{Asked, LentJournal}
 use Rattle.resumed_runs.proofs.StepLaws.{AsksOnce, asks_none, close_asks, listen_asks, memory_next, next_asks, send_asks, unsent_asks}

@@ -3,3 +3,4 @@ pub mod StepLaws
 pub mod AskLaws
 pub mod RisenLaws
 pub mod MadeLaws
+pub mod LastLaws

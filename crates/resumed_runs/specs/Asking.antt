@@ -12,7 +12,7 @@ use Rattle.ports.specs.declared.links.Want.{Want}
 use Rattle.ports.specs.declared.links.What.TheVariants.{Broken}
 use Rattle.recorded_links.specs.Keeping.{HandsOut}
 use Rattle.recorded_links.specs.Numbers.{inner_number}
-use Rattle.recorded_runs.specs.Noting.{noted}
+use Rattle.recorded_links.specs.Noting.{noted}
 use Rattle.recorded_runs.specs.Passing.{IsPassed}
 
 -- One call while turns of the journal are left, as an entry of the log, and the call of the inner links that was made for

@@ -10,7 +10,7 @@ use Rattle.ports.specs.declared.entry.Entry.{Entry}
 use Rattle.recorded_links.specs.Keeping.{Kept}
 use Rattle.recorded_links.specs.Steps.{Seen}
 use Rattle.recorded_runs.specs.Lending.{Lent, nothing_lent}
-use Rattle.recorded_runs.specs.Noting.{noted}
+use Rattle.recorded_links.specs.Noting.{noted}
 use Rattle.resumed_runs.specs.Asking.{AsksFor}
 use Rattle.resumed_runs.specs.Moments.{IsKeptIn}
 

@@ -2,3 +2,4 @@ pub mod Making
 pub mod Asking
 pub mod Moments
 pub mod Lending
+pub mod Laws

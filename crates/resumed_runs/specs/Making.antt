@@ -1,48 +1,47 @@
--- The calls of links that keep a journal, one after another.
-use Rattle.std.specs.Prelude.{◌≡◌, ℕ, false, List, [], ◌∷◌, ◌++◌}
+-- The calls of links that resume a journal, one after another.
+use Rattle.std.specs.Prelude.{List, []}
 use Rattle.disk_port.specs.Calls.{DiskReport}
+use Rattle.disk_port.specs.declared.disk.Disk.{Ghosts as Disk}
 use Rattle.journal_format.specs.declared.finder.Found.{Found}
 use Rattle.journal_format.specs.declared.turn_record.TurnRecord.{TurnRecord}
-use Rattle.journal_links.specs.Steps.{CloseOf, ListenOf, NextOf, Progress, SendOf}
+use Rattle.journal_links.specs.Seeing.{reached}
+use Rattle.journal_links.specs.Steps.{CloseOf, ListenOf, NextOf, Progress, SendOf, progress_of}
+use Rattle.journal_links.specs.declared.links.JournalLinks.{JournalLinks}
 use Rattle.ports.specs.Calls.{LinksReport}
-use Rattle.ports.specs.Links.{listen_entries, next_entries, send_entries}
 use Rattle.ports.specs.declared.entry.Entry.{Entry}
-use Rattle.ports.specs.declared.entry.Entry.TheVariants.{Close}
-use Rattle.ports.specs.declared.links.ListenAnswer.{ListenAnswer}
-use Rattle.ports.specs.declared.links.SendAnswer.{SendAnswer}
-use Rattle.ports.specs.declared.links.Turn.{Turn}
-use Rattle.ports.specs.declared.links.Want.{Want}
-use Rattle.recorded_links.specs.Keeping.{kept_of}
+use Rattle.ports.specs.declared.links.Links.{Ghosts as Links}
+use Rattle.recorded_links.specs.Seeing.{seen_of}
 use Rattle.recorded_links.specs.Steps.{Seen}
+use Rattle.recorded_runs.specs.Making.{AreCalls, Steps, uncalled}
 use Rattle.replayed_links.specs.Opened.{first_free}
 use Rattle.turn_replay.specs.Replaying.{summaries_next}
 
--- One call, with the entries that it adds to the log: what the inner links were asked, what the journal got, and what was
--- given again of it.
-pub data IsCall (old new : Seen) (was is : Progress) (made : List Entry) : Type 0 where
-  listened : (address : List ℕ) (answer : ListenAnswer) → ListenOf old new was is address answer → made ≡ listen_entries address answer → IsCall old new was is made
-  turned : (wants : List Want) (buf : List ℕ) (turn : Turn) → NextOf old new was is wants buf turn → made ≡ next_entries wants buf turn → IsCall old new was is made
-  sent : (link : ℕ) (bytes : List ℕ) (answer : SendAnswer) → SendOf old new was is link bytes answer → made ≡ send_entries link bytes answer → IsCall old new was is made
-  closed : (link : ℕ) → CloseOf old new was is link → made ≡ Close link ∷ [] → IsCall old new was is made
+-- the links and the journal, and how far its turns were given again
+pub record State : Type 0 where
+  pub seen : Seen
+  pub progress : Progress
 
--- these calls, one after another, led from there to here
-pub data AreCalls (start : Seen) (from : Progress) : List Entry → Seen → Progress → Type 0 where
-  none_yet : {calls : List Entry} {now : Seen} {progress : Progress} → calls ≡ [] → now ≡ start → progress ≡ from → AreCalls start from calls now progress
-  one_more : {calls : List Entry} {now : Seen} {progress : Progress} → (before made : List Entry) (old : Seen) (was : Progress) → AreCalls start from before old was → IsCall old now was progress made → calls ≡ before ++ made → AreCalls start from calls now progress
+abbrev pub state_of : {L D : Type 0} {l : Links L} {d : Disk D} → JournalLinks L D l d → State
+state_of links = record { seen = seen_of links.recorded; progress = reached links }
 
--- All calls of links that resume the journal with these records, which ends there, since the links and the disk were lent
--- to them. No turn of the journal was given before.
-pub record Made (found : Found) (records : List TurnRecord) (links : LinksReport) (disk : DiskReport) (calls : List Entry) (now : Seen) (progress : Progress) : Type 0 where
-  pub start : Seen
-  pub from : Progress
-  pub inner : start.inner ≡ links
-  pub first : start.first ≡ first_free records
-  pub kept : start.kept ≡ kept_of disk.past found.gate found.has_record
-  pub faults : start.faults ≡ disk.faults
-  pub unsent : start.sends ≡ []
-  pub unspent : start.spent ≡ false
-  pub records_are : from.records ≡ records
-  pub ungiven : from.given ≡ 0
-  pub left : from.left ≡ summaries_next records
-  pub unopened : from.opened ≡ []
-  pub made : AreCalls start from calls now progress
+-- what each call of links that keep a journal does
+abbrev pub resuming : Steps State
+resuming = record {
+  seen = λ state. state.seen;
+  listens = λ old new. ListenOf old.seen new.seen old.progress new.progress;
+  turns = λ old new. NextOf old.seen new.seen old.progress new.progress;
+  sends = λ old new. SendOf old.seen new.seen old.progress new.progress;
+  closes = λ old new. CloseOf old.seen new.seen old.progress new.progress;
+}
+
+-- Links that resume the journal with these records, which ends there, over these links and this disk, before the first
+-- call. No turn of the journal was given.
+abbrev pub unresumed : Found → List TurnRecord → LinksReport → DiskReport → State
+unresumed found records links disk = record {
+  seen = uncalled (first_free records) found links disk;
+  progress = progress_of records 0 (summaries_next records) [];
+}
+
+-- all calls of such links since then
+abbrev pub Made : Found → List TurnRecord → LinksReport → DiskReport → List Entry → State → Type 0
+Made found records links disk calls now = AreCalls resuming (unresumed found records links disk) calls now

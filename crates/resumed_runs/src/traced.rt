@@ -1,15 +1,15 @@
 ghost use Rattle.std.specs.Prelude.{◌≡◌, ◌≤◌, ◌||◌, [], false, true};
 ghost use Rattle.std.proofs.Props.{props};
-ghost use Rattle.journal_links.specs.Steps.{progress_of};
+ghost use Rattle.journal_links.specs.Seeing.{reached};
 ghost use Rattle.journal_links.specs.Turns.{is_done};
 ghost use Rattle.list_laws.specs.Counts.{Rose};
-ghost use Rattle.recorded_links.specs.Keeping.{is_ready, kept_of};
+ghost use Rattle.recorded_links.specs.Keeping.{is_ready};
 ghost use Rattle.recorded_links.specs.Numbers.{first_after};
-ghost use Rattle.recorded_links.specs.Steps.{seen};
+ghost use Rattle.recorded_links.specs.Seeing.{seen_of};
 ghost use Rattle.recorded_runs.specs.Lending.{traced_report};
 ghost use Rattle.replayed_links.specs.Opened.{first_free};
 ghost use Rattle.resumed_runs.specs.Lending.{Asked, KeepsJournal};
-ghost use Rattle.resumed_runs.specs.Making.{Made};
+ghost use Rattle.resumed_runs.specs.Making.{Made, state_of};
 ghost use Rattle.turn_replay.specs.Replaying.{summaries_next};
 
 use crate::loan::JournalLoan;
@@ -45,27 +45,12 @@ pub struct ResumedLinks<'a, L: Links, D: Disk, K: JournalLoan> {
         ≤ (D.report links.recorded.recorder.journal.disk.now).faults },
     pub ghost opened: { (D.report links.recorded.recorder.journal.disk.now).opened
         ≡ K.lent.lent.disk.opened } by { Prim.hlevel props },
-    pub ghost keeps: { ∥ KeepsJournal K.lent links.log
-        (progress_of links.replay.now.records links.replay.now.given
-        links.replay.now.left.items links.opened.now.numbers.keys)
-        (kept_of (D.report links.recorded.recorder.journal.disk.now).past
-        links.recorded.recorder.journal.gate links.recorded.recorder.journal.has_record)
-        ended ∥₁ },
+    pub ghost keeps: { ∥ KeepsJournal K.lent links.log (reached links)
+        (seen_of links.recorded).kept ended ∥₁ },
     pub ghost made: { ∥ Made K.lent.lent.found K.lent.records K.lent.lent.links
-        K.lent.lent.disk links.log
-        (seen (L.report links.recorded.inner.now) (first_after links.recorded.last)
-        (D.report links.recorded.recorder.journal.disk.now)
-        links.recorded.recorder.journal.gate links.recorded.recorder.journal.has_record
-        links.recorded.recorder.sends.now.summaries.items links.recorded.spent)
-        (progress_of links.replay.now.records links.replay.now.given
-        links.replay.now.left.items links.opened.now.numbers.keys) ∥₁ },
+        K.lent.lent.disk links.log (state_of links) ∥₁ },
     pub ghost asked: { ∥ Asked (first_after links.recorded.last) K.lent links.log
-        (seen (L.report links.recorded.inner.now) (first_after links.recorded.last)
-        (D.report links.recorded.recorder.journal.disk.now)
-        links.recorded.recorder.journal.gate links.recorded.recorder.journal.has_record
-        links.recorded.recorder.sends.now.summaries.items links.recorded.spent)
-        (progress_of links.replay.now.records links.replay.now.given
-        links.replay.now.left.items links.opened.now.numbers.keys) ∥₁ },
+        (seen_of links.recorded) (reached links) ∥₁ },
 }
 
 impl<'a, L: Links, D: Disk, K: JournalLoan> ResumedLinks<'a, L, D, K> {

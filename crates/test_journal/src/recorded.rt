@@ -7,7 +7,7 @@ use ports::{
 use recorded_links::{RecordRoom, RecordedLinks};
 use std::alloc::Global;
 use std::test::Fail;
-use turn_journal::JournalFault;
+use turn_journal::{JournalFault, JournalFile};
 
 /// The journal of a `listen`, of link 0 that opens, and, after a send of three bytes on it, of a read of two, at second 0.
 pub(crate) const RECORDED: &[u8; 96] =
@@ -42,7 +42,8 @@ fn is_recorded<L: Links, D: Disk>(
     disk: &mut D,
 ) -> Result<bool, JournalFault> {
     let mut room = RecordRoom::fresh(alloc);
-    let mut links = RecordedLinks::record(alloc, inner, disk, &mut room, CONFIG)?;
+    let journal = JournalFile::begin(alloc, disk, &mut room.written, CONFIG)?;
+    let mut links = RecordedLinks::over(inner, journal, None, &mut room.turns);
     let played = is_played(alloc, &mut links)?;
     Ok(played && !links.spent && !links.disk_failed)
 }
@@ -54,7 +55,8 @@ fn is_lost<L: Links, D: Disk>(
     disk: &mut D,
 ) -> Result<bool, JournalFault> {
     let mut room = RecordRoom::fresh(alloc);
-    let mut links = RecordedLinks::record(alloc, inner, disk, &mut room, CONFIG)?;
+    let journal = JournalFile::begin(alloc, disk, &mut room.written, CONFIG)?;
+    let mut links = RecordedLinks::over(inner, journal, None, &mut room.turns);
     let address = Text::from_str(alloc, "h:1")?;
     let failed = links.listen(alloc, &address) == ListenAnswer::Failed && links.disk_failed;
     let mut buf = buffer(alloc)?;

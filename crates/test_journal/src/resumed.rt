@@ -2,52 +2,67 @@ use crate::formats::CONFIG;
 use crate::recorded::{RECORDED, buffer, empty_disk, is_next, is_played, two_turns};
 use disk_port::{Disk, MemDisk};
 use ev_types::{Blob, Memory};
-use journal_links::{JournalLinks, JournalRoom};
+use journal_links::JournalLinks;
 use ports::{Links, SendAnswer, What};
+use recorded_links::{RecordRoom, RecordedLinks};
+use replayed_links::{OpenLinks, last_opened};
 use std::alloc::Global;
 use std::test::Fail;
-use turn_journal::JournalFault;
-use turn_replay::read_journal;
+use turn_journal::{JournalFault, JournalFile};
+use turn_replay::{Replay, read_journal};
 
-/// Whether turns are recorded in a journal that begins.
+/// Whether turns are recorded in a journal that begins, which has none to be given again.
 fn is_begun<L: Links, D: Disk>(
     alloc: Global,
     inner: &mut L,
     disk: &mut D,
 ) -> Result<bool, JournalFault> {
-    let mut room = JournalRoom::fresh(alloc);
-    let mut links = JournalLinks::record(alloc, inner, disk, &mut room, CONFIG)?;
+    let mut room = RecordRoom::fresh(alloc);
+    let mut replay = Replay::fresh(alloc);
+    let mut opened = OpenLinks::fresh(alloc);
+    let journal = JournalFile::begin(alloc, disk, &mut room.written, CONFIG)?;
+    let recorded = RecordedLinks::over(inner, journal, None, &mut room.turns);
+    let mut links = JournalLinks::over(recorded, &mut replay, &mut opened);
     let played = is_played(alloc, &mut links)?;
-    let config = links.config().as_slice() == CONFIG.as_slice();
-    Ok(played && config && !links.replayed() && !links.disk_failed())
+    Ok(played && !links.recorded.disk_failed)
 }
 
-/// Whether the turns of a journal are given again, its link 0 is broken, and link 0 of the inner links is link 1.
+/// Whether the turns of a journal with a record are given again, its link 0 is broken, and link 0 of the inner links is link 1.
 fn is_resumed<L: Links, D: Disk>(
     alloc: Global,
     inner: &mut L,
     disk: &mut D,
 ) -> Result<bool, JournalFault> {
-    let mut room = JournalRoom::fresh(alloc);
-    let mut links = JournalLinks::resume(alloc, inner, disk, &mut room)?;
-    let played = is_played(alloc, &mut links)?;
+    let mut room = RecordRoom::fresh(alloc);
+    let (journal, bytes) = match JournalFile::load(alloc, disk, &mut room.written) {
+        Ok(loaded) => loaded,
+        Err(fault) => return Err(fault),
+    };
+    let (_, records) = match read_journal(alloc, bytes.as_slice()) {
+        Ok(read) => read,
+        Err(fault) => return Err(fault),
+    };
+    if !journal.has_record {
+        return Ok(false);
+    }
+    let mut replay = Replay::over(alloc, records)?;
+    let mut opened = OpenLinks::fresh(alloc);
+    let last = last_opened(replay.records.as_slice());
+    let recorded = RecordedLinks::over(inner, journal, last, &mut room.turns);
+    let mut links = JournalLinks::over(recorded, &mut replay, &mut opened);
+    goes_on(alloc, &mut links)
+}
+
+/// Whether these turns are given, and then those of other links.
+fn goes_on<L: Links>(alloc: Global, links: &mut L) -> Result<bool, JournalFault> {
+    let played = is_played(alloc, links)?;
     let mut buf = buffer(alloc)?;
-    let broken = is_next(
-        alloc,
-        &mut links,
-        buf.as_mut_slice(),
-        What::Broken { link: 0 },
-    );
-    let opened = is_next(
-        alloc,
-        &mut links,
-        buf.as_mut_slice(),
-        What::Opened { link: 1 },
-    );
+    let buf = buf.as_mut_slice();
+    let broken = is_next(alloc, links, buf, What::Broken { link: 0 });
+    let opened = is_next(alloc, links, buf, What::Opened { link: 1 });
     let sent = links.send(alloc, 1, b"d") == SendAnswer::Took { count: 1 };
-    let read = What::Read { link: 1, count: 2 };
-    let next = is_next(alloc, &mut links, buf.as_mut_slice(), read);
-    Ok(played && broken && opened && sent && next && !links.replayed())
+    let next = is_next(alloc, links, buf, What::Read { link: 1, count: 2 });
+    Ok(played && broken && opened && sent && next)
 }
 
 /// How many records the journal in these bytes has.

@@ -32,28 +32,30 @@ returns-clause-runs g c =
     links.recorded.recorder.sends.now.summaries.items links.recorded.spent in
     at_lasts g.L.Links.report g.D.Disk.report _ links.recorded.inner.now _ links.recorded.recorder.journal.disk.now
     (λ (links' : LinksReport) (disk' : DiskReport).
-    RunsResumed c.args.setup c.args.turns c.args.found c.args.room.replay.records (g.L.Links.report c.args.links.now) links'
+    RunsResumed c.args.setup c.args.turns c.args.found c.args.replay.records (g.L.Links.report c.args.links.now) links'
     (g.D.Disk.report c.args.disk.now) disk' old new
     c.run_noted-ended.new.ran)
     (search rules) (search rules)
-    (ran_resumed c.args.setup c.args.turns c.args.quiet _ c.args.found c.args.room.replay.records
+    (ran_resumed c.args.setup c.args.turns c.args.quiet _ c.args.found c.args.replay.records
     (g.L.Links.report c.args.links.now) (g.D.Disk.report c.args.disk.now)
     links.log view progress kept (first_after links.recorded.last)
     (g.D.Disk.report links.recorded.recorder.journal.disk.now) old new c.run_noted-ended.new.ran
     (search rules) (search rules) (search rules) (search rules) (search rules) c.run_noted-ended.ensures.first refl
     c.run_noted-ended.ensures.runs
-    c.run_noted-ended.ensures.keeps c.run_noted-ended.ensures.asked refl c.run_noted-ended.ensures.made)
+    c.run_noted-ended.ensures.keeps c.run_noted-ended.ensures.asked refl refl c.run_noted-ended.ensures.made)
 
 pub returns-clause-opened : goal.returns-clause-opened
 returns-clause-opened g c =
-    let disk_is : g.D.Disk.report c.resumed_over-resumed.result.recorded.recorder.journal.disk.now ≡ g.D.Disk.report c.args.disk.now = search rules in
+    let disk_is : g.D.Disk.report c.over-resumed.result.recorded.recorder.journal.disk.now ≡ g.D.Disk.report
+    c.args.disk.now = search rules in
     at_last g.D.Disk.report _ c.run_noted-ended.result.recorded.recorder.journal.disk.now
     (λ (disk' : DiskReport). disk'.opened ≡ (g.D.Disk.report c.args.disk.now).opened) (search rules)
     (c.run_noted-ended.ensures.opened ∙ ap (λ (report : DiskReport). report.opened) disk_is)
 
 pub returns-clause-disk_fault : goal.returns-clause-disk_fault
 returns-clause-disk_fault g c = λ is.
-    let disk_is : g.D.Disk.report c.resumed_over-resumed.result.recorded.recorder.journal.disk.now ≡ g.D.Disk.report c.args.disk.now = search rules in
+    let disk_is : g.D.Disk.report c.over-resumed.result.recorded.recorder.journal.disk.now ≡ g.D.Disk.report
+    c.args.disk.now = search rules in
     at_last g.D.Disk.report _ c.run_noted-ended.result.recorded.recorder.journal.disk.now
     (λ (disk' : DiskReport). Rose (g.D.Disk.report c.args.disk.now).faults disk'.faults) (search rules)
     (subst
@@ -62,14 +64,16 @@ returns-clause-disk_fault g c = λ is.
 
 pub returns-clause-disk_quiet : goal.returns-clause-disk_quiet
 returns-clause-disk_quiet g c = λ unlike.
-    let disk_is : g.D.Disk.report c.resumed_over-resumed.result.recorded.recorder.journal.disk.now ≡ g.D.Disk.report c.args.disk.now = search rules in
+    let disk_is : g.D.Disk.report c.over-resumed.result.recorded.recorder.journal.disk.now ≡ g.D.Disk.report
+    c.args.disk.now = search rules in
     at_last g.D.Disk.report _ c.run_noted-ended.result.recorded.recorder.journal.disk.now
     (λ (disk' : DiskReport). disk'.faults ≡ (g.D.Disk.report c.args.disk.now).faults) (search rules)
     (c.run_noted-ended.ensures.disk_quiet unlike ∙ ap (λ (report : DiskReport). report.faults) disk_is)
 
 pub returns-clause-links_fault : goal.returns-clause-links_fault
 returns-clause-links_fault g c = λ is.
-    let links_are : g.L.Links.report c.resumed_over-resumed.result.recorded.inner.now ≡ g.L.Links.report c.args.links.now = search rules in
+    let links_are : g.L.Links.report c.over-resumed.result.recorded.inner.now ≡ g.L.Links.report c.args.links.now =
+    search rules in
     at_last g.L.Links.report _ c.run_noted-ended.result.recorded.inner.now
     (λ (links' : LinksReport). Rose (g.L.Links.report c.args.links.now).faults links'.faults) (search rules)
     (subst
@@ -78,7 +82,8 @@ returns-clause-links_fault g c = λ is.
 
 pub returns-clause-links_quiet : goal.returns-clause-links_quiet
 returns-clause-links_quiet g c = λ unlike unlike'.
-    let links_are : g.L.Links.report c.resumed_over-resumed.result.recorded.inner.now ≡ g.L.Links.report c.args.links.now = search rules in
+    let links_are : g.L.Links.report c.over-resumed.result.recorded.inner.now ≡ g.L.Links.report c.args.links.now =
+    search rules in
     at_last g.L.Links.report _ c.run_noted-ended.result.recorded.inner.now
     (λ (links' : LinksReport). links'.faults ≡ (g.L.Links.report c.args.links.now).faults) (search rules)
     (c.run_noted-ended.ensures.links_quiet unlike unlike' ∙ ap (λ (report : LinksReport). report.faults) links_are)

@@ -1,12 +1,13 @@
-use Rattle.std.proofs.Common.{◌∙◌, ◌∷◌, [], sym, ap, subst, arith}
+use Rattle.std.proofs.Common.{refl, ◌∙◌, ◌∷◌, [], sym, ap, subst, arith}
 use Rattle.list_laws.specs.Counts.{Rose}
 use Rattle.ports.specs.declared.entry.Entry.TheVariants.{Close}
 use Rattle.recorded_links.specs.Numbers.{first_after}
 use Rattle.recorded_runs.proofs.FaultLaws.{inner_still, may_close, quiet_calls}
+use Rattle.recorded_runs.specs.Making.{closed}
 use Rattle.resumed_runs.proofs.AskLaws.{asked_close}
 use Rattle.resumed_runs.proofs.KeepLaws.{keeps_close}
 use Rattle.resumed_runs.proofs.RisenLaws.{close_still}
-use Rattle.resumed_runs.proofs.MadeLaws.{made_close}
+use Rattle.resumed_runs.proofs.MadeLaws.{made_more}
 use Rattle.resumed_runs.proofs.traced.ResumedLinksLinks.close.Goals as goal
 
 pub close-requires : goal.close-requires
@@ -38,5 +39,7 @@ invariant_of-self-clause-asked g c = asked_close g.K.JournalLoan.lent c.args.sel
 
 pub invariant_of-self-clause-made : goal.invariant_of-self-clause-made
 invariant_of-self-clause-made g c =
-    made_close g.K.JournalLoan.lent.lent.found g.K.JournalLoan.lent.records g.K.JournalLoan.lent.lent.links g.K.JournalLoan.lent.lent.disk
-    c.args.self.now.links.log c.close.new.self.log _ _ _ _ c.args.link c.args.self.now.made c.close.ensures.log c.close.ensures.step
+    made_more g.K.JournalLoan.lent.lent.found g.K.JournalLoan.lent.records g.K.JournalLoan.lent.lent.links
+    g.K.JournalLoan.lent.lent.disk
+    c.args.self.now.links.log c.close.new.self.log (Close c.args.link ∷ []) _ _ c.args.self.now.made
+    (closed c.args.link c.close.ensures.step refl) (ap first_after c.close.ensures.last) c.close.ensures.log

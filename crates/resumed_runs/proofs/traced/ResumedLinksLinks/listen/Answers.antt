@@ -1,14 +1,15 @@
-use Rattle.std.proofs.Common.{◌+◌, Bool, sym, ◌∙◌, ap, subst, arith, rules}
+use Rattle.std.proofs.Common.{refl, ◌+◌, Bool, sym, ◌∙◌, ap, subst, arith, rules}
 use Rattle.ports.proofs.CallLemmas.{no_calls}
 use Rattle.ports.specs.Calls.{AddsCalls}
 use Rattle.ports.specs.Links.{HasListenCause, listen_entries}
 use Rattle.recorded_links.specs.Numbers.{first_after}
 use Rattle.recorded_runs.specs.Lending.{disk_faults, traced_report}
 use Rattle.recorded_runs.proofs.FaultLaws.{listen_cause, still_broke, still_least, still_quiet, traced_calls}
+use Rattle.recorded_runs.specs.Making.{listened}
 use Rattle.resumed_runs.proofs.AskLaws.{asked_listen}
 use Rattle.resumed_runs.proofs.KeepLaws.{keeps_listen}
 use Rattle.resumed_runs.proofs.RisenLaws.{done_if, listen_risen}
-use Rattle.resumed_runs.proofs.MadeLaws.{made_listen}
+use Rattle.resumed_runs.proofs.MadeLaws.{made_more}
 use Rattle.resumed_runs.proofs.traced.ResumedLinksLinks.listen.Goals as goal
 
 pub returns-then-self-clause-adds : goal.returns-then-self-clause-adds
@@ -51,5 +52,9 @@ invariant_of-self-clause-asked g c =
 
 pub invariant_of-self-clause-made : goal.invariant_of-self-clause-made
 invariant_of-self-clause-made g c =
-    made_listen g.K.JournalLoan.lent.lent.found g.K.JournalLoan.lent.records g.K.JournalLoan.lent.lent.links g.K.JournalLoan.lent.lent.disk
-    c.args.self.now.links.log c.listen-answer.new.self.log _ _ _ _ c.args.address.now c.listen-answer.result c.args.self.now.made c.listen-answer.ensures.log c.listen-answer.ensures.step
+    made_more g.K.JournalLoan.lent.lent.found g.K.JournalLoan.lent.records g.K.JournalLoan.lent.lent.links
+    g.K.JournalLoan.lent.lent.disk
+    c.args.self.now.links.log c.listen-answer.new.self.log (listen_entries c.args.address.now c.listen-answer.result) _
+    _ c.args.self.now.made
+    (listened c.args.address.now c.listen-answer.result c.listen-answer.ensures.step c.listen-answer.ensures.memory
+    refl) (ap first_after c.listen-answer.ensures.last) c.listen-answer.ensures.log

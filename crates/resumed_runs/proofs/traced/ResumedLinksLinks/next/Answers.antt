@@ -1,14 +1,15 @@
-use Rattle.std.proofs.Common.{◌+◌, Bool, sym, ◌∙◌, ap, subst, arith, rules}
+use Rattle.std.proofs.Common.{refl, ◌+◌, Bool, sym, ◌∙◌, ap, subst, arith, rules}
 use Rattle.ports.proofs.CallLemmas.{no_calls}
 use Rattle.ports.specs.Calls.{AddsCalls}
 use Rattle.ports.specs.Links.{HasNextCause, next_entries}
 use Rattle.recorded_links.specs.Numbers.{first_after}
 use Rattle.recorded_runs.specs.Lending.{disk_faults, traced_report}
 use Rattle.recorded_runs.proofs.FaultLaws.{next_cause, still_broke, still_least, still_quiet, traced_calls}
+use Rattle.recorded_runs.specs.Making.{turned}
 use Rattle.resumed_runs.proofs.AskLaws.{asked_next}
 use Rattle.resumed_runs.proofs.KeepLaws.{keeps_next}
 use Rattle.resumed_runs.proofs.RisenLaws.{done_if, next_risen}
-use Rattle.resumed_runs.proofs.MadeLaws.{made_next}
+use Rattle.resumed_runs.proofs.MadeLaws.{made_more}
 use Rattle.resumed_runs.proofs.traced.ResumedLinksLinks.next.Goals as goal
 
 pub returns-then-self-clause-adds : goal.returns-then-self-clause-adds
@@ -51,5 +52,9 @@ invariant_of-self-clause-asked g c =
 
 pub invariant_of-self-clause-made : goal.invariant_of-self-clause-made
 invariant_of-self-clause-made g c =
-    made_next g.K.JournalLoan.lent.lent.found g.K.JournalLoan.lent.records g.K.JournalLoan.lent.lent.links g.K.JournalLoan.lent.lent.disk
-    c.args.self.now.links.log c.next-turn.new.self.log _ _ _ _ c.args.wants.now c.next-turn.new.buf c.next-turn.result c.args.self.now.made c.next-turn.ensures.log c.next-turn.ensures.step
+    made_more g.K.JournalLoan.lent.lent.found g.K.JournalLoan.lent.records g.K.JournalLoan.lent.lent.links
+    g.K.JournalLoan.lent.lent.disk
+    c.args.self.now.links.log c.next-turn.new.self.log (next_entries c.args.wants.now c.next-turn.new.buf
+    c.next-turn.result) _ _ c.args.self.now.made
+    (turned c.args.wants.now c.next-turn.new.buf c.next-turn.result c.next-turn.ensures.step c.next-turn.ensures.memory
+    refl) (ap first_after c.next-turn.ensures.last) c.next-turn.ensures.log

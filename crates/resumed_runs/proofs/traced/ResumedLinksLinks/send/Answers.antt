@@ -1,12 +1,13 @@
-use Rattle.std.proofs.Common.{◌∙◌, sym, ap, subst, arith}
+use Rattle.std.proofs.Common.{refl, ◌∙◌, sym, ap, subst, arith}
 use Rattle.list_laws.specs.Counts.{Rose}
 use Rattle.ports.specs.Links.{send_entries}
 use Rattle.recorded_links.specs.Numbers.{first_after}
 use Rattle.recorded_runs.proofs.FaultLaws.{inner_still, quiet_calls}
+use Rattle.recorded_runs.specs.Making.{sent}
 use Rattle.resumed_runs.proofs.AskLaws.{asked_send}
 use Rattle.resumed_runs.proofs.KeepLaws.{keeps_send}
 use Rattle.resumed_runs.proofs.RisenLaws.{send_still}
-use Rattle.resumed_runs.proofs.MadeLaws.{made_send}
+use Rattle.resumed_runs.proofs.MadeLaws.{made_more}
 use Rattle.resumed_runs.proofs.traced.ResumedLinksLinks.send.Goals as goal
 
 pub returns-clause-adds : goal.returns-clause-adds
@@ -35,5 +36,9 @@ invariant_of-self-clause-asked g c = asked_send g.K.JournalLoan.lent c.args.self
 
 pub invariant_of-self-clause-made : goal.invariant_of-self-clause-made
 invariant_of-self-clause-made g c =
-    made_send g.K.JournalLoan.lent.lent.found g.K.JournalLoan.lent.records g.K.JournalLoan.lent.lent.links g.K.JournalLoan.lent.lent.disk
-    c.args.self.now.links.log c.send.new.self.log _ _ _ _ c.args.link c.args.bytes.now c.send.result c.args.self.now.made c.send.ensures.log c.send.ensures.step
+    made_more g.K.JournalLoan.lent.lent.found g.K.JournalLoan.lent.records g.K.JournalLoan.lent.lent.links
+    g.K.JournalLoan.lent.lent.disk
+    c.args.self.now.links.log c.send.new.self.log (send_entries c.args.link c.args.bytes.now c.send.result) _ _
+    c.args.self.now.made
+    (sent c.args.link c.args.bytes.now c.send.result c.send.ensures.step c.send.ensures.spent refl)
+    (ap first_after c.send.ensures.last) c.send.ensures.log
