@@ -1,0 +1,11 @@
+pub mod Parts
+pub mod Varints
+pub mod Bodies
+pub mod Stages
+pub mod Attributes
+pub mod Spans
+pub mod Texts
+pub mod OneEvent
+pub mod Events
+pub mod Recognised
+pub mod Loops

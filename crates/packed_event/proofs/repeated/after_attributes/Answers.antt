@@ -1,0 +1,25 @@
+use Rattle.std.proofs.Common.{◌≡◌, ℕ, List, None, arith}
+use denote.Ref.{Bor}
+use Rattle.std.proofs.lemmas.Grind.{common_steps}
+use Rattle.packed_event.specs.Reading.{after_tag, attribute_part, repeated}
+use Rattle.packed_event.proofs.Loops.{rest_of, skip_ends, skip_fails, skip_more}
+use Rattle.packed_event.proofs.Parts.{gives_none}
+use Rattle.packed_event.proofs.repeated.after_attributes.Goals as goal
+
+pub returns-in_err-rest : goal.returns-in_err-rest
+returns-in_err-rest c =
+    let none : rest_of (repeated 74 attribute_part c.args.bytes.now) ≡ None =
+    skip_fails 74 attribute_part c.args.bytes.now c.each.rest.now c.in-Some.attribute.now c.each.invariant
+    c.in-Some.ensures.reads c.in_err-rest.ensures.reads in
+    grind (arith, common_steps, none)
+
+pub each-preserved : goal.each-preserved
+each-preserved c =
+    skip_more 74 attribute_part c.args.bytes.now c.each.rest.now c.in-Some.attribute.now c.in_ok-rest.rest.now
+    c.each.invariant c.in-Some.ensures.reads c.in_ok-rest.ensures.reads (omega (arith, c.in_ok-rest.ensures.shorter))
+
+pub returns : goal.returns
+returns c =
+    skip_ends 74 attribute_part c.args.bytes.now c.each.rest.now c.each.invariant
+    (gives_none (λ (rest : Bor (List ℕ)). rest.now) c.after_tag.result (after_tag 74 c.each.rest.now)
+    c.after_tag.ensures.reads c.in_default.is)

@@ -1,0 +1,123 @@
+//! The bodies of fields, each read at the start of bytes and given with the bytes after it.
+
+ghost use Rattle.std.specs.Prelude.{◌≡◌, ◌+◌, ◌<◌, ◌≤◌, length, IfSome};
+ghost use Rattle.std.specs.Int.{w32, w64};
+ghost use Rattle.std.specs.Option.{option_map};
+ghost use Rattle.std.specs.Str.{is_utf8};
+ghost use Rattle.packed_event.specs.Reading.{Gives, after_tag, bytes_part, int64_part, number_part, optional, text_length, text_part, ttl_part};
+
+use crate::varint::varint;
+use riemann_msg::{bits_of_ttl, ttl_of_bits};
+
+/// Bytes after their length.
+#[tactic(auto, unfolding(crate::specs::Reading::bytes_part))]
+#[inline(always)]
+pub(crate) fn counted(bytes: &[u8]) -> Option<(&[u8], &[u8])>
+    ensures reads { Gives (λ read. (read.0.now, read.1.now)) result (bytes_part bytes.now) }
+    ensures within { IfSome result (λ read.
+        length read.0.now + length read.1.now < length bytes.now) }
+{
+    let (size, rest) = varint(bytes)?;
+    if size > rest.len() as u64 {
+        return None;
+    }
+    Some(rest.split_at(size as usize))
+}
+
+/// Bytes after their length, if they are UTF-8.
+#[tactic(auto, unfolding(crate::specs::Reading::text_part))]
+#[inline(always)]
+pub(crate) fn text(bytes: &[u8]) -> Option<(&[u8], &[u8])>
+    ensures reads { Gives (λ read. (read.0.now, read.1.now)) result (text_part bytes.now) }
+    ensures within { IfSome result (λ read.
+        length read.0.now + length read.1.now < length bytes.now) }
+{
+    let (text, rest) = counted(bytes)?;
+    if !is_utf8(text) {
+        return None;
+    }
+    Some((text, rest))
+}
+
+// Most texts are ASCII, which is quicker to test for than UTF-8.
+#[inline(always)]
+fn is_utf8(bytes: &[u8]) -> bool
+    ensures { result ≡ is_utf8 bytes.now }
+{
+    bytes.is_ascii() || simdutf8::is_utf8(bytes)
+}
+
+/// The bytes after the tag, if they begin with it.
+#[tactic(auto, unfolding(crate::specs::Reading::after_tag))]
+#[inline(always)]
+pub(crate) fn after_tag(tag: u8, bytes: &[u8]) -> Option<&[u8]>
+    ensures reads { Gives (λ rest. rest.now) result (after_tag tag bytes.now) }
+    ensures shorter { IfSome result (λ rest. length rest.now < length bytes.now) }
+{
+    match bytes {
+        [first, rest @ ..] if *first == tag => Some(rest),
+        _ => None,
+    }
+}
+
+/// The text after the tag, if the bytes begin with the tag. Otherwise no text, and all the bytes.
+#[tactic(auto, unfolding(crate::specs::Reading::optional))]
+#[inline(always)]
+pub(crate) fn optional_text(tag: u8, bytes: &[u8]) -> Option<(Option<&[u8]>, &[u8])>
+    ensures reads { Gives (λ read. (option_map (λ text. text.now) read.0, read.1.now)) result
+        (optional tag text_part bytes.now) }
+    ensures within { IfSome result (λ read. text_length (option_map (λ text. text.now) read.0)
+        + length read.1.now ≤ length bytes.now) }
+{
+    match bytes {
+        [first, rest @ ..] if *first == tag => {
+            let (text, rest) = text(rest)?;
+            Some((Some(text), rest))
+        }
+        _ => Some((None, bytes)),
+    }
+}
+
+/// Four bytes, little-endian.
+#[inline(always)]
+pub(crate) fn four(bytes: &[u8]) -> Option<(u32, &[u8])>
+    ensures { Gives (λ read. (read.0, read.1.now)) result (number_part w32 bytes.now) }
+{
+    let (four, rest) = bytes.split_first_chunk::<4>()?;
+    Some((u32::from_le_bytes(*four), rest))
+}
+
+/// Eight bytes, little-endian.
+#[inline(always)]
+pub(crate) fn eight(bytes: &[u8]) -> Option<(u64, &[u8])>
+    ensures { Gives (λ read. (read.0, read.1.now)) result (number_part w64 bytes.now) }
+{
+    let (eight, rest) = bytes.split_first_chunk::<8>()?;
+    Some((u64::from_le_bytes(*eight), rest))
+}
+
+/// A signed number of 64 bits.
+#[tactic(auto, unfolding(crate::specs::Reading::int64_part))]
+#[inline(always)]
+pub(crate) fn int64(bytes: &[u8]) -> Option<(i64, &[u8])>
+    ensures reads { Gives (λ read. (read.0, read.1.now)) result (int64_part bytes.now) }
+    ensures shorter { IfSome result (λ read. length read.1.now < length bytes.now) }
+{
+    let (value, rest) = varint(bytes)?;
+    Some((value.cast_signed(), rest))
+}
+
+/// A ttl in whole seconds, in the bits that this server writes for it. The other bits of 0, those of its negative, are
+/// not.
+#[tactic(auto, unfolding(crate::specs::Reading::ttl_part))]
+#[inline(always)]
+pub(crate) fn ttl(bytes: &[u8]) -> Option<(u32, &[u8])>
+    ensures { Gives (λ read. (read.0, read.1.now)) result (ttl_part bytes.now) }
+{
+    let (bits, rest) = four(bytes)?;
+    let ttl = ttl_of_bits(bits)?;
+    if bits_of_ttl(ttl) != bits {
+        return None;
+    }
+    Some((ttl, rest))
+}

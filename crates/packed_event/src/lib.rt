@@ -1,0 +1,15 @@
+//! Events that are kept as their bytes: whether the bytes of an event are already those that this server writes for it,
+//! and where its parts are in them.
+#![tactic(auto)]
+
+mod attribute;
+mod body;
+mod law;
+mod names;
+mod numbers;
+mod places;
+mod repeated;
+mod varint;
+
+pub use law::packed_events_are_read;
+pub use places::{Places, Span, places_of};

@@ -1,0 +1,5 @@
+//! Tests of events that are kept as their bytes.
+#![tactic(auto)]
+
+#[cfg(test)]
+mod rows;
