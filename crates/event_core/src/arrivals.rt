@@ -4,7 +4,7 @@ ghost use Rattle.ev_types.specs.Interval.{IsInterval};
 ghost use Rattle.list_laws.specs.Prefix.{IsPrefix};
 ghost use Rattle.index_log.specs.Live.{live_events};
 ghost use Rattle.stream_meaning.specs.Arrivals.{Arrival, Elapsed, Post, matching_events};
-ghost use Rattle.live_index.specs.Index.{events_lent, visited};
+ghost use Rattle.live_index.specs.Index.{events_lent, reply_len, visited};
 ghost use Rattle.event_core.specs.Core.{config_of, now_of, is_poisoned, state_by, Represents, Receives};
 
 use crate::clock::Clock;
@@ -182,5 +182,33 @@ impl Core {
             return Err(Memory);
         }
         self.streams.find(alloc, pred, found, steps)
+    }
+
+    /// How many bytes a reply has with the live events that meet the predicate, those that [`Core::find`] lends. What is
+    /// learned of an event is kept until another one takes its place. After `Memory` the core is as it was; that is also
+    /// answered where the bytes are 2^64 or more, which is more than a `usize` can count.
+    pub fn found_len<G: Ledger>(
+        &mut self,
+        alloc: Global,
+        pred: &mut Pred,
+        steps: &mut Steps<G>,
+    ) -> Result<usize, Memory>
+        ensures same { self.new ≡ self.old }
+        ensures pred { pred.new ≡ pred.old }
+        ensures found { IfOk result (λ len. (arrivals : List Arrival) → Represents self.old arrivals
+            → len ≡ reply_len (matching_events pred.old
+            (state_by (config_of self.old) arrivals).log)) }
+        ensures forks { steps.new.forks ≡ steps.old.forks }
+        ensures began { steps.new.began ≡ steps.old.began }
+        ensures entries { (arrivals : List Arrival) → Represents self.old arrivals
+            → steps.new.entries ≤ steps.old.entries + length (visited pred.old
+            (live_events (state_by (config_of self.old) arrivals).log)) }
+        ensures at_least { steps.old.entries ≤ steps.new.entries }
+        ensures poisoned { IsTrue (is_poisoned self.old) → IsErr result }
+    {
+        if self.poisoned {
+            return Err(Memory);
+        }
+        self.streams.found_len(alloc, pred, steps)
     }
 }

@@ -33,13 +33,19 @@ filter-append p (e ∷ es) fs = filter_by (p e) (filter-append p es fs)
     filter_by true ih = ap (λ r. e ∷ r) ih
     filter_by false ih = ih
 
+pub found-more : (p : Event → Bool) (table : List (Option Event)) (ns : List ℕ) (i : ℕ) → i < length ns
+    → filter p (events_at table (take (i + 1) ns))
+    ≡ filter p (events_at table (take i ns)) ++ filter p (events_at table (get_or ns i 0 ∷ []))
+found-more p table ns i lt =
+    ap (λ ns. filter p (events_at table ns)) (take_more ns i 0 lt)
+    ∙ ap (filter p) (events-append table (take i ns) (get_or ns i 0 ∷ []))
+    ∙ filter-append p (events_at table (take i ns)) (events_at table (get_or ns i 0 ∷ []))
+
 pub copied-more : (p : Event → Bool) (table : List (Option Event)) (ns : List ℕ) (i : ℕ) (e : Event) → i < length ns
     → value_at table (get_or ns i 0) ≡ Some e
     → filter p (events_at table (take (i + 1) ns)) ≡ filter p (events_at table (take i ns)) ++ filter p (e ∷ [])
 copied-more p table ns i e lt at =
-    ap (λ ns. filter p (events_at table ns)) (take_more ns i 0 lt)
-    ∙ ap (filter p) (events-append table (take i ns) (get_or ns i 0 ∷ []))
-    ∙ filter-append p (events_at table (take i ns)) (events_at table (get_or ns i 0 ∷ []))
+    found-more p table ns i lt
     ∙ ap (λ slot. filter p (events_at table (take i ns)) ++ filter p (also slot [])) at
 
 -- one more number is visited: its event is read, and found where it passes

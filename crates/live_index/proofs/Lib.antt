@@ -2,6 +2,7 @@ pub mod CopyLaws
 pub mod CountLaws
 pub mod FindLaws
 pub mod HostLaws
+pub mod LengthLaws
 pub mod LinkLaws
 pub mod LogLaws
 pub mod PairLaws

@@ -1,9 +1,9 @@
-ghost use Rattle.std.specs.Prelude.{◌≡◌, ◌+◌, ◌-◌, ◌*◌, ◌^◌, ◌≤◌, false, [], ◌∷◌, ◌++◌, filter, length, option_copied, IsErr, IsNone, IsSome, IsTrue, OnErr, OnOk};
+ghost use Rattle.std.specs.Prelude.{◌≡◌, ◌+◌, ◌-◌, ◌*◌, ◌^◌, ◌≤◌, false, [], ◌∷◌, ◌++◌, filter, length, option_copied, IsErr, IsNone, IsSome, IsTrue, IfOk, OnErr, OnOk};
 ghost use Rattle.list_laws.specs.Prefix.{IsPrefix};
 ghost use Rattle.ev_types.specs.Expiry.{is_expired};
 ghost use Rattle.index_log.specs.Live.{IndexLog, Reap, Write};
 ghost use Rattle.std.specs.Borrow.{sem};
-ghost use Rattle.live_index.specs.Index.{Represents, event_at, events_lent, visited};
+ghost use Rattle.live_index.specs.Index.{Represents, event_at, events_lent, reply_len, visited};
 ghost use Rattle.pred_eval.specs.Truth.{holds};
 
 use crate::slots::Slots;
@@ -162,6 +162,34 @@ impl LiveIndex {
         }
         self.slots.find(alloc, pred, found, steps)?;
         Ok(())
+    }
+
+    /// How many bytes a reply has with the live events that meet the predicate, as those that [`LiveIndex::find`] lends. It
+    /// looks at as many events, and counts as many entries. What it learns of each event is kept until that changes.
+    /// `Memory`: also where the bytes are more than a `usize` can count.
+    pub fn found_len<G: Ledger>(
+        &mut self,
+        alloc: Global,
+        pred: &mut Pred,
+        steps: &mut Steps<G>,
+    ) -> Result<usize, Memory>
+        ensures same { self.new ≡ self.old }
+        ensures pred { pred.new ≡ pred.old }
+        ensures ok { IfOk result (λ len. len
+            ≡ reply_len (filter (holds pred.old) self.old.events)) }
+        ensures poisoned { IsTrue self.old.poisoned → IsErr result }
+        ensures forks { steps.new.forks ≡ steps.old.forks }
+        ensures counted { OnOk result (steps.new.entries ≡ steps.old.entries
+            + length (visited pred.old self.old.events)) }
+        ensures entries { steps.new.entries ≤ steps.old.entries
+            + length (visited pred.old self.old.events) }
+        ensures at_least { steps.old.entries ≤ steps.new.entries }
+        ensures began { steps.new.began ≡ steps.old.began }
+    {
+        if self.poisoned {
+            return Err(Memory);
+        }
+        self.slots.found_len(alloc, pred, steps)
     }
 
     /// The live event of this host and this service, each of which may be absent. It counts an entry where there is one.

@@ -5,6 +5,7 @@ mod by_value;
 mod hints;
 mod index;
 mod keyed;
+mod measured;
 mod slots;
 
 pub use index::LiveIndex;

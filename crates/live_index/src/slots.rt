@@ -4,15 +4,16 @@ ghost use Rattle.list_laws.specs.Prefix.{IsPrefix};
 ghost use Rattle.ev_types.specs.Expiry.{is_expired, is_late, is_over};
 ghost use Rattle.ev_types.specs.declared.event.Event.{Event as StoredEvent};
 ghost use Rattle.key_map.specs.Keys.{number_at, Numbers};
-ghost use Rattle.linked_slots.specs.Table.{value_at};
+ghost use Rattle.linked_slots.specs.Table.{value_at, Changes, IsLive};
 ghost use Rattle.tick_schedule.specs.Queue.{IsRising, Sets};
 ghost use Rattle.pred_eval.specs.Host.{asked_host, NeedsHost};
 ghost use Rattle.pred_eval.specs.Truth.{holds};
-ghost use Rattle.live_index.specs.Index.{events_lent, visited};
+ghost use Rattle.live_index.specs.Index.{events_lent, reply_len, visited};
 ghost use Rattle.live_index.specs.Slots.{key_of, events_in, events_at, event_of, slot_of, is_by, AreLive, IsLinked, IsStored, IsTaking, Puts, numbers_of_value};
 
 use crate::hints::{Hints, hash_of};
 use crate::keyed::KeyedEvent;
+use crate::measured::{EMPTY_REPLY, MeasuredEvent};
 use ev_types::{DEFAULT_TTL, Event, Events, LATEST_MOMENT, Memory, Text, Value};
 use key_map::KeyMap;
 use linked_slots::StepTable;
@@ -29,7 +30,7 @@ use tick_schedule::DueQueue;
 pub(crate) struct Slots {
     // The key of an event has its number. The queue has the moments at which events expire, by number.
     numbers: KeyMap,
-    events: StepTable<Event>,
+    events: StepTable<MeasuredEvent>,
     due: DueQueue,
     count: usize,
     // A write looks here for the number of its key first.
@@ -124,7 +125,8 @@ impl Slots {
         }
         // A write counts no entries.
         let mut uncounted = Steps::fresh(NoLedger);
-        if has_same_key(self.events.read(number, &mut uncounted), event) {
+        let known = self.events.read(number, &mut uncounted);
+        if has_same_key(known.event(), event) {
             Some(number)
         } else {
             None
@@ -144,7 +146,7 @@ impl Slots {
             self.old.numbers self.old.events.values self.new.numbers self.new.events.values) }
     {
         let due = due_moment(event);
-        self.events.swap(number, event);
+        swap_at(&mut self.events, number, event);
         set_due(alloc, &mut self.due, number, due)?;
         Ok(())
     }
@@ -185,7 +187,7 @@ impl Slots {
         let service = copy_text(alloc, event.service.as_ref())?;
         let due = due_moment(event);
         let event = mem::replace(event, Event::at(alloc, 0));
-        let number = self.events.add(alloc, event)?;
+        let number = self.events.add(alloc, MeasuredEvent::of(event))?;
         self.numbers.insert(alloc, host, service, number)?;
         self.count = count;
         self.hints.reserve(alloc, count);
@@ -212,7 +214,7 @@ impl Slots {
         ensures began { steps.new.began ≡ steps.old.began }
     {
         let number = self.numbers.get(host, service)?;
-        Some(self.events.read(number, steps))
+        Some(self.events.read(number, steps).event())
     }
 
     /// How many events there are.
@@ -310,6 +312,33 @@ impl Slots {
         Ok(())
     }
 
+    /// How many bytes a reply has with the events that meet the predicate. It counts what [`Slots::find`] counts.
+    pub(crate) fn found_len<G: Ledger>(
+        &mut self,
+        alloc: Global,
+        pred: &mut Pred,
+        steps: &mut Steps<G>,
+    ) -> Result<usize, Memory>
+        requires { IsStored self.old.numbers self.old.events.values self.old.due self.old.count }
+        ensures numbers { self.new.numbers ≡ self.old.numbers }
+        ensures events { self.new.events.values ≡ self.old.events.values }
+        ensures due { self.new.due ≡ self.old.due }
+        ensures count { self.new.count ≡ self.old.count }
+        ensures same { pred.new ≡ pred.old }
+        ensures ok { IfOk result (λ len. len ≡ reply_len
+            (filter (holds pred.old) (events_in self.old.numbers self.old.events.values))) }
+        ensures forks { steps.new.forks ≡ steps.old.forks }
+        ensures counted { OnOk result (steps.new.entries ≡ steps.old.entries
+            + length (visited pred.old (events_in self.old.numbers self.old.events.values))) }
+        ensures entries { steps.new.entries ≤ steps.old.entries
+            + length (visited pred.old (events_in self.old.numbers self.old.events.values)) }
+        ensures at_least { steps.old.entries ≤ steps.new.entries }
+        ensures began { steps.new.began ≡ steps.old.began }
+    {
+        let numbers = self.numbers_for(alloc, pred)?;
+        found_len_at(alloc, &mut self.events, numbers.as_slice(), pred, steps)
+    }
+
     /// The numbers of the events that may meet the predicate, in order.
     fn numbers_for(&self, alloc: Global, pred: &Pred) -> Result<Ids, Memory>
         ensures numbers { IfOk result (λ numbers. numbers
@@ -390,6 +419,7 @@ impl Slots {
             return None;
         }
         let event = self.events.remove(number);
+        let event = event.into_event();
         self.numbers
             .remove(event.host.as_ref(), event.service.as_ref());
         self.count -= 1;
@@ -400,7 +430,7 @@ impl Slots {
 /// Appends the events with these numbers that meet the predicate, where they lie. It counts an entry for each number.
 fn find_at<'a, G: Ledger>(
     alloc: Global,
-    events: &'a StepTable<Event>,
+    events: &'a StepTable<MeasuredEvent>,
     numbers: &[usize],
     pred: &mut Pred,
     found: &mut Vec<&'a Event>,
@@ -420,7 +450,7 @@ fn find_at<'a, G: Ledger>(
 {
     for number in numbers {
         let event = events.read(*number, steps);
-        find_one(alloc, event, pred, found)?;
+        find_one(alloc, event.event(), pred, found)?;
     }
     Ok(())
 }
@@ -441,6 +471,85 @@ fn find_one<'a>(
         found.push(event)?;
     }
     Ok(())
+}
+
+/// How many bytes a reply has with those events with these numbers that meet the predicate. It counts an entry for each
+/// number.
+fn found_len_at<G: Ledger>(
+    alloc: Global,
+    events: &mut StepTable<MeasuredEvent>,
+    numbers: &[usize],
+    pred: &mut Pred,
+    steps: &mut Steps<G>,
+) -> Result<usize, Memory>
+    requires { AreLive events.old.values numbers.now }
+    ensures same { pred.new ≡ pred.old }
+    ensures events { events.new.values ≡ events.old.values }
+    ensures ok { IfOk result (λ len. len ≡ reply_len
+        (filter (holds pred.old) (events_at events.old.values numbers.now))) }
+    ensures forks { steps.new.forks ≡ steps.old.forks }
+    ensures counted { OnOk result (steps.new.entries ≡ steps.old.entries + length numbers.now) }
+    ensures entries { steps.new.entries ≤ steps.old.entries + length numbers.now }
+    ensures at_least { steps.old.entries ≤ steps.new.entries }
+    ensures began { steps.new.began ≡ steps.old.began }
+{
+    let mut len = EMPTY_REPLY;
+    for number in numbers {
+        let added = added_len(alloc, events, *number, pred, steps)?;
+        len = sum(len, added)?;
+    }
+    Ok(len)
+}
+
+/// How many bytes the event with this number adds to a reply, if it meets the predicate, and else 0.
+fn added_len<G: Ledger>(
+    alloc: Global,
+    events: &mut StepTable<MeasuredEvent>,
+    number: usize,
+    pred: &mut Pred,
+    steps: &mut Steps<G>,
+) -> Result<usize, Memory>
+    requires { IsLive events.old.values number }
+    ensures same { pred.new ≡ pred.old }
+    ensures events { events.new.values ≡ events.old.values }
+    ensures ok { IfOk result (λ len. 2 + len ≡ reply_len
+        (filter (holds pred.old) (events_at events.old.values (number ∷ [])))) }
+    ensures forks { steps.new.forks ≡ steps.old.forks }
+    ensures entries { steps.new.entries ≡ steps.old.entries + 1 }
+    ensures began { steps.new.began ≡ steps.old.began }
+{
+    len_found(alloc, events.visit(number, steps), pred)
+}
+
+/// How many bytes the event adds to a reply, if it meets the predicate, and else 0.
+fn len_found(alloc: Global, event: &mut MeasuredEvent, pred: &mut Pred) -> Result<usize, Memory>
+    ensures same { pred.new ≡ pred.old }
+    ensures event { event.new ≡ event.old }
+    ensures ok { IfOk result (λ len. 2 + len ≡ reply_len
+        (filter (holds pred.old) (event.old ∷ []))) }
+{
+    if pred.holds(alloc, event.event())? {
+        event.len()
+    } else {
+        Ok(0)
+    }
+}
+
+fn sum(a: usize, b: usize) -> Result<usize, Memory>
+    ensures { IfOk result (λ n. n ≡ a + b) }
+{
+    a.checked_add(b).ok_or(Memory)
+}
+
+/// Swaps the event with the one of this number.
+fn swap_at(events: &mut StepTable<MeasuredEvent>, number: usize, event: &mut Event)
+    requires { IsLive events.old.values number }
+    ensures given { value_at events.old.values number ≡ Some event.new }
+    ensures swapped { Changes events.old.values events.new.values number (Some event.old) }
+{
+    // A write counts no entries.
+    let mut uncounted = Steps::fresh(NoLedger);
+    events.visit(number, &mut uncounted).swap(event);
 }
 
 /// Appends copies of the events, in order.

@@ -187,6 +187,17 @@ answers_failed body unsent msg core posted patterns patterns' replies replies' o
       answered = tt;
     }
 
+-- the core is as it was before its query was answered
+pub answers_same : {body : List ℕ} {unsent : ℕ} {core posted posted' : Core} {patterns patterns' : PatternsReport}
+    {replies replies' : List ℕ} {old new : Reported} {result : Result (Unit {0}) Memory}
+    → posted' ≡ posted → AnswersMessage body unsent core posted patterns patterns' replies replies' old new result
+    → AnswersMessage body unsent core posted' patterns patterns' replies replies' old new result
+answers_same {body} {unsent} {core} {posted} {posted'} {patterns} {patterns'} {replies} {replies'} {old} {new} {result}
+    same answered =
+    subst
+    (λ (core' : Core). AnswersMessage body unsent core core' patterns patterns' replies replies' old new result)
+    (sym same) answered
+
 pub answers_refused : (body : List ℕ) (unsent : ℕ) (core : Core) (patterns : PatternsReport) (replies replies' : List ℕ)
     (place : ℕ) (why : MsgWhy) (old : Reported) (result : Result (Unit {0}) Memory)
     → first_fault body ≡ Some (fault_at place why)

@@ -1,4 +1,4 @@
-ghost use Rattle.std.specs.Prelude.{◌≡◌, ◌≢◌, ◌^◌, ◌<◌, ◌++◌, [], length, OnOk, IfOk, Some, None, List};
+ghost use Rattle.std.specs.Prelude.{◌≡◌, ◌≢◌, ◌^◌, ◌<◌, ◌++◌, [], length, nat_le, true, false, OnOk, IfOk, Some, None, List};
 ghost use Rattle.std.specs.String.{string_bytes};
 ghost use Rattle.event_core.specs.Core.{Represents, config_of, state_by};
 ghost use Rattle.hub_meaning.specs.Messages.{query_text, rule_read};
@@ -22,19 +22,23 @@ use std::alloc::{AllocError, Global};
 use std::mem;
 use step_count::{Ledger, Steps};
 
+/// The length of a reply with at most so many events is summed over them. It takes half a microsecond for each.
+const FEW: usize = 4_096;
+
 /// Appends the reply to the query of a message that was accepted. `unsent` is how many bytes of earlier replies were not
 /// taken.
 pub(crate) fn answer_query<P: Patterns, G: Ledger>(
     alloc: Global,
     query: &Option<QueryPart>,
     unsent: usize,
-    core: &Core,
+    core: &mut Core,
     patterns: &mut P,
     replies: &mut Blob,
     steps: &mut Steps<G>,
 ) -> Result<(), Memory>
+    ensures same { core.new ≡ core.old }
     ensures forks { steps.new.forks ≡ steps.old.forks }
-    ensures answers { AnswersQuery (asked_of unsent query.now) core.now (P.report patterns.old)
+    ensures answers { AnswersQuery (asked_of unsent query.now) core.old (P.report patterns.old)
         (P.report patterns.new) replies.old replies.new
         (λ log refusal. answer_to_query log unsent refusal query.now) result }
 {
@@ -49,13 +53,14 @@ fn answer_part<P: Patterns, G: Ledger>(
     alloc: Global,
     query: &QueryPart,
     unsent: usize,
-    core: &Core,
+    core: &mut Core,
     patterns: &mut P,
     replies: &mut Blob,
     steps: &mut Steps<G>,
 ) -> Result<(), Memory>
+    ensures same { core.new ≡ core.old }
     ensures forks { steps.new.forks ≡ steps.old.forks }
-    ensures answers { AnswersQuery (asked_of unsent (Some query.now)) core.now
+    ensures answers { AnswersQuery (asked_of unsent (Some query.now)) core.old
         (P.report patterns.old) (P.report patterns.new) replies.old replies.new
         (λ log refusal. answer_to_query log unsent refusal (Some query.now)) result }
 {
@@ -79,13 +84,14 @@ fn text_of(query: &QueryPart) -> &[u8]
 fn answer_text<P: Patterns, G: Ledger>(
     alloc: Global,
     text: &[u8],
-    core: &Core,
+    core: &mut Core,
     patterns: &mut P,
     replies: &mut Blob,
     steps: &mut Steps<G>,
 ) -> Result<(), Memory>
+    ensures same { core.new ≡ core.old }
     ensures forks { steps.new.forks ≡ steps.old.forks }
-    ensures answers { AnswersQuery (rule_read (query_of text.now)) core.now (P.report patterns.old)
+    ensures answers { AnswersQuery (rule_read (query_of text.now)) core.old (P.report patterns.old)
         (P.report patterns.new) replies.old replies.new
         (λ log refusal. answer_to_text log refusal (query_of text.now)) result }
 {
@@ -98,14 +104,15 @@ fn answer_text<P: Patterns, G: Ledger>(
 fn answer_rule<P: Patterns, G: Ledger>(
     alloc: Global,
     rule: Rule,
-    core: &Core,
+    core: &mut Core,
     patterns: &mut P,
     replies: &mut Blob,
     steps: &mut Steps<G>,
 ) -> Result<(), Memory>
     requires { length (searches (tree_of rule)) < 2 ^ 32 }
+    ensures same { core.new ≡ core.old }
     ensures forks { steps.new.forks ≡ steps.old.forks }
-    ensures answers { AnswersQuery (Some (tree_of rule)) core.now (P.report patterns.old)
+    ensures answers { AnswersQuery (Some (tree_of rule)) core.old (P.report patterns.old)
         (P.report patterns.new) replies.old replies.new
         (λ log refusal. answer_to_rule log refusal (tree_of rule)) result }
 {
@@ -116,57 +123,138 @@ fn answer_rule<P: Patterns, G: Ledger>(
     }
 }
 
-/// Appends a reply with the live events that meet the predicate.
+/// Appends a reply with the live events that meet the predicate, or that it would be too long.
 fn put_found<G: Ledger>(
+    alloc: Global,
+    pred: &mut Pred,
+    core: &mut Core,
+    replies: &mut Blob,
+    steps: &mut Steps<G>,
+) -> Result<(), Memory>
+    ensures same { core.new ≡ core.old }
+    ensures forks { steps.new.forks ≡ steps.old.forks }
+    ensures found { OnOk result ((arrivals : List Arrival) → Represents core.old arrivals
+        → replies.new ≡ replies.old ++ framed
+        (limited (found (matching_events pred.old (state_by (config_of core.old) arrivals).log)))) }
+{
+    if put_few(alloc, pred, core, replies, steps)? {
+        return Ok(());
+    }
+    put_many(alloc, pred, core, replies, steps)
+}
+
+/// Appends the reply if no more than [`FEW`] events meet the predicate, and says whether that is so.
+fn put_few<G: Ledger>(
     alloc: Global,
     pred: &mut Pred,
     core: &Core,
     replies: &mut Blob,
     steps: &mut Steps<G>,
-) -> Result<(), Memory>
+) -> Result<bool, Memory>
+    ensures pred { pred.new ≡ pred.old }
     ensures forks { steps.new.forks ≡ steps.old.forks }
-    ensures found { OnOk result ((arrivals : List Arrival) → Represents core.now arrivals
-        → replies.new ≡ replies.old ++ framed
+    ensures found { IfOk result (λ few. few ≡ true → (arrivals : List Arrival)
+        → Represents core.now arrivals → replies.new ≡ replies.old ++ framed
         (limited (found (matching_events pred.old (state_by (config_of core.now) arrivals).log)))) }
+    ensures many { IfOk result (λ few. few ≡ false → replies.new ≡ replies.old) }
 {
     let mut events = Vec::new(alloc);
     core.find(alloc, pred, &mut events, steps)?;
-    put_limited(alloc, events.as_slice(), replies)
+    if events.len() > FEW {
+        return Ok(false);
+    }
+    put_limited(alloc, events.as_slice(), replies)?;
+    Ok(true)
 }
 
 /// Appends a reply with these events, written from where they lie, or that it would be too long. The length is known before
 /// a byte is written.
-#[tactic(auto, using(crate::proofs::Lengths::limited_within, crate::proofs::Lengths::limited_over, crate::proofs::Lengths::over_limit_length))]
+#[tactic(auto, using(crate::proofs::Lengths::limited_within, crate::proofs::Lengths::limited_over))]
 fn put_limited(alloc: Global, events: &[&Event], replies: &mut Blob) -> Result<(), Memory>
     ensures { OnOk result (replies.new
         ≡ replies.old ++ framed (limited (found (events_lent events.now)))) }
 {
     let size = found_len(events)?;
-    if size <= BODY_LIMIT as usize {
-        put_events(alloc, events, size, replies)
+    if fits(size) {
+        put_lent(alloc, events, size, replies)
     } else {
-        let reason = over_limit(alloc, size)?;
-        refuse(alloc, reason.as_str(), replies)
+        refuse_long(alloc, size, replies)
     }
 }
 
-/// Appends a reply with these events, whose spelling has `size` bytes.
-#[tactic(auto, unfolding(hub_meaning::specs::Replies::framed))]
-fn put_events(
+/// Appends the reply with what many events meet the predicate. The index knows its length without a look at most of them,
+/// so that no event is lent if it would be too long.
+fn put_many<G: Ledger>(
     alloc: Global,
-    events: &[&Event],
+    pred: &mut Pred,
+    core: &mut Core,
+    replies: &mut Blob,
+    steps: &mut Steps<G>,
+) -> Result<(), Memory>
+    ensures same { core.new ≡ core.old }
+    ensures forks { steps.new.forks ≡ steps.old.forks }
+    ensures found { OnOk result ((arrivals : List Arrival) → Represents core.old arrivals
+        → replies.new ≡ replies.old ++ framed
+        (limited (found (matching_events pred.old (state_by (config_of core.old) arrivals).log)))) }
+{
+    let size = core.found_len(alloc, pred, steps)?;
+    if fits(size) {
+        put_events(alloc, pred, core, size, replies, steps)
+    } else {
+        refuse_long(alloc, size, replies)
+    }
+}
+
+/// Appends a reply with the live events that meet the predicate. It has `size` bytes.
+fn put_events<G: Ledger>(
+    alloc: Global,
+    pred: &mut Pred,
+    core: &Core,
     size: usize,
     replies: &mut Blob,
+    steps: &mut Steps<G>,
 ) -> Result<(), Memory>
-    requires size { size ≡ length (spelling (found (events_lent events.now))) }
-    requires fits { size < 2 ^ 32 }
-    ensures { OnOk result (replies.new ≡ replies.old ++ framed (found (events_lent events.now))) }
+    requires { size < 2 ^ 32 }
+    ensures forks { steps.new.forks ≡ steps.old.forks }
+    ensures found { OnOk result ((arrivals : List Arrival) → Represents core.now arrivals
+        → size ≡ length (spelling
+        (found (matching_events pred.old (state_by (config_of core.now) arrivals).log)))
+        → replies.new ≡ replies.old ++ framed
+        (found (matching_events pred.old (state_by (config_of core.now) arrivals).log))) }
+{
+    let mut events = Vec::new(alloc);
+    core.find(alloc, pred, &mut events, steps)?;
+    put_lent(alloc, events.as_slice(), size, replies)
+}
+
+/// Appends a reply with these events, written from where they lie. It has `size` bytes.
+#[tactic(auto, unfolding(hub_meaning::specs::Replies::framed))]
+fn put_lent(alloc: Global, events: &[&Event], size: usize, replies: &mut Blob) -> Result<(), Memory>
+    requires { size < 2 ^ 32 }
+    ensures { OnOk result (size ≡ length (spelling (found (events_lent events.now)))
+        → replies.new ≡ replies.old ++ framed (found (events_lent events.now))) }
 {
     let length = size as u32;
     reserve(alloc, 4 + size, replies)?;
     replies.append(alloc, &length.to_be_bytes())?;
     write_found(alloc, events, replies)?;
     Ok(())
+}
+
+/// Whether a reply of `size` bytes may be sent.
+fn fits(size: usize) -> bool
+    ensures { result ≡ nat_le size BODY_LIMIT }
+{
+    size <= BODY_LIMIT as usize
+}
+
+/// Appends a reply that the one with the found events would have `size` bytes, which are too many.
+#[tactic(auto, using(crate::proofs::Lengths::over_limit_length))]
+fn refuse_long(alloc: Global, size: usize, replies: &mut Blob) -> Result<(), Memory>
+    ensures { OnOk result (replies.new ≡ replies.old ++ framed (refused (over_limit size))) }
+{
+    let reason = over_limit(alloc, size)?;
+    refuse(alloc, reason.as_str(), replies)
 }
 
 /// Makes room for `count` more bytes, so that a long reply is not moved while it is written.

@@ -90,6 +90,24 @@ fn are_searched(alloc: Global, index: &mut LiveIndex) -> Result<bool, Memory> {
     Ok(true)
 }
 
+/// How many bytes a reply has with what the query finds, and how many entries are visited to know it.
+fn measured(alloc: Global, index: &mut LiveIndex, query: &str) -> Result<(usize, u64), Memory> {
+    let mut pred = rule(alloc, query)?;
+    let mut steps = no_steps();
+    let len = index.found_len(alloc, &mut pred, &mut steps)?;
+    Ok((len, entries(&steps)))
+}
+
+/// Whether a reply with the ten events of a host is measured, and again after a longer one takes the place of one of them.
+fn are_measured(alloc: Global, index: &mut LiveIndex) -> Result<bool, Memory> {
+    let (before, visited) = measured(alloc, index, "host = \"h7\"")?;
+    let mut longer = event(alloc, "h7", "s1", 60);
+    longer.metric = Some(1);
+    index.write(alloc, longer)?;
+    let (after, again) = measured(alloc, index, "host = \"h7\"")?;
+    Ok(before == 172 && after == 174 && visited == 10 && again == 10)
+}
+
 /// Whether a look-up visits one event.
 fn is_looked_up(alloc: Global, index: &mut LiveIndex) -> bool {
     let (host, service) = (text(alloc, "h7"), text(alloc, "s4"));
@@ -111,7 +129,12 @@ fn is_reaped(alloc: Global, index: &mut LiveIndex) -> bool {
 /// Whether the calls of an index with a thousand events visit no more than they have to.
 fn are_visited(alloc: Global, index: &mut LiveIndex) -> Result<bool, Memory> {
     write_thousand(alloc, index)?;
-    Ok(are_searched(alloc, index)? && is_looked_up(alloc, index) && is_reaped(alloc, index))
+    Ok(
+        are_searched(alloc, index)?
+            && are_measured(alloc, index)?
+            && is_looked_up(alloc, index)
+            && is_reaped(alloc, index),
+    )
 }
 
 #[test]

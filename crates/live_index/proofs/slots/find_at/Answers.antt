@@ -1,4 +1,4 @@
-use Rattle.std.proofs.Common.{arith, ap, ◌∙◌, filter, take}
+use Rattle.std.proofs.Common.{Some, arith, sym, ap, ◌∙◌, filter, take}
 use Rattle.pred_eval.specs.Truth.{holds}
 use Rattle.live_index.specs.Index.{events_lent}
 use Rattle.live_index.specs.Slots.{events_at}
@@ -13,10 +13,11 @@ loop-number-preserved g c =
       same = c.find_one.ensures.same ∙ before.same;
       found =
           copied_on (holds c.args.pred.now) (holds c.loop-number.pred) c.args.events.now.values c.args.numbers.now i
-          c.read-event.result.now
+          c.event.result.now
           (events_lent c.args.found.now.items) (events_lent c.loop-number.found.items)
           (events_lent c.find_one.new.found.items) (ap holds before.same)
-          before.found c.in_ok-find_one.ensures.ok c.loop-number-test.true c.read-event.ensures.value;
+          before.found c.in_ok-find_one.ensures.ok c.loop-number-test.true
+          (c.read-event.ensures.value ∙ ap Some (sym c.event.ensures));
       forks = c.read-event.ensures.forks ∙ before.forks;
       entries = omega (arith, c.read-event.ensures.entries, before.entries);
       began = c.read-event.ensures.began ∙ before.began;

@@ -16,7 +16,7 @@ returns-clause-stored c =
     let added =
     subst
     (λ (event : Event). Changes c.args.self.now.events.values c.add.new.self.values c.in_ok-number.number (Some event))
-    c.replace-event.ensures.value c.in_ok-number.ensures.added in
+    (c.of.ensures ∙ c.replace-event.ensures.value) c.in_ok-number.ensures.added in
     subst (IsStored c.insert.new.self c.add.new.self.values c.set_due.new.queue) (sym c.in-Some.ensures.1)
     (put-stored c.args.self.now.numbers c.insert.new.self c.args.self.now.events.values c.add.new.self.values
     c.args.self.now.due c.set_due.new.queue c.args.self.now.count c.args.event.now c.in_ok-number.number
@@ -33,7 +33,7 @@ returns-clause-puts c =
     let added =
     subst
     (λ (event : Event). Changes c.args.self.now.events.values c.add.new.self.values c.in_ok-number.number (Some event))
-    c.replace-event.ensures.value c.in_ok-number.ensures.added in
+    (c.of.ensures ∙ c.replace-event.ensures.value) c.in_ok-number.ensures.added in
     put-put c.args.self.now.numbers c.insert.new.self c.args.self.now.events.values c.add.new.self.values
     c.args.event.now c.in_ok-number.number
     c.requires.stored.linked c.requires.absent c.in_ok-number.ensures.vacant sets added

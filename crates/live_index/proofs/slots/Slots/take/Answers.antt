@@ -1,4 +1,4 @@
-use Rattle.std.proofs.Common.{◌≡◌, suc, length, arith, None, subst}
+use Rattle.std.proofs.Common.{◌≡◌, suc, length, arith, None, Some, sym, ap, ◌∙◌, subst}
 use Rattle.std.specs.Option.{option_copied}
 use Rattle.key_map.specs.Keys.{IndexKey, Sets}
 use Rattle.live_index.specs.Slots.{key_of}
@@ -20,35 +20,35 @@ returns-then-not-contains-clause-slots c =
 pub returns-clause-linked : goal.returns-clause-linked
 returns-clause-linked c =
     let sets = subst (λ (k : IndexKey). Sets c.args.self.now.numbers c.remove.new.self k None)
-    (key-is c.remove-event.result (option_copied c.as_ref.result) (option_copied c.as_ref-2.result)
+    (key-is c.into_event-event.result (option_copied c.as_ref.result) (option_copied c.as_ref-2.result)
     c.as_ref.ensures.value c.as_ref-2.ensures.value)
     c.remove.ensures.removed in
     end-linked c.args.self.now.numbers c.remove.new.self c.args.self.now.events.values c.remove-event.new.self.values
-    (key_of c.remove-event.result) c.args.number c.requires.linked
-    (c.requires.linked.placed c.args.number c.remove-event.result c.remove-event.ensures.value) c.remove.ensures.rising
+    (key_of c.into_event-event.result) c.args.number c.requires.linked
+    (c.requires.linked.placed c.args.number c.into_event-event.result (c.remove-event.ensures.value ∙ ap Some (sym c.into_event-event.ensures))) c.remove.ensures.rising
     sets c.remove-event.ensures.removed
 
 pub overflow_sub-self : goal.overflow_sub-self
 overflow_sub-self c =
     let sets = subst (λ (k : IndexKey). Sets c.args.self.now.numbers c.remove.new.self k None)
-    (key-is c.remove-event.result (option_copied c.as_ref.result) (option_copied c.as_ref-2.result)
+    (key-is c.into_event-event.result (option_copied c.as_ref.result) (option_copied c.as_ref-2.result)
     c.as_ref.ensures.value c.as_ref-2.ensures.value)
     c.remove.ensures.removed in
-    some-counted c.args.self.now.numbers c.remove.new.self (key_of c.remove-event.result) c.args.number
+    some-counted c.args.self.now.numbers c.remove.new.self (key_of c.into_event-event.result) c.args.number
     c.args.self.now.count c.requires.linked.rising c.requires.counted
-    (c.requires.linked.placed c.args.number c.remove-event.result c.remove-event.ensures.value) c.remove.ensures.rising
+    (c.requires.linked.placed c.args.number c.into_event-event.result (c.remove-event.ensures.value ∙ ap Some (sym c.into_event-event.ensures))) c.remove.ensures.rising
     sets
 
 pub returns-clause-counted : goal.returns-clause-counted
 returns-clause-counted c =
     let sets = subst (λ (k : IndexKey). Sets c.args.self.now.numbers c.remove.new.self k None)
-    (key-is c.remove-event.result (option_copied c.as_ref.result) (option_copied c.as_ref-2.result)
+    (key-is c.into_event-event.result (option_copied c.as_ref.result) (option_copied c.as_ref-2.result)
     c.as_ref.ensures.value c.as_ref-2.ensures.value)
     c.remove.ensures.removed in
     let less : length c.args.self.now.numbers ≡ suc (length c.remove.new.self) =
-    one_less c.args.self.now.numbers c.remove.new.self (key_of c.remove-event.result) c.args.number
+    one_less c.args.self.now.numbers c.remove.new.self (key_of c.into_event-event.result) c.args.number
     c.requires.linked.rising c.remove.ensures.rising
-    (c.requires.linked.placed c.args.number c.remove-event.result c.remove-event.ensures.value) sets in
+    (c.requires.linked.placed c.args.number c.into_event-event.result (c.remove-event.ensures.value ∙ ap Some (sym c.into_event-event.ensures))) sets in
     omega (arith, less, c.requires.counted)
 
 pub returns-clause-slots : goal.returns-clause-slots
@@ -59,10 +59,10 @@ returns-clause-slots c =
 pub returns-clause-puts : goal.returns-clause-puts
 returns-clause-puts c =
     let sets = subst (λ (k : IndexKey). Sets c.args.self.now.numbers c.remove.new.self k None)
-    (key-is c.remove-event.result (option_copied c.as_ref.result) (option_copied c.as_ref-2.result)
+    (key-is c.into_event-event.result (option_copied c.as_ref.result) (option_copied c.as_ref-2.result)
     c.as_ref.ensures.value c.as_ref-2.ensures.value)
     c.remove.ensures.removed in
     end-put c.args.self.now.numbers c.remove.new.self c.args.self.now.events.values c.remove-event.new.self.values
-    (key_of c.remove-event.result) c.args.number c.requires.linked
-    (c.requires.linked.placed c.args.number c.remove-event.result c.remove-event.ensures.value) sets
+    (key_of c.into_event-event.result) c.args.number c.requires.linked
+    (c.requires.linked.placed c.args.number c.into_event-event.result (c.remove-event.ensures.value ∙ ap Some (sym c.into_event-event.ensures))) sets
     c.remove-event.ensures.removed

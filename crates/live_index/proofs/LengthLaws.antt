@@ -1,0 +1,75 @@
+-- How many bytes events add to a reply.
+use Rattle.std.proofs.Common.{◌≡◌, ℕ, ◌+◌, ◌<◌, ◌≤◌, Bool, true, false, cond, List, [], ◌∷◌, ◌++◌, filter, take, length, get_or, Option, sym, ap, ◌∙◌, arith, length-append}
+use Rattle.std.specs.Prelude.{Result, Ok, Err, IfOk}
+use Rattle.std.proofs.lemmas.List.{map-append}
+use Rattle.ev_types.specs.declared.event.Event.{Event}
+use Rattle.riemann_msg.specs.Spelling.{field, repeated, spelled, event_content}
+use Rattle.riemann_msg.proofs.Lengths.{found_length, flag_length}
+use Rattle.riemann_msg.proofs.Spelled.{spelled-append}
+use Rattle.key_map.specs.Keys.{Numbers}
+use Rattle.live_index.specs.Index.{Index, reply_len}
+use Rattle.live_index.specs.Slots.{IsStored, events_at, events_unless}
+use Rattle.live_index.proofs.CopyLaws.{found-more}
+
+abbrev added : List Event → ℕ
+added events = length (spelled (repeated 6 event_content events))
+
+added-append : (es fs : List Event) → added (es ++ fs) ≡ added es + added fs
+added-append es fs =
+    ap (λ values. length (spelled values)) (map-append (λ event. field 6 (event_content event)) es fs)
+    ∙ ap length (spelled-append (repeated 6 event_content es) (repeated 6 event_content fs))
+    ∙ length-append (spelled (repeated 6 event_content es)) (spelled (repeated 6 event_content fs))
+
+reply-is : (events : List Event) → reply_len events ≡ 2 + added events
+reply-is events = found_length events ∙ ap (λ n. n + added events) (flag_length true)
+
+pub empty_len : reply_len [] ≡ 2
+empty_len = reply-is []
+
+pub some_len : (events : List Event) → 2 ≤ reply_len events
+some_len events = omega (arith, reply-is events)
+
+-- two lists of events, one after the other
+pub both_len : (es fs : List Event) → reply_len (es ++ fs) + 2 ≡ reply_len es + reply_len fs
+both_len es fs = omega (arith, reply-is (es ++ fs), reply-is es, reply-is fs, added-append es fs)
+
+-- an event that does not pass a test
+pub not_met : (met : Bool) (event : Event) → met ≡ false → 2 ≡ reply_len (cond met (event ∷ []) [])
+not_met met event is = rw is (sym empty_len)
+
+-- one more number is visited: its event is measured, and counts where it passes
+pub measured_on : (p p' : Event → Bool) (table table' : List (Option Event)) (ns : List ℕ) (i len more : ℕ)
+    → p' ≡ p → table' ≡ table → len ≡ reply_len (filter p (events_at table (take i ns)))
+    → 2 + more ≡ reply_len (filter p' (events_at table' (get_or ns i 0 ∷ []))) → i < length ns
+    → len + more ≡ reply_len (filter p (events_at table (take (i + 1) ns)))
+measured_on p p' table table' ns i len more same still before now lt =
+    let next = get_or ns i 0 ∷ [] in
+    let now' : 2 + more ≡ reply_len (filter p (events_at table next)) =
+    now ∙ ap (λ p. reply_len (filter p (events_at table' next))) same
+    ∙ ap (λ table. reply_len (filter p (events_at table next))) still in
+    omega (
+      arith,
+      before,
+      now',
+      both_len (filter p (events_at table (take i ns))) (filter p (events_at table next)),
+      ap reply_len (found-more p table ns i lt),
+    )
+
+-- ---- what stays as it is
+
+pub still_ok : {E : Type 0} {a b : ℕ} (result : Result ℕ E) → a ≡ b → IfOk result (λ n. n ≡ a)
+    → IfOk result (λ n. n ≡ b)
+still_ok (Ok n) same is = is ∙ same
+still_ok (Err e) same is = tt
+
+pub still_stored : (numbers numbers' : Numbers) (table table' : List (Option Event)) (due due' : List (ℕ × ℕ))
+    (count count' : ℕ)
+    → numbers' ≡ numbers → table' ≡ table → due' ≡ due → count' ≡ count → IsStored numbers table due count
+    → IsStored numbers' table' due' count'
+still_stored numbers numbers' table table' due due' count count' n t d c stored = rw (n, t, d, c) stored
+
+pub still_index : (poisoned : Bool) (numbers numbers' : Numbers) (table table' : List (Option Event)) (index : Index)
+    → numbers' ≡ numbers → table' ≡ table
+    → record { events = events_unless poisoned numbers table; poisoned = poisoned } ≡ index
+    → record { events = events_unless poisoned numbers' table'; poisoned = poisoned } ≡ index
+still_index poisoned numbers numbers' table table' index n t is = rw (n, t) is
