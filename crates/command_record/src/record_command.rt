@@ -40,7 +40,7 @@ use step_count::{Ledger, Steps};
 /// | `DiskFault` | a call of the disk failed | yes |
 /// | `Memory` | out of memory; `out` may have got notice lines | yes |
 ///
-/// After `DiskFault` the journal has each turn that was handed out, and may have one more.
+/// After `DiskFault` in the run the journal has each turn that was handed out, and may have one more.
 pub fn record<S: Store, L: Links, D: Disk, O: Sink, E: Sink, P: Patterns, G: Ledger>(
     alloc: Global,
     config: &Text,

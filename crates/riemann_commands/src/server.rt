@@ -41,8 +41,8 @@ use step_count::{Ledger, Steps};
 /// | `record CONFIG JOURNAL` | runs a server over `links`, as `serve` does, and records its turns in a journal in the file JOURNAL of `disk` |
 /// | `resume JOURNAL` | goes on with the run of that journal over `links` |
 ///
-/// Patterns are built by `patterns`, and the forks that are entered are counted in `steps`. A status other than `Done` and
-/// `SinkFault` has a line on `err`, which is cut where a write to `err` fails.
+/// Patterns are built by `patterns`, and the forks that are entered are counted in `steps`. A status other than `Done`,
+/// `SinkFault` and `Verdict` has a line on `err`, which is cut if a write to `err` fails.
 pub fn riemann<S: Store, L: Links, D: Disk, O: Sink, E: Sink, P: Patterns, G: Ledger>(
     alloc: Global,
     words: &[Text],
