@@ -1,6 +1,7 @@
 -- What calls of links that keep a journal read and change, of the links themselves, and what these report.
 use Rattle.std.specs.Prelude.{List}
 use Rattle.disk_port.specs.declared.disk.Disk.{Ghosts as Disk}
+use Rattle.journal_format.specs.declared.finder.Found.{Found}
 use Rattle.journal_links.specs.Steps.{Progress, progress_of}
 use Rattle.journal_links.specs.declared.links.JournalLinks.{JournalLinks}
 use Rattle.ports.specs.Calls.{LinksReport}
@@ -20,3 +21,10 @@ report_with {l = l} log links = own_report log (l.report links.recorded.inner.no
 
 abbrev pub report_of : {L D : Type 0} {l : Links L} {d : Disk D} → JournalLinks L D l d → LinksReport
 report_of links = report_with links.log links
+
+-- where their journal ends
+abbrev pub end_of : {L D : Type 0} {l : Links L} {d : Disk D} → JournalLinks L D l d → Found
+end_of links = record {
+  gate = links.recorded.recorder.journal.gate;
+  has_record = links.recorded.recorder.journal.has_record;
+}

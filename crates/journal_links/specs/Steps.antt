@@ -65,7 +65,8 @@ HandsAgain listen.Memory answer = answer ≡ listen.Memory
 
 -- the answer has the second of the first record, which counts as given then
 pub record GivesFirst (was is : Progress) (answer : ListenAnswer) : Type 0 where
-  pub gives : (secs : ℕ) (entry : TurnRecord) (later : List TurnRecord) → answer ≡ listen.Ready secs → drop was.given was.records ≡ entry ∷ later → GivesListen entry later secs is.left (drop is.given is.records)
+  pub gives : (secs : ℕ) (entry : TurnRecord) (later : List TurnRecord) → answer ≡ listen.Ready secs
+      → drop was.given was.records ≡ entry ∷ later → GivesListen entry later secs is.left (drop is.given is.records)
   pub still : is_ready answer ≡ false → is.given ≡ was.given
   pub records : is.records ≡ was.records
   pub opened : is.opened ≡ was.opened
@@ -85,11 +86,14 @@ pub record ListensAgain (old new : Seen) (was is : Progress) (address : List ℕ
   pub faults : new.faults ≡ old.faults
   pub sends : new.sends ≡ old.sends
 
--- Refused, or answered again with the journal's first second. With no turn left to give it is a `listen` of links that record.
+-- Refused, or answered again with the journal's first second. With no turn left to give it is a `listen` of links that
+-- record.
 pub data ListenOf (old new : Seen) (was is : Progress) (address : List ℕ) (answer : ListenAnswer) : Type 0 where
-  listen_unasked : (old.spent ≡ true) ⊎ (0 < was.given) → answer ≡ listen.Memory → Rests old new → Stays was is → ListenOf old new was is address answer
+  listen_unasked : (old.spent ≡ true) ⊎ (0 < was.given) → answer ≡ listen.Memory → Rests old new → Stays was is
+      → ListenOf old new was is address answer
   listen_again : ListensAgain old new was is address answer → ListenOf old new was is address answer
-  listen_first : is_over was ≡ true → ListenStep old new address answer → Stays was is → ListenOf old new was is address answer
+  listen_first : is_over was ≡ true → ListenStep old new address answer → Stays was is
+      → ListenOf old new was is address answer
 
 -- ---- `next`
 
@@ -97,8 +101,10 @@ pub data ListenOf (old new : Seen) (was is : Progress) (address : List ℕ) (ans
 pub record GivesAgain (old new : Seen) (was is : Progress) (buf : List ℕ) (turn : Turn) : Type 0 where
   pub unspent : old.spent ≡ false
   pub begun : 0 < was.given
-  pub gives : is_memory_turn turn.what ≡ false → (entry : TurnRecord) (later : List TurnRecord) → drop was.given was.records ≡ entry ∷ later
-      → GivesNext entry later turn buf is.left (drop is.given is.records) × (is.opened ≡ opened_after turn.what was.opened)
+  pub gives : is_memory_turn turn.what ≡ false → (entry : TurnRecord) (later : List TurnRecord)
+      → drop was.given was.records ≡ entry ∷ later
+      → GivesNext entry later turn buf is.left (drop is.given is.records)
+      × (is.opened ≡ opened_after turn.what was.opened)
   pub still : is_memory_turn turn.what ≡ true → is.given ≡ was.given
   pub records : is.records ≡ was.records
   pub rests : Rests old new
@@ -112,8 +118,8 @@ opens_before first _ = true
 abbrev pub broken_turn : Progress → ℕ → Turn
 broken_turn was link = record { secs = last_secs was.records; what = Broken link }
 
--- The first link that the journal opened and nobody closed is not open from then on. It is given as broken, unless the run
--- ends here.
+-- The first link that the journal opened and nobody closed is not open from then on. It is given as broken, unless the
+-- run ends here.
 pub record Breaks (old new : Seen) (was is : Progress) (turn : Turn) : Type 0 where
   pub link : ℕ
   pub first : slice_get was.opened 0 ≡ Some link
@@ -125,21 +131,31 @@ pub record Breaks (old new : Seen) (was is : Progress) (turn : Turn) : Type 0 wh
 
 -- First the turns of the journal, then a broken link for each that is open, and then the turns of the inner links.
 pub data NextOf (old new : Seen) (was is : Progress) (wants : List Want) (buf : List ℕ) (turn : Turn) : Type 0 where
-  next_unasked : is_over was ≡ false → (old.spent ≡ true) ⊎ (was.given ≡ 0) → turn.what ≡ Memory → Rests old new → Stays was is → NextOf old new was is wants buf turn
+  next_unasked : is_over was ≡ false → (old.spent ≡ true) ⊎ (was.given ≡ 0) → turn.what ≡ Memory → Rests old new
+      → Stays was is → NextOf old new was is wants buf turn
   next_again : is_over was ≡ false → GivesAgain old new was is buf turn → NextOf old new was is wants buf turn
   next_broken : is_over was ≡ true → Breaks old new was is turn → NextOf old new was is wants buf turn
-  next_inner : is_over was ≡ true → slice_get was.opened 0 ≡ None → NextStep old new wants buf turn → Stays was is → NextOf old new was is wants buf turn
+  next_inner : is_over was ≡ true → slice_get was.opened 0 ≡ None → NextStep old new wants buf turn → Stays was is
+      → NextOf old new was is wants buf turn
 
 -- ---- `send` and `close`
 
--- A send before all turns were given again is answered by the summaries of the next record. One after them is passed on.
+-- A send before all turns were given again is answered by the summaries of the next record. One after them is passed
+-- on.
 pub data SendOf (old new : Seen) (was is : Progress) (link : ℕ) (bytes : List ℕ) (answer : SendAnswer) : Type 0 where
-  send_again : is_over was ≡ false → answer ≡ answer_again link (length bytes) was.left → is.left ≡ left_after link (length bytes) was.left
-      → is.records ≡ was.records → is.given ≡ was.given → is.opened ≡ was.opened → Rests old new → (old.spent ≡ true → new.spent ≡ true) → SendOf old new was is link bytes answer
-  send_passed : is_over was ≡ true → SendStep old new link bytes answer → Stays was is → SendOf old new was is link bytes answer
-  send_memory : is_over was ≡ true → answer ≡ send.Memory → Unsent old new → Stays was is → SendOf old new was is link bytes answer
+  send_again : is_over was ≡ false → answer ≡ answer_again link (length bytes) was.left
+      → is.left ≡ left_after link (length bytes) was.left
+      → is.records ≡ was.records → is.given ≡ was.given → is.opened ≡ was.opened → Rests old new
+      → (old.spent ≡ true → new.spent ≡ true) → SendOf old new was is link bytes answer
+  send_passed : is_over was ≡ true → SendStep old new link bytes answer → Stays was is
+      → SendOf old new was is link bytes answer
+  send_memory : is_over was ≡ true → answer ≡ send.Memory → Unsent old new → Stays was is
+      → SendOf old new was is link bytes answer
 
 -- The close of an inner link is passed on. Any other is that of a link of the journal.
 pub data CloseOf (old new : Seen) (was is : Progress) (link : ℕ) : Type 0 where
-  close_again : inner_number old.first link ≡ None → is.opened ≡ closed_after link was.opened → is.records ≡ was.records → is.given ≡ was.given → is.left ≡ was.left → Rests old new → (old.spent ≡ true → new.spent ≡ true) → CloseOf old new was is link
-  close_passed : (number : ℕ) → inner_number old.first link ≡ Some number → CloseStep old new link → Stays was is → CloseOf old new was is link
+  close_again : inner_number old.first link ≡ None → is.opened ≡ closed_after link was.opened → is.records ≡ was.records
+      → is.given ≡ was.given → is.left ≡ was.left → Rests old new → (old.spent ≡ true → new.spent ≡ true)
+      → CloseOf old new was is link
+  close_passed : (number : ℕ) → inner_number old.first link ≡ Some number → CloseStep old new link → Stays was is
+      → CloseOf old new was is link

@@ -45,7 +45,8 @@ AreTurns records = list_all is_turn (drop 1 records) ≡ true
 
 -- the first record, if there is one, is that of a `listen`
 abbrev pub BeginsWithListen : List TurnRecord → Type 0
-BeginsWithListen records = (entry : TurnRecord) (later : List TurnRecord) → records ≡ entry ∷ later → is_listen entry.event ≡ true
+BeginsWithListen records =
+    (entry : TurnRecord) (later : List TurnRecord) → records ≡ entry ∷ later → is_listen entry.event ≡ true
 
 -- The journal on the disk begins with all turns that were handed out. Beyond them it has those of the journal that was
 -- resumed, as far as they were not given yet.
@@ -64,9 +65,10 @@ pub record HoldsTurns (log : List Entry) (progress : Progress) (file : List ℕ)
   pub begins : turns_in journal.records ≡ handed log ++ (turns_in (drop progress.given progress.records) ++ more)
   pub one : length more ≤ 1
 
--- A crash at any moment of a call leaves a journal with the turns that were handed out before it. Once it has handed out a
--- turn, or said that the run stops, every crash leaves one with the turns that were handed out.
-pub record StaysJournal (log log' : List Entry) (old new : Kept) (was is : Progress) (done : Bool) (keeps : KeepsTurns log was old) : Type 0 where
+-- A crash at any moment of a call leaves a journal with the turns that were handed out before it. Once it has handed
+-- out a turn, or said that the run stops, every crash leaves one with the turns that were handed out.
+pub record StaysJournal (log log' : List Entry) (old new : Kept) (was is : Progress) (done : Bool)
+    (keeps : KeepsTurns log was old) : Type 0 where
   pub now : Past
   pub told : new.past ≡ Some now
   pub leaves : LeavesOnly keeps.past now (HoldsTurns log was)
@@ -76,25 +78,36 @@ abbrev pub is_done : Turn → Bool
 is_done turn = if is_failed_turn turn.what then false else not (is_memory_turn turn.what)
 
 abbrev pub NextKeepsTurns : Type 0
-NextKeepsTurns = (old new : Seen) (was is : Progress) (wants : List Want) (buf : List ℕ) (turn : Turn) (log : List Entry) (keeps : KeepsTurns log was old.kept) → AreTurns was.records
-    → NextOf old new was is wants buf turn → StaysJournal log (log ++ next_entries wants buf turn) old.kept new.kept was is (is_done turn) keeps
+NextKeepsTurns =
+    (old new : Seen) (was is : Progress) (wants : List Want) (buf : List ℕ) (turn : Turn) (log : List Entry)
+    (keeps : KeepsTurns log was old.kept) → AreTurns was.records
+    → NextOf old new was is wants buf turn
+    → StaysJournal log (log ++ next_entries wants buf turn) old.kept new.kept was is (is_done turn) keeps
 
 abbrev pub ListenKeepsTurns : Type 0
-ListenKeepsTurns = (old new : Seen) (was is : Progress) (address : List ℕ) (answer : ListenAnswer) (log : List Entry) (keeps : KeepsTurns log was old.kept) → BeginsWithListen was.records
-    → ListenOf old new was is address answer → StaysJournal log (log ++ listen_entries address answer) old.kept new.kept was is (is_ready answer) keeps
+ListenKeepsTurns =
+    (old new : Seen) (was is : Progress) (address : List ℕ) (answer : ListenAnswer) (log : List Entry)
+    (keeps : KeepsTurns log was old.kept) → BeginsWithListen was.records
+    → ListenOf old new was is address answer
+    → StaysJournal log (log ++ listen_entries address answer) old.kept new.kept was is (is_ready answer) keeps
 
 abbrev pub SendKeepsTurns : Type 0
-SendKeepsTurns = (old new : Seen) (was is : Progress) (link : ℕ) (bytes : List ℕ) (answer : SendAnswer) (log : List Entry) (keeps : KeepsTurns log was old.kept)
-    → SendOf old new was is link bytes answer → StaysJournal log (log ++ send_entries link bytes answer) old.kept new.kept was is true keeps
+SendKeepsTurns =
+    (old new : Seen) (was is : Progress) (link : ℕ) (bytes : List ℕ) (answer : SendAnswer) (log : List Entry)
+    (keeps : KeepsTurns log was old.kept)
+    → SendOf old new was is link bytes answer
+    → StaysJournal log (log ++ send_entries link bytes answer) old.kept new.kept was is true keeps
 
 abbrev pub CloseKeepsTurns : Type 0
-CloseKeepsTurns = (old new : Seen) (was is : Progress) (link : ℕ) (log : List Entry) (keeps : KeepsTurns log was old.kept)
+CloseKeepsTurns =
+    (old new : Seen) (was is : Progress) (link : ℕ) (log : List Entry) (keeps : KeepsTurns log was old.kept)
     → CloseOf old new was is link → StaysJournal log (log ++ Close link ∷ []) old.kept new.kept was is true keeps
 
 -- a journal that begins has no turn yet
 abbrev pub BegunKeepsTurns : Type 0
 BegunKeepsTurns = (config : List ℕ) (kept : Kept) (progress : Progress) → progress.records ≡ [] → progress.given ≡ 0
-    → StandsBlank config (record { gate = kept.gate; has_record = kept.has_record }) kept.past → KeepsTurns [] progress kept
+    → StandsBlank config (record { gate = kept.gate; has_record = kept.has_record }) kept.past
+    → KeepsTurns [] progress kept
 
 -- of one that is resumed all turns are still to be given
 pub record ResumedKeeps (progress : Progress) (kept : Kept) : Type 0 where
@@ -103,5 +116,8 @@ pub record ResumedKeeps (progress : Progress) (kept : Kept) : Type 0 where
   pub others : AreTurns progress.records
 
 abbrev pub ResumedKeepsTurns : Type 0
-ResumedKeepsTurns = (past : Past) (config : List ℕ) (kept : Kept) (progress : Progress) → kept.past ≡ Some (synced past) → progress.given ≡ 0
-    → Resumes past (record { gate = kept.gate; has_record = kept.has_record }) config progress.records → ResumedKeeps progress kept
+ResumedKeepsTurns =
+    (past : Past) (config : List ℕ) (kept : Kept) (progress : Progress) → kept.past ≡ Some (synced past)
+    → progress.given ≡ 0
+    → Resumes past (record { gate = kept.gate; has_record = kept.has_record }) config progress.records
+    → ResumedKeeps progress kept

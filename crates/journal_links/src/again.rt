@@ -19,7 +19,8 @@ pub(crate) fn first_answer(replay: &mut Replay, asked: ListenAnswer) -> ListenAn
     requires { replay.old.given < length replay.old.records }
     ensures hands { HandsAgain asked result }
     ensures gives { (secs : ℕ) (entry : TurnRecord) (later : List TurnRecord) →
-        result ≡ ListenAnswer.Ready secs → drop replay.old.given replay.old.records ≡ entry ∷ later →
+        result ≡ ListenAnswer.Ready secs →
+        drop replay.old.given replay.old.records ≡ entry ∷ later →
         GivesListen entry later secs replay.new.left.items
         (drop replay.new.given replay.new.records) }
     ensures still { is_ready result ≡ false → replay.new.given ≡ replay.old.given }
@@ -36,7 +37,8 @@ fn first_second(replay: &mut Replay) -> ListenAnswer
     requires { replay.old.given < length replay.old.records }
     ensures ready { is_ready result ≡ false → result ≡ ListenAnswer.Memory }
     ensures gives { (secs : ℕ) (entry : TurnRecord) (later : List TurnRecord) →
-        result ≡ ListenAnswer.Ready secs → drop replay.old.given replay.old.records ≡ entry ∷ later →
+        result ≡ ListenAnswer.Ready secs →
+        drop replay.old.given replay.old.records ≡ entry ∷ later →
         GivesListen entry later secs replay.new.left.items
         (drop replay.new.given replay.new.records) }
     ensures still { is_ready result ≡ false → replay.new.given ≡ replay.old.given }

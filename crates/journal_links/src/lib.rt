@@ -4,6 +4,9 @@
 mod again;
 mod law;
 mod links;
+mod make;
+mod room;
 
 pub use law::{journals_have_turns, turns_are_kept};
 pub use links::JournalLinks;
+pub use room::JournalRoom;

@@ -1,6 +1,6 @@
 ghost use Rattle.std.specs.Prelude.{◌≡◌, List, ◌++◌, ◌<◌, [], ◌∷◌, false, true, is_some, length};
 ghost use Rattle.std.specs.List.{list_all};
-ghost use Rattle.journal_links.specs.Steps.{CloseOf, ListenOf, ListensAgain, NextOf, SendOf, last_secs, opens_before};
+ghost use Rattle.journal_links.specs.Steps.{CloseOf, ListenOf, ListensAgain, NextOf, SendOf, is_replayed, last_secs, opens_before};
 ghost use Rattle.ports.specs.Calls.{AddsCalls};
 ghost use Rattle.ports.specs.Counts.{Rose};
 ghost use Rattle.ports.specs.Links.{HasListenCause, HasNextCause, IsPieceWithin, IsWithin, MayClose, is_failed_turn, listen_entries, next_entries, send_entries};
@@ -16,7 +16,7 @@ ghost use Rattle.replayed_links.specs.Opened.{Passes, closed_after, is_before};
 
 use crate::again::{first_answer, last_secs, next_turn};
 use disk_port::Disk;
-use ev_types::Text;
+use ev_types::{Blob, Text};
 use ports::{Links, ListenAnswer, PIECE_LIMIT, SendAnswer, Turn, Wants, What};
 use recorded_links::{CallLog, RecordedLinks, log_listen, log_send, log_turn};
 use replayed_links::OpenLinks;
@@ -34,6 +34,8 @@ pub struct JournalLinks<'a, L: Links, D: Disk> {
     pub replay: &'a mut Replay,
     /// The links that were opened in the turns given again, and not closed since.
     pub opened: &'a mut OpenLinks,
+    /// The configuration that the journal is of.
+    pub config: &'a Blob,
     /// The calls so far, which only proofs see.
     pub log: CallLog,
     ghost passes: { Passes (first_after recorded.last) log recorded.log },
@@ -48,6 +50,7 @@ impl<'a, L: Links, D: Disk> JournalLinks<'a, L, D> {
         recorded: RecordedLinks<'a, L, D>,
         replay: &'a mut Replay,
         opened: &'a mut OpenLinks,
+        config: &'a Blob,
     ) -> JournalLinks<'a, L, D>
         requires fresh { recorded.log ≡ [] }
         requires before { list_all (is_before (first_after recorded.last)) replay.old.records ≡
@@ -55,14 +58,37 @@ impl<'a, L: Links, D: Disk> JournalLinks<'a, L, D> {
         ensures recorded { result.recorded ≡ recorded.entry }
         ensures replay { result.replay.now ≡ replay.old }
         ensures opened { result.opened.now ≡ opened.old }
+        ensures config { result.config.now ≡ config.now }
         ensures log { result.log ≡ [] }
     {
         JournalLinks {
             recorded,
             replay,
             opened,
+            config,
             log: CallLog::fresh(),
         }
+    }
+
+    /// The configuration that the journal is of.
+    pub fn config(&self) -> &Blob
+        ensures { result.now ≡ self.now.config.now }
+    {
+        self.config
+    }
+
+    /// Whether a call of the disk failed in the last call.
+    pub fn disk_failed(&self) -> bool
+        ensures { result ≡ self.now.recorded.disk_failed }
+    {
+        self.recorded.disk_failed
+    }
+
+    /// Whether the last turn was one of those that the journal had, and not the last of them.
+    pub fn replayed(&self) -> bool
+        ensures { result ≡ is_replayed self.now.replay.now.records self.now.replay.now.given }
+    {
+        self.replay.given > 1 && !self.replay.is_over()
     }
 
     /// Listens, without a note of the call.
@@ -85,6 +111,7 @@ impl<'a, L: Links, D: Disk> JournalLinks<'a, L, D> {
             (seen_of self.old.recorded).faults (seen_of self.new.recorded).faults }
         ensures log { self.new.log ≡ self.old.log }
         ensures opened { (disk_of self.new.recorded).opened ≡ (disk_of self.old.recorded).opened }
+        ensures config { self.new.config.now ≡ self.old.config.now }
         ensures last { self.new.recorded.last ≡ self.old.recorded.last }
         ensures inner_same { self.new.recorded.inner.ghost_name ≡
             self.old.recorded.inner.ghost_name }
@@ -124,6 +151,7 @@ impl<'a, L: Links, D: Disk> JournalLinks<'a, L, D> {
         ensures faults { (seen_of self.new.recorded).faults ≡ (seen_of self.old.recorded).faults }
         ensures log { self.new.log ≡ self.old.log }
         ensures opened { (disk_of self.new.recorded).opened ≡ (disk_of self.old.recorded).opened }
+        ensures config { self.new.config.now ≡ self.old.config.now }
         ensures last { self.new.recorded.last ≡ self.old.recorded.last }
         ensures inner_same { self.new.recorded.inner.ghost_name ≡
             self.old.recorded.inner.ghost_name }
@@ -158,6 +186,7 @@ impl<'a, L: Links, D: Disk> JournalLinks<'a, L, D> {
             (seen_of self.old.recorded).faults (seen_of self.new.recorded).faults }
         ensures log { self.new.log ≡ self.old.log }
         ensures opened { (disk_of self.new.recorded).opened ≡ (disk_of self.old.recorded).opened }
+        ensures config { self.new.config.now ≡ self.old.config.now }
         ensures last { self.new.recorded.last ≡ self.old.recorded.last }
         ensures inner_same { self.new.recorded.inner.ghost_name ≡
             self.old.recorded.inner.ghost_name }
@@ -190,6 +219,7 @@ impl<'a, L: Links, D: Disk> JournalLinks<'a, L, D> {
         ensures there { self.new.recorded.log ≡ self.old.recorded.log }
         ensures log { self.new.log ≡ self.old.log }
         ensures opened { (disk_of self.new.recorded).opened ≡ (disk_of self.old.recorded).opened }
+        ensures config { self.new.config.now ≡ self.old.config.now }
         ensures last { self.new.recorded.last ≡ self.old.recorded.last }
         ensures inner_same { self.new.recorded.inner.ghost_name ≡
             self.old.recorded.inner.ghost_name }
@@ -231,6 +261,7 @@ impl<'a, L: Links, D: Disk> JournalLinks<'a, L, D> {
             (seen_of self.old.recorded).faults (seen_of self.new.recorded).faults }
         ensures log { self.new.log ≡ self.old.log }
         ensures opened { (disk_of self.new.recorded).opened ≡ (disk_of self.old.recorded).opened }
+        ensures config { self.new.config.now ≡ self.old.config.now }
         ensures last { self.new.recorded.last ≡ self.old.recorded.last }
         ensures inner_same { self.new.recorded.inner.ghost_name ≡
             self.old.recorded.inner.ghost_name }
@@ -263,6 +294,7 @@ impl<'a, L: Links, D: Disk> JournalLinks<'a, L, D> {
         ensures disk_failed { self.new.recorded.disk_failed ≡ false }
         ensures log { self.new.log ≡ self.old.log }
         ensures opened { (disk_of self.new.recorded).opened ≡ (disk_of self.old.recorded).opened }
+        ensures config { self.new.config.now ≡ self.old.config.now }
         ensures last { self.new.recorded.last ≡ self.old.recorded.last }
         ensures inner_same { self.new.recorded.inner.ghost_name ≡
             self.old.recorded.inner.ghost_name }
@@ -301,6 +333,7 @@ impl<'a, L: Links, D: Disk> Links for JournalLinks<'a, L, D> {
         ensures fault { self.new.recorded.disk_failed ≡ true → self.new.recorded.spent ≡ true }
         ensures log { self.new.log ≡ self.old.log ++ listen_entries address.now result }
         ensures opened { (disk_of self.new.recorded).opened ≡ (disk_of self.old.recorded).opened }
+        ensures config { self.new.config.now ≡ self.old.config.now }
         ensures last { self.new.recorded.last ≡ self.old.recorded.last }
         ensures inner_same { self.new.recorded.inner.ghost_name ≡
             self.old.recorded.inner.ghost_name }
@@ -332,6 +365,7 @@ impl<'a, L: Links, D: Disk> Links for JournalLinks<'a, L, D> {
         ensures fault { self.new.recorded.disk_failed ≡ true → self.new.recorded.spent ≡ true }
         ensures log { self.new.log ≡ self.old.log ++ next_entries wants.now buf.new result }
         ensures opened { (disk_of self.new.recorded).opened ≡ (disk_of self.old.recorded).opened }
+        ensures config { self.new.config.now ≡ self.old.config.now }
         ensures last { self.new.recorded.last ≡ self.old.recorded.last }
         ensures inner_same { self.new.recorded.inner.ghost_name ≡
             self.old.recorded.inner.ghost_name }
@@ -357,6 +391,7 @@ impl<'a, L: Links, D: Disk> Links for JournalLinks<'a, L, D> {
         ensures disk_failed { self.new.recorded.disk_failed ≡ false }
         ensures log { self.new.log ≡ self.old.log ++ send_entries link bytes.now result }
         ensures opened { (disk_of self.new.recorded).opened ≡ (disk_of self.old.recorded).opened }
+        ensures config { self.new.config.now ≡ self.old.config.now }
         ensures last { self.new.recorded.last ≡ self.old.recorded.last }
         ensures inner_same { self.new.recorded.inner.ghost_name ≡
             self.old.recorded.inner.ghost_name }
@@ -379,6 +414,7 @@ impl<'a, L: Links, D: Disk> Links for JournalLinks<'a, L, D> {
         ensures disk_failed { self.new.recorded.disk_failed ≡ false }
         ensures log { self.new.log ≡ self.old.log ++ Close link ∷ [] }
         ensures opened { (disk_of self.new.recorded).opened ≡ (disk_of self.old.recorded).opened }
+        ensures config { self.new.config.now ≡ self.old.config.now }
         ensures last { self.new.recorded.last ≡ self.old.recorded.last }
         ensures inner_same { self.new.recorded.inner.ghost_name ≡
             self.old.recorded.inner.ghost_name }

@@ -20,6 +20,7 @@ ghost use Rattle.turn_replay.specs.Replaying.{summaries_next};
 use crate::fault::JournalRunFault;
 use crate::recorded::ended_so;
 use disk_port::Disk;
+use ev_types::Blob;
 use hub_run::conn_core::Hub;
 use hub_run::{Setup, run_quietly};
 use journal_format::Found;
@@ -123,11 +124,13 @@ fn run_in<L: Links, D: Disk, O: Sink, P: Patterns, G: Ledger>(
     let mut opened = OpenLinks::fresh(alloc);
     let mut noted = TurnRoom::fresh(alloc);
     let mut written = Vec::new(alloc);
+    // The run has read its configuration already, and asks the links for none.
+    let unread = Blob::fresh(alloc);
     let mut ran: Result<Hub, JournalRunFault> = Err(JournalRunFault::Memory);
     let journal = JournalFile::over(disk, &mut written, found.gate, found.has_record);
     let last = last_opened(replay.records.as_slice());
     let recorded = RecordedLinks::over(links, journal, last, &mut noted);
-    let resumed = JournalLinks::over(recorded, &mut replay, &mut opened);
+    let resumed = JournalLinks::over(recorded, &mut replay, &mut opened, &unread);
     let _ended = run_noted::<L, D, O, P, G, Brand>(
         alloc, setup, turns, quiet, resumed, sink, patterns, steps, &mut ran,
     );

@@ -54,8 +54,8 @@ abbrev pub HasPiece : What → List ℕ → Type 0
 HasPiece (Read link count) piece = IsPiece piece
 HasPiece _ piece = Unit {0}
 
--- what a journal on a disk is seen as: what was done to the disk's file, the end of the journal, and whether a record is
--- before it
+-- what a journal on a disk is seen as: what was done to the disk's file, the end of the journal, and whether a record
+-- is before it
 pub record Kept : Type 0 where
   pub past : Option Past
   pub gate : ℕ
@@ -68,11 +68,12 @@ kept_of past gate has_record = record { past = past; gate = gate; has_record = h
 -- record whole; once it was added, the journal with the record.
 pub record AddsRecord (bytes : List ℕ) (added : Bool) (old new : Kept) : Type 0 where
   pub any_moment : (adds : Adds old.past old.gate old.has_record bytes) → LeavesOneOrBoth adds new.past
-  pub stands : added ≡ true → (adds : Adds old.past old.gate old.has_record bytes) → StandsWith adds new.past new.gate new.has_record
+  pub stands : added ≡ true → (adds : Adds old.past old.gate old.has_record bytes)
+      → StandsWith adds new.past new.gate new.has_record
   pub possible : StaysPossible old.past new.past
 
--- An answer of the inner links is handed out: as it is, but for Stopped, of which second 0 is said. One that is recorded
--- is lost where its record was not added.
+-- An answer of the inner links is handed out: as it is, but for Stopped, of which second 0 is said. One that is
+-- recorded is lost where its record was not added.
 abbrev pub HandsOut : What → Turn → Turn → Type 0
 HandsOut Stopped asked turn = turn ≡ record { secs = 0; what = Stopped }
 HandsOut Failed asked turn = turn ≡ asked
@@ -90,7 +91,8 @@ is_ready listen.Memory = false
 
 -- an answer of the inner links is handed out, or lost where its record was not added
 abbrev pub HandsListen : ListenAnswer → ListenAnswer → Type 0
-HandsListen (listen.Ready secs) answer = (answer ≡ listen.Ready secs) ⊎ ((answer ≡ listen.Failed) ⊎ (answer ≡ listen.Memory))
+HandsListen (listen.Ready secs) answer =
+    (answer ≡ listen.Ready secs) ⊎ ((answer ≡ listen.Failed) ⊎ (answer ≡ listen.Memory))
 HandsListen listen.Failed answer = answer ≡ listen.Failed
 HandsListen listen.Memory answer = answer ≡ listen.Memory
 

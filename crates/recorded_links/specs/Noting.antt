@@ -27,12 +27,14 @@ after_listen so_far listen.Memory = so_far
 
 -- so has each turn, but for one that stopped the run, and an answer that is no turn
 abbrev pub after_turn : Noted → Turn → List ℕ → Noted
-after_turn so_far turn piece = if is_recorded turn.what then with_entry (entry_of so_far.sends turn piece) so_far else so_far
+after_turn so_far turn piece =
+    if is_recorded turn.what then with_entry (entry_of so_far.sends turn piece) so_far else so_far
 
 abbrev pub after_call : Noted → Entry → Noted
 after_call so_far (Listen address answer) = after_listen so_far answer
 after_call so_far (Next wants turn piece) = after_turn so_far turn piece
-after_call so_far (Send link bytes answer) = record { records = so_far.records; sends = after_send link answer so_far.sends }
+after_call so_far (Send link bytes answer) =
+    record { records = so_far.records; sends = after_send link answer so_far.sends }
 after_call so_far (Close link) = so_far
 
 abbrev pub noted : List Entry → Noted

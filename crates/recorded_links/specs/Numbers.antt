@@ -55,4 +55,6 @@ inner_wants first wants = flat_map (inner_want first) wants
 
 -- each inner link that was opened here and not closed since was opened there and not closed since
 abbrev pub Knows : ℕ → List Entry → Option (List Entry) → Type 0
-Knows first own inner = ForSome inner (λ entries. (link number : ℕ) → inner_number first link ≡ Some number → IsTrue (is_unclosed link own) → IsTrue (is_unclosed number entries))
+Knows first own inner =
+    ForSome inner (λ entries. (link number : ℕ) → inner_number first link ≡ Some number → IsTrue (is_unclosed link own)
+    → IsTrue (is_unclosed number entries))

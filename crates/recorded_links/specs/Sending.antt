@@ -57,18 +57,21 @@ after_send link Later summaries = noted (summary_of link Later) summaries
 after_send link Failed summaries = noted (summary_of link Failed) summaries
 after_send link Memory summaries = summaries
 
--- Whether a send of so many bytes can be noted: its link has a summary, or there is room for one, and the sum of the bytes
--- is a number of 64 bits.
+-- Whether a send of so many bytes can be noted: its link has a summary, or there is room for one, and the sum of the
+-- bytes is a number of 64 bits.
 abbrev pub may_note_at : Option ℕ → ℕ → List Summary → Bool
 may_note_at None count summaries = nat_lt (length summaries) summary_limit
-may_note_at (Some place) count summaries = nat_lt (let summary = summary_at summaries place in summary.taken + count) (2 ^ 64)
+may_note_at (Some place) count summaries =
+    nat_lt (let summary = summary_at summaries place in summary.taken + count) (2 ^ 64)
 
 abbrev pub may_note : ℕ → ℕ → List Summary → Bool
 may_note link count summaries = may_note_at (place_of link summaries) count summaries
 
 -- the bytes of the link with so many more are a number of 64 bits
 abbrev pub Fits : ℕ → ℕ → List Summary → Type 0
-Fits link count summaries = (place : ℕ) → place_of link summaries ≡ Some place → (let summary = summary_at summaries place in summary.taken + count < 2 ^ 64)
+Fits link count summaries =
+    (place : ℕ) → place_of link summaries ≡ Some place
+    → (let summary = summary_at summaries place in summary.taken + count < 2 ^ 64)
 
 -- whether the numbers of a summary have 64 bits
 abbrev pub has_words : Summary → Bool

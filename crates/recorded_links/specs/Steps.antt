@@ -70,7 +70,8 @@ pub record IsReady (seen : Seen) : Type 0 where
 pub data Asks (first : ℕ) (old new : LinksReport) (wants : List Want) (buf : List ℕ) (asked : Turn) : Type 0 where
   not_asked : asked.what ≡ Memory → new ≡ old → Asks first old new wants buf asked
   answered : (answer : Turn) → AddsCalls old new (next_entries (inner_wants first wants) buf answer)
-      → HasNextCause old.faults new.faults answer.what → asked ≡ own_turn first answer → Asks first old new wants buf asked
+      → HasNextCause old.faults new.faults answer.what → asked ≡ own_turn first answer
+      → Asks first old new wants buf asked
 
 -- the turn was asked for, and its record added before it was handed out
 pub record Takes (old new : Seen) (wants : List Want) (buf : List ℕ) (turn : Turn) : Type 0 where
@@ -80,7 +81,9 @@ pub record Takes (old new : Seen) (wants : List Want) (buf : List ℕ) (turn : T
   pub asks : Asks old.first old.inner new.inner wants buf asked
   pub hands : HandsOut asked.what asked turn
   pub allowed : is_recorded asked.what ≡ true → IsRecord (entry_of old.sends asked (piece_of asked.what buf))
-  pub records : is_recorded asked.what ≡ true → AddsRecord (record_bytes (entry_of old.sends asked (piece_of asked.what buf))) (is_recorded turn.what) old.kept new.kept
+  pub records : is_recorded asked.what ≡ true
+      → AddsRecord (record_bytes (entry_of old.sends asked (piece_of asked.what buf)))
+      (is_recorded turn.what) old.kept new.kept
   pub other : is_recorded asked.what ≡ false → new.kept ≡ old.kept
   pub faults : FailedIf (is_lost asked.what turn.what) old.faults new.faults
   pub cleared : is_recorded turn.what ≡ true → new.sends ≡ []
@@ -93,8 +96,10 @@ abbrev pub IsFull : Kept → Type 0
 IsFull kept = journal_limit < kept.gate + 1 + step_limit
 
 pub data NextStep (old new : Seen) (wants : List Want) (buf : List ℕ) (turn : Turn) : Type 0 where
-  next_refused : (old.spent ≡ true) ⊎ (old.kept.has_record ≡ false) → turn.what ≡ Memory → Rests old new → NextStep old new wants buf turn
-  next_full : IsReady old → IsFull old.kept → turn ≡ record { secs = 0; what = Stopped } → Rests old new → NextStep old new wants buf turn
+  next_refused : (old.spent ≡ true) ⊎ (old.kept.has_record ≡ false) → turn.what ≡ Memory → Rests old new
+      → NextStep old new wants buf turn
+  next_full : IsReady old → IsFull old.kept → turn ≡ record { secs = 0; what = Stopped } → Rests old new
+      → NextStep old new wants buf turn
   next_taken : Takes old new wants buf turn → NextStep old new wants buf turn
 
 -- ---- a turn that is not one of the inner links
@@ -114,8 +119,10 @@ pub record TakesOwn (old new : Seen) (asked turn : Turn) : Type 0 where
   pub spent : is_lost asked.what turn.what ≡ true → new.spent ≡ true
 
 pub data OwnStep (old new : Seen) (asked turn : Turn) : Type 0 where
-  own_refused : (old.spent ≡ true) ⊎ (old.kept.has_record ≡ false) → turn.what ≡ Memory → Rests old new → OwnStep old new asked turn
-  own_full : IsReady old → IsFull old.kept → turn ≡ record { secs = 0; what = Stopped } → Rests old new → OwnStep old new asked turn
+  own_refused : (old.spent ≡ true) ⊎ (old.kept.has_record ≡ false) → turn.what ≡ Memory → Rests old new
+      → OwnStep old new asked turn
+  own_full : IsReady old → IsFull old.kept → turn ≡ record { secs = 0; what = Stopped } → Rests old new
+      → OwnStep old new asked turn
   own_taken : TakesOwn old new asked turn → OwnStep old new asked turn
 
 -- ---- `listen`
@@ -129,7 +136,8 @@ pub record TakesListen (old new : Seen) (address : List ℕ) (answer : ListenAns
   pub cause : HasListenCause old.inner.faults new.inner.faults asked
   pub hands : HandsListen asked answer
   pub allowed : (secs : ℕ) → asked ≡ listen.Ready secs → IsRecord (listen_entry old.sends secs)
-  pub records : (secs : ℕ) → asked ≡ listen.Ready secs → AddsRecord (record_bytes (listen_entry old.sends secs)) (is_ready answer) old.kept new.kept
+  pub records : (secs : ℕ) → asked ≡ listen.Ready secs
+      → AddsRecord (record_bytes (listen_entry old.sends secs)) (is_ready answer) old.kept new.kept
   pub other : is_ready asked ≡ false → new.kept ≡ old.kept
   pub faults : FailedIf (is_lost_listen asked answer) old.faults new.faults
   pub cleared : is_ready answer ≡ true → new.sends ≡ []
@@ -138,15 +146,17 @@ pub record TakesListen (old new : Seen) (address : List ℕ) (answer : ListenAns
   pub spent : is_lost_listen asked answer ≡ true → new.spent ≡ true
 
 pub data ListenStep (old new : Seen) (address : List ℕ) (answer : ListenAnswer) : Type 0 where
-  listen_refused : (old.spent ≡ true) ⊎ (old.kept.has_record ≡ true) → answer ≡ listen.Memory → Rests old new → ListenStep old new address answer
+  listen_refused : (old.spent ≡ true) ⊎ (old.kept.has_record ≡ true) → answer ≡ listen.Memory → Rests old new
+      → ListenStep old new address answer
   listen_taken : TakesListen old new address answer → ListenStep old new address answer
 
 -- ---- `send` and `close`
 
--- A send was passed to the inner links and answered by them. One on a link that is not theirs, and one that could not be
--- noted, was answered Later here.
+-- A send was passed to the inner links and answered by them. One on a link that is not theirs, and one that could not
+-- be noted, was answered Later here.
 pub record SendStep (old new : Seen) (link : ℕ) (bytes : List ℕ) (answer : SendAnswer) : Type 0 where
-  pub passed : (number : ℕ) → inner_number old.first link ≡ Some number → may_note link (length bytes) old.sends ≡ true → AddsCalls old.inner new.inner (send_entries number bytes answer)
+  pub passed : (number : ℕ) → inner_number old.first link ≡ Some number → may_note link (length bytes) old.sends ≡ true
+      → AddsCalls old.inner new.inner (send_entries number bytes answer)
   pub own : inner_number old.first link ≡ None → (answer ≡ send.Later) × (new.inner ≡ old.inner)
   pub unnoted : may_note link (length bytes) old.sends ≡ false → (answer ≡ send.Later) × (new.inner ≡ old.inner)
   pub sends : new.sends ≡ after_send link answer old.sends
@@ -163,7 +173,8 @@ pub record Unsent (old new : Seen) : Type 0 where
 
 -- the close was passed to the inner links, where the link is one of theirs
 pub record CloseStep (old new : Seen) (link : ℕ) : Type 0 where
-  pub passed : (number : ℕ) → inner_number old.first link ≡ Some number → AddsCalls old.inner new.inner (Close number ∷ [])
+  pub passed : (number : ℕ) → inner_number old.first link ≡ Some number
+      → AddsCalls old.inner new.inner (Close number ∷ [])
   pub own : inner_number old.first link ≡ None → new.inner ≡ old.inner
   pub sends : new.sends ≡ old.sends
   pub kept : new.kept ≡ old.kept

@@ -90,8 +90,8 @@ impl<'a, D: Disk> TurnRecorder<'a, D> {
             (send_entries number bytes.now result)) }
         ensures own { inner_number (first_after last) link ≡ None →
             (result ≡ send.Later) × (L.report inner.new ≡ L.report inner.old) }
-        ensures unnoted { may_note link (length bytes.now) self.now.sends.now.summaries.items ≡ false →
-            (result ≡ send.Later) × (L.report inner.new ≡ L.report inner.old) }
+        ensures unnoted { may_note link (length bytes.now) self.now.sends.now.summaries.items
+            ≡ false → (result ≡ send.Later) × (L.report inner.new ≡ L.report inner.old) }
         ensures fits { Fits link (taken_by result) self.now.sends.now.summaries.items }
         ensures no_fault { (L.report inner.new).faults ≡ (L.report inner.old).faults }
     {
@@ -151,7 +151,8 @@ impl<'a, D: Disk> TurnRecorder<'a, D> {
         requires sound { self.old.journal.failed ≡ false }
         ensures allowed { IsRecord (entry_of self.old.sends.now.summaries.items turn piece.now) }
         ensures records { AddsRecord
-            (record_bytes (entry_of self.old.sends.now.summaries.items turn piece.now)) (is_ok result)
+            (record_bytes (entry_of self.old.sends.now.summaries.items turn piece.now))
+            (is_ok result)
             (kept_of (D.report self.old.journal.disk.now).past self.old.journal.gate
             self.old.journal.has_record)
             (kept_of (D.report self.new.journal.disk.now).past self.new.journal.gate

@@ -26,10 +26,12 @@ use Rattle.recorded_runs.proofs.JournalLaws.{keeps_added, keeps_lost, keeps_same
 -- ---- `next`
 
 -- what is not recorded is handed out as what is not
-unrecorded_out : (asked turn : Turn) → HandsOut asked.what asked turn → is_recorded asked.what ≡ false → is_recorded turn.what ≡ false
+unrecorded_out : (asked turn : Turn) → HandsOut asked.what asked turn → is_recorded asked.what ≡ false
+    → is_recorded turn.what ≡ false
 unrecorded_out asked turn hands is = by_what asked.what refl hands is
   where
-    by_what : (what : What) → asked.what ≡ what → HandsOut what asked turn → is_recorded what ≡ false → is_recorded turn.what ≡ false
+    by_what : (what : What) → asked.what ≡ what → HandsOut what asked turn → is_recorded what ≡ false
+        → is_recorded turn.what ≡ false
     by_what Idle same hands is = absurd (cc is)
     by_what (Opened other) same hands is = absurd (cc is)
     by_what (Read other count) same hands is = absurd (cc is)
@@ -41,10 +43,12 @@ unrecorded_out asked turn hands is = by_what asked.what refl hands is
     by_what Memory same hands is = ap (λ (turn : Turn). is_recorded turn.what) hands ∙ ap is_recorded same
 
 -- what is recorded is handed out, or lost
-recorded_out : (asked turn : Turn) → HandsOut asked.what asked turn → is_recorded asked.what ≡ true → (turn ≡ asked) ⊎ ((turn.what ≡ Failed) ⊎ (turn.what ≡ Memory))
+recorded_out : (asked turn : Turn) → HandsOut asked.what asked turn → is_recorded asked.what ≡ true
+    → (turn ≡ asked) ⊎ ((turn.what ≡ Failed) ⊎ (turn.what ≡ Memory))
 recorded_out asked turn hands is = by_what asked.what hands is
   where
-    by_what : (what : What) → HandsOut what asked turn → is_recorded what ≡ true → (turn ≡ asked) ⊎ ((turn.what ≡ Failed) ⊎ (turn.what ≡ Memory))
+    by_what : (what : What) → HandsOut what asked turn → is_recorded what ≡ true
+        → (turn ≡ asked) ⊎ ((turn.what ≡ Failed) ⊎ (turn.what ≡ Memory))
     by_what Idle hands is = hands
     by_what (Opened other) hands is = hands
     by_what (Read other count) hands is = hands
@@ -135,12 +139,17 @@ keeps_handed lent calls calls' old new wants buf turn spent keeps log (next_take
 keeps_takes : (lent : Lent) (calls calls' : List Entry) (old new : Seen) (wants : List Want) (buf : List ℕ)
     (turn : Turn)
     → Keeps lent calls old.kept old.sends old.spent → calls' ≡ calls ++ next_entries wants buf turn
-    → Takes old new wants buf turn → (turn.what ≡ Memory → new.spent ≡ true) → Keeps lent calls' new.kept new.sends new.spent
-keeps_takes lent calls calls' old new wants buf turn keeps log takes spends = by_recorded (is_recorded takes.asked.what) refl
+    → Takes old new wants buf turn → (turn.what ≡ Memory → new.spent ≡ true)
+    → Keeps lent calls' new.kept new.sends new.spent
+keeps_takes lent calls calls' old new wants buf turn keeps log takes spends =
+    by_recorded (is_recorded takes.asked.what) refl
   where
-    lost : is_recorded takes.asked.what ≡ true → is_recorded turn.what ≡ false → new.spent ≡ true → Keeps lent calls' new.kept new.sends new.spent
+    lost : is_recorded takes.asked.what ≡ true → is_recorded turn.what ≡ false → new.spent ≡ true
+        → Keeps lent calls' new.kept new.sends new.spent
     lost is unrecorded spent_is =
-        keeps_lost lent calls calls' old.kept new.kept old.sends new.sends old.spent new.spent (is_recorded turn.what) (entry_at buf old.sends takes.asked) (record_bytes (entry_at buf old.sends takes.asked)) keeps takes.ready.unspent
+        keeps_lost lent calls calls' old.kept new.kept old.sends new.sends old.spent new.spent (is_recorded turn.what)
+        (entry_at buf old.sends takes.asked) (record_bytes (entry_at buf old.sends takes.asked)) keeps
+        takes.ready.unspent
         (spelled old buf old.sends takes.asked takes.ready.begun (takes.allowed is)) (takes.records is)
         (turn_quiet calls calls' wants buf turn log unrecorded) (takes.uncleared unrecorded) spent_is
 
@@ -148,85 +157,123 @@ keeps_takes lent calls calls' old new wants buf turn keeps log takes spends = by
     by_recorded false is =
         let unrecorded = unrecorded_out takes.asked turn takes.hands is in
         let same = turn_quiet calls calls' wants buf turn log unrecorded in
-        keeps_same lent calls calls' old.kept new.kept old.sends new.sends old.spent new.spent keeps (ap (λ so_far. so_far.records) same) (ap (λ so_far. so_far.sends) same ∙ keeps.sends_are ∙ sym (takes.uncleared unrecorded)) (takes.other is)
+        keeps_same lent calls calls' old.kept new.kept old.sends new.sends old.spent new.spent keeps
+        (ap (λ so_far. so_far.records) same)
+        (ap (λ so_far. so_far.sends) same ∙ keeps.sends_are ∙ sym (takes.uncleared unrecorded)) (takes.other is)
         (λ was. absurd (cc (takes.ready.unspent, was)))
     by_recorded true is = elim (recorded_out takes.asked turn takes.hands is) [
       | inl same ↦ keeps_asked lent calls calls' old new wants buf turn new.spent keeps log takes is same
       | inr gone ↦ elim gone [
-        | inl failed ↦ lost is (ap is_recorded failed) (takes.spent (ap (λ (asked : Bool). not asked && is_failed_turn turn.what) (unfailed takes.asked.what is) ∙ ap is_failed_turn failed))
+        | inl failed ↦ lost is (ap is_recorded failed)
+            (takes.spent (ap (λ (asked : Bool). not asked && is_failed_turn turn.what) (unfailed takes.asked.what is)
+            ∙ ap is_failed_turn failed))
         | inr memory ↦ lost is (ap is_recorded memory) (spends memory)
       ]
     ]
 
-pub keeps_next : (lent : Lent) (calls calls' : List Entry) (old new : Seen) (wants : List Want) (buf : List ℕ) (turn : Turn) → Keeps lent calls old.kept old.sends old.spent → calls' ≡ calls ++ next_entries wants buf turn
-    → NextStep old new wants buf turn → (turn.what ≡ Memory → new.spent ≡ true) → Keeps lent calls' new.kept new.sends new.spent
+pub keeps_next : (lent : Lent) (calls calls' : List Entry) (old new : Seen) (wants : List Want) (buf : List ℕ)
+    (turn : Turn) → Keeps lent calls old.kept old.sends old.spent → calls' ≡ calls ++ next_entries wants buf turn
+    → NextStep old new wants buf turn → (turn.what ≡ Memory → new.spent ≡ true)
+    → Keeps lent calls' new.kept new.sends new.spent
 keeps_next lent calls calls' old new wants buf turn keeps log (next_refused why memory rests) spends =
     let same = turn_quiet calls calls' wants buf turn log (ap is_recorded memory) in
-    keeps_same lent calls calls' old.kept new.kept old.sends new.sends old.spent new.spent keeps (ap (λ so_far. so_far.records) same) (ap (λ so_far. so_far.sends) same ∙ keeps.sends_are ∙ sym rests.sends) rests.kept (λ was. spends memory)
+    keeps_same lent calls calls' old.kept new.kept old.sends new.sends old.spent new.spent keeps
+    (ap (λ so_far. so_far.records) same) (ap (λ so_far. so_far.sends) same ∙ keeps.sends_are ∙ sym rests.sends)
+    rests.kept (λ was. spends memory)
 keeps_next lent calls calls' old new wants buf turn keeps log (next_full ready full stopped rests) spends =
     let same = turn_quiet calls calls' wants buf turn log (ap (λ (turn : Turn). is_recorded turn.what) stopped) in
-    keeps_same lent calls calls' old.kept new.kept old.sends new.sends old.spent new.spent keeps (ap (λ so_far. so_far.records) same) (ap (λ so_far. so_far.sends) same ∙ keeps.sends_are ∙ sym rests.sends) rests.kept (λ was. absurd (cc (ready.unspent, was)))
-keeps_next lent calls calls' old new wants buf turn keeps log (next_taken takes) spends = keeps_takes lent calls calls' old new wants buf turn keeps log takes spends
+    keeps_same lent calls calls' old.kept new.kept old.sends new.sends old.spent new.spent keeps
+    (ap (λ so_far. so_far.records) same) (ap (λ so_far. so_far.sends) same ∙ keeps.sends_are ∙ sym rests.sends)
+    rests.kept (λ was. absurd (cc (ready.unspent, was)))
+keeps_next lent calls calls' old new wants buf turn keeps log (next_taken takes) spends =
+    keeps_takes lent calls calls' old new wants buf turn keeps log takes spends
 
 -- ---- `listen`
 
-keeps_listens : (lent : Lent) (calls calls' : List Entry) (old new : Seen) (address : List ℕ) (answer : ListenAnswer) → Keeps lent calls old.kept old.sends old.spent → calls' ≡ calls ++ listen_entries address answer
-    → TakesListen old new address answer → (answer ≡ listen.Memory → new.spent ≡ true) → Keeps lent calls' new.kept new.sends new.spent
+keeps_listens : (lent : Lent) (calls calls' : List Entry) (old new : Seen) (address : List ℕ) (answer : ListenAnswer)
+    → Keeps lent calls old.kept old.sends old.spent → calls' ≡ calls ++ listen_entries address answer
+    → TakesListen old new address answer → (answer ≡ listen.Memory → new.spent ≡ true)
+    → Keeps lent calls' new.kept new.sends new.spent
 keeps_listens lent calls calls' old new address answer keeps log takes spends = by_asked takes.asked refl
   where
-    spelled : (sends : List Summary) (secs : ℕ) → IsRecord (listen_entry sends secs) → Spells (not old.kept.has_record) (listen_entry sends secs) (record_bytes (listen_entry sends secs))
+    spelled : (sends : List Summary) (secs : ℕ) → IsRecord (listen_entry sends secs)
+        → Spells (not old.kept.has_record) (listen_entry sends secs) (record_bytes (listen_entry sends secs))
     spelled sends secs allowed = record { allowed = allowed; order = sym (ap not takes.unbegun); text = refl }
 
     quiet : is_ready answer ≡ false → new.kept ≡ old.kept → Keeps lent calls' new.kept new.sends new.spent
     quiet unready kept_is =
         let same = listen_quiet calls calls' address answer log unready in
-        keeps_same lent calls calls' old.kept new.kept old.sends new.sends old.spent new.spent keeps (ap (λ so_far. so_far.records) same) (ap (λ so_far. so_far.sends) same ∙ keeps.sends_are ∙ sym (takes.uncleared unready)) kept_is
+        keeps_same lent calls calls' old.kept new.kept old.sends new.sends old.spent new.spent keeps
+        (ap (λ so_far. so_far.records) same)
+        (ap (λ so_far. so_far.sends) same ∙ keeps.sends_are ∙ sym (takes.uncleared unready)) kept_is
         (λ was. absurd (cc (takes.unspent, was)))
 
-    handed : (secs : ℕ) → takes.asked ≡ listen.Ready secs → answer ≡ listen.Ready secs → Keeps lent calls' new.kept new.sends new.spent
+    handed : (secs : ℕ) → takes.asked ≡ listen.Ready secs → answer ≡ listen.Ready secs
+        → Keeps lent calls' new.kept new.sends new.spent
     handed secs is same =
         let ready : is_ready answer ≡ true = ap is_ready same in
-        let entry_is : listen_entry old.sends secs ≡ listen_entry (noted calls).sends secs = ap (λ (sends : List Summary). listen_entry sends secs) (sym keeps.sends_are) in
+        let entry_is : listen_entry old.sends secs ≡ listen_entry (noted calls).sends secs =
+        ap (λ (sends : List Summary). listen_entry sends secs) (sym keeps.sends_are) in
         let added : AddsRecord (record_bytes (listen_entry (noted calls).sends secs)) true old.kept new.kept =
-        subst (λ (flag : Bool). AddsRecord (record_bytes (listen_entry (noted calls).sends secs)) flag old.kept new.kept) ready
-        (subst (λ (entry : TurnRecord). AddsRecord (record_bytes entry) (is_ready answer) old.kept new.kept) entry_is (takes.records secs is)) in
-        keeps_added lent calls calls' old.kept new.kept old.sends new.sends old.spent new.spent (listen_entry (noted calls).sends secs) (record_bytes (listen_entry (noted calls).sends secs)) keeps takes.unspent
+        subst (λ (flag : Bool). AddsRecord (record_bytes (listen_entry (noted calls).sends secs)) flag old.kept
+        new.kept) ready
+        (subst (λ (entry : TurnRecord). AddsRecord (record_bytes entry) (is_ready answer) old.kept new.kept) entry_is
+        (takes.records secs is)) in
+        keeps_added lent calls calls' old.kept new.kept old.sends new.sends old.spent new.spent
+        (listen_entry (noted calls).sends secs) (record_bytes (listen_entry (noted calls).sends secs)) keeps
+        takes.unspent
         (spelled (noted calls).sends secs (subst IsRecord entry_is (takes.allowed secs is))) added
         (listen_noted calls calls' address answer log ∙ ap (after_listen (noted calls)) same) (takes.cleared ready)
 
-    lost : (secs : ℕ) → takes.asked ≡ listen.Ready secs → is_ready answer ≡ false → new.spent ≡ true → Keeps lent calls' new.kept new.sends new.spent
+    lost : (secs : ℕ) → takes.asked ≡ listen.Ready secs → is_ready answer ≡ false → new.spent ≡ true
+        → Keeps lent calls' new.kept new.sends new.spent
     lost secs is unready spent_is =
-        keeps_lost lent calls calls' old.kept new.kept old.sends new.sends old.spent new.spent (is_ready answer) (listen_entry old.sends secs) (record_bytes (listen_entry old.sends secs)) keeps takes.unspent
-        (spelled old.sends secs (takes.allowed secs is)) (takes.records secs is) (listen_quiet calls calls' address answer log unready) (takes.uncleared unready) spent_is
+        keeps_lost lent calls calls' old.kept new.kept old.sends new.sends old.spent new.spent (is_ready answer)
+        (listen_entry old.sends secs) (record_bytes (listen_entry old.sends secs)) keeps takes.unspent
+        (spelled old.sends secs (takes.allowed secs is)) (takes.records secs is)
+        (listen_quiet calls calls' address answer log unready) (takes.uncleared unready) spent_is
 
     by_asked : (asked : ListenAnswer) → takes.asked ≡ asked → Keeps lent calls' new.kept new.sends new.spent
     by_asked (listen.Ready secs) is =
-        let hands : (answer ≡ listen.Ready secs) ⊎ ((answer ≡ listen.Failed) ⊎ (answer ≡ listen.Memory)) = subst (λ (asked : ListenAnswer). HandsListen asked answer) is takes.hands in
+        let hands : (answer ≡ listen.Ready secs) ⊎ ((answer ≡ listen.Failed) ⊎ (answer ≡ listen.Memory)) =
+        subst (λ (asked : ListenAnswer). HandsListen asked answer) is takes.hands in
         elim hands [
           | inl same ↦ handed secs is same
           | inr gone ↦ elim gone [
-            | inl failed ↦ lost secs is (ap is_ready failed) (takes.spent (ap (λ (asked : ListenAnswer). is_lost_listen asked answer) is ∙ ap (is_lost_listen (listen.Ready secs)) failed))
+            | inl failed ↦ lost secs is (ap is_ready failed)
+                (takes.spent (ap (λ (asked : ListenAnswer). is_lost_listen asked answer) is ∙ ap
+                (is_lost_listen (listen.Ready secs)) failed))
             | inr memory ↦ lost secs is (ap is_ready memory) (spends memory)
           ]
         ]
     by_asked listen.Failed is =
-        let failed : answer ≡ listen.Failed = subst (λ (asked : ListenAnswer). HandsListen asked answer) is takes.hands in
+        let failed : answer ≡ listen.Failed =
+        subst (λ (asked : ListenAnswer). HandsListen asked answer) is takes.hands in
         quiet (ap is_ready failed) (takes.other (ap is_ready is))
     by_asked listen.Memory is =
-        let memory : answer ≡ listen.Memory = subst (λ (asked : ListenAnswer). HandsListen asked answer) is takes.hands in
+        let memory : answer ≡ listen.Memory =
+        subst (λ (asked : ListenAnswer). HandsListen asked answer) is takes.hands in
         quiet (ap is_ready memory) (takes.other (ap is_ready is))
 
-pub keeps_listen : (lent : Lent) (calls calls' : List Entry) (old new : Seen) (address : List ℕ) (answer : ListenAnswer) → Keeps lent calls old.kept old.sends old.spent → calls' ≡ calls ++ listen_entries address answer
-    → ListenStep old new address answer → (answer ≡ listen.Memory → new.spent ≡ true) → Keeps lent calls' new.kept new.sends new.spent
+pub keeps_listen : (lent : Lent) (calls calls' : List Entry) (old new : Seen) (address : List ℕ) (answer : ListenAnswer)
+    → Keeps lent calls old.kept old.sends old.spent → calls' ≡ calls ++ listen_entries address answer
+    → ListenStep old new address answer → (answer ≡ listen.Memory → new.spent ≡ true)
+    → Keeps lent calls' new.kept new.sends new.spent
 keeps_listen lent calls calls' old new address answer keeps log (listen_refused why memory rests) spends =
     let same = listen_quiet calls calls' address answer log (ap is_ready memory) in
-    keeps_same lent calls calls' old.kept new.kept old.sends new.sends old.spent new.spent keeps (ap (λ so_far. so_far.records) same) (ap (λ so_far. so_far.sends) same ∙ keeps.sends_are ∙ sym rests.sends) rests.kept (λ was. spends memory)
-keeps_listen lent calls calls' old new address answer keeps log (listen_taken takes) spends = keeps_listens lent calls calls' old new address answer keeps log takes spends
+    keeps_same lent calls calls' old.kept new.kept old.sends new.sends old.spent new.spent keeps
+    (ap (λ so_far. so_far.records) same) (ap (λ so_far. so_far.sends) same ∙ keeps.sends_are ∙ sym rests.sends)
+    rests.kept (λ was. spends memory)
+keeps_listen lent calls calls' old new address answer keeps log (listen_taken takes) spends =
+    keeps_listens lent calls calls' old new address answer keeps log takes spends
 
 -- ---- `send` and `close`
 
-pub keeps_send : (lent : Lent) (calls calls' : List Entry) (old new : Seen) (link : ℕ) (bytes : List ℕ) (answer : SendAnswer) → Keeps lent calls old.kept old.sends old.spent → calls' ≡ calls ++ send_entries link bytes answer
-    → (answer ≢ send.Memory → SendStep old new link bytes answer) → (answer ≡ send.Memory → Unsent old new) → (answer ≡ send.Memory → new.spent ≡ true) → Keeps lent calls' new.kept new.sends new.spent
+pub keeps_send : (lent : Lent) (calls calls' : List Entry) (old new : Seen) (link : ℕ) (bytes : List ℕ)
+    (answer : SendAnswer) → Keeps lent calls old.kept old.sends old.spent
+    → calls' ≡ calls ++ send_entries link bytes answer
+    → (answer ≢ send.Memory → SendStep old new link bytes answer) → (answer ≡ send.Memory → Unsent old new)
+    → (answer ≡ send.Memory → new.spent ≡ true) → Keeps lent calls' new.kept new.sends new.spent
 keeps_send lent calls calls' old new link bytes answer keeps log step unsent spends = by_answer answer refl
   where
     noted_is : noted calls' ≡ with_send link answer (noted calls)
@@ -234,7 +281,10 @@ keeps_send lent calls calls' old new link bytes answer keeps log step unsent spe
 
     sent : SendStep old new link bytes answer → Keeps lent calls' new.kept new.sends new.spent
     sent step =
-        keeps_same lent calls calls' old.kept new.kept old.sends new.sends old.spent new.spent keeps (ap (λ so_far. so_far.records) noted_is) (ap (λ so_far. so_far.sends) noted_is ∙ ap (after_send link answer) keeps.sends_are ∙ sym step.sends) step.kept step.spent
+        keeps_same lent calls calls' old.kept new.kept old.sends new.sends old.spent new.spent keeps
+        (ap (λ so_far. so_far.records) noted_is)
+        (ap (λ so_far. so_far.sends) noted_is ∙ ap (after_send link answer) keeps.sends_are ∙ sym step.sends) step.kept
+        step.spent
 
     by_answer : (asked : SendAnswer) → answer ≡ asked → Keeps lent calls' new.kept new.sends new.spent
     by_answer (send.Took count) is = sent (step (λ memory. absurd (cc (is, memory))))
@@ -242,11 +292,16 @@ keeps_send lent calls calls' old new link bytes answer keeps log step unsent spe
     by_answer send.Failed is = sent (step (λ memory. absurd (cc (is, memory))))
     by_answer send.Memory is =
         let nothing = unsent is in
-        keeps_same lent calls calls' old.kept new.kept old.sends new.sends old.spent new.spent keeps (ap (λ so_far. so_far.records) noted_is)
-        (ap (λ so_far. so_far.sends) noted_is ∙ ap (λ (answer : SendAnswer). after_send link answer (noted calls).sends) is ∙ keeps.sends_are ∙ sym nothing.sends) nothing.kept (λ was. spends is)
+        keeps_same lent calls calls' old.kept new.kept old.sends new.sends old.spent new.spent keeps
+        (ap (λ so_far. so_far.records) noted_is)
+        (ap (λ so_far. so_far.sends) noted_is ∙ ap (λ (answer : SendAnswer). after_send link answer (noted calls).sends)
+        is ∙ keeps.sends_are ∙ sym nothing.sends) nothing.kept (λ was. spends is)
 
-pub keeps_close : (lent : Lent) (calls calls' : List Entry) (old new : Seen) (link : ℕ) → Keeps lent calls old.kept old.sends old.spent → calls' ≡ calls ++ Close link ∷ [] → CloseStep old new link
+pub keeps_close : (lent : Lent) (calls calls' : List Entry) (old new : Seen) (link : ℕ)
+    → Keeps lent calls old.kept old.sends old.spent → calls' ≡ calls ++ Close link ∷ [] → CloseStep old new link
     → Keeps lent calls' new.kept new.sends new.spent
 keeps_close lent calls calls' old new link keeps log step =
     let same = close_noted calls calls' link log in
-    keeps_same lent calls calls' old.kept new.kept old.sends new.sends old.spent new.spent keeps (ap (λ so_far. so_far.records) same) (ap (λ so_far. so_far.sends) same ∙ keeps.sends_are ∙ sym step.sends) step.kept step.spent
+    keeps_same lent calls calls' old.kept new.kept old.sends new.sends old.spent new.spent keeps
+    (ap (λ so_far. so_far.records) same) (ap (λ so_far. so_far.sends) same ∙ keeps.sends_are ∙ sym step.sends) step.kept
+    step.spent

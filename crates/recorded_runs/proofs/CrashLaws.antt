@@ -16,41 +16,68 @@ abbrev IsFront : List TurnRecord → List TurnRecord → Type 0
 IsFront turns entries = (rest : List TurnRecord) × (entries ++ rest ≡ turns)
 
 -- the journal with the turns before, or with the one more
-one_or_both : (journal : Journal) (before : List TurnRecord) (entry : TurnRecord) (P : List TurnRecord → Type 0) → P before → P (before ++ entry ∷ []) → (image : List ℕ) → HoldsOrWith (with_records journal before) entry image
+one_or_both : (journal : Journal) (before : List TurnRecord) (entry : TurnRecord) (P : List TurnRecord → Type 0)
+    → P before → P (before ++ entry ∷ []) → (image : List ℕ) → HoldsOrWith (with_records journal before) entry image
     → HoldsMore journal P image
 one_or_both journal before entry P one both image (inl holds) = (before, holds, one)
-one_or_both journal before entry P one both image (inr holds) = (before ++ entry ∷ [], subst (λ (journal : Journal). Holds journal image) (with_more journal before entry) holds, both)
+one_or_both journal before entry P one both image (inr holds) = (
+  before ++ entry ∷ [],
+  subst (λ (journal : Journal). Holds journal image) (with_more journal before entry) holds,
+  both,
+)
 
 turns_left : (journal : Journal) (start : Past) (turns : List TurnRecord) (now : Past)
     → ((image : List ℕ) → Leaves start image → Holds journal image) → AreKept journal start turns now
     → LeavesOnly start now (HoldsMore journal (IsFront turns))
 turns_left journal start turns now held (none_yet none same) =
     subst (λ (past : Past). LeavesOnly start past (HoldsMore journal (IsFront turns))) (sym same)
-    (begins start (HoldsMore journal (IsFront turns)) (λ image leaves. ([], subst (λ (journal : Journal). Holds journal image) (with_none journal) (held image leaves), (turns, refl))))
+    (begins start (HoldsMore journal (IsFront turns))
+    (λ image leaves. (
+      [],
+      subst (λ (journal : Journal). Holds journal image) (with_none journal) (held image leaves),
+      (turns, refl),
+    )))
 turns_left journal start turns now held (one_more before entry past keeps turns_are kept) =
     then_more start past now (HoldsMore journal (IsFront turns))
-    (weaker start past (HoldsMore journal (IsFront before)) (HoldsMore journal (IsFront turns)) longer (turns_left journal start before past held keeps))
+    (weaker start past (HoldsMore journal (IsFront before)) (HoldsMore journal (IsFront turns)) longer
+    (turns_left journal start before past held keeps))
     (weaker past now (HoldsOrWith (with_records journal before) entry) (HoldsMore journal (IsFront turns))
-    (one_or_both journal before entry (IsFront turns) (entry ∷ [], sym turns_are) ([], append-nil (before ++ entry ∷ []) ∙ sym turns_are)) kept.until)
+    (one_or_both journal before entry (IsFront turns) (entry ∷ [], sym turns_are)
+    ([], append-nil (before ++ entry ∷ []) ∙ sym turns_are)) kept.until)
   where
     longer : (image : List ℕ) → HoldsMore journal (IsFront before) image → HoldsMore journal (IsFront turns) image
-    longer image (entries, holds, (rest, are)) =
-        (entries, holds, (rest ++ entry ∷ [], sym (append_assoc entries rest (entry ∷ [])) ∙ ap (λ (all : List TurnRecord). all ++ entry ∷ []) are ∙ sym turns_are))
+    longer image (entries, holds, (rest, are)) = (
+      entries,
+      holds,
+      (
+        rest ++ entry ∷ [],
+        sym (append_assoc entries rest (entry ∷ [])) ∙ ap
+            (λ (all : List TurnRecord). all ++ entry ∷ []) are ∙ sym turns_are,
+      ),
+    )
 
-pub leaves_first : (journal : Journal) (start now : Past) (calls : List Entry) → ((image : List ℕ) → Leaves start image → Holds journal image) → Recorded journal start calls now
+pub leaves_first : (journal : Journal) (start now : Past) (calls : List Entry)
+    → ((image : List ℕ) → Leaves start image → Holds journal image) → Recorded journal start calls now
     → LeavesOnly start now (HoldsMore journal (AreFirst (noted calls).records))
 leaves_first journal start now calls held recorded = by_last recorded.last
   where
     front : LeavesOnly start recorded.past (HoldsMore journal (AreFirst (noted calls).records))
     front =
-        weaker start recorded.past (HoldsMore journal (IsFront (noted calls).records)) (HoldsMore journal (AreFirst (noted calls).records)) (λ image more. (more.0, more.1, inl more.2)) (turns_left journal start (noted calls).records recorded.past held recorded.turns)
+        weaker start recorded.past (HoldsMore journal (IsFront (noted calls).records))
+        (HoldsMore journal (AreFirst (noted calls).records)) (λ image more. (more.0, more.1, inl more.2))
+        (turns_left journal start (noted calls).records recorded.past held recorded.turns)
 
-    by_last : (now ≡ recorded.past) ⊎ IsBegun (with_records journal (noted calls).records) recorded.past now → LeavesOnly start now (HoldsMore journal (AreFirst (noted calls).records))
-    by_last (inl same) = subst (λ (past : Past). LeavesOnly start past (HoldsMore journal (AreFirst (noted calls).records))) (sym same) front
+    by_last : (now ≡ recorded.past) ⊎ IsBegun (with_records journal (noted calls).records) recorded.past now
+        → LeavesOnly start now (HoldsMore journal (AreFirst (noted calls).records))
+    by_last (inl same) =
+        subst (λ (past : Past). LeavesOnly start past (HoldsMore journal (AreFirst (noted calls).records)))
+        (sym same) front
     by_last (inr begun) =
         then_more start recorded.past now (HoldsMore journal (AreFirst (noted calls).records)) front
-        (weaker recorded.past now (HoldsOrWith (with_records journal (noted calls).records) begun.entry) (HoldsMore journal (AreFirst (noted calls).records))
-        (one_or_both journal (noted calls).records begun.entry (AreFirst (noted calls).records) (inl ([], append-nil (noted calls).records)) (inr (begun.entry, refl))) begun.leaves)
+        (weaker recorded.past now (HoldsOrWith (with_records journal (noted calls).records) begun.entry)
+        (HoldsMore journal (AreFirst (noted calls).records))
+        (one_or_both journal (noted calls).records begun.entry (AreFirst (noted calls).records)
+        (inl ([], append-nil (noted calls).records)) (inr (begun.entry, refl))) begun.leaves)
 
 -- what a crash leaves once the last turn was handed out
 turns_kept : (journal : Journal) (start : Past) (turns : List TurnRecord) (past : Past)
@@ -58,14 +85,26 @@ turns_kept : (journal : Journal) (start : Past) (turns : List TurnRecord) (past 
     → (image : List ℕ) → Leaves past image
     → Holds (with_records journal turns) image
 turns_kept journal start turns now held (none_yet none same) image leaves =
-    subst (λ (journal : Journal). Holds journal image) (with_none journal ∙ ap (with_records journal) (sym none)) (held image (subst (λ (past : Past). Leaves past image) same leaves))
+    subst (λ (journal : Journal). Holds journal image) (with_none journal ∙ ap (with_records journal) (sym none))
+    (held image (subst (λ (past : Past). Leaves past image) same leaves))
 turns_kept journal start turns now held (one_more before entry past keeps turns_are kept) image leaves =
-    subst (λ (journal : Journal). Holds journal image) (with_more journal before entry ∙ ap (with_records journal) (sym turns_are)) (kept.since image leaves)
+    subst (λ (journal : Journal). Holds journal image)
+    (with_more journal before entry ∙ ap (with_records journal) (sym turns_are)) (kept.since image leaves)
 
-pub leaves_all : (journal : Journal) (start now : Past) (calls : List Entry) → ((image : List ℕ) → Leaves start image → Holds journal image) → Recorded journal start calls now → (image : List ℕ) → Leaves now image
+pub leaves_all : (journal : Journal) (start now : Past) (calls : List Entry)
+    → ((image : List ℕ) → Leaves start image → Holds journal image) → Recorded journal start calls now
+    → (image : List ℕ) → Leaves now image
     → HoldsMore journal (AreAll (noted calls).records) image
 leaves_all journal start now calls held recorded image leaves = by_last recorded.last
   where
-    by_last : (now ≡ recorded.past) ⊎ IsBegun (with_records journal (noted calls).records) recorded.past now → HoldsMore journal (AreAll (noted calls).records) image
-    by_last (inl same) = ((noted calls).records, turns_kept journal start (noted calls).records recorded.past held recorded.turns image (subst (λ (past : Past). Leaves past image) same leaves), inl refl)
-    by_last (inr begun) = one_or_both journal (noted calls).records begun.entry (AreAll (noted calls).records) (inl refl) (inr (begun.entry, refl)) image (begun.leaves.each 0 (omega arith) image leaves)
+    by_last : (now ≡ recorded.past) ⊎ IsBegun (with_records journal (noted calls).records) recorded.past now
+        → HoldsMore journal (AreAll (noted calls).records) image
+    by_last (inl same) = (
+      (noted calls).records,
+      turns_kept journal start (noted calls).records recorded.past held recorded.turns image
+          (subst (λ (past : Past). Leaves past image) same leaves),
+      inl refl,
+    )
+    by_last (inr begun) =
+        one_or_both journal (noted calls).records begun.entry (AreAll (noted calls).records) (inl refl)
+        (inr (begun.entry, refl)) image (begun.leaves.each 0 (omega arith) image leaves)

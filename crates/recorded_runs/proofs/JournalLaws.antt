@@ -20,17 +20,20 @@ with_none journal =
     let remade : List TurnRecord → Journal = λ entries. record { config = journal.config; records = entries } in
     ap remade (sym (append-nil journal.records))
 
-pub with_more : (journal : Journal) (entries : List TurnRecord) (entry : TurnRecord) → with_record (with_records journal entries) entry ≡ with_records journal (entries ++ entry ∷ [])
+pub with_more : (journal : Journal) (entries : List TurnRecord) (entry : TurnRecord)
+    → with_record (with_records journal entries) entry ≡ with_records journal (entries ++ entry ∷ [])
 with_more journal entries entry =
     let remade : List TurnRecord → Journal = λ entries. record { config = journal.config; records = entries } in
     ap remade (append_assoc journal.records entries (entry ∷ []))
 
 -- ---- before the first call
 
-pub keeps_begun : (lent : Lent) (kept : Kept) (sends : List Summary) (spent : Bool) → kept ≡ kept_of lent.disk.past lent.found.gate lent.found.has_record → sends ≡ [] → Keeps lent [] kept sends spent
+pub keeps_begun : (lent : Lent) (kept : Kept) (sends : List Summary) (spent : Bool)
+    → kept ≡ kept_of lent.disk.past lent.found.gate lent.found.has_record → sends ≡ [] → Keeps lent [] kept sends spent
 keeps_begun lent kept sends spent kept_is unsent = record { sends_are = sym unsent; journal = begun }
   where
-    begun : (journal : Journal) (start : Past) → lent.disk.past ≡ Some start → Stands start lent.found.gate lent.found.has_record journal → KeepsJournal journal start [] kept spent
+    begun : (journal : Journal) (start : Past) → lent.disk.past ≡ Some start
+        → Stands start lent.found.gate lent.found.has_record journal → KeepsJournal journal start [] kept spent
     begun journal start reported stands =
         subst (λ (kept : Kept). KeepsJournal journal start [] kept spent) (sym kept_is) (record {
           now = start;
@@ -46,11 +49,15 @@ unspent_before : (spent spent' : Bool) → (spent ≡ true → spent' ≡ true) 
 unspent_before true spent' stays unspent = absurd (cc (stays refl, unspent))
 unspent_before false spent' stays unspent = refl
 
-pub keeps_same : (lent : Lent) (calls calls' : List Entry) (kept kept' : Kept) (sends sends' : List Summary) (spent spent' : Bool) → Keeps lent calls kept sends spent
-    → (noted calls').records ≡ (noted calls).records → (noted calls').sends ≡ sends' → kept' ≡ kept → (spent ≡ true → spent' ≡ true) → Keeps lent calls' kept' sends' spent'
-keeps_same lent calls calls' kept kept' sends sends' spent spent' keeps records_are sends_are kept_is stays = record { sends_are = sends_are; journal = same }
+pub keeps_same : (lent : Lent) (calls calls' : List Entry) (kept kept' : Kept) (sends sends' : List Summary)
+    (spent spent' : Bool) → Keeps lent calls kept sends spent
+    → (noted calls').records ≡ (noted calls).records → (noted calls').sends ≡ sends' → kept' ≡ kept
+    → (spent ≡ true → spent' ≡ true) → Keeps lent calls' kept' sends' spent'
+keeps_same lent calls calls' kept kept' sends sends' spent spent' keeps records_are sends_are kept_is stays =
+    record { sends_are = sends_are; journal = same }
   where
-    same : (journal : Journal) (start : Past) → lent.disk.past ≡ Some start → Stands start lent.found.gate lent.found.has_record journal → KeepsJournal journal start calls' kept' spent'
+    same : (journal : Journal) (start : Past) → lent.disk.past ≡ Some start
+        → Stands start lent.found.gate lent.found.has_record journal → KeepsJournal journal start calls' kept' spent'
     same journal start reported stands =
         let before = keeps.journal journal start reported stands in
         subst (λ (kept : Kept). KeepsJournal journal start calls' kept spent') (sym kept_is) (record {
@@ -60,16 +67,23 @@ keeps_same lent calls calls' kept kept' sends sends' spent spent' keeps records_
             past = before.recorded.past;
             turns = subst (λ (entries : List TurnRecord). AreKept journal start entries before.recorded.past)
                 (sym records_are) before.recorded.turns;
-            last = subst (λ (entries : List TurnRecord). (before.now ≡ before.recorded.past) ⊎ IsBegun (with_records journal entries) before.recorded.past before.now) (sym records_are) before.recorded.last;
+            last =
+                subst (λ (entries : List TurnRecord). (before.now ≡ before.recorded.past)
+                ⊎ IsBegun (with_records journal entries) before.recorded.past before.now)
+                (sym records_are) before.recorded.last;
           };
           unbegun = λ unspent. before.unbegun (unspent_before spent spent' stays unspent);
-          stands = λ unspent. subst (λ (entries : List TurnRecord). Stands before.now kept.gate kept.has_record (with_records journal entries)) (sym records_are) (before.stands (unspent_before spent spent' stays unspent));
+          stands =
+              λ unspent. subst (λ (entries : List TurnRecord). Stands before.now kept.gate kept.has_record
+              (with_records journal entries)) (sym records_are)
+              (before.stands (unspent_before spent spent' stays unspent));
         })
 
 -- ---- a call whose record was added
 
 -- of the journal that stands there
-abbrev next_adds : (journal : Journal) (start : Past) (calls : List Entry) (kept : Kept) (spent : Bool) (entry : TurnRecord) (bytes : List ℕ) → KeepsJournal journal start calls kept spent → spent ≡ false
+abbrev next_adds : (journal : Journal) (start : Past) (calls : List Entry) (kept : Kept) (spent : Bool)
+    (entry : TurnRecord) (bytes : List ℕ) → KeepsJournal journal start calls kept spent → spent ≡ false
     → Spells (not kept.has_record) entry bytes → Adds kept.past kept.gate kept.has_record bytes
 next_adds journal start calls kept spent entry bytes before unspent spells = record {
   past = before.now;
@@ -80,54 +94,76 @@ next_adds journal start calls kept spent entry bytes before unspent spells = rec
   spells = spells;
 }
 
-pub keeps_added : (lent : Lent) (calls calls' : List Entry) (kept kept' : Kept) (sends sends' : List Summary) (spent spent' : Bool) (entry : TurnRecord) (bytes : List ℕ) → Keeps lent calls kept sends spent → spent ≡ false
-    → Spells (not kept.has_record) entry bytes → AddsRecord bytes true kept kept' → noted calls' ≡ with_entry entry (noted calls) → sends' ≡ [] → Keeps lent calls' kept' sends' spent'
-keeps_added lent calls calls' kept kept' sends sends' spent spent' entry bytes keeps unspent spells added noted_is cleared =
+pub keeps_added : (lent : Lent) (calls calls' : List Entry) (kept kept' : Kept) (sends sends' : List Summary)
+    (spent spent' : Bool) (entry : TurnRecord) (bytes : List ℕ) → Keeps lent calls kept sends spent → spent ≡ false
+    → Spells (not kept.has_record) entry bytes → AddsRecord bytes true kept kept'
+    → noted calls' ≡ with_entry entry (noted calls) → sends' ≡ [] → Keeps lent calls' kept' sends' spent'
+keeps_added lent calls calls' kept kept' sends sends' spent spent' entry bytes keeps unspent spells added noted_is
+    cleared =
     record { sends_are = ap (λ so_far. so_far.sends) noted_is ∙ sym cleared; journal = more }
   where
     more_records : (noted calls').records ≡ (noted calls).records ++ entry ∷ []
     more_records = ap (λ so_far. so_far.records) noted_is
 
-    more : (journal : Journal) (start : Past) → lent.disk.past ≡ Some start → Stands start lent.found.gate lent.found.has_record journal → KeepsJournal journal start calls' kept' spent'
+    more : (journal : Journal) (start : Past) → lent.disk.past ≡ Some start
+        → Stands start lent.found.gate lent.found.has_record journal → KeepsJournal journal start calls' kept' spent'
     more journal start reported stands =
         let before = keeps.journal journal start reported stands in
         let standing : Journal = with_records journal (noted calls).records in
         let adds = next_adds journal start calls kept spent entry bytes before unspent spells in
-        let moment : Told kept'.past (λ now. LeavesOnly before.now now (HoldsOrWith standing entry)) = added.any_moment adds in
-        let after : Told kept'.past (λ now. Stands now kept'.gate kept'.has_record (with_record standing entry)) = added.stands refl adds in
+        let moment : Told kept'.past (λ now. LeavesOnly before.now now (HoldsOrWith standing entry)) =
+        added.any_moment adds in
+        let after : Told kept'.past (λ now. Stands now kept'.gate kept'.has_record (with_record standing entry)) =
+        added.stands refl adds in
         let same : moment.0 ≡ after.0 = same_Some moment.0 after.0 (sym moment.1 ∙ after.1) in
         record {
           now = after.0;
           reported = after.1;
           recorded = record {
             past = after.0;
-            turns = one_more (noted calls).records entry before.recorded.past before.recorded.turns more_records (record {
-              until = subst (λ (past : Past). LeavesOnly past after.0 (HoldsOrWith standing entry)) (before.unbegun unspent)
-                  (subst (λ (now : Past). LeavesOnly before.now now (HoldsOrWith standing entry)) same moment.2);
-              since = λ image leaves. (kept'.gate, subst (HoldsAt (with_record standing entry) kept'.gate) (sym (after.2.rests image leaves)) after.2.holds);
-            });
+            turns =
+                one_more (noted calls).records entry before.recorded.past before.recorded.turns more_records (record {
+                  until =
+                      subst (λ (past : Past). LeavesOnly past after.0 (HoldsOrWith standing entry))
+                      (before.unbegun unspent)
+                      (subst (λ (now : Past). LeavesOnly before.now now (HoldsOrWith standing entry)) same moment.2);
+                  since =
+                      λ image leaves. (
+                        kept'.gate,
+                        subst (HoldsAt (with_record standing entry) kept'.gate)
+                            (sym (after.2.rests image leaves)) after.2.holds,
+                      );
+                });
             last = inl refl;
           };
           unbegun = λ unspent. refl;
-          stands = λ unspent. subst (Stands after.0 kept'.gate kept'.has_record) (with_more journal (noted calls).records entry ∙ ap (with_records journal) (sym more_records)) after.2;
+          stands =
+              λ unspent. subst (Stands after.0 kept'.gate kept'.has_record)
+              (with_more journal (noted calls).records entry ∙ ap (with_records journal) (sym more_records)) after.2;
         }
 
 -- ---- a call whose record was begun, and whose answer was lost
 
-pub keeps_lost : (lent : Lent) (calls calls' : List Entry) (kept kept' : Kept) (sends sends' : List Summary) (spent spent' added : Bool) (entry : TurnRecord) (bytes : List ℕ) → Keeps lent calls kept sends spent → spent ≡ false
-    → Spells (not kept.has_record) entry bytes → AddsRecord bytes added kept kept' → noted calls' ≡ noted calls → sends' ≡ sends → spent' ≡ true → Keeps lent calls' kept' sends' spent'
-keeps_lost lent calls calls' kept kept' sends sends' spent spent' added entry bytes keeps unspent spells adding noted_is uncleared spends =
+pub keeps_lost : (lent : Lent) (calls calls' : List Entry) (kept kept' : Kept) (sends sends' : List Summary)
+    (spent spent' added : Bool) (entry : TurnRecord) (bytes : List ℕ) → Keeps lent calls kept sends spent
+    → spent ≡ false
+    → Spells (not kept.has_record) entry bytes → AddsRecord bytes added kept kept' → noted calls' ≡ noted calls
+    → sends' ≡ sends → spent' ≡ true → Keeps lent calls' kept' sends' spent'
+keeps_lost lent calls calls' kept kept' sends sends' spent spent' added entry bytes keeps unspent spells adding noted_is
+    uncleared spends =
     record { sends_are = ap (λ so_far. so_far.sends) noted_is ∙ keeps.sends_are ∙ sym uncleared; journal = begun }
   where
     same_records : (noted calls).records ≡ (noted calls').records
     same_records = ap (λ so_far. so_far.records) (sym noted_is)
 
-    begun : (journal : Journal) (start : Past) → lent.disk.past ≡ Some start → Stands start lent.found.gate lent.found.has_record journal → KeepsJournal journal start calls' kept' spent'
+    begun : (journal : Journal) (start : Past) → lent.disk.past ≡ Some start
+        → Stands start lent.found.gate lent.found.has_record journal → KeepsJournal journal start calls' kept' spent'
     begun journal start reported stands =
         let before = keeps.journal journal start reported stands in
         let standing : Journal = with_records journal (noted calls).records in
         let adds = next_adds journal start calls kept spent entry bytes before unspent spells in
-        let moment : Told kept'.past (λ now. LeavesOnly before.now now (HoldsOrWith standing entry)) = adding.any_moment adds in
+        let moment : Told kept'.past (λ now. LeavesOnly before.now now (HoldsOrWith standing entry)) =
+        adding.any_moment adds in
         record {
           now = moment.0;
           reported = moment.1;
@@ -135,11 +171,15 @@ keeps_lost lent calls calls' kept kept' sends sends' spent spent' added entry by
             past = before.recorded.past;
             turns = subst (λ (entries : List TurnRecord). AreKept journal start entries before.recorded.past)
                 same_records before.recorded.turns;
-            last = inr (subst (λ (entries : List TurnRecord). IsBegun (with_records journal entries) before.recorded.past moment.0) same_records (record {
-              entry = entry;
-              allowed = spells.allowed;
-              leaves = subst (λ (past : Past). LeavesOnly past moment.0 (HoldsOrWith standing entry)) (before.unbegun unspent) moment.2;
-            }));
+            last =
+                inr (subst (λ (entries : List TurnRecord). IsBegun
+                (with_records journal entries) before.recorded.past moment.0) same_records (record {
+                  entry = entry;
+                  allowed = spells.allowed;
+                  leaves =
+                      subst (λ (past : Past). LeavesOnly past moment.0 (HoldsOrWith standing entry))
+                      (before.unbegun unspent) moment.2;
+                }));
           };
           unbegun = λ unspent. absurd (cc (spends, unspent));
           stands = λ unspent. absurd (cc (spends, unspent));

@@ -45,38 +45,60 @@ traces_begun lent calls now fresh is =
     subst (λ (calls : List Entry). Traces lent calls now) (sym fresh) (subst (Traces lent []) (sym is) begun)
 
 -- the numbers of the inner links begin where they did
-renumbered : (lent : LinksReport) (calls : List Entry) (old new : Seen) → new.first ≡ old.first → Passed old.first lent calls new.inner → Passed new.first lent calls new.inner
+renumbered : (lent : LinksReport) (calls : List Entry) (old new : Seen) → new.first ≡ old.first
+    → Passed old.first lent calls new.inner → Passed new.first lent calls new.inner
 renumbered lent calls old new same = subst (λ (first : ℕ). Passed first lent calls new.inner) (sym same)
 
-pub traces_next : (lent : Lent) (calls calls' : List Entry) (old new : Seen) (wants : List Want) (buf : List ℕ) (turn : Turn) → ∥ Traces lent calls old ∥₁ → calls' ≡ calls ++ next_entries wants buf turn → new.first ≡ old.first
+pub traces_next : (lent : Lent) (calls calls' : List Entry) (old new : Seen) (wants : List Want) (buf : List ℕ)
+    (turn : Turn) → ∥ Traces lent calls old ∥₁ → calls' ≡ calls ++ next_entries wants buf turn → new.first ≡ old.first
     → NextStep old new wants buf turn → (turn.what ≡ Memory → new.spent ≡ true) → ∥ Traces lent calls' new ∥₁
-traces_next lent calls calls' old new wants buf turn traces log same step spends = ∥∥₁_map traces (λ (before : Traces lent calls old). record {
-  made = one_more calls (next_entries wants buf turn) old before.made (turned wants buf turn step spends refl) same log;
-  keeps = keeps_next lent calls calls' old new wants buf turn before.keeps log step spends;
-  passed = renumbered lent.links calls' old new same (passed_next lent.links old new calls calls' wants buf turn before.passed log step);
-})
+traces_next lent calls calls' old new wants buf turn traces log same step spends =
+    ∥∥₁_map traces (λ (before : Traces lent calls old). record {
+      made = one_more calls (next_entries wants buf turn) old before.made (turned wants buf turn step spends refl) same
+          log;
+      keeps = keeps_next lent calls calls' old new wants buf turn before.keeps log step spends;
+      passed =
+          renumbered lent.links calls' old new same
+          (passed_next lent.links old new calls calls' wants buf turn before.passed log step);
+    })
 
-pub traces_listen : (lent : Lent) (calls calls' : List Entry) (old new : Seen) (address : List ℕ) (answer : ListenAnswer) → ∥ Traces lent calls old ∥₁ → calls' ≡ calls ++ listen_entries address answer → new.first ≡ old.first
+pub traces_listen : (lent : Lent) (calls calls' : List Entry) (old new : Seen) (address : List ℕ)
+    (answer : ListenAnswer) → ∥ Traces lent calls old ∥₁ → calls' ≡ calls ++ listen_entries address answer
+    → new.first ≡ old.first
     → ListenStep old new address answer → (answer ≡ listen.Memory → new.spent ≡ true) → ∥ Traces lent calls' new ∥₁
-traces_listen lent calls calls' old new address answer traces log same step spends = ∥∥₁_map traces (λ (before : Traces lent calls old). record {
-  made = one_more calls (listen_entries address answer) old before.made (listened address answer step spends refl) same
-      log;
-  keeps = keeps_listen lent calls calls' old new address answer before.keeps log step spends;
-  passed = renumbered lent.links calls' old new same (passed_listen lent.links old new calls calls' address answer before.passed log step);
-})
+traces_listen lent calls calls' old new address answer traces log same step spends =
+    ∥∥₁_map traces (λ (before : Traces lent calls old). record {
+      made = one_more calls (listen_entries address answer) old before.made (listened address answer step spends refl)
+          same log;
+      keeps = keeps_listen lent calls calls' old new address answer before.keeps log step spends;
+      passed =
+          renumbered lent.links calls' old new same
+          (passed_listen lent.links old new calls calls' address answer before.passed log step);
+    })
 
-pub traces_send : (lent : Lent) (calls calls' : List Entry) (old new : Seen) (link : ℕ) (bytes : List ℕ) (answer : SendAnswer) → ∥ Traces lent calls old ∥₁ → calls' ≡ calls ++ send_entries link bytes answer → new.first ≡ old.first
-    → (answer ≢ send.Memory → SendStep old new link bytes answer) → (answer ≡ send.Memory → Unsent old new) → (answer ≡ send.Memory → new.spent ≡ true) → ∥ Traces lent calls' new ∥₁
-traces_send lent calls calls' old new link bytes answer traces log same step unsent spends = ∥∥₁_map traces (λ (before : Traces lent calls old). record {
-  made = one_more calls (send_entries link bytes answer) old before.made
-      (sent link bytes answer (step, unsent) spends refl) same log;
-  keeps = keeps_send lent calls calls' old new link bytes answer before.keeps log step unsent spends;
-  passed = renumbered lent.links calls' old new same (passed_send lent.links old new calls calls' link bytes answer before.passed before.keeps.sends_are log step unsent);
-})
+pub traces_send : (lent : Lent) (calls calls' : List Entry) (old new : Seen) (link : ℕ) (bytes : List ℕ)
+    (answer : SendAnswer) → ∥ Traces lent calls old ∥₁ → calls' ≡ calls ++ send_entries link bytes answer
+    → new.first ≡ old.first
+    → (answer ≢ send.Memory → SendStep old new link bytes answer) → (answer ≡ send.Memory → Unsent old new)
+    → (answer ≡ send.Memory → new.spent ≡ true) → ∥ Traces lent calls' new ∥₁
+traces_send lent calls calls' old new link bytes answer traces log same step unsent spends =
+    ∥∥₁_map traces (λ (before : Traces lent calls old). record {
+      made = one_more calls (send_entries link bytes answer) old before.made
+          (sent link bytes answer (step, unsent) spends refl) same log;
+      keeps = keeps_send lent calls calls' old new link bytes answer before.keeps log step unsent spends;
+      passed =
+          renumbered lent.links calls' old new same
+          (passed_send lent.links old new calls calls' link bytes answer before.passed before.keeps.sends_are log step
+          unsent);
+    })
 
-pub traces_close : (lent : Lent) (calls calls' : List Entry) (old new : Seen) (link : ℕ) → ∥ Traces lent calls old ∥₁ → calls' ≡ calls ++ Close link ∷ [] → new.first ≡ old.first → CloseStep old new link → ∥ Traces lent calls' new ∥₁
-traces_close lent calls calls' old new link traces log same step = ∥∥₁_map traces (λ (before : Traces lent calls old). record {
-  made = one_more calls (Close link ∷ []) old before.made (closed link step refl) same log;
-  keeps = keeps_close lent calls calls' old new link before.keeps log step;
-  passed = renumbered lent.links calls' old new same (passed_close lent.links old new calls calls' link before.passed log step);
-})
+pub traces_close : (lent : Lent) (calls calls' : List Entry) (old new : Seen) (link : ℕ) → ∥ Traces lent calls old ∥₁
+    → calls' ≡ calls ++ Close link ∷ [] → new.first ≡ old.first → CloseStep old new link → ∥ Traces lent calls' new ∥₁
+traces_close lent calls calls' old new link traces log same step =
+    ∥∥₁_map traces (λ (before : Traces lent calls old). record {
+      made = one_more calls (Close link ∷ []) old before.made (closed link step refl) same log;
+      keeps = keeps_close lent calls calls' old new link before.keeps log step;
+      passed =
+          renumbered lent.links calls' old new same
+          (passed_close lent.links old new calls calls' link before.passed log step);
+    })

@@ -19,7 +19,8 @@ AreAll turns entries = (entries ≡ turns) ⊎ ((entry : TurnRecord) × (entries
 
 -- these are the first of the turns, or all and one more
 abbrev pub AreFirst : List TurnRecord → List TurnRecord → Type 0
-AreFirst turns entries = ((rest : List TurnRecord) × (entries ++ rest ≡ turns)) ⊎ ((entry : TurnRecord) × (entries ≡ turns ++ entry ∷ []))
+AreFirst turns entries =
+    ((rest : List TurnRecord) × (entries ++ rest ≡ turns)) ⊎ ((entry : TurnRecord) × (entries ≡ turns ++ entry ∷ []))
 
 -- the file holds the journal with some records more, of which the fact holds
 abbrev pub HoldsMore : Journal → (List TurnRecord → Type 0) → List ℕ → Type 0
@@ -28,9 +29,11 @@ HoldsMore journal P file = (entries : List TurnRecord) × Holds (with_records jo
 -- A file that held the journal holds it with the first of the turns whenever a crash comes, and with all of them once
 -- they were handed out. One more may follow them. No part of a record follows.
 pub record CrashesLeaveTurns : Type 0 where
-  pub at_any_moment : (journal : Journal) (start now : Past) (calls : List Entry) → ((image : List ℕ) → Leaves start image → Holds journal image) → Recorded journal start calls now
+  pub at_any_moment : (journal : Journal) (start now : Past) (calls : List Entry)
+      → ((image : List ℕ) → Leaves start image → Holds journal image) → Recorded journal start calls now
       → LeavesOnly start now (HoldsMore journal (AreFirst (noted calls).records))
-  pub now : (journal : Journal) (start now : Past) (calls : List Entry) → ((image : List ℕ) → Leaves start image → Holds journal image) → Recorded journal start calls now
+  pub now : (journal : Journal) (start now : Past) (calls : List Entry)
+      → ((image : List ℕ) → Leaves start image → Holds journal image) → Recorded journal start calls now
       → (image : List ℕ) → Leaves now image → HoldsMore journal (AreAll (noted calls).records) image
 
 -- When the lines and the replies of a turn go out, the journal that stood there has all turns that were handed out,

@@ -36,9 +36,10 @@ nothing_lent = record {
   found = record { gate = 0; has_record = false };
 }
 
--- Of the file, in which this journal stood when it was lent: the calls were recorded, and unless these links are spent the
--- journal with their turns stands there.
-pub record KeepsJournal (journal : Journal) (start : Past) (calls : List Entry) (kept : Kept) (spent : Bool) : Type 0 where
+-- Of the file, in which this journal stood when it was lent: the calls were recorded, and unless these links are spent
+-- the journal with their turns stands there.
+pub record KeepsJournal (journal : Journal) (start : Past) (calls : List Entry) (kept : Kept)
+    (spent : Bool) : Type 0 where
   pub now : Past
   pub reported : kept.past ≡ Some now
   pub recorded : Recorded journal start calls now
@@ -48,7 +49,8 @@ pub record KeepsJournal (journal : Journal) (start : Past) (calls : List Entry) 
 -- the same of any journal that stood there, with the summaries of the next record
 pub record Keeps (lent : Lent) (calls : List Entry) (kept : Kept) (sends : List Summary) (spent : Bool) : Type 0 where
   pub sends_are : (noted calls).sends ≡ sends
-  pub journal : (journal : Journal) (start : Past) → lent.disk.past ≡ Some start → Stands start lent.found.gate lent.found.has_record journal
+  pub journal : (journal : Journal) (start : Past) → lent.disk.past ≡ Some start
+      → Stands start lent.found.gate lent.found.has_record journal
       → KeepsJournal journal start calls kept spent
 
 -- of links that reported `lent` before these calls: these calls were made of them meanwhile
@@ -64,12 +66,13 @@ pub record Traces (lent : Lent) (calls : List Entry) (seen : Seen) : Type 0 wher
   pub keeps : Keeps lent calls seen.kept seen.sends seen.spent
   pub passed : Passed seen.first lent.links calls seen.inner
 
--- what a fault of the disk adds to the faults of the links that were lent: as many as may be, so that nothing is said of a
--- failure after it
+-- what a fault of the disk adds to the faults of the links that were lent: as many as may be, so that nothing is said
+-- of a failure after it
 abbrev pub disk_faults : Bool → ℕ
 disk_faults true = greatest
 disk_faults false = 0
 
 -- What these links report: all calls, and the faults of the links that were lent and of the disk.
 abbrev pub traced_report : List Entry → LinksReport → Bool → LinksReport
-traced_report calls links disk_failed = record { log = Some calls; script = None; faults = links.faults + disk_faults disk_failed }
+traced_report calls links disk_failed =
+    record { log = Some calls; script = None; faults = links.faults + disk_faults disk_failed }

@@ -12,13 +12,14 @@ use Rattle.turn_journal.specs.Standing.{HoldsOrWith}
 abbrev pub with_records : Journal → List TurnRecord → Journal
 with_records journal entries = record { config = journal.config; records = journal.records ++ entries }
 
--- Until `now` a crash left the journal, or the journal with this record whole. Since then every crash leaves the latter.
+-- Until `now` a crash left the journal, or the journal with this record whole. Since then every crash leaves the
+-- latter.
 pub record IsKept (journal : Journal) (entry : TurnRecord) (past now : Past) : Type 0 where
   pub until : LeavesOnly past now (HoldsOrWith journal entry)
   pub since : (image : List ℕ) → Leaves now image → Holds (with_record journal entry) image
 
--- Each of these turns was handed out once its record was kept, after those before it. `now` is what was done to the file
--- when the last of them was.
+-- Each of these turns was handed out once its record was kept, after those before it. `now` is what was done to the
+-- file when the last of them was.
 pub data AreKept (journal : Journal) (start : Past) : List TurnRecord → Past → Type 0 where
   none_yet : {turns : List TurnRecord} {now : Past} → turns ≡ [] → now ≡ start → AreKept journal start turns now
   one_more : {turns : List TurnRecord} {now : Past} → (before : List TurnRecord) (entry : TurnRecord) (past : Past)
@@ -32,8 +33,8 @@ pub record IsBegun (journal : Journal) (past now : Past) : Type 0 where
   pub allowed : IsRecord entry
   pub leaves : LeavesOnly past now (HoldsOrWith journal entry)
 
--- In a file that held the journal these calls were recorded: a crash at any moment leaves the journal with the turns that
--- were handed out, in order. Beyond them it leaves one at most, whole, whose record was begun last.
+-- In a file that held the journal these calls were recorded: a crash at any moment leaves the journal with the turns
+-- that were handed out, in order. Beyond them it leaves one at most, whole, whose record was begun last.
 pub record Recorded (journal : Journal) (start : Past) (calls : List Entry) (now : Past) : Type 0 where
   -- when the last turn was handed out
   pub past : Past

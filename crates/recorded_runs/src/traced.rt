@@ -29,7 +29,8 @@ pub struct TracedLinks<'a, L: Links, D: Disk, K: Loan> {
         (D.report links.recorder.journal.disk.now).faults ≡ K.lent.disk.faults },
     pub ghost broke: { disk_failed ≡ true →
         Rose K.lent.disk.faults (D.report links.recorder.journal.disk.now).faults },
-    pub ghost disk_faults: { K.lent.disk.faults ≤ (D.report links.recorder.journal.disk.now).faults },
+    pub ghost disk_faults: { K.lent.disk.faults
+        ≤ (D.report links.recorder.journal.disk.now).faults },
     pub ghost opened: { (D.report links.recorder.journal.disk.now).opened
         ≡ K.lent.disk.opened } by { Prim.hlevel props },
     pub ghost traces: { ∥ Traces K.lent links.log (seen_of links) ∥₁ },

@@ -37,4 +37,6 @@ closed_after link opened = remove_key (is_at (nat_cmp link)) opened
 
 -- an inner link that is open by one log is open by the other
 abbrev pub Passes : ℕ → List Entry → List Entry → Type 0
-Passes first own there = (link number : ℕ) → inner_number first link ≡ Some number → IsTrue (is_unclosed link own) → IsTrue (is_unclosed link there)
+Passes first own there =
+    (link number : ℕ) → inner_number first link ≡ Some number → IsTrue (is_unclosed link own)
+    → IsTrue (is_unclosed link there)

@@ -22,9 +22,10 @@ pub record LentJournal : Type 0 where
 abbrev pub no_journal : LentJournal
 no_journal = record { lent = nothing_lent; records = [] }
 
--- Of the file since it was lent. Unless a `listen` or a `next` failed or was out of memory, the journal with all turns that
--- were handed out is on the disk.
-pub record KeepsRun (start : Past) (calls : List Entry) (progress : Progress) (kept : Kept) (ended : Bool) : Type 0 where
+-- Of the file since it was lent. Unless a `listen` or a `next` failed or was out of memory, the journal with all turns
+-- that were handed out is on the disk.
+pub record KeepsRun (start : Past) (calls : List Entry) (progress : Progress) (kept : Kept)
+    (ended : Bool) : Type 0 where
   pub now : Past
   pub reported : kept.past ≡ Some now
   pub moments : IsKeptIn start calls progress now
@@ -33,12 +34,15 @@ pub record KeepsRun (start : Past) (calls : List Entry) (progress : Progress) (k
   pub others : AreTurns progress.records
 
 -- so it is if these records were loaded
-pub record KeepsJournal (lent : LentJournal) (calls : List Entry) (progress : Progress) (kept : Kept) (ended : Bool) : Type 0 where
+pub record KeepsJournal (lent : LentJournal) (calls : List Entry) (progress : Progress) (kept : Kept)
+    (ended : Bool) : Type 0 where
   pub records_are : progress.records ≡ lent.records
-  pub run : (past : Past) (config : List ℕ) → lent.lent.disk.past ≡ Some (synced past) → Resumes past lent.lent.found config lent.records → KeepsRun (synced past) calls progress kept ended
+  pub run : (past : Past) (config : List ℕ) → lent.lent.disk.past ≡ Some (synced past)
+      → Resumes past lent.lent.found config lent.records → KeepsRun (synced past) calls progress kept ended
 
 -- these calls were made meanwhile of the links that were lent
-pub record Asked (first : ℕ) (lent : LentJournal) (calls : List Entry) (seen : Seen) (progress : Progress) : Type 0 where
+pub record Asked (first : ℕ) (lent : LentJournal) (calls : List Entry) (seen : Seen)
+    (progress : Progress) : Type 0 where
   pub later : List Entry
   pub asked : List Entry
   pub adds : AddsCalls lent.lent.links seen.inner asked

@@ -1,56 +1,38 @@
 use crate::formats::CONFIG;
 use crate::recorded::{RECORDED, buffer, empty_disk, is_next, is_played, two_turns};
 use disk_port::{Disk, MemDisk};
-use ev_types::{Blob, Memory};
-use journal_links::JournalLinks;
-use ports::{Links, SendAnswer, What};
-use recorded_links::{RecordRoom, RecordedLinks};
-use replayed_links::{OpenLinks, last_opened};
+use ev_types::{Blob, Memory, Text};
+use journal_links::{JournalLinks, JournalRoom};
+use ports::{Links, ListenAnswer, SendAnswer, What};
 use std::alloc::Global;
 use std::test::Fail;
-use turn_journal::{JournalFault, JournalFile};
-use turn_replay::{Replay, read_journal};
+use turn_journal::JournalFault;
+use turn_replay::read_journal;
 
-/// Whether turns are recorded in a journal that begins, which has none to be given again.
+/// Whether turns are recorded in a journal that begins.
 fn is_begun<L: Links, D: Disk>(
     alloc: Global,
     inner: &mut L,
     disk: &mut D,
 ) -> Result<bool, JournalFault> {
-    let mut room = RecordRoom::fresh(alloc);
-    let mut replay = Replay::fresh(alloc);
-    let mut opened = OpenLinks::fresh(alloc);
-    let journal = JournalFile::begin(alloc, disk, &mut room.written, CONFIG)?;
-    let recorded = RecordedLinks::over(inner, journal, None, &mut room.turns);
-    let mut links = JournalLinks::over(recorded, &mut replay, &mut opened);
+    let mut room = JournalRoom::fresh(alloc);
+    let mut links = JournalLinks::record(alloc, inner, disk, &mut room, CONFIG)?;
     let played = is_played(alloc, &mut links)?;
-    Ok(played && !links.recorded.disk_failed)
+    let config = links.config().as_slice() == CONFIG.as_slice();
+    Ok(played && config && !links.replayed() && !links.disk_failed())
 }
 
-/// Whether the turns of a journal with a record are given again, its link 0 is broken, and link 0 of the inner links is link 1.
+/// Whether the turns of a journal are given again, its link 0 is broken, and link 0 of the inner links is link 1.
 fn is_resumed<L: Links, D: Disk>(
     alloc: Global,
     inner: &mut L,
     disk: &mut D,
 ) -> Result<bool, JournalFault> {
-    let mut room = RecordRoom::fresh(alloc);
-    let (journal, bytes) = match JournalFile::load(alloc, disk, &mut room.written) {
-        Ok(loaded) => loaded,
-        Err(fault) => return Err(fault),
-    };
-    let (_, records) = match read_journal(alloc, bytes.as_slice()) {
-        Ok(read) => read,
-        Err(fault) => return Err(fault),
-    };
-    if !journal.has_record {
-        return Ok(false);
-    }
-    let mut replay = Replay::over(alloc, records)?;
-    let mut opened = OpenLinks::fresh(alloc);
-    let last = last_opened(replay.records.as_slice());
-    let recorded = RecordedLinks::over(inner, journal, last, &mut room.turns);
-    let mut links = JournalLinks::over(recorded, &mut replay, &mut opened);
-    goes_on(alloc, &mut links)
+    let mut room = JournalRoom::fresh(alloc);
+    let mut links = JournalLinks::resume(alloc, inner, disk, &mut room)?;
+    let config = links.config().as_slice() == CONFIG.as_slice();
+    let went_on = goes_on(alloc, &mut links)?;
+    Ok(config && went_on && !links.replayed() && !links.disk_failed())
 }
 
 /// Whether these turns are given, and then those of other links.
@@ -63,6 +45,42 @@ fn goes_on<L: Links>(alloc: Global, links: &mut L) -> Result<bool, JournalFault>
     let sent = links.send(alloc, 1, b"d") == SendAnswer::Took { count: 1 };
     let next = is_next(alloc, links, buf, What::Read { link: 1, count: 2 });
     Ok(played && broken && opened && sent && next)
+}
+
+/// Whether the first turn of a journal that has a later one is given as such.
+fn is_replayed<L: Links, D: Disk>(
+    alloc: Global,
+    inner: &mut L,
+    disk: &mut D,
+) -> Result<bool, JournalFault> {
+    let mut room = JournalRoom::fresh(alloc);
+    let mut links = JournalLinks::resume(alloc, inner, disk, &mut room)?;
+    let address = Text::from_str(alloc, "h:1")?;
+    let listened = links.listen(alloc, &address) == ListenAnswer::Ready { secs: 0 };
+    let before = links.replayed();
+    let mut buf = buffer(alloc)?;
+    let opened = is_next(
+        alloc,
+        &mut links,
+        buf.as_mut_slice(),
+        What::Opened { link: 0 },
+    );
+    Ok(listened && !before && opened && links.replayed())
+}
+
+/// Whether the `listen` of a journal that begins fails for the disk, and the call after it is out of memory.
+fn is_lost<L: Links, D: Disk>(
+    alloc: Global,
+    inner: &mut L,
+    disk: &mut D,
+) -> Result<bool, JournalFault> {
+    let mut room = JournalRoom::fresh(alloc);
+    let mut links = JournalLinks::record(alloc, inner, disk, &mut room, CONFIG)?;
+    let address = Text::from_str(alloc, "h:1")?;
+    let failed = links.listen(alloc, &address) == ListenAnswer::Failed && links.disk_failed();
+    let mut buf = buffer(alloc)?;
+    let ended = is_next(alloc, &mut links, buf.as_mut_slice(), What::Memory);
+    Ok(failed && ended && !links.disk_failed())
 }
 
 /// How many records the journal in these bytes has.
@@ -84,19 +102,41 @@ fn recorded_disk(alloc: Global) -> Result<MemDisk, Memory> {
 }
 
 #[test]
-fn a_run_is_recorded_in_a_journal_that_begins(rt: HostRuntime) -> Result<(), Fail> {
+fn a_run_is_recorded_and_goes_on_with_other_links(rt: HostRuntime) -> Result<(), Fail> {
     let mut disk = empty_disk(rt.alloc(), None)?;
     let mut inner = two_turns(rt.alloc())?;
     assert!(rt; is_begun(rt.alloc(), &mut inner, &mut disk) == Ok(true));
     assert!(rt; disk.file.as_slice() == RECORDED.as_slice());
+    let mut others = two_turns(rt.alloc())?;
+    assert!(rt; is_resumed(rt.alloc(), &mut others, &mut disk) == Ok(true));
+    assert!(rt; count_records(rt.alloc(), disk.file.as_slice()) == Ok(6));
     Ok(())
 }
 
 #[test]
-fn a_resumed_run_goes_on_with_other_links(rt: HostRuntime) -> Result<(), Fail> {
+fn turns_before_the_last_of_a_journal_are_known(rt: HostRuntime) -> Result<(), Fail> {
     let mut disk = recorded_disk(rt.alloc())?;
     let mut inner = two_turns(rt.alloc())?;
-    assert!(rt; is_resumed(rt.alloc(), &mut inner, &mut disk) == Ok(true));
-    assert!(rt; count_records(rt.alloc(), disk.file.as_slice()) == Ok(6));
+    assert!(rt; is_replayed(rt.alloc(), &mut inner, &mut disk) == Ok(true));
+    Ok(())
+}
+
+#[test]
+fn a_run_is_not_begun_over_a_journal_nor_resumed_of_none(rt: HostRuntime) -> Result<(), Fail> {
+    let mut disk = recorded_disk(rt.alloc())?;
+    let mut inner = two_turns(rt.alloc())?;
+    let refused = Err(JournalFault::Refused { place: 0 });
+    assert!(rt; is_begun(rt.alloc(), &mut inner, &mut disk) == refused);
+    let mut empty = empty_disk(rt.alloc(), None)?;
+    assert!(rt; is_resumed(rt.alloc(), &mut inner, &mut empty) == refused);
+    Ok(())
+}
+
+#[test]
+fn a_disk_that_stops_ends_a_run(rt: HostRuntime) -> Result<(), Fail> {
+    let mut disk = empty_disk(rt.alloc(), Some(10))?;
+    let mut inner = two_turns(rt.alloc())?;
+    assert!(rt; is_lost(rt.alloc(), &mut inner, &mut disk) == Ok(true));
+    assert!(rt; disk.faults == 1);
     Ok(())
 }

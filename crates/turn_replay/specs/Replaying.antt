@@ -48,7 +48,8 @@ last_answer end.Failed = send.Failed
 
 -- a send is answered by the summary of its link, of which this many bytes are left to be taken
 abbrev pub answer_of : Summary → ℕ → SendAnswer
-answer_of summary count = if nat_lt 0 summary.taken then send.Took (min summary.taken count) else last_answer summary.end
+answer_of summary count =
+    if nat_lt 0 summary.taken then send.Took (min summary.taken count) else last_answer summary.end
 
 abbrev pub answer_at : Option ℕ → ℕ → List Summary → SendAnswer
 answer_at None count left = send.Later
@@ -71,14 +72,16 @@ left_after link count left = left_at (place_of link left) count left
 -- ---- the next turn
 
 -- The record `entry` was given as a turn, whose bytes are the first ones of the buffer. These are the records after it.
-pub record GivesNext (entry : TurnRecord) (later : List TurnRecord) (turn : Turn) (buf : List ℕ) (left : List Summary) (rest : List TurnRecord) : Type 0 where
+pub record GivesNext (entry : TurnRecord) (later : List TurnRecord) (turn : Turn) (buf : List ℕ) (left : List Summary)
+    (rest : List TurnRecord) : Type 0 where
   pub turn_is : turn ≡ turn_of entry
   pub piece : piece_of turn.what buf ≡ bytes_of entry.event
   pub left_is : left ≡ summaries_next later
   pub rest_is : rest ≡ later
 
 -- the same of the record of a `listen`, of which the second is given
-pub record GivesListen (entry : TurnRecord) (later : List TurnRecord) (secs : ℕ) (left : List Summary) (rest : List TurnRecord) : Type 0 where
+pub record GivesListen (entry : TurnRecord) (later : List TurnRecord) (secs : ℕ) (left : List Summary)
+    (rest : List TurnRecord) : Type 0 where
   pub secs_is : secs ≡ entry.secs
   pub left_is : left ≡ summaries_next later
   pub rest_is : rest ≡ later

@@ -8,7 +8,8 @@ pub returns-in-Some-clause-read : goal.returns-in-Some-clause-read
 returns-in-Some-clause-read c = λ journal is.
     let parts = whole_parts journal c.args.bytes.now is in
     let pair = c.in-Some.ensures journal.config parts.more parts.heads in
-    subst (λ (config : List ℕ). let wanted : List ℕ × List TurnRecord = (config, journal.records) in IsOrMemory wanted c.read_parts.result) pair.0
+    subst (λ (config : List ℕ). let wanted : List ℕ × List TurnRecord = (config, journal.records) in
+    IsOrMemory wanted c.read_parts.result) pair.0
     (c.read_parts.ensures.read journal.records (subst (EndWith true journal.records) (sym pair.1) parts.end_with))
 
 pub returns-in-None-clause-read : goal.returns-in-None-clause-read

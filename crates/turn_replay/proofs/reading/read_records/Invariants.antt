@@ -5,7 +5,9 @@ use Rattle.turn_replay.specs.Reading.{AreLeft, EndWith, has_event}
 use Rattle.turn_replay.proofs.reading.read_records.Given as goal
 
 abbrev pub invariant-records : goal.invariant-records
-invariant-records l = ((all : List TurnRecord) → EndWith true all l.bytes → AreLeft all l.records l.rest) × (list_all has_event l.records ≡ true)
+invariant-records l =
+    ((all : List TurnRecord) → EndWith true all l.bytes → AreLeft all l.records l.rest)
+    × (list_all has_event l.records ≡ true)
 
 abbrev pub decreases-records : goal.decreases-records
 decreases-records l = length l.rest

@@ -10,20 +10,41 @@ use Rattle.journal_links.proofs.links.JournalLinks.listen_again.Goals as goal
 
 pub returns-clause-adds : goal.returns-clause-adds
 returns-clause-adds g c = λ log.
-    let same : g.D.Disk.report c.listen_again-asked.new.self.recorder.journal.disk.now ≡ g.D.Disk.report c.args.self.now.recorded.recorder.journal.disk.now = cc in
-    let faults : ((g.D.Disk.report c.listen_again-asked.new.self.recorder.journal.disk.now)).faults ≡ ((g.D.Disk.report c.args.self.now.recorded.recorder.journal.disk.now)).faults = ap (λ (report : DiskReport). report.faults) same in
-    own_calls log (log ++ listen_entries c.args.address.now c.first_answer-answer.result) (listen_entries c.args.address.now c.first_answer-answer.result) (listen_entries c.args.address.now c.listen_again-asked.result) (g.L.Links.report c.args.self.now.recorded.inner.now) (g.L.Links.report c.listen_again-asked.new.self.inner.now) (g.D.Disk.report c.args.self.now.recorded.recorder.journal.disk.now) (g.D.Disk.report c.listen_again-asked.new.self.recorder.journal.disk.now) refl c.listen_again-asked.ensures.asks (omega (arith, faults))
+    let same : g.D.Disk.report c.listen_again-asked.new.self.recorder.journal.disk.now ≡ g.D.Disk.report
+    c.args.self.now.recorded.recorder.journal.disk.now = cc in
+    let faults : ((g.D.Disk.report c.listen_again-asked.new.self.recorder.journal.disk.now)).faults
+    ≡ ((g.D.Disk.report c.args.self.now.recorded.recorder.journal.disk.now)).faults = ap
+    (λ (report : DiskReport). report.faults) same in
+    own_calls log (log ++ listen_entries c.args.address.now c.first_answer-answer.result)
+    (listen_entries c.args.address.now c.first_answer-answer.result)
+    (listen_entries c.args.address.now c.listen_again-asked.result)
+    (g.L.Links.report c.args.self.now.recorded.inner.now) (g.L.Links.report c.listen_again-asked.new.self.inner.now)
+    (g.D.Disk.report c.args.self.now.recorded.recorder.journal.disk.now)
+    (g.D.Disk.report c.listen_again-asked.new.self.recorder.journal.disk.now) refl c.listen_again-asked.ensures.asks
+    (omega (arith, faults))
 
 pub returns-clause-passes : goal.returns-clause-passes
 returns-clause-passes g c =
     let log : c.listen_again-asked.new.self.log ≡ c.args.self.now.recorded.log = c.listen_again-asked.ensures.log in
-    same_last c.args.self.now.recorded.last c.listen_again-asked.new.self.last (c.args.self.now.log ++ listen_entries c.args.address.now c.first_answer-answer.result) c.listen_again-asked.new.self.log c.listen_again-asked.ensures.last
-    (subst (Passes (first_after c.args.self.now.recorded.last) (c.args.self.now.log ++ listen_entries c.args.address.now c.first_answer-answer.result)) (sym log) (passes_listen_here (first_after c.args.self.now.recorded.last) c.args.self.now.log c.args.self.now.recorded.log c.args.address.now c.first_answer-answer.result c.args.self.now.passes))
+    same_last c.args.self.now.recorded.last c.listen_again-asked.new.self.last
+    (c.args.self.now.log ++ listen_entries c.args.address.now c.first_answer-answer.result)
+    c.listen_again-asked.new.self.log c.listen_again-asked.ensures.last
+    (subst (Passes (first_after c.args.self.now.recorded.last)
+    (c.args.self.now.log ++ listen_entries c.args.address.now c.first_answer-answer.result)) (sym log)
+    (passes_listen_here (first_after c.args.self.now.recorded.last) c.args.self.now.log c.args.self.now.recorded.log
+    c.args.address.now c.first_answer-answer.result c.args.self.now.passes))
 
 pub returns-clause-cause : goal.returns-clause-cause
 returns-clause-cause g c =
-    let same : g.D.Disk.report c.listen_again-asked.new.self.recorder.journal.disk.now ≡ g.D.Disk.report c.args.self.now.recorded.recorder.journal.disk.now = cc in
-    again_cause c.listen_again-asked.result c.first_answer-answer.result ((g.L.Links.report c.args.self.now.recorded.inner.now)).faults ((g.L.Links.report c.listen_again-asked.new.self.inner.now)).faults ((g.D.Disk.report c.args.self.now.recorded.recorder.journal.disk.now)).faults ((g.D.Disk.report c.listen_again-asked.new.self.recorder.journal.disk.now)).faults c.listen_again-asked.ensures.cause c.first_answer-answer.ensures.hands (ap (λ (report : DiskReport). report.faults) same)
+    let same : g.D.Disk.report c.listen_again-asked.new.self.recorder.journal.disk.now ≡ g.D.Disk.report
+    c.args.self.now.recorded.recorder.journal.disk.now = cc in
+    again_cause c.listen_again-asked.result c.first_answer-answer.result
+    ((g.L.Links.report c.args.self.now.recorded.inner.now)).faults
+    ((g.L.Links.report c.listen_again-asked.new.self.inner.now)).faults
+    ((g.D.Disk.report c.args.self.now.recorded.recorder.journal.disk.now)).faults
+    ((g.D.Disk.report c.listen_again-asked.new.self.recorder.journal.disk.now)).faults
+    c.listen_again-asked.ensures.cause c.first_answer-answer.ensures.hands
+    (ap (λ (report : DiskReport). report.faults) same)
 
 pub returns-clause-again : goal.returns-clause-again
 returns-clause-again g c = record {
@@ -46,4 +67,8 @@ returns-clause-again g c = record {
 }
 
 pub returns-clause-failed : goal.returns-clause-failed
-returns-clause-failed g c = λ failed. again_failed c.listen_again-asked.result c.first_answer-answer.result (g.L.Links.report c.args.self.now.recorded.inner.now).faults (g.L.Links.report c.listen_again-asked.new.self.inner.now).faults c.listen_again-asked.ensures.cause c.first_answer-answer.ensures.hands failed
+returns-clause-failed g c =
+    λ failed. again_failed c.listen_again-asked.result c.first_answer-answer.result
+    (g.L.Links.report c.args.self.now.recorded.inner.now).faults
+    (g.L.Links.report c.listen_again-asked.new.self.inner.now).faults c.listen_again-asked.ensures.cause
+    c.first_answer-answer.ensures.hands failed

@@ -7,8 +7,10 @@ use Rattle.journal_links.proofs.links.JournalLinks.turn_again.Goals as goal
 
 pub returns-clause-before : goal.returns-clause-before
 returns-clause-before g c =
-    gives_before (first_after c.args.self.now.recorded.last) c.args.self.now.replay.now.given c.args.self.now.replay.now.records c.next_turn-turn.result.what c.requires.some c.args.self.now.before
-    (λ some entry later is. ap (λ (turn : Turn). turn.what) (let gives = (c.next_turn-turn.ensures.gives some entry later is).0 in gives.turn_is))
+    gives_before (first_after c.args.self.now.recorded.last) c.args.self.now.replay.now.given
+    c.args.self.now.replay.now.records c.next_turn-turn.result.what c.requires.some c.args.self.now.before
+    (λ some entry later is. ap (λ (turn : Turn). turn.what)
+    (let gives = (c.next_turn-turn.ensures.gives some entry later is).0 in gives.turn_is))
 
 pub returns-clause-step : goal.returns-clause-step
 returns-clause-step g c = λ wants. next_again (search rules) (record {

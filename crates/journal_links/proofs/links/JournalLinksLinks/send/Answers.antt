@@ -9,9 +9,21 @@ use Rattle.journal_links.proofs.links.JournalLinksLinks.send.Goals as goal
 pub returns-clause-adds : goal.returns-clause-adds
 returns-clause-adds g c =
     let same : c.answer_send-answer.new.self.log ≡ c.args.self.now.log = c.answer_send-answer.ensures.log in
-    logged c.args.self.now.log c.log_send.new.log (send_entries c.args.link c.args.bytes.now c.answer_send-answer.result) (g.L.Links.report c.args.self.now.recorded.inner.now) (g.L.Links.report c.answer_send-answer.new.self.recorded.inner.now) (g.D.Disk.report c.args.self.now.recorded.recorder.journal.disk.now) (g.D.Disk.report c.answer_send-answer.new.self.recorded.recorder.journal.disk.now) (c.log_send.ensures ∙ ap (λ (log : List Entry). log ++ (send_entries c.args.link c.args.bytes.now c.answer_send-answer.result)) same) (c.answer_send-answer.ensures.adds c.args.self.now.log)
+    logged c.args.self.now.log c.log_send.new.log
+    (send_entries c.args.link c.args.bytes.now c.answer_send-answer.result)
+    (g.L.Links.report c.args.self.now.recorded.inner.now)
+    (g.L.Links.report c.answer_send-answer.new.self.recorded.inner.now)
+    (g.D.Disk.report c.args.self.now.recorded.recorder.journal.disk.now)
+    (g.D.Disk.report c.answer_send-answer.new.self.recorded.recorder.journal.disk.now)
+    (c.log_send.ensures ∙ ap
+    (λ (log : List Entry). log ++ (send_entries c.args.link c.args.bytes.now c.answer_send-answer.result)) same)
+    (c.answer_send-answer.ensures.adds c.args.self.now.log)
 
 pub invariant_of-self-clause-passes : goal.invariant_of-self-clause-passes
 invariant_of-self-clause-passes g c =
     let same : c.answer_send-answer.new.self.log ≡ c.args.self.now.log = c.answer_send-answer.ensures.log in
-    subst (λ (log : List Entry). Passes (first_after c.answer_send-answer.new.self.recorded.last) log c.answer_send-answer.new.self.recorded.log) (sym (c.log_send.ensures ∙ ap (λ (log : List Entry). log ++ (send_entries c.args.link c.args.bytes.now c.answer_send-answer.result)) same)) c.answer_send-answer.ensures.passes
+    subst (λ (log : List Entry). Passes (first_after c.answer_send-answer.new.self.recorded.last) log
+    c.answer_send-answer.new.self.recorded.log) (sym
+    (c.log_send.ensures ∙ ap
+    (λ (log : List Entry). log ++ (send_entries c.args.link c.args.bytes.now c.answer_send-answer.result)) same))
+    c.answer_send-answer.ensures.passes

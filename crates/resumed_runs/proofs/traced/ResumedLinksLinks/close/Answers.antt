@@ -11,31 +11,48 @@ use Rattle.resumed_runs.proofs.MadeLaws.{made_more}
 use Rattle.resumed_runs.proofs.traced.ResumedLinksLinks.close.Goals as goal
 
 pub close-requires : goal.close-requires
-close-requires g c = may_close c.args.self.now.links.log (g.L.Links.report c.args.self.now.links.recorded.inner.now) (g.D.Disk.report c.args.self.now.links.recorded.recorder.journal.disk.now) c.args.link c.requires
+close-requires g c =
+    may_close c.args.self.now.links.log (g.L.Links.report c.args.self.now.links.recorded.inner.now)
+    (g.D.Disk.report c.args.self.now.links.recorded.recorder.journal.disk.now) c.args.link c.requires
 
 pub returns-clause-adds : goal.returns-clause-adds
-returns-clause-adds g c = quiet_calls c.args.self.now.links.log c.close.new.self.log (Close c.args.link ∷ []) (g.L.Links.report c.args.self.now.links.recorded.inner.now) (g.L.Links.report c.close.new.self.recorded.inner.now) c.args.self.now.disk_failed c.close.ensures.log (inner_still _ _ _ _ c.close.ensures.no_fault (close_still _ _ _ _ _ c.close.ensures.step))
+returns-clause-adds g c =
+    quiet_calls c.args.self.now.links.log c.close.new.self.log (Close c.args.link ∷ [])
+    (g.L.Links.report c.args.self.now.links.recorded.inner.now)
+    (g.L.Links.report c.close.new.self.recorded.inner.now) c.args.self.now.disk_failed c.close.ensures.log
+    (inner_still _ _ _ _ c.close.ensures.no_fault (close_still _ _ _ _ _ c.close.ensures.step))
 
 pub returns-clause-no_fault : goal.returns-clause-no_fault
-returns-clause-no_fault g c = let same = inner_still _ _ _ _ c.close.ensures.no_fault (close_still _ _ _ _ _ c.close.ensures.step) in omega (arith, same)
+returns-clause-no_fault g c =
+    let same = inner_still _ _ _ _ c.close.ensures.no_fault (close_still _ _ _ _ _ c.close.ensures.step) in
+    omega (arith, same)
 
 pub invariant_of-self-clause-links_faults : goal.invariant_of-self-clause-links_faults
-invariant_of-self-clause-links_faults g c = let same = inner_still _ _ _ _ c.close.ensures.no_fault (close_still _ _ _ _ _ c.close.ensures.step) in omega (arith, same, c.args.self.now.links_faults)
+invariant_of-self-clause-links_faults g c =
+    let same = inner_still _ _ _ _ c.close.ensures.no_fault (close_still _ _ _ _ _ c.close.ensures.step) in
+    omega (arith, same, c.args.self.now.links_faults)
 
 pub invariant_of-self-clause-quiet : goal.invariant_of-self-clause-quiet
 invariant_of-self-clause-quiet g c = λ is. close_still _ _ _ _ _ c.close.ensures.step ∙ c.args.self.now.quiet is
 
 pub invariant_of-self-clause-broke : goal.invariant_of-self-clause-broke
-invariant_of-self-clause-broke g c = λ is. subst (Rose g.K.JournalLoan.lent.lent.disk.faults) (sym (close_still _ _ _ _ _ c.close.ensures.step)) (c.args.self.now.broke is)
+invariant_of-self-clause-broke g c =
+    λ is. subst (Rose g.K.JournalLoan.lent.lent.disk.faults) (sym (close_still _ _ _ _ _ c.close.ensures.step))
+    (c.args.self.now.broke is)
 
 pub invariant_of-self-clause-disk_faults : goal.invariant_of-self-clause-disk_faults
-invariant_of-self-clause-disk_faults g c = let same = close_still _ _ _ _ _ c.close.ensures.step in omega (arith, same, c.args.self.now.disk_faults)
+invariant_of-self-clause-disk_faults g c =
+    let same = close_still _ _ _ _ _ c.close.ensures.step in omega (arith, same, c.args.self.now.disk_faults)
 
 pub invariant_of-self-clause-keeps : goal.invariant_of-self-clause-keeps
-invariant_of-self-clause-keeps g c = keeps_close g.K.JournalLoan.lent c.args.self.now.links.log c.close.new.self.log _ _ _ _ c.args.link c.args.self.now.ended c.args.self.now.keeps c.close.ensures.log c.close.ensures.step
+invariant_of-self-clause-keeps g c =
+    keeps_close g.K.JournalLoan.lent c.args.self.now.links.log c.close.new.self.log _ _ _ _ c.args.link
+    c.args.self.now.ended c.args.self.now.keeps c.close.ensures.log c.close.ensures.step
 
 pub invariant_of-self-clause-asked : goal.invariant_of-self-clause-asked
-invariant_of-self-clause-asked g c = asked_close g.K.JournalLoan.lent c.args.self.now.links.log c.close.new.self.log _ _ _ _ c.args.link c.args.self.now.asked c.close.ensures.log (ap first_after c.close.ensures.last) c.close.ensures.step
+invariant_of-self-clause-asked g c =
+    asked_close g.K.JournalLoan.lent c.args.self.now.links.log c.close.new.self.log _ _ _ _ c.args.link
+    c.args.self.now.asked c.close.ensures.log (ap first_after c.close.ensures.last) c.close.ensures.step
 
 pub invariant_of-self-clause-made : goal.invariant_of-self-clause-made
 invariant_of-self-clause-made g c =

@@ -11,28 +11,43 @@ use Rattle.resumed_runs.proofs.MadeLaws.{made_more}
 use Rattle.resumed_runs.proofs.traced.ResumedLinksLinks.send.Goals as goal
 
 pub returns-clause-adds : goal.returns-clause-adds
-returns-clause-adds g c = quiet_calls c.args.self.now.links.log c.send.new.self.log (send_entries c.args.link c.args.bytes.now c.send.result) (g.L.Links.report c.args.self.now.links.recorded.inner.now) (g.L.Links.report c.send.new.self.recorded.inner.now) c.args.self.now.disk_failed c.send.ensures.log (inner_still _ _ _ _ c.send.ensures.no_fault (send_still _ _ _ _ _ _ _ c.send.ensures.step))
+returns-clause-adds g c =
+    quiet_calls c.args.self.now.links.log c.send.new.self.log (send_entries c.args.link c.args.bytes.now c.send.result)
+    (g.L.Links.report c.args.self.now.links.recorded.inner.now)
+    (g.L.Links.report c.send.new.self.recorded.inner.now) c.args.self.now.disk_failed c.send.ensures.log
+    (inner_still _ _ _ _ c.send.ensures.no_fault (send_still _ _ _ _ _ _ _ c.send.ensures.step))
 
 pub returns-clause-no_fault : goal.returns-clause-no_fault
-returns-clause-no_fault g c = let same = inner_still _ _ _ _ c.send.ensures.no_fault (send_still _ _ _ _ _ _ _ c.send.ensures.step) in omega (arith, same)
+returns-clause-no_fault g c =
+    let same = inner_still _ _ _ _ c.send.ensures.no_fault (send_still _ _ _ _ _ _ _ c.send.ensures.step) in
+    omega (arith, same)
 
 pub invariant_of-self-clause-links_faults : goal.invariant_of-self-clause-links_faults
-invariant_of-self-clause-links_faults g c = let same = inner_still _ _ _ _ c.send.ensures.no_fault (send_still _ _ _ _ _ _ _ c.send.ensures.step) in omega (arith, same, c.args.self.now.links_faults)
+invariant_of-self-clause-links_faults g c =
+    let same = inner_still _ _ _ _ c.send.ensures.no_fault (send_still _ _ _ _ _ _ _ c.send.ensures.step) in
+    omega (arith, same, c.args.self.now.links_faults)
 
 pub invariant_of-self-clause-quiet : goal.invariant_of-self-clause-quiet
 invariant_of-self-clause-quiet g c = λ is. send_still _ _ _ _ _ _ _ c.send.ensures.step ∙ c.args.self.now.quiet is
 
 pub invariant_of-self-clause-broke : goal.invariant_of-self-clause-broke
-invariant_of-self-clause-broke g c = λ is. subst (Rose g.K.JournalLoan.lent.lent.disk.faults) (sym (send_still _ _ _ _ _ _ _ c.send.ensures.step)) (c.args.self.now.broke is)
+invariant_of-self-clause-broke g c =
+    λ is. subst (Rose g.K.JournalLoan.lent.lent.disk.faults) (sym (send_still _ _ _ _ _ _ _ c.send.ensures.step))
+    (c.args.self.now.broke is)
 
 pub invariant_of-self-clause-disk_faults : goal.invariant_of-self-clause-disk_faults
-invariant_of-self-clause-disk_faults g c = let same = send_still _ _ _ _ _ _ _ c.send.ensures.step in omega (arith, same, c.args.self.now.disk_faults)
+invariant_of-self-clause-disk_faults g c =
+    let same = send_still _ _ _ _ _ _ _ c.send.ensures.step in omega (arith, same, c.args.self.now.disk_faults)
 
 pub invariant_of-self-clause-keeps : goal.invariant_of-self-clause-keeps
-invariant_of-self-clause-keeps g c = keeps_send g.K.JournalLoan.lent c.args.self.now.links.log c.send.new.self.log _ _ _ _ c.args.link c.args.bytes.now c.send.result c.args.self.now.ended c.args.self.now.keeps c.send.ensures.log c.send.ensures.step
+invariant_of-self-clause-keeps g c =
+    keeps_send g.K.JournalLoan.lent c.args.self.now.links.log c.send.new.self.log _ _ _ _ c.args.link c.args.bytes.now
+    c.send.result c.args.self.now.ended c.args.self.now.keeps c.send.ensures.log c.send.ensures.step
 
 pub invariant_of-self-clause-asked : goal.invariant_of-self-clause-asked
-invariant_of-self-clause-asked g c = asked_send g.K.JournalLoan.lent c.args.self.now.links.log c.send.new.self.log _ _ _ _ c.args.link c.args.bytes.now c.send.result c.args.self.now.asked c.send.ensures.log (ap first_after c.send.ensures.last) c.send.ensures.step
+invariant_of-self-clause-asked g c =
+    asked_send g.K.JournalLoan.lent c.args.self.now.links.log c.send.new.self.log _ _ _ _ c.args.link c.args.bytes.now
+    c.send.result c.args.self.now.asked c.send.ensures.log (ap first_after c.send.ensures.last) c.send.ensures.step
 
 pub invariant_of-self-clause-made : goal.invariant_of-self-clause-made
 invariant_of-self-clause-made g c =
