@@ -1,4 +1,4 @@
-ghost use Rattle.std.specs.Prelude.{◌≡◌, ◌+◌, ◌-◌, ◌^◌, ◌≤◌, false, List, [], ◌∷◌, ◌++◌, length, replicate, IfOk, IsErr, IsTrue, OnErr, OnOk};
+ghost use Rattle.std.specs.Prelude.{◌≡◌, ◌+◌, ◌-◌, ◌^◌, ◌≤◌, false, List, [], ◌∷◌, ◌++◌, length, replicate, take, IfOk, IsErr, IsTrue, OnErr, OnOk};
 ghost use Rattle.ev_types.specs.Clock.{seconds_per_turn_limit};
 ghost use Rattle.ev_types.specs.Interval.{IsInterval};
 ghost use Rattle.list_laws.specs.Prefix.{IsPrefix};
@@ -182,6 +182,48 @@ impl Core {
             return Err(Memory);
         }
         self.streams.find(alloc, pred, found, steps)
+    }
+
+    /// Appends the first `limit` live events that meet the predicate, where they lie, in the order of [`Core::search`]. It
+    /// stops at the last of them. After `Memory` the core is as it was, and `found` begins with what it had.
+    pub fn find_first<'a, G: Ledger>(
+        &'a self,
+        alloc: Global,
+        pred: &mut Pred,
+        limit: usize,
+        found: &mut Vec<&'a Event>,
+        steps: &mut Steps<G>,
+    ) -> Result<(), Memory>
+        ensures pred { pred.new ≡ pred.old }
+        ensures found { OnOk result ((arrivals : List Arrival) → Represents self.now arrivals
+            → events_lent found.new.items ≡ events_lent found.old.items
+            ++ take limit (matching_events pred.old (state_by (config_of self.now) arrivals).log)) }
+        ensures prefix { OnErr result (IsPrefix (events_lent found.old.items)
+            (events_lent found.new.items)) }
+        ensures forks { steps.new.forks ≡ steps.old.forks }
+        ensures began { steps.new.began ≡ steps.old.began }
+        ensures entries { (arrivals : List Arrival) → Represents self.now arrivals
+            → steps.new.entries ≤ steps.old.entries + length (visited pred.old
+            (live_events (state_by (config_of self.now) arrivals).log)) }
+        ensures at_least { steps.old.entries ≤ steps.new.entries }
+        ensures poisoned { IsTrue (is_poisoned self.now) → IsErr result }
+    {
+        if self.poisoned {
+            return Err(Memory);
+        }
+        self.streams.find_first(alloc, pred, limit, found, steps)
+    }
+
+    /// Lists the keys of the index in order, where a search for the predicate has to look at all of them. The list is kept
+    /// until a key is added or removed; without it each search walks the keys. The core stays as it is.
+    pub fn prepare(&mut self, alloc: Global, pred: &Pred) -> Result<(), Memory>
+        ensures same { self.new ≡ self.old }
+        ensures poisoned { IsTrue (is_poisoned self.old) → IsErr result }
+    {
+        if self.poisoned {
+            return Err(Memory);
+        }
+        self.streams.prepare(alloc, pred)
     }
 
     /// How many bytes a reply has with the live events that meet the predicate, those that [`Core::find`] lends. What is

@@ -1,4 +1,4 @@
-ghost use Rattle.std.specs.Prelude.{◌≡◌, ◌==◌, ◌+◌, ◌-◌, ◌%◌, ◌^◌, ◌<◌, ◌≤◌, [], ◌++◌, map, replicate, length, IfOk, OnErr, OnOk};
+ghost use Rattle.std.specs.Prelude.{◌≡◌, ◌==◌, ◌+◌, ◌-◌, ◌%◌, ◌^◌, ◌<◌, ◌≤◌, [], ◌++◌, map, replicate, length, take, IfOk, OnErr, OnOk};
 ghost use Rattle.list_laws.specs.Prefix.{IsPrefix};
 ghost use Rattle.ev_types.specs.declared.item.Item.TheVariants.{One};
 ghost use Rattle.ev_types.specs.Rebirth.{expired_copy};
@@ -328,6 +328,39 @@ impl IndexedStreams {
     {
         self.index.find(alloc, pred, found, steps)?;
         Ok(())
+    }
+
+    /// Appends the first `limit` live events that meet the predicate, where they lie, in the order of the index.
+    pub(crate) fn find_first<'a, G: Ledger>(
+        &'a self,
+        alloc: Global,
+        pred: &mut Pred,
+        limit: usize,
+        found: &mut Vec<&'a Event>,
+        steps: &mut Steps<G>,
+    ) -> Result<(), Memory>
+        ensures pred { pred.new ≡ pred.old }
+        ensures found { OnOk result ((state : CoreState) → Holds self.now state
+            → events_lent found.new.items ≡ events_lent found.old.items
+            ++ take limit (matching_events pred.old state.log)) }
+        ensures prefix { OnErr result (IsPrefix (events_lent found.old.items)
+            (events_lent found.new.items)) }
+        ensures forks { steps.new.forks ≡ steps.old.forks }
+        ensures began { steps.new.began ≡ steps.old.began }
+        ensures at_least { steps.old.entries ≤ steps.new.entries }
+        ensures visited { (state : CoreState) → Holds self.now state →
+            steps.new.entries ≤ steps.old.entries
+            + length (visited pred.old (live_events state.log)) }
+    {
+        self.index.find_first(alloc, pred, limit, found, steps)?;
+        Ok(())
+    }
+
+    /// Lists the keys of the index in order, where a search for the predicate has to look at all of them.
+    pub(crate) fn prepare(&mut self, alloc: Global, pred: &Pred) -> Result<(), Memory>
+        ensures { self.new ≡ self.old }
+    {
+        self.index.prepare(alloc, pred)
     }
 
     /// How many bytes a reply has with the live events that meet the predicate.

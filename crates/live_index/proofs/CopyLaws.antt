@@ -14,7 +14,7 @@ use Rattle.live_index.specs.Index.{events_lent}
 use Rattle.live_index.specs.Slots.{key_of, also, events_at, AreLive, IsLinked}
 use Rattle.live_index.proofs.RowLaws.{HasKey, all_found}
 
-events-append : (table : List (Option Event)) (ms ns : List ℕ)
+pub events-append : (table : List (Option Event)) (ms ns : List ℕ)
     → events_at table (ms ++ ns) ≡ events_at table ms ++ events_at table ns
 events-append table [] ns = refl
 events-append table (m ∷ ms) ns = also_by (value_at table m) (events-append table ms ns)
@@ -24,7 +24,7 @@ events-append table (m ∷ ms) ns = also_by (value_at table m) (events-append ta
     also_by None ih = ih
     also_by (Some e) ih = ap (λ es. e ∷ es) ih
 
-filter-append : (p : Event → Bool) (es fs : List Event) → filter p (es ++ fs) ≡ filter p es ++ filter p fs
+pub filter-append : (p : Event → Bool) (es fs : List Event) → filter p (es ++ fs) ≡ filter p es ++ filter p fs
 filter-append p [] fs = refl
 filter-append p (e ∷ es) fs = filter_by (p e) (filter-append p es fs)
   where

@@ -1,6 +1,7 @@
 pub mod CopyLaws
 pub mod CountLaws
 pub mod FindLaws
+pub mod FirstLaws
 pub mod HostLaws
 pub mod LengthLaws
 pub mod LinkLaws

@@ -1,5 +1,7 @@
 -- What a change keeps of the numbers and the events under them.
-use Rattle.std.proofs.Common.{◌≡◌, ℕ, ◌↔◌, IsTrue, Bool, true, false, cond, eqb, List, Option, None, Some, refl, sym, ap, ◌∙◌}
+use Rattle.std.proofs.Common.{◌≡◌, ℕ, ◌↔◌, IsTrue, Bool, true, false, cond, eqb, List, [], Option, None, Some, IfSome, refl, sym, ap, ◌∙◌}
+use Rattle.std.specs.List.Sorted.{IsStrictlySortedBy}
+use Rattle.std.specs.Map.{values_of}
 use Rattle.std.specs.Option.{option_map, IsSome}
 use Rattle.std.proofs.lemmas.Bool.{eqb-true, eqb-false, iff_false}
 use Rattle.ev_types.specs.declared.event.Event.{Event}
@@ -27,6 +29,11 @@ pub now_absent : (numbers numbers' : Numbers) (k : IndexKey) → Sets numbers nu
     → number_at k numbers' ≡ None
 now_absent numbers numbers' k sets = sets k ∙ ap (λ b. cond b None (number_at k numbers)) (same-self k)
 
+-- no numbers rise
+pub none_rise : IsRising []
+unfolding IsStrictlySortedBy
+none_rise = tt
+
 -- ---- a key that had no number
 
 same-numbers : (numbers numbers' : Numbers) (k : IndexKey) → number_at k numbers ≡ None → Sets numbers numbers' k None
@@ -43,6 +50,11 @@ pub unchanged : (numbers numbers' : Numbers) (k : IndexKey) → IsRising numbers
     → number_at k numbers ≡ None → Sets numbers numbers' k None → numbers' ≡ numbers
 unchanged numbers numbers' k rising rising' none sets =
     same_pairs key_total exact-key numbers' numbers rising' rising (same-numbers numbers numbers' k none sets)
+
+-- the list of the numbers is that of the same numbers
+pub still_listed : (order : Option (List ℕ)) (numbers numbers' : Numbers) → numbers' ≡ numbers
+    → IfSome order (λ order. order ≡ values_of numbers) → IfSome order (λ order. order ≡ values_of numbers')
+still_listed order numbers numbers' same is = rw same is
 
 pub nothing_put : (numbers : Numbers) (table : List (Option Event)) (k : IndexKey) → number_at k numbers ≡ None
     → Puts k None numbers table numbers table

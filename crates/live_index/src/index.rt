@@ -1,4 +1,4 @@
-ghost use Rattle.std.specs.Prelude.{◌≡◌, ◌+◌, ◌-◌, ◌*◌, ◌^◌, ◌≤◌, false, [], ◌∷◌, ◌++◌, filter, length, option_copied, IsErr, IsNone, IsSome, IsTrue, IfOk, OnErr, OnOk};
+ghost use Rattle.std.specs.Prelude.{◌≡◌, ◌+◌, ◌-◌, ◌*◌, ◌^◌, ◌≤◌, false, [], ◌∷◌, ◌++◌, filter, length, take, option_copied, IsErr, IsNone, IsSome, IsTrue, IfOk, OnErr, OnOk};
 ghost use Rattle.list_laws.specs.Prefix.{IsPrefix};
 ghost use Rattle.ev_types.specs.Expiry.{is_expired};
 ghost use Rattle.index_log.specs.Live.{IndexLog, Reap, Write};
@@ -162,6 +162,47 @@ impl LiveIndex {
         }
         self.slots.find(alloc, pred, found, steps)?;
         Ok(())
+    }
+
+    /// Appends the first `limit` live events that meet the predicate, where they lie, in the order of the index. It stops at
+    /// the last of them, and counts no more entries than [`LiveIndex::find`]. After `Memory` `found` begins with what it
+    /// had.
+    pub fn find_first<'a, G: Ledger>(
+        &'a self,
+        alloc: Global,
+        pred: &mut Pred,
+        limit: usize,
+        found: &mut Vec<&'a Event>,
+        steps: &mut Steps<G>,
+    ) -> Result<(), Memory>
+        ensures pred { pred.new ≡ pred.old }
+        ensures ok { OnOk result (events_lent found.new.items ≡ events_lent found.old.items
+            ++ take limit (filter (holds pred.old) self.now.events)) }
+        ensures prefix { OnErr result (IsPrefix (events_lent found.old.items)
+            (events_lent found.new.items)) }
+        ensures poisoned { IsTrue self.now.poisoned → IsErr result }
+        ensures forks { steps.new.forks ≡ steps.old.forks }
+        ensures entries { steps.new.entries ≤ steps.old.entries
+            + length (visited pred.old self.now.events) }
+        ensures at_least { steps.old.entries ≤ steps.new.entries }
+        ensures began { steps.new.began ≡ steps.old.began }
+    {
+        if self.poisoned {
+            return Err(Memory);
+        }
+        self.slots.find_first(alloc, pred, limit, found, steps)
+    }
+
+    /// Lists the keys in order, where a search for the predicate has to look at all of them. The list is kept until a key
+    /// is added or removed; without it each search walks the keys. The index stays as it is.
+    pub fn prepare(&mut self, alloc: Global, pred: &Pred) -> Result<(), Memory>
+        ensures same { self.new ≡ self.old }
+        ensures poisoned { IsTrue self.old.poisoned → IsErr result }
+    {
+        if self.poisoned {
+            return Err(Memory);
+        }
+        self.slots.prepare(alloc, pred)
     }
 
     /// How many bytes a reply has with the live events that meet the predicate, as those that [`LiveIndex::find`] lends. It

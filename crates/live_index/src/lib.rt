@@ -6,6 +6,7 @@ mod hints;
 mod index;
 mod keyed;
 mod measured;
+mod ordered;
 mod slots;
 
 pub use index::LiveIndex;

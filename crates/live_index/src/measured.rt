@@ -12,9 +12,10 @@ pub(crate) const EMPTY_REPLY: usize = 2;
 /// An event, and how many bytes it adds to a reply, once that was asked for.
 #[derive(Drop)]
 pub(crate) struct MeasuredEvent {
-    event: Event,
-    // It is forgotten when the event changes, and not kept where it is 2^32 or more.
+    // It is forgotten when the event changes, and not kept where it is 2^32 or more. It comes first, so that it is in one
+    // cache line with what says that the slot is used.
     len: Option<u32>,
+    event: Event,
 }
 
 impl Model for MeasuredEvent {
@@ -35,7 +36,7 @@ impl MeasuredEvent {
     pub(crate) fn of(event: Event) -> MeasuredEvent
         ensures { result ≡ event }
     {
-        MeasuredEvent { event, len: None }
+        MeasuredEvent { len: None, event }
     }
 
     pub(crate) fn event(&self) -> &Event

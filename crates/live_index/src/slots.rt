@@ -1,21 +1,19 @@
-ghost use Rattle.std.specs.Prelude.{◌≡◌, ℕ, ◌+◌, ◌-◌, ◌^◌, ◌≤◌, eqb, false, List, [], ◌∷◌, ◌++◌, Option, filter, length, not, option_copied, IfSome, IfOk, IsNone, IsSome, OnErr, OnOk, true, Some, None, if◌then◌else◌};
-ghost use Rattle.std.specs.Map.{values_of};
+ghost use Rattle.std.specs.Prelude.{◌≡◌, ℕ, ◌+◌, ◌-◌, ◌^◌, ◌≤◌, eqb, false, List, [], ◌∷◌, ◌++◌, Option, filter, length, take, not, option_copied, IfSome, IfOk, IsNone, IsSome, OnErr, OnOk, true, Some, None, if◌then◌else◌};
 ghost use Rattle.list_laws.specs.Prefix.{IsPrefix};
 ghost use Rattle.ev_types.specs.Expiry.{is_expired, is_late, is_over};
 ghost use Rattle.ev_types.specs.declared.event.Event.{Event as StoredEvent};
 ghost use Rattle.key_map.specs.Keys.{number_at, Numbers};
 ghost use Rattle.linked_slots.specs.Table.{value_at, Changes, IsLive};
 ghost use Rattle.tick_schedule.specs.Queue.{IsRising, Sets};
-ghost use Rattle.pred_eval.specs.Host.{asked_host, NeedsHost};
 ghost use Rattle.pred_eval.specs.Truth.{holds};
 ghost use Rattle.live_index.specs.Index.{events_lent, reply_len, visited};
-ghost use Rattle.live_index.specs.Slots.{key_of, events_in, events_at, event_of, slot_of, is_by, AreLive, IsLinked, IsStored, IsTaking, Puts, numbers_of_value};
+ghost use Rattle.live_index.specs.Slots.{key_of, events_in, events_at, event_of, slot_of, is_by, AreLive, IsLinked, IsStored, IsTaking, Puts};
 
 use crate::hints::{Hints, hash_of};
 use crate::keyed::KeyedEvent;
 use crate::measured::{EMPTY_REPLY, MeasuredEvent};
-use ev_types::{DEFAULT_TTL, Event, Events, LATEST_MOMENT, Memory, Text, Value};
-use key_map::KeyMap;
+use crate::ordered::OrderedKeys;
+use ev_types::{DEFAULT_TTL, Event, Events, LATEST_MOMENT, Memory, Text};
 use linked_slots::StepTable;
 use list_laws::Ids;
 use pred_eval::Pred;
@@ -29,7 +27,7 @@ use tick_schedule::DueQueue;
 #[derive(Drop)]
 pub(crate) struct Slots {
     // The key of an event has its number. The queue has the moments at which events expire, by number.
-    numbers: KeyMap,
+    numbers: OrderedKeys,
     events: StepTable<MeasuredEvent>,
     due: DueQueue,
     count: usize,
@@ -43,7 +41,7 @@ impl Slots {
         ensures events { events_in result.numbers result.events.values ≡ [] }
     {
         Slots {
-            numbers: KeyMap::fresh(alloc),
+            numbers: OrderedKeys::fresh(alloc),
             events: StepTable::fresh(alloc),
             due: DueQueue::fresh(alloc),
             count: 0,
@@ -307,9 +305,62 @@ impl Slots {
         ensures at_least { steps.old.entries ≤ steps.new.entries }
         ensures began { steps.new.began ≡ steps.old.began }
     {
-        let numbers = self.numbers_for(alloc, pred)?;
-        find_at(alloc, &self.events, numbers.as_slice(), pred, found, steps)?;
-        Ok(())
+        let numbers = self.numbers.numbers_for(alloc, pred)?;
+        let count = numbers.len();
+        find_at(
+            alloc,
+            &self.events,
+            numbers.as_slice(),
+            pred,
+            count,
+            found,
+            steps,
+        )
+    }
+
+    /// Appends the first `limit` events that meet the predicate, where they lie, in order. It counts no more entries than
+    /// [`Slots::find`].
+    pub(crate) fn find_first<'a, G: Ledger>(
+        &'a self,
+        alloc: Global,
+        pred: &mut Pred,
+        limit: usize,
+        found: &mut Vec<&'a Event>,
+        steps: &mut Steps<G>,
+    ) -> Result<(), Memory>
+        requires { IsStored self.now.numbers self.now.events.values self.now.due self.now.count }
+        ensures same { pred.new ≡ pred.old }
+        ensures ok { OnOk result (events_lent found.new.items ≡ events_lent found.old.items
+            ++ take limit
+            (filter (holds pred.old) (events_in self.now.numbers self.now.events.values))) }
+        ensures prefix { OnErr result (IsPrefix (events_lent found.old.items)
+            (events_lent found.new.items)) }
+        ensures forks { steps.new.forks ≡ steps.old.forks }
+        ensures entries { steps.new.entries ≤ steps.old.entries
+            + length (visited pred.old (events_in self.now.numbers self.now.events.values)) }
+        ensures at_least { steps.old.entries ≤ steps.new.entries }
+        ensures began { steps.new.began ≡ steps.old.began }
+    {
+        let numbers = self.numbers.numbers_for(alloc, pred)?;
+        find_at(
+            alloc,
+            &self.events,
+            numbers.as_slice(),
+            pred,
+            limit,
+            found,
+            steps,
+        )
+    }
+
+    /// Lists the keys in order, where a search for the predicate has to look at all of them.
+    pub(crate) fn prepare(&mut self, alloc: Global, pred: &Pred) -> Result<(), Memory>
+        ensures numbers { self.new.numbers ≡ self.old.numbers }
+        ensures events { self.new.events ≡ self.old.events }
+        ensures due { self.new.due ≡ self.old.due }
+        ensures count { self.new.count ≡ self.old.count }
+    {
+        self.numbers.list_for(alloc, pred)
     }
 
     /// How many bytes a reply has with the events that meet the predicate. It counts what [`Slots::find`] counts.
@@ -335,32 +386,9 @@ impl Slots {
         ensures at_least { steps.old.entries ≤ steps.new.entries }
         ensures began { steps.new.began ≡ steps.old.began }
     {
-        let numbers = self.numbers_for(alloc, pred)?;
+        self.numbers.list_for(alloc, pred)?;
+        let numbers = self.numbers.numbers_for(alloc, pred)?;
         found_len_at(alloc, &mut self.events, numbers.as_slice(), pred, steps)
-    }
-
-    /// The numbers of the events that may meet the predicate, in order.
-    fn numbers_for(&self, alloc: Global, pred: &Pred) -> Result<Ids, Memory>
-        ensures numbers { IfOk result (λ numbers. numbers
-            ≡ values_of (numbers_of_value (asked_host pred.now) self.now.numbers)) }
-        ensures needs { IfSome (asked_host pred.now) (NeedsHost pred.now) }
-    {
-        match pred.asked_host() {
-            Some(host) => self.numbers_of(alloc, host),
-            None => self.numbers.numbers(alloc),
-        }
-    }
-
-    /// The numbers of the events whose host is the value, in order. No host is a number.
-    fn numbers_of(&self, alloc: Global, host: &Value) -> Result<Ids, Memory>
-        ensures { IfOk result (λ numbers. numbers
-            ≡ values_of (numbers_of_value (Some host.now) self.now.numbers)) }
-    {
-        match host {
-            Value::Text(host) => self.numbers.host_numbers(alloc, Some(host)),
-            Value::Nil => self.numbers.host_numbers(alloc, None),
-            Value::Number(_) => Ok(Ids::fresh(alloc)),
-        }
     }
 
     /// Takes the events with these numbers out, in the order of the index.
@@ -427,28 +455,35 @@ impl Slots {
     }
 }
 
-/// Appends the events with these numbers that meet the predicate, where they lie. It counts an entry for each number.
+/// Appends the first `limit` events with these numbers that meet the predicate, where they lie. It counts an entry for each
+/// number up to that of the last of them.
 fn find_at<'a, G: Ledger>(
     alloc: Global,
     events: &'a StepTable<MeasuredEvent>,
     numbers: &[usize],
     pred: &mut Pred,
+    limit: usize,
     found: &mut Vec<&'a Event>,
     steps: &mut Steps<G>,
 ) -> Result<(), Memory>
     requires { AreLive events.now.values numbers.now }
     ensures same { pred.new ≡ pred.old }
     ensures ok { OnOk result (events_lent found.new.items ≡ events_lent found.old.items
-        ++ filter (holds pred.old) (events_at events.now.values numbers.now)) }
+        ++ take limit (filter (holds pred.old) (events_at events.now.values numbers.now))) }
     ensures prefix { OnErr result (IsPrefix (events_lent found.old.items)
         (events_lent found.new.items)) }
     ensures forks { steps.new.forks ≡ steps.old.forks }
-    ensures counted { OnOk result (steps.new.entries ≡ steps.old.entries + length numbers.now) }
+    ensures counted { OnOk result (length numbers.now ≤ limit →
+        steps.new.entries ≡ steps.old.entries + length numbers.now) }
     ensures entries { steps.new.entries ≤ steps.old.entries + length numbers.now }
     ensures at_least { steps.old.entries ≤ steps.new.entries }
     ensures began { steps.new.began ≡ steps.old.began }
 {
+    let before = found.len();
     for number in numbers {
+        if found.len() - before == limit {
+            return Ok(());
+        }
         let event = events.read(*number, steps);
         find_one(alloc, event.event(), pred, found)?;
     }

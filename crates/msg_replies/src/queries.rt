@@ -137,6 +137,7 @@ fn put_found<G: Ledger>(
         → replies.new ≡ replies.old ++ framed
         (limited (found (matching_events pred.old (state_by (config_of core.old) arrivals).log)))) }
 {
+    core.prepare(alloc, pred)?;
     if put_few(alloc, pred, core, replies, steps)? {
         return Ok(());
     }
@@ -159,7 +160,7 @@ fn put_few<G: Ledger>(
     ensures many { IfOk result (λ few. few ≡ false → replies.new ≡ replies.old) }
 {
     let mut events = Vec::new(alloc);
-    core.find(alloc, pred, &mut events, steps)?;
+    core.find_first(alloc, pred, FEW + 1, &mut events, steps)?;
     if events.len() > FEW {
         return Ok(false);
     }
