@@ -10,12 +10,15 @@ use Rattle.stream_plan.specs.Search.{opened}
 use Rattle.stream_plan.specs.Tree.{StreamTree, stream_tree, list_trees}
 use Rattle.stream_plan.proofs.Trees.{stream_tree-opened}
 use Rattle.stream_meaning.specs.declared.entry.Entry.{Entry}
+use Rattle.stream_meaning.specs.declared.entry.Entry.TheVariants.{Tick}
 use Rattle.stream_meaning.specs.History.{History, ◌▸◌}
 use Rattle.stream_meaning.specs.Outputs.{Effect, stream_effects, plan_effects}
 use Rattle.stream_tree.specs.declared.forest.Node.{Node, out-Node}
 use Rattle.stream_tree.specs.Forest.{node_below, NodeRepresents, ForestRepresents}
-use Rattle.stream_tree.specs.Running.{Stops, FirstRepresent, FirstRun, ForestRuns, ForestStops, StreamRuns, StreamStops}
+use Rattle.stream_tree.specs.Running.{Stops, FirstRepresent, FirstRun, BareRun, BareStop, ForestRuns, ForestStops, StreamRuns, StreamStops}
 use Rattle.stream_tree.specs.Tree.{Performs}
+use Rattle.list_laws.specs.Prefix.{IsPrefix}
+use Rattle.stream_tree.proofs.BareLaws.{bare_after, bare_performs, bare_part}
 use Rattle.stream_tree.proofs.PerformLaws.{grew_none, grew_then, stops_more, stops_then}
 
 module _ (texts : List (List ℕ)) (h : History) (x : Entry) where
@@ -48,18 +51,10 @@ module _ (texts : List (List ℕ)) (h : History) (x : Entry) where
   half_all [] (node ∷ nodes) zero past half = half
   half_all [] (node ∷ nodes) (suc i) past half = half
   half_all (first ∷ streams) [] zero past half = half
-  half_all (first ∷ streams) [] (suc i) past half = half
+  half_all (first ∷ streams) [] (suc i) past half = absurd half
   half_all (first ∷ streams) (node ∷ nodes) zero past half = absurd (omega (arith, past))
   half_all (first ∷ streams) (node ∷ nodes) (suc i) past half =
       (half.0, half_all streams nodes i (omega (arith, past)) half.1)
-
--- there is a node for each stream
-forest_long : (texts : List (List ℕ)) (streams : List Stream) (nodes : List Node) (h : History)
-    → ForestRepresents texts (list_trees streams) nodes h → length streams ≤ length nodes
-forest_long texts [] nodes h represents = omega arith
-forest_long texts (first ∷ streams) [] h represents = absurd represents
-forest_long texts (first ∷ streams) (node ∷ nodes) h represents =
-    omega (arith, forest_long texts streams nodes h represents.1)
 
 plan_effects-append : (front back : List Stream) (h : History)
     → plan_effects (list_trees (front ++ back)) h
@@ -70,7 +65,7 @@ plan_effects-append (s ∷ front) back h =
     ∙ sym (append_assoc (stream_effects (stream_tree s) h) (plan_effects (list_trees front) h)
     (plan_effects (list_trees back) h))
 
-plan_effects-take : (streams : List Stream) (i : ℕ) (s : Stream) (h : History) → i < length streams →
+pub plan_effects-take : (streams : List Stream) (i : ℕ) (s : Stream) (h : History) → i < length streams →
     plan_effects (list_trees (take (i + 1) streams)) h
     ≡ plan_effects (list_trees (take i streams)) h ++ stream_effects (opened (get_or streams i s)) h
 plan_effects-take streams i s h within =
@@ -82,7 +77,7 @@ plan_effects-take streams i s h within =
     ∙ ap (λ (t : StreamTree). stream_effects t h) (stream_tree-opened here))
 
 -- the effects of the streams from number i on
-plan_effects-split : (streams : List Stream) (i : ℕ) (s : Stream) (h : History) → i < length streams →
+pub plan_effects-split : (streams : List Stream) (i : ℕ) (s : Stream) (h : History) → i < length streams →
     plan_effects (list_trees streams) h
     ≡ (plan_effects (list_trees (take i streams)) h ++ stream_effects (opened (get_or streams i s)) h)
     ++ plan_effects (list_trees (drop (i + 1) streams)) h
@@ -156,13 +151,54 @@ module _ {G : Type 0} (patterns : List Regex) (start moment : ℕ) (x : Entry) (
       (stops_more a c t v x (front ++ stream_effects (opened s) (h ▸ x)) rest
       (stops_then a b c t u v x front (stream_effects (opened s) (h ▸ x)) before.1 stop))
 
-  pub forest_ends : (i : ℕ) (nodes : List Node) (b : List Output) (u : StepCount G) →
-      min (length streams) (length nodes) ≤ i → length nodes ≡ length first →
+  -- there is a node for each of the streams
+  pub forest_full : (i : ℕ) (nodes : List Node) (b : List Output) (u : StepCount G) → length streams ≤ i →
       ForestRan i nodes b u → ForestRuns patterns start moment a t b u x (list_trees streams) first nodes
-  forest_ends i nodes b u past same so_far texts h from represents comes =
-      let ran = so_far texts h from represents comes in
-      let long = forest_long texts streams first h represents in
-      let all : take i streams ≡ streams = take_all i streams (omega (arith, past, same, long)) in (
-        half_all texts h x streams nodes i past ran.0,
-        subst (λ (l : List Stream). Performs a t b u (plan_effects (list_trees l) (h ▸ x))) all ran.1,
+  forest_full i nodes b u past so_far texts h from represents comes =
+      let ran = so_far texts h from represents comes in (
+        half_all texts h x streams nodes i (omega (arith, past)) ran.0,
+        subst (λ (l : List Stream). Performs a t b u (plan_effects (list_trees l) (h ▸ x))) (take_all i streams past)
+            ran.1,
       )
+
+  effects_after : (i : ℕ) (h : History)
+      → plan_effects (list_trees (take i streams)) h ++ plan_effects (list_trees (drop i streams)) h
+      ≡ plan_effects (list_trees streams) h
+  effects_after i h =
+      sym (plan_effects-append (take i streams) (drop i streams) h)
+      ∙ ap (λ (l : List Stream). plan_effects (list_trees l) h) (take-append-drop i streams)
+
+  -- those without a node come last
+  pub forest_ends : (i : ℕ) (nodes : List Node) (b c : List Output) (u : StepCount G) (rest : List Stream) →
+      min (length streams) (length nodes) ≤ i → length nodes ≡ length first → rest ≡ drop i streams →
+      ForestRan i nodes b u → BareRun patterns start moment b c x (list_trees rest) →
+      ForestRuns patterns start moment a t c u x (list_trees streams) first nodes
+  forest_ends i nodes b c u rest past same is so_far says texts h from represents comes =
+      let ran = so_far texts h from represents comes in
+      let bare = bare_after texts h streams first i (omega (arith, past, same)) represents in
+      let run = subst (λ (l : List Stream). BareRun patterns start moment b c x (list_trees l)) is says in
+      let said = run texts h from bare comes in (
+        half_all texts h x streams nodes i past ran.0,
+        subst (λ (hs : List Effect). Performs a t c u hs) (effects_after i (h ▸ x))
+            (grew_then a b c t u u (plan_effects (list_trees (take i streams)) (h ▸ x))
+            (plan_effects (list_trees (drop i streams)) (h ▸ x)) ran.1
+            (bare_performs (list_trees (drop i streams)) h x b c u bare said)),
+      )
+
+  pub forest_cut : (i : ℕ) (nodes : List Node) (b c : List Output) (u : StepCount G) (rest : List Stream) →
+      min (length streams) (length nodes) ≤ i → length nodes ≡ length first → rest ≡ drop i streams →
+      ForestRan i nodes b u → BareStop patterns start moment b c x (list_trees rest) → IsPrefix b c →
+      (x ≡ Tick → ⊥) →
+      ForestStops patterns start moment a t c u x (list_trees streams) first
+  forest_cut i nodes b c u rest past same is so_far stops begins item texts h from represents comes =
+      let ran = so_far texts h from represents comes in
+      let bare = bare_after texts h streams first i (omega (arith, past, same)) represents in
+      let stop = subst (λ (l : List Stream). BareStop patterns start moment b c x (list_trees l)) is stops in
+      let within = stop texts h from bare comes in
+      subst (λ (hs : List Effect). Stops a t c u x hs) (effects_after i (h ▸ x))
+      (stops_then a b c t u u x (plan_effects (list_trees (take i streams)) (h ▸ x))
+      (plan_effects (list_trees (drop i streams)) (h ▸ x)) ran.1
+      (record {
+        part = bare_part (list_trees (drop i streams)) h x b c u begins within;
+        busy = λ tick none. item tick;
+      }))

@@ -1,7 +1,7 @@
 -- Nodes that are made for streams represent ticks alone.
 use Rattle.std.specs.List.{AllByRecursion}
 use Rattle.std.proofs.Common.{◌≡◌, ℕ, ◌+◌, ◌<◌, ◌≤◌, Bool, true, false, ◌||◌, List, [], ◌∷◌, ◌++◌, length, take, get_or, Option, Some, None, is_some, refl, sym, ap, ◌∙◌, subst, arith, length-append}
-use Rattle.std.proofs.lemmas.List.{append-nil, append_assoc, take_more, take_all}
+use Rattle.std.proofs.lemmas.List.{append-nil, append_assoc, take_more, take_all, length-take}
 use Rattle.list_laws.specs.Counts.{greatest}
 use Rattle.ev_types.specs.declared.field.Field.{Field}
 use Rattle.ev_types.specs.declared.value.Value.{Value}
@@ -27,8 +27,9 @@ use Rattle.stream_step.specs.declared.state.State.TheVariants.{Forks}
 use Rattle.stream_step.specs.Step.{StateRepresents}
 use Rattle.stream_tree.specs.declared.forest.Forest.{Forest}
 use Rattle.stream_tree.specs.declared.forest.Node.{Node, out-Node}
-use Rattle.stream_tree.specs.Forest.{IsStreamInRange, AreInRange, Meaning, Below, LiveKeys, node_below, first_of, forked_by, live_by, key_fork, IsFork, ForksRepresent, BelowRepresents, PartsRepresent, NodeRepresents, ForestRepresents}
+use Rattle.stream_tree.specs.Forest.{IsStreamInRange, AreInRange, Meaning, Below, LiveKeys, node_below, first_of, forked_by, live_by, key_fork, AllBare, IsFork, ForksRepresent, BelowRepresents, PartsRepresent, NodeRepresents, ForestRepresents}
 use Rattle.stream_tree.specs.Fresh.{ForestIsFresh, NodeIsFresh}
+use Rattle.stream_tree.proofs.BareLaws.{no_patterns}
 use Rattle.stream_tree.proofs.KeptLaws.{keys_of_kept}
 use Rattle.stream_tree.proofs.KindLaws.{kind_range, sound_in_range}
 use Rattle.stream_tree.proofs.LiveLaws.{none_alone}
@@ -314,13 +315,14 @@ node_fresh s node state below start first next state_is below_is represents foll
 -- ---- one node more
 
 represents-snoc : (texts : Texts) (front : List Stream) (s : Stream) (nodes : List Node) (node : Node) (h : History) →
+    length nodes ≡ length front →
     ForestRepresents texts (list_trees front) nodes h → NodeRepresents texts (stream_tree s) node h →
     ForestRepresents texts (list_trees (front ++ s ∷ [])) (nodes ++ node ∷ []) h
-represents-snoc texts [] s [] node h represents one = (one, tt)
-represents-snoc texts [] s (other ∷ nodes) node h represents one = absurd represents
-represents-snoc texts (first ∷ front) s [] node h represents one = absurd represents
-represents-snoc texts (first ∷ front) s (other ∷ nodes) node h represents one =
-    (represents.0, represents-snoc texts front s nodes node h represents.1 one)
+represents-snoc texts [] s [] node h same represents one = (one, tt)
+represents-snoc texts [] s (other ∷ nodes) node h same represents one = absurd represents
+represents-snoc texts (first ∷ front) s [] node h same represents one = absurd (omega (arith, same))
+represents-snoc texts (first ∷ front) s (other ∷ nodes) node h same represents one =
+    (represents.0, represents-snoc texts front s nodes node h (omega (arith, same)) represents.1 one)
 
 patterns-snoc : (front : List Stream) (s : Stream)
     → plan_patterns (list_trees (front ++ s ∷ [])) ≡ plan_patterns (list_trees front) ++ stream_patterns (stream_tree s)
@@ -349,9 +351,10 @@ no_nodes start first =
     record { represents = λ before after in_fork h alone begins ranges nested at small. tt; following = λ small. omega arith }
 
 fresh-snoc : (front : List Stream) (s : Stream) (nodes : List Node) (node : Node) (start first second third : ℕ) →
+    length nodes ≡ length front →
     ForestIsFresh (list_trees front) start first second nodes → NodeIsFresh (stream_tree s) start second third node →
     ForestIsFresh (list_trees (front ++ s ∷ [])) start first third (nodes ++ node ∷ [])
-fresh-snoc front s nodes node start first second third fresh one =
+fresh-snoc front s nodes node start first second third same fresh one =
     let ts = plan_patterns (list_trees front) in
     let more = stream_patterns (stream_tree s) in
     let all = patterns-snoc front s in
@@ -383,7 +386,7 @@ fresh-snoc front s nodes node start first second third fresh one =
           (λ (l : Texts).
           ForestRepresents (before ++ (l ++ after)) (list_trees (front ++ s ∷ [])) (nodes ++ node ∷ []) h)
           (sym all)
-          (represents-snoc (before ++ ((ts ++ more) ++ after)) front s nodes node h
+          (represents-snoc (before ++ ((ts ++ more) ++ after)) front s nodes node h same
           (subst (λ (l : Texts). ForestRepresents l (list_trees front) nodes h) front_is front_holds)
           (subst (λ (l : Texts). NodeRepresents l (stream_tree s) node h) before_is one_holds));
       following = λ small.
@@ -393,18 +396,19 @@ fresh-snoc front s nodes node start first second third fresh one =
 
 pub one_more_fresh : (streams : List Stream) (i : ℕ) (s : Stream) (nodes nodes' : List Node) (node : Node)
     (start first second third : ℕ) →
-    i < length streams → s ≡ get_or streams i s →
-    nodes' ≡ nodes ++ node ∷ [] → ForestIsFresh (list_trees (take i streams)) start first second nodes →
+    i < length streams → s ≡ get_or streams i s → nodes' ≡ nodes ++ node ∷ [] → length nodes ≡ i →
+    ForestIsFresh (list_trees (take i streams)) start first second nodes →
     NodeIsFresh (opened s) start second third node →
     ForestIsFresh (list_trees (take (i + 1) streams)) start first third nodes'
-one_more_fresh streams i s nodes nodes' node start first second third within is pushed fresh one =
+one_more_fresh streams i s nodes nodes' node start first second third within is pushed same fresh one =
     let here : NodeIsFresh (stream_tree s) start second third node =
     subst (λ (t : StreamTree). NodeIsFresh t start second third node) (sym (stream_tree-opened s)) one in
     let more : take i streams ++ s ∷ [] ≡ take (i + 1) streams =
     ap (λ (t : Stream). take i streams ++ t ∷ []) is ∙ sym (take_more streams i s within) in
     subst (λ (l : List Node). ForestIsFresh (list_trees (take (i + 1) streams)) start first third l) (sym pushed)
     (subst (λ (l : List Stream). ForestIsFresh (list_trees l) start first third (nodes ++ node ∷ [])) more
-    (fresh-snoc (take i streams) s nodes node start first second third fresh here))
+    (fresh-snoc (take i streams) s nodes node start first second third
+    (omega (arith, same, within, length-take i streams)) fresh here))
 
 pub all_fresh : (streams : List Stream) (i : ℕ) (nodes : List Node) (start first second : ℕ) → length streams ≤ i →
     ForestIsFresh (list_trees (take i streams)) start first second nodes →
@@ -415,6 +419,16 @@ all_fresh streams i nodes start first second past fresh =
 pub none_fresh : (start first : ℕ) (nodes : List Node) → nodes ≡ [] → ForestIsFresh none start first first nodes
 none_fresh start first nodes is =
     subst (λ (l : List Node). ForestIsFresh none start first first l) (sym is) (no_nodes start first)
+
+-- bare streams need no nodes
+pub bare_fresh : (streams : StreamTrees) (start first : ℕ) (nodes : List Node) → nodes ≡ [] → AllBare streams
+    → ForestIsFresh streams start first first nodes
+bare_fresh streams start first nodes is bare = record {
+  represents = λ before after in_fork h alone begins ranges nested at small.
+      subst (λ (l : List Node). ForestRepresents (before ++ (plan_patterns streams ++ after)) streams l h) (sym is)
+      bare;
+  following = λ small. omega (arith, ap (λ (l : Texts). length l) (no_patterns streams bare));
+}
 
 -- ---- the whole plan
 

@@ -1,5 +1,5 @@
 -- The last of the streams is an `index`, and all that it does with an event is to write it.
-use Rattle.std.proofs.Common.{◌≡◌, ℕ, zero, suc, ◌+◌, ◌<◌, ◌≤◌, min, List, [], ◌∷◌, ◌++◌, length, get_or, None, refl, sym, ap, ◌∙◌, subst, arith}
+use Rattle.std.proofs.Common.{◌≡◌, ℕ, zero, suc, ◌+◌, ◌<◌, ◌≤◌, List, [], ◌∷◌, ◌++◌, length, get_or, None, refl, sym, ap, ◌∙◌, subst, arith}
 use Rattle.std.proofs.Math.ListN.{set}
 use Rattle.std.proofs.lemmas.List.{set-get_or}
 use mathlib.Core.Bool.{true≢false}
@@ -21,7 +21,7 @@ use Rattle.stream_step.specs.Step.{StateRepresents}
 use Rattle.stream_tree.specs.declared.forest.Node.{Node, out-Node}
 use Rattle.stream_tree.specs.Forest.{Below, node_below}
 use Rattle.stream_tree.specs.Running.{FirstRun, ForestRuns, StreamRuns}
-use Rattle.stream_tree.proofs.ForestLaws.{forest_begins, forest_more, forest_ends}
+use Rattle.stream_tree.proofs.ForestLaws.{forest_begins, forest_more, forest_full}
 use Rattle.stream_step.specs.stream_states.Kept.{keeps}
 use Rattle.stream_tree.proofs.PerformLaws.{own_grew}
 use Rattle.stream_step.proofs.KeptLaws.{kept_keeps}
@@ -63,12 +63,11 @@ last_node (node ∷ nodes) (suc i) within = last_node nodes i (omega (arith, wit
 -- the streams up to the last one have got the event, and the last one writes it
 module _ {G : Type 0} (patterns : List Regex) (start moment : ℕ) (event : Event) (a b : List Output) (t u : StepCount G)
     (streams : List Stream) (first nodes : List Node) (i : ℕ) (s : Stream) where
-  pub last_written : i < length streams → i < length nodes → min (length streams) (length nodes) ≤ i + 1 →
-      length nodes ≡ length first →
+  pub last_written : i < length streams → i < length nodes → length streams ≤ i + 1 →
       s ≡ get_or streams i s → kind_tree (out-Stream (get_or streams i s)).kind ≡ Index →
       FirstRun patterns start moment a t b u (In (One event)) streams first i nodes →
       ForestRuns patterns start moment a t (b ++ Write event ∷ []) u (In (One event)) (list_trees streams) first nodes
-  last_written within within' past many is is_index so_far =
+  last_written within within' past is is_index so_far =
       let x = In (One event) in
       let c = b ++ Write event ∷ [] in
       let node = last_node nodes i within' in
@@ -79,7 +78,7 @@ module _ {G : Type 0} (patterns : List Regex) (start moment : ℕ) (event : Even
       forest_more patterns start moment x a t streams first i nodes b c u u s node.0 node.0 node.0 within within' is
       node.1 so_far
       (written_runs patterns start moment event s (out-Node node.0).state b u (node_below node.0) kind) in
-      forest_ends patterns start moment x a t streams first (i + 1) nodes c u past many
+      forest_full patterns start moment x a t streams first (i + 1) nodes c u past
       (subst (λ (ns : List Node). FirstRun patterns start moment a t c u x streams first (i + 1) ns) stays more)
 
 -- the last one is the only one

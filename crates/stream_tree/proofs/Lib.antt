@@ -11,6 +11,8 @@ pub mod GiveLaws
 pub mod BelowLaws
 pub mod EnterLaws
 pub mod StreamLaws
+pub mod BareLaws
 pub mod ForestLaws
+pub mod BareLoop
 pub mod FreshLaws
 pub mod NextLaws

@@ -3,7 +3,7 @@ use Rattle.std.proofs.Common.{◌≡◌, ℕ, zero, suc, ◌+◌, ◌<◌, ◌�
 use Rattle.std.specs.Prelude.{IfSome}
 use Rattle.std.specs.List.{AllByRecursion, list_any, cons_option}
 use Rattle.std.proofs.lemmas.Bool.{eq-eqb}
-use Rattle.std.proofs.lemmas.List.{drop_more, drop_all}
+use Rattle.std.proofs.lemmas.List.{drop_more}
 use Rattle.std.proofs.lemmas.List.Elements.{recursion_from_All}
 use Rattle.std.proofs.lemmas.List.Folds.{list_any_at}
 use Rattle.ev_types.specs.declared.value.Value.{Value}
@@ -27,6 +27,7 @@ use Rattle.stream_tree.specs.declared.forest.Forest.{Forest}
 use Rattle.stream_tree.specs.declared.forest.Node.{Node}
 use Rattle.stream_tree.specs.Forest.{Meaning, Below, first_of, forked_by, live_by, key_fork, IsFork, ForksRepresent, BelowRepresents, PartsRepresent, NodeRepresents, ForestRepresents}
 use Rattle.stream_tree.specs.Running.{branches_by}
+use Rattle.stream_tree.proofs.BareLaws.{never_due, bare_after}
 use Rattle.stream_tree.proofs.KeptLaws.{Kept, eqb-is, map-map, map-pointwise}
 use Rattle.stream_tree.proofs.LiveLaws.{branches_are}
 
@@ -226,14 +227,14 @@ node_forked s state below own next forked own_is least =
 
 node_at : (texts : List (List ℕ)) (h : History) (streams : List Stream) (nodes : List Node) (i : ℕ) (s : Stream)
     (node : Node) →
-    i < length streams → ForestRepresents texts (list_trees streams) nodes h →
+    i < length streams → i < length nodes → ForestRepresents texts (list_trees streams) nodes h →
     NodeRepresents texts (opened (get_or streams i s)) (get_or nodes i node) h
-node_at texts h [] nodes i s node within represents = absurd (omega (arith, within))
-node_at texts h (first ∷ streams) [] i s node within represents = absurd represents
-node_at texts h (first ∷ streams) (other ∷ nodes) zero s node within represents =
+node_at texts h [] nodes i s node within within' represents = absurd (omega (arith, within))
+node_at texts h (first ∷ streams) [] i s node within within' represents = absurd (omega (arith, within'))
+node_at texts h (first ∷ streams) (other ∷ nodes) zero s node within within' represents =
     subst (λ (t : StreamTree). NodeRepresents texts t other h) (stream_tree-opened first) represents.0
-node_at texts h (first ∷ streams) (other ∷ nodes) (suc i) s node within represents =
-    node_at texts h streams nodes i s node (omega (arith, within)) represents.1
+node_at texts h (first ∷ streams) (other ∷ nodes) (suc i) s node within within' represents =
+    node_at texts h streams nodes i s node (omega (arith, within)) (omega (arith, within')) represents.1
 
 plan_deadline-drop : (streams : List Stream) (i : ℕ) (s : Stream) (h : History) → i < length streams →
     plan_deadline (list_trees (drop i streams)) h
@@ -254,13 +255,15 @@ due_begins streams nodes texts h represents small = refl
 
 pub due_more : (streams : List Stream) (nodes : List Node) (i : ℕ) (due one next : Option ℕ) (s : Stream)
     (node other : Node) →
-    i < length streams → s ≡ get_or streams i s → node ≡ get_or nodes i other → DueSoFar streams nodes i due →
+    i < length streams → i < length nodes → s ≡ get_or streams i s → node ≡ get_or nodes i other →
+    DueSoFar streams nodes i due →
     ((texts : List (List ℕ)) (h : History) → NodeRepresents texts (opened s) node h → moment_of h ≤ 2 ^ 40 →
     one ≡ stream_deadline (opened s) h) →
     next ≡ earlier due one → DueSoFar streams nodes (i + 1) next
-due_more streams nodes i due one next s node other within is is' so_far one_is next_is texts h represents small =
+due_more streams nodes i due one next s node other within within' is is' so_far one_is next_is texts h represents
+    small =
     let at_place : NodeRepresents texts (opened (get_or streams i s)) (get_or nodes i other) h =
-    node_at texts h streams nodes i s other within represents in
+    node_at texts h streams nodes i s other within within' represents in
     let here : NodeRepresents texts (opened s) node h =
     subst (λ (n : Node). NodeRepresents texts (opened s) n h) (sym is')
     (subst (λ (r : Stream). NodeRepresents texts (opened r) (get_or nodes i other) h) (sym is) at_place) in
@@ -272,19 +275,11 @@ due_more streams nodes i due one next s node other within is is' so_far one_is n
     ∙ ap (earlier due) (sym (plan_deadline-drop streams i s h within))
     ∙ so_far texts h represents small
 
-nodes_enough : (texts : List (List ℕ)) (streams : List Stream) (nodes : List Node) (h : History)
-    → ForestRepresents texts (list_trees streams) nodes h → length streams ≤ length nodes
-nodes_enough texts [] nodes h represents = omega arith
-nodes_enough texts (first ∷ streams) [] h represents = absurd represents
-nodes_enough texts (first ∷ streams) (node ∷ nodes) h represents =
-    omega (arith, nodes_enough texts streams nodes h represents.1)
-
 pub due_all : (streams : List Stream) (nodes : List Node) (i : ℕ) (due : Option ℕ) →
     min (length streams) (length nodes) ≤ i → DueSoFar streams nodes i due →
     (texts : List (List ℕ)) (h : History) → ForestRepresents texts (list_trees streams) nodes h → moment_of h ≤ 2 ^ 40 →
     due ≡ plan_deadline (list_trees streams) h
 due_all streams nodes i due past so_far texts h represents small =
-    let enough = nodes_enough texts streams nodes h represents in
-    let over : drop i streams ≡ [] = drop_all i streams (omega (arith, past, enough)) in
-    sym (earlier-none due) ∙ ap (λ (l : List Stream). earlier due (plan_deadline (list_trees l) h)) (sym over)
+    let bare = bare_after texts h streams nodes i past represents in
+    sym (earlier-none due) ∙ ap (earlier due) (sym (never_due (list_trees (drop i streams)) h bare))
     ∙ so_far texts h represents small

@@ -232,9 +232,9 @@ mutual
       → AllEndOutermost true streams
       → ForestRepresents texts streams nodes h → plan_effects streams (h ▸ Tick) ≡ []
       → ForestRepresents texts streams nodes (h ▸ Tick)
-  forest_still texts none [] h endless represents none_happens = tt
+  forest_still texts none [] h endless represents none_happens = represents
   forest_still texts none (node ∷ nodes) h endless represents none_happens = absurd represents
-  forest_still texts (also first more) [] h endless represents none_happens = absurd represents
+  forest_still texts (also first more) [] h endless represents none_happens = represents
   forest_still texts (also first more) (node ∷ nodes) h endless represents none_happens = (
     parts_still texts first (out-Node node).state (node_below node) h endless.0 represents.0
         (nil_left (stream_effects first (h ▸ Tick)) (plan_effects more (h ▸ Tick)) none_happens),

@@ -8,7 +8,7 @@ use Rattle.fork_by.specs.Table.{KeptFork, kept_forks, IsTable}
 use Rattle.stream_plan.specs.Kinds.{is_in_range}
 use Rattle.stream_plan.specs.Nesting.{AllEndOutermost}
 use Rattle.stream_plan.specs.Ready.{plan_patterns}
-use Rattle.stream_plan.specs.Tree.{KindTree, By, StreamTree, StreamTrees, stream, none, also}
+use Rattle.stream_plan.specs.Tree.{KindTree, Index, Notice, By, StreamTree, StreamTrees, stream, none, also}
 use Rattle.stream_meaning.specs.Branches.{child_history}
 use Rattle.stream_meaning.specs.Deadlines.{plan_deadline, until}
 use Rattle.stream_meaning.specs.Emission.{Branch, Children, Otherwise, Fork}
@@ -28,6 +28,16 @@ abbrev mutual
   pub AreInRange : StreamTrees → Type 0
   AreInRange none = Unit {0}
   AreInRange (also first more) = IsStreamInRange first × AreInRange more
+
+-- a stream that keeps nothing, passes nothing on, and has none below it
+abbrev pub IsBare : StreamTree → Type 0
+IsBare (stream Index none none) = Unit {0}
+IsBare (stream (Notice name) none none) = Unit {0}
+IsBare s = ⊥
+
+abbrev pub AllBare : StreamTrees → Type 0
+AllBare none = Unit {0}
+AllBare (also first more) = IsBare first × AllBare more
 
 -- ---- the parts of a node
 
@@ -131,8 +141,9 @@ abbrev pub BelowRepresents : List (List ℕ) → StreamTrees → ℕ → Meaning
 BelowRepresents texts children first Means Beside None live received below = PlainRepresents Means Beside received below
 BelowRepresents texts children first Means Beside (Some idle) live received below = ForkedRepresents texts children first Means idle live received below
 
--- The nodes have come to where they would be if all of this history had come to their streams, one node for each. The
--- texts are those of the regular expressions of the whole plan.
+-- The nodes have come to where they would be if all of this history had come to their streams. There is one for each of
+-- the first streams; those after them have none, and are bare. The texts are those of the regular expressions of the
+-- whole plan.
 abbrev mutual
   pub PartsRepresent : List (List ℕ) → StreamTree → State → Below → History → Type 0
   PartsRepresent texts (stream kind children otherwise) state below h =
@@ -140,9 +151,8 @@ abbrev mutual
       × BelowRepresents texts children (first_of state) (ForestRepresents texts children) (ForestRepresents texts otherwise) (forked_by kind) (live_by kind h) (λ branch. child_history kind branch h) below
 
   pub ForestRepresents : List (List ℕ) → StreamTrees → List Node → History → Type 0
-  ForestRepresents texts none [] h = Unit {0}
+  ForestRepresents texts streams [] h = AllBare streams
   ForestRepresents texts none (node ∷ nodes) h = ⊥
-  ForestRepresents texts (also first more) [] h = ⊥
   ForestRepresents texts (also first more) (node ∷ nodes) h =
       PartsRepresent texts first (out-Node node).state (node_below node) h
       × ForestRepresents texts more nodes h

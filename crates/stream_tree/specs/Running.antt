@@ -19,12 +19,13 @@ use Rattle.stream_meaning.specs.Emission.{Branch, Children, Otherwise, Fork, Emi
 use Rattle.stream_meaning.specs.Ends.{idle_after}
 use Rattle.stream_meaning.specs.History.{History, ◌▸◌, begun, moment_of, is_at, TicksAlone}
 use Rattle.stream_meaning.specs.Laws.{is_among}
-use Rattle.stream_meaning.specs.Outputs.{Effect, Given, BranchEffects, branch_effects, due_if_any, at_tick, at_emissions, stream_effects, plan_effects}
+use Rattle.stream_meaning.specs.Outputs.{Effect, Given, BranchEffects, branch_effects, due_if_any, at_tick, at_emissions, stream_effects, plan_effects, outputs_at}
 use Rattle.stream_step.specs.declared.state.State.{State}
 use Rattle.stream_tree.specs.declared.forest.Forest.{Forest}
 use Rattle.stream_tree.specs.declared.forest.Node.{Node}
 use Rattle.stream_plan.specs.Nesting.{AllEndOutermost}
-use Rattle.stream_tree.specs.Forest.{nodes_of, Below, LiveKeys, forked_by, key_fork, AreInRange, ForksRepresent, BelowRepresents, PartsRepresent, NodeRepresents, ForestRepresents}
+use Rattle.list_laws.specs.Prefix.{IsPrefix}
+use Rattle.stream_tree.specs.Forest.{nodes_of, Below, LiveKeys, forked_by, key_fork, AreInRange, AllBare, ForksRepresent, BelowRepresents, PartsRepresent, NodeRepresents, ForestRepresents}
 use Rattle.stream_tree.specs.Tree.{Performs, PerformsPart}
 
 -- ---- an entry that comes
@@ -39,6 +40,18 @@ pub record ComesAt (start moment : ℕ) (h : History) (x : Entry) : Type 0 where
 pub record Stops {G : Type 0} (old : List Output) (before : StepCount G) (new : List Output) (after : StepCount G) (x : Entry) (effects : List Effect) : Type 0 where
   pub part : PerformsPart old before new after effects
   pub busy : x ≡ Tick → effects ≡ [] → ⊥
+
+-- ---- streams without nodes
+
+-- wherever the streams are bare, their outputs are put
+abbrev pub BareRun : List Regex → ℕ → ℕ → List Output → List Output → Entry → StreamTrees → Type 0
+BareRun patterns start moment old new x streams = (texts : List (List ℕ)) (h : History) → AreReadFrom texts patterns →
+    AllBare streams → ComesAt start moment h x → new ≡ old ++ outputs_at streams (h ▸ x)
+
+-- the call ran out of memory
+abbrev pub BareStop : List Regex → ℕ → ℕ → List Output → List Output → Entry → StreamTrees → Type 0
+BareStop patterns start moment old new x streams = (texts : List (List ℕ)) (h : History) → AreReadFrom texts patterns →
+    AllBare streams → ComesAt start moment h x → IsPrefix new (old ++ outputs_at streams (h ▸ x))
 
 -- ---- what is below a stream
 

@@ -9,13 +9,14 @@ ghost use Rattle.stream_tree.specs.declared.forest.Node.{out-Node};
 ghost use Rattle.stream_tree.specs.Forest.{forked_by, nodes_of};
 ghost use Rattle.stream_tree.specs.Fresh.{NodeIsFresh, ForestIsFresh};
 
+use crate::bare::are_bare;
 use ev_types::Memory;
 use fork_by::ForkTable;
 use std::alloc::Global;
 use stream_plan::{Kind, Stream, stream_pattern_count};
 use stream_step::State;
 
-/// The nodes of streams, in their order.
+/// The nodes of streams, in their order. There is one for each of the first streams; those after them keep nothing.
 #[cycle(forest)]
 #[derive(Drop)]
 pub(crate) struct Forest {
@@ -59,6 +60,24 @@ pub(crate) fn fresh_forest(
     Ok(Forest { nodes })
 }
 
+/// The nodes of the streams of a branch, as those of [`fresh_forest`]. Where all of the streams are bare there are none,
+/// and no memory is taken.
+#[cycle(fresh)]
+pub(crate) fn fresh_branch(
+    alloc: Global,
+    streams: &[Stream],
+    next: &mut usize,
+    start: u64,
+) -> Result<Forest, Memory>
+    ensures { IfOk result (λ forest. ForestIsFresh
+        (list_trees streams.now) start next.old next.new (nodes_of forest)) }
+{
+    if are_bare(streams) {
+        return Ok(no_nodes(alloc));
+    }
+    fresh_forest(alloc, streams, next, start)
+}
+
 #[cycle(fresh)]
 fn fresh_node(alloc: Global, stream: &Stream, next: &mut usize, start: u64) -> Result<Node, Memory>
     ensures { IfOk result (λ node. NodeIsFresh (opened stream.now) start next.old next.new node) }
@@ -67,8 +86,8 @@ fn fresh_node(alloc: Global, stream: &Stream, next: &mut usize, start: u64) -> R
     if is_by(&stream.kind) {
         return Ok(unforked(alloc, stream, state, next));
     }
-    let children = fresh_forest(alloc, &stream.children, next, start)?;
-    let otherwise = fresh_forest(alloc, &stream.otherwise, next, start)?;
+    let children = fresh_branch(alloc, &stream.children, next, start)?;
+    let otherwise = fresh_branch(alloc, &stream.otherwise, next, start)?;
     Ok(Node {
         state,
         children,

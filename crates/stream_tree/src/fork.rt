@@ -3,7 +3,7 @@ ghost use Rattle.std.specs.Prelude.{IfOk};
 ghost use Rattle.stream_plan.specs.Tree.{list_trees};
 ghost use Rattle.stream_tree.specs.Forks.{Finds};
 
-use crate::forest::{Forest, fresh_forest};
+use crate::forest::{Forest, fresh_branch};
 use ev_types::{Key, Memory};
 use fork_by::ForkTable;
 use std::alloc::Global;
@@ -29,7 +29,7 @@ pub(crate) fn find_fork(
         return Ok(number);
     }
     let mut next = first;
-    let fork = fresh_forest(alloc, streams, &mut next, context.start)?;
+    let fork = fresh_branch(alloc, streams, &mut next, context.start)?;
     let number = forks.add(alloc, key, fork, context.moment)?;
     Ok(number)
 }

@@ -40,8 +40,8 @@ pub(crate) fn offer_forest<G: Ledger>(
     ensures event { IfOk result (λ is_write_due. is_write_due ≡ true → event.new ≡ event.old) }
     ensures prefix { IsPrefix out.old out.new }
 {
-    let count = streams.len().min(forest.nodes.len());
-    if count == 0 || !is_index(&streams[count - 1].kind) {
+    let count = streams.len();
+    if count == 0 || forest.nodes.len() < count || !is_index(&streams[count - 1].kind) {
         give_all(alloc, streams, forest, event, context, out, steps)?;
         return Ok(false);
     }

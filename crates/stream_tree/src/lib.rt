@@ -1,6 +1,7 @@
 //! A plan of streams that runs: entries go down its streams one after another, and notices and writes come out.
 #![tactic(auto)]
 
+mod bare;
 mod by_value;
 mod ends;
 mod forest;

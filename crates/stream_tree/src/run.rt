@@ -1,5 +1,5 @@
 //! One entry on its way down the streams.
-ghost use Rattle.std.specs.Prelude.{◌≡◌, ℕ, ◌≤◌, List, length, OnOk, OnErr, map};
+ghost use Rattle.std.specs.Prelude.{◌≡◌, ℕ, ◌≤◌, List, length, drop, OnOk, OnErr, map};
 ghost use Rattle.ev_types.specs.declared.value.Value.{Value};
 ghost use Rattle.fork_by.specs.declared.table.ForkTable.{ForkTable as Table};
 ghost use Rattle.list_laws.specs.Prefix.{IsPrefix};
@@ -13,6 +13,7 @@ ghost use Rattle.stream_tree.specs.Ends.{idle_by};
 ghost use Rattle.stream_tree.specs.Forest.{nodes_of, below_of, node_below, first_of};
 ghost use Rattle.stream_tree.specs.Running.{kind_of, children_of, FirstRun, ForestRuns, ForestStops, StreamRuns, StreamStops, ForkRuns, ForkStops, DueRuns, DueStops, TickRuns, TickStops, BranchRuns, BranchStops, EmissionsRun, EmissionsStop};
 
+use crate::bare::run_bare;
 use crate::ends::{drop_ended, due_before_end};
 use crate::forest::{Forest, Node, is_by};
 use crate::fork::find_fork;
@@ -26,7 +27,7 @@ use stream_meaning::Entry;
 use stream_plan::Stream;
 use stream_step::{Branch, Context, Passed, State, act};
 
-/// The entry comes to each of the streams, one after another.
+/// The entry comes to each of the streams, one after another. Those without a node are bare.
 #[cycle(run)]
 pub(crate) fn run_forest<G: Ledger>(
     alloc: Global,
@@ -47,7 +48,16 @@ pub(crate) fn run_forest<G: Ledger>(
 {
     let count = streams.len().min(forest.nodes.len());
     run_first(alloc, streams, forest, count, entry, context, out, steps)?;
+    run_bare(alloc, after(streams, count), entry, context, out)?;
     Ok(())
+}
+
+/// The streams after the first `count`.
+fn after(streams: &[Stream], count: usize) -> &[Stream]
+    requires { count ≤ length streams.now }
+    ensures { result.now ≡ drop count streams.now }
+{
+    &streams[count..]
 }
 
 /// The entry comes to the first `count` of the streams, one after another.

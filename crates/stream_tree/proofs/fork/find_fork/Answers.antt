@@ -14,7 +14,7 @@ pub returns : goal.returns
 returns c = record {
   found =
       found_new (list_trees c.args.streams.now) c.args.first c.args.context.now.start c.args.context.now.moment
-      c.fresh_forest.new.next c.args.key
+      c.fresh_branch.new.next c.args.key
       c.args.forks.now c.add.new.self c.in_ok-fork.fork c.in_ok-number.number
       c.in_default.ensures.found c.in_ok-fork.ensures c.in_ok-number.ensures.ok c.add.ensures.table
       c.in_ok-number.ensures.has;

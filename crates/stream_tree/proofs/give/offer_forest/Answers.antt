@@ -1,4 +1,4 @@
-use Rattle.std.proofs.Common.{◌-◌, refl, arith}
+use Rattle.std.proofs.Common.{◌-◌, length, arith}
 use Rattle.ev_types.specs.declared.item.Item.TheVariants.{One}
 use Rattle.stream_meaning.specs.declared.entry.Entry.TheVariants.{Item as In}
 use Rattle.stream_tree.specs.declared.forest.Forest.{out-Forest}
@@ -10,30 +10,36 @@ pub returns-clause-runs : goal.returns-clause-runs
 returns-clause-runs g c =
     last_written c.args.context.now.patterns.now c.args.context.now.start c.args.context.now.moment c.args.event.now
     c.args.out.now c.lend_first.new.out c.args.steps.now c.lend_first.new.steps c.args.streams.now
-    (nodes_of c.args.forest.now) (nodes_of c.lend_first.new.forest) (c.min-count.result - 1)
+    (nodes_of c.args.forest.now) (nodes_of c.lend_first.new.forest) (length c.args.streams.now - 1)
     c.index-streams-count.result
-    (omega (arith, c.if-count-eq0.false, c.min-count.ensures))
+    (omega (arith, c.if-count-eq0.false))
     (omega (
       arith,
       c.if-count-eq0.false,
-      c.min-count.ensures,
       c.len.ensures,
+      c.if-len-count.false,
       c.lend_first.ensures.many,
       (out-Forest c.args.forest.now).nodes.ok.0,
     ))
-    (omega (arith, c.if-count-eq0.false, c.min-count.ensures, c.len.ensures, (out-Forest c.args.forest.now).nodes.ok.0))
-    c.lend_first.ensures.many c.index-streams-count.is (c.is_index.ensures c.if-not-is_index.false)
+    (omega (arith, c.if-count-eq0.false))
+    c.index-streams-count.is (c.is_index.ensures c.if-not-is_index.false)
     c.in_ok-lend_first.ensures.runs
 
 pub returns-then-count-eq1-clause-runs : goal.returns-then-count-eq1-clause-runs
 returns-then-count-eq1-clause-runs g c =
     last_written c.args.context.now.patterns.now c.args.context.now.start c.args.context.now.moment c.args.event.now
     c.args.out.now c.args.out.now c.args.steps.now c.args.steps.now c.args.streams.now (nodes_of c.args.forest.now)
-    (nodes_of c.args.forest.now) (c.min-count.result - 1) c.index-streams-count.result
-    (omega (arith, c.if-count-eq0.false, c.min-count.ensures))
-    (omega (arith, c.if-count-eq0.false, c.min-count.ensures, c.len.ensures, (out-Forest c.args.forest.now).nodes.ok.0))
-    (omega (arith, c.if-count-eq0.false, c.min-count.ensures, c.len.ensures, (out-Forest c.args.forest.now).nodes.ok.0))
-    refl c.index-streams-count.is (c.is_index.ensures c.if-not-is_index.false)
+    (nodes_of c.args.forest.now) (length c.args.streams.now - 1) c.index-streams-count.result
+    (omega (arith, c.if-count-eq0.false))
+    (omega (
+      arith,
+      c.if-count-eq0.false,
+      c.len.ensures,
+      c.if-len-count.false,
+      (out-Forest c.args.forest.now).nodes.ok.0,
+    ))
+    (omega (arith, c.if-count-eq0.false))
+    c.index-streams-count.is (c.is_index.ensures c.if-not-is_index.false)
     (none_before c.args.context.now.patterns.now c.args.context.now.start c.args.context.now.moment
     (In (One c.args.event.now)) c.args.out.now c.args.steps.now c.args.streams.now (nodes_of c.args.forest.now)
-    (c.min-count.result - 1) (omega (arith, c.if-count-eq1.true)))
+    (length c.args.streams.now - 1) (omega (arith, c.if-count-eq1.true)))

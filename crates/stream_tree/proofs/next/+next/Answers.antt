@@ -10,7 +10,9 @@ pub forest_due-loop-i-preserved : goal.forest_due-loop-i-preserved
 forest_due-loop-i-preserved t c =
     due_more c.args.streams.now (nodes_of c.args.forest.now) c.loop-i.i c.loop-i.due c.node_due.result
     c.earlier_of-due.result c.index-streams-i.result c.index.result.now c.index.result.now
-    (omega arith) c.index-streams-i.is c.index.ensures c.loop-i.invariant c.node_due.ensures c.earlier_of-due.ensures
+    (omega arith)
+    (omega (arith, c.min-count.ensures, c.len.ensures, c.loop-i-test.true, (out-Forest c.args.forest.now).nodes.ok.0))
+    c.index-streams-i.is c.index.ensures c.loop-i.invariant c.node_due.ensures c.earlier_of-due.ensures
 
 pub forest_due-returns : goal.forest_due-returns
 forest_due-returns t c =

@@ -1,5 +1,6 @@
 use Rattle.std.proofs.Common.{◌≡◌, refl, ap, sym, subst, ◌∙◌, ◌+◌, ◌++◌, arith, ℕ, List, length, get_or, Option}
 use Rattle.std.proofs.Math.ListN.{set}
+use mathlib.Core.Bool.{true≢false}
 use Rattle.std.specs.Vec.{with_item}
 use Rattle.std.proofs.lemmas.List.{length-set}
 use Rattle.std.specs.Vec.Iter.{into_iter_items}
@@ -17,7 +18,7 @@ use Rattle.stream_tree.specs.Running.{kind_of, children_of, EmissionsRun, Emissi
 use Rattle.stream_tree.proofs.BelowLaws.{branch_children, branch_otherwise, children_stop, otherwise_stop, both_run, one_stops, two_stops, due_run, due_stops, key_run, key_stops, keyed_run, keyed_stop, one_more_emission, one_more_stops}
 use Rattle.stream_tree.proofs.DueLoop.{loop_begins, loop_more, loop_ends, loop_stops, due_stop, item_is, items_within, items_past}
 use Rattle.stream_tree.proofs.EnterLaws.{idle_opened, fork_runs, fork_unset, fork_stops, fork_missing_runs, due_same}
-use Rattle.stream_tree.proofs.ForestLaws.{ForestRan, forest_more, forest_stops, forest_ends}
+use Rattle.stream_tree.proofs.ForestLaws.{ForestRan, forest_more, forest_stops, forest_ends, forest_cut}
 use Rattle.stream_tree.proofs.PerformLaws.{rest_more, extends_none, extends_then}
 use Rattle.stream_tree.proofs.StreamLaws.{stream_runs, stream_act_stops, stream_tick_stops, stream_passed_stops}
 use Rattle.stream_tree.proofs.run.+run.Goals as goal
@@ -242,10 +243,21 @@ pub run_forest-returns-clause-runs : goal.run_forest-returns-clause-runs
 run_forest-returns-clause-runs g t c =
     forest_ends c.args.context.now.patterns.now c.args.context.now.start c.args.context.now.moment c.args.entry.now
     c.args.out.now c.args.steps.now c.args.streams.now (nodes_of c.args.forest.now) c.min-count.result
-    (nodes_of c.run_first.new.forest) c.run_first.new.out c.run_first.new.steps
+    (nodes_of c.run_first.new.forest) c.run_first.new.out c.run_bare.new.out c.run_first.new.steps c.after.result.now
     (omega
     (arith, c.min-count.ensures, c.len.ensures, c.run_first.ensures.many, (out-Forest c.args.forest.now).nodes.ok.0))
-    c.run_first.ensures.many c.in_ok-run_first.ensures.runs
+    c.run_first.ensures.many c.after.ensures c.in_ok-run_first.ensures.runs c.in_ok-run_bare.ensures.runs
+
+pub run_forest-returns-in_err-run_bare-clause-stops : goal.run_forest-returns-in_err-run_bare-clause-stops
+run_forest-returns-in_err-run_bare-clause-stops g t c =
+    on_error c.from_residual-in_err-run_bare.result
+    (forest_cut c.args.context.now.patterns.now c.args.context.now.start c.args.context.now.moment c.args.entry.now
+    c.args.out.now c.args.steps.now c.args.streams.now (nodes_of c.args.forest.now) c.min-count.result
+    (nodes_of c.run_first.new.forest) c.run_first.new.out c.run_bare.new.out c.run_first.new.steps c.after.result.now
+    (omega
+    (arith, c.min-count.ensures, c.len.ensures, c.run_first.ensures.many, (out-Forest c.args.forest.now).nodes.ok.0))
+    c.run_first.ensures.many c.after.ensures c.in_ok-run_first.ensures.runs c.in_err-run_bare.ensures.stops
+    c.run_bare.ensures.prefix (λ tick. true≢false (sym (c.in_err-run_bare.ensures.quiet tick))))
 
 pub run_fork-returns-in_err-run_forest-clause-stops : goal.run_fork-returns-in_err-run_forest-clause-stops
 run_fork-returns-in_err-run_forest-clause-stops g t c =
