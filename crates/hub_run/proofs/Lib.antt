@@ -4,6 +4,7 @@ pub mod TurnLaws
 pub mod QuietLaws
 pub mod LoopLaws
 pub mod EndLaws
+pub mod FaultLaws
 pub mod PlainLaws
 pub use Rattle.conn_core.proofs.HubMeaningLinkLaws
 pub use Rattle.conn_core.proofs.HubMeaningPrefixLaws

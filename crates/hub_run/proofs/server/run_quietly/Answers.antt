@@ -1,11 +1,12 @@
-use Rattle.std.proofs.Common.{Ok, Err}
+use Rattle.std.proofs.Common.{Ok, Err, refl, ◌∙◌}
 use Rattle.std.proofs.lemmas.Result.{err_from_is_err_and}
 use Rattle.hub_run.specs.Quiet.{RunsQuietly, TakesAllQuietly}
 use Rattle.hub_run.specs.Runs.{run_report}
 use Rattle.hub_run.specs.Taking.{ListensOn}
-use Rattle.hub_run.specs.declared.fault.RunFault.TheVariants.{Memory}
+use Rattle.hub_run.specs.declared.fault.RunFault.TheVariants.{Links, Sink, Memory}
 use Rattle.hub_run.proofs.AddsLaws.{adds_nothing, adds_then, adds_weaken}
 use Rattle.hub_run.proofs.EndLaws.{ends_at_once, ends_badly, ends_unheard, ends_unopened, ends_well, unclosed_nothing}
+use Rattle.hub_run.proofs.FaultLaws.{same_fault, no_fault}
 use Rattle.hub_run.proofs.server.run_quietly.Goals as goal
 
 pub take_turns-requires-clause-known : goal.take_turns-requires-clause-known
@@ -87,3 +88,21 @@ returns-clause-runs g c =
     c.in_ok-secs.ensures.listens c.in_ok-take_turns.ensures.takes
     (λ first second listens takes.
     ends_well setup limit quiet old new hub hub' secs first second listens c.in_ok-hub.ensures.follows takes)
+
+pub returns-in_err-take_turns-clause-links_quiet : goal.returns-in_err-take_turns-clause-links_quiet
+returns-in_err-take_turns-clause-links_quiet g c =
+    let p =
+    err_from_is_err_and c.from_residual-in_err-take_turns.result c.from_residual-in_err-take_turns.ensures.1 in
+    let fault = c.in_err-take_turns.field-0.0 in
+    let secs = c.in_ok-secs.secs in
+    rw (p.1, p.2) (λ other.
+    c.in_err-take_turns.ensures.links_quiet (λ is. other (same_fault fault Links (Err fault) (Err fault) refl is refl))
+    ∙ c.in_ok-secs.ensures.links_quiet (λ is. no_fault secs Links (Ok secs) refl is))
+
+pub returns-in_err-take_turns-clause-sink_quiet : goal.returns-in_err-take_turns-clause-sink_quiet
+returns-in_err-take_turns-clause-sink_quiet g c =
+    let p =
+    err_from_is_err_and c.from_residual-in_err-take_turns.result c.from_residual-in_err-take_turns.ensures.1 in
+    let fault = c.in_err-take_turns.field-0.0 in
+    rw (p.1, p.2) (λ other.
+    c.in_err-take_turns.ensures.sink_quiet (λ is. other (same_fault fault Sink (Err fault) (Err fault) refl is refl)))
