@@ -9,3 +9,6 @@ pub mod OneEvent
 pub mod Events
 pub mod Recognised
 pub mod Loops
+pub mod Kept
+pub mod Taken
+pub mod Unpacked

@@ -245,7 +245,7 @@ unfolding repeated_within
 none_more n tag part text None is given = rw (eq-eqb tag tag refl, is) refl
 none_more n tag part text (Some item) is given = absurd cc
 
-begun : (tag : ℕ) (rest text : List ℕ) → after_tag tag rest ≡ Some text → rest ≡ tag ∷ text
+pub begun : (tag : ℕ) (rest text : List ℕ) → after_tag tag rest ≡ Some text → rest ≡ tag ∷ text
 unfolding after_tag
 begun tag [] text e = absurd cc
 begun tag (byte ∷ rest) text e =

@@ -37,18 +37,18 @@ event_text event =
 
 -- ---- fields
 
-one_byte : (n : ℕ) → n < 128 → varint n ≡ n ∷ []
+pub one_byte : (n : ℕ) → n < 128 → varint n ≡ n ∷ []
 unfolding varint spelled_within
 one_byte n small = rw (lt-ltb n 128 small) refl
 
-of_bytes : (number tag : ℕ) (bytes : List ℕ) → number * 8 + 2 ≡ tag → tag < 128
+pub of_bytes : (number tag : ℕ) (bytes : List ℕ) → number * 8 + 2 ≡ tag → tag < 128
     → field_spelling number (Bytes bytes) ≡ tag ∷ counted_text bytes
 unfolding field_spelling
 of_bytes number tag bytes is small =
     ap (λ (n : ℕ). varint n ++ counted_text bytes) is ∙ ap (λ (t : List ℕ). t ++ counted_text bytes)
     (one_byte tag small)
 
-of_varint : (number tag value : ℕ) → number * 8 + 0 ≡ tag → tag < 128
+pub of_varint : (number tag value : ℕ) → number * 8 + 0 ≡ tag → tag < 128
     → field_spelling number (Varint value) ≡ tag ∷ varint value
 unfolding field_spelling
 of_varint number tag value is small =

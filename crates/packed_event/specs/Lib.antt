@@ -1,2 +1,4 @@
 pub mod Packed
 pub mod Reading
+pub mod Kept
+pub mod Unpacking

@@ -1,13 +1,16 @@
 //! The bodies of fields, each read at the start of bytes and given with the bytes after it.
 
-ghost use Rattle.std.specs.Prelude.{◌≡◌, ◌+◌, ◌<◌, ◌≤◌, length, IfSome};
+ghost use Rattle.std.specs.Prelude.{◌≡◌, ◌+◌, ◌<◌, ◌≤◌, length, IfOk, IfSome};
 ghost use Rattle.std.specs.Int.{w32, w64};
 ghost use Rattle.std.specs.Option.{option_map};
-ghost use Rattle.std.specs.Str.{is_utf8};
+ghost use Rattle.std.specs.Str.{IsUtf8, is_utf8};
 ghost use Rattle.packed_event.specs.Reading.{Gives, after_tag, bytes_part, int64_part, number_part, optional, text_length, text_part, ttl_part};
 
 use crate::varint::varint;
+use ev_types::{Memory, Text};
 use riemann_msg::{bits_of_ttl, ttl_of_bits};
+use std::alloc::Global;
+use std::str::from_utf8_unchecked;
 
 /// Bytes after their length.
 #[tactic(auto, unfolding(crate::specs::Reading::bytes_part))]
@@ -31,6 +34,7 @@ pub(crate) fn text(bytes: &[u8]) -> Option<(&[u8], &[u8])>
     ensures reads { Gives (λ read. (read.0.now, read.1.now)) result (text_part bytes.now) }
     ensures within { IfSome result (λ read.
         length read.0.now + length read.1.now < length bytes.now) }
+    ensures utf8 { IfSome result (λ read. IsUtf8 read.0.now) }
 {
     let (text, rest) = counted(bytes)?;
     if !is_utf8(text) {
@@ -45,6 +49,27 @@ fn is_utf8(bytes: &[u8]) -> bool
     ensures { result ≡ is_utf8 bytes.now }
 {
     bytes.is_ascii() || simdutf8::is_utf8(bytes)
+}
+
+/// A text of these bytes.
+#[inline]
+pub(crate) fn owned(alloc: Global, bytes: &[u8]) -> Result<Text, Memory>
+    requires { IsUtf8 bytes.now }
+    ensures { IfOk result (λ text. text ≡ bytes.now) }
+{
+    Text::from_str(alloc, unsafe { from_utf8_unchecked(bytes) })
+}
+
+/// A text of these bytes, if there are any.
+#[inline]
+pub(crate) fn owned_option(alloc: Global, bytes: Option<&[u8]>) -> Result<Option<Text>, Memory>
+    requires { IfSome bytes (λ bytes. IsUtf8 bytes.now) }
+    ensures { IfOk result (λ text. text ≡ option_map (λ bytes. bytes.now) bytes.entry) }
+{
+    match bytes {
+        Some(bytes) => Ok(Some(owned(alloc, bytes)?)),
+        None => Ok(None),
+    }
 }
 
 /// The bytes after the tag, if they begin with it.
@@ -68,6 +93,7 @@ pub(crate) fn optional_text(tag: u8, bytes: &[u8]) -> Option<(Option<&[u8]>, &[u
         (optional tag text_part bytes.now) }
     ensures within { IfSome result (λ read. text_length (option_map (λ text. text.now) read.0)
         + length read.1.now ≤ length bytes.now) }
+    ensures utf8 { IfSome result (λ read. IfSome read.0 (λ text. IsUtf8 text.now)) }
 {
     match bytes {
         [first, rest @ ..] if *first == tag => {

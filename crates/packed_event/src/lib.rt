@@ -7,9 +7,15 @@ mod body;
 mod law;
 mod names;
 mod numbers;
+mod pack;
+mod packed;
 mod places;
 mod repeated;
+mod unpack;
 mod varint;
+mod well_formed;
 
 pub use law::packed_events_are_read;
+pub use pack::PackFault;
+pub use packed::PackedEvent;
 pub use places::{Places, Span, places_of};

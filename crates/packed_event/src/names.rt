@@ -11,13 +11,13 @@ use crate::places::Span;
 /// The tags of the fields.
 const TIME: u8 = 0x08;
 
-const STATE: u8 = 0x12;
+pub(crate) const STATE: u8 = 0x12;
 
-const SERVICE: u8 = 0x1a;
+pub(crate) const SERVICE: u8 = 0x1a;
 
-const HOST: u8 = 0x22;
+pub(crate) const HOST: u8 = 0x22;
 
-const DESCRIPTION: u8 = 0x2a;
+pub(crate) const DESCRIPTION: u8 = 0x2a;
 
 /// What is known of an event once its time and its texts were read.
 #[derive(Drop)]
@@ -54,7 +54,7 @@ pub(crate) fn names_at(bytes: &[u8]) -> Option<(Names, &[u8])>
 /// The time, which is always there.
 #[tactic(auto, unfolding(crate::specs::Reading::required))]
 #[inline(always)]
-fn required_time(bytes: &[u8]) -> Option<(i64, &[u8])>
+pub(crate) fn required_time(bytes: &[u8]) -> Option<(i64, &[u8])>
     ensures reads { Gives (λ read. (read.0, read.1.now)) result (required 8 int64_part bytes.now) }
     ensures shorter { IfSome result (λ read. length read.1.now < length bytes.now) }
 {

@@ -1,8 +1,10 @@
 //! The ttl, and the numbers that an event ends with.
 
+ghost use Rattle.std.specs.Prelude.{◌≡◌};
 ghost use Rattle.std.specs.Int.{w32, w64};
-ghost use Rattle.std.specs.Option.{option_map};
+ghost use Rattle.riemann_msg.specs.Value.{unzigzag};
 ghost use Rattle.packed_event.specs.Reading.{Gives, micros_part, number_part, numbers_part, optional, sint64_part, ttl_part};
+ghost use Rattle.packed_event.specs.Unpacking.{numbers_read};
 
 use crate::body::{eight, four, int64, ttl};
 use crate::varint::varint;
@@ -33,73 +35,98 @@ pub(crate) fn optional_ttl(bytes: &[u8]) -> Option<(Option<u32>, &[u8])>
     }
 }
 
-/// The bytes after the last fields of an event with this time: the same time in microseconds, and the metrics.
-#[tactic(auto, unfolding(crate::specs::Reading::numbers_part))]
-pub(crate) fn after_numbers(time: i64, bytes: &[u8]) -> Option<&[u8]>
-    ensures { Gives (λ rest. rest.now) result
-        (option_map (λ read. read.1) (numbers_part time bytes.now)) }
-{
-    let rest = after_micros(time, bytes)?;
-    let rest = after_metric(rest)?;
-    let rest = after_double(rest)?;
-    after_float(rest)
+/// The numbers that an event ends with.
+#[derive(Clone, Copy)]
+pub(crate) struct Numbers {
+    pub(crate) micros: Option<i64>,
+    pub(crate) metric: Option<i64>,
+    pub(crate) raw_d: Option<u64>,
+    pub(crate) raw_f: Option<u32>,
 }
 
-/// The bytes after the time in microseconds, if they begin with it. It has to lie in the second `time`.
+/// The last fields of an event with this time, and the bytes after them: the time in microseconds, and the metrics.
+#[tactic(auto, unfolding(crate::specs::Reading::numbers_part))]
+#[inline(always)]
+pub(crate) fn numbers_at(time: i64, bytes: &[u8]) -> Option<(Numbers, &[u8])>
+    ensures { Gives (λ read. (numbers_read read.0, read.1.now)) result
+        (numbers_part time bytes.now) }
+{
+    let (micros, rest) = optional_micros(time, bytes)?;
+    let (metric, rest) = optional_metric(rest)?;
+    let (raw_d, rest) = optional_double(rest)?;
+    let (raw_f, rest) = optional_float(rest)?;
+    let numbers = Numbers {
+        micros,
+        metric,
+        raw_d,
+        raw_f,
+    };
+    Some((numbers, rest))
+}
+
+/// The time in microseconds, if the bytes begin with it, and the bytes after it. It has to lie in the second `time`.
 #[tactic(auto, unfolding(crate::specs::Reading::micros_part, crate::specs::Reading::optional))]
 #[inline(always)]
-fn after_micros(time: i64, bytes: &[u8]) -> Option<&[u8]>
-    ensures { Gives (λ rest. rest.now) result
-        (option_map (λ read. read.1) (optional 80 (micros_part time) bytes.now)) }
+fn optional_micros(time: i64, bytes: &[u8]) -> Option<(Option<i64>, &[u8])>
+    ensures { Gives (λ read. (read.0, read.1.now)) result
+        (optional 80 (micros_part time) bytes.now) }
 {
     let [TIME_MICROS, rest @ ..] = bytes else {
-        return Some(bytes);
+        return Some((None, bytes));
     };
     let (micros, rest) = int64(rest)?;
     if micros.div_euclid(1_000_000) != time {
         return None;
     }
-    Some(rest)
+    Some((Some(micros), rest))
 }
 
-/// The bytes after the metric, if they begin with it.
+/// The metric, if the bytes begin with it, and the bytes after it.
 #[tactic(auto, unfolding(crate::specs::Reading::sint64_part, crate::specs::Reading::optional))]
 #[inline(always)]
-fn after_metric(bytes: &[u8]) -> Option<&[u8]>
-    ensures { Gives (λ rest. rest.now) result
-        (option_map (λ read. read.1) (optional 104 sint64_part bytes.now)) }
+fn optional_metric(bytes: &[u8]) -> Option<(Option<i64>, &[u8])>
+    ensures { Gives (λ read. (read.0, read.1.now)) result (optional 104 sint64_part bytes.now) }
 {
     let [METRIC_SINT64, rest @ ..] = bytes else {
-        return Some(bytes);
+        return Some((None, bytes));
     };
-    let (_, rest) = varint(rest)?;
-    Some(rest)
+    let (value, rest) = varint(rest)?;
+    Some((Some(unzigzag(value)), rest))
 }
 
-/// The bytes after the bits of a metric that came as a double, if they begin with them.
+/// The signed number that `value` represents in zigzag form.
+#[inline(always)]
+fn unzigzag(value: u64) -> i64
+    ensures { result ≡ unzigzag value }
+{
+    let half = (value / 2) as i64;
+    if value % 2 == 0 { half } else { -1 - half }
+}
+
+/// The bits of a metric that came as a double, if the bytes begin with them, and the bytes after them.
 #[tactic(auto, unfolding(crate::specs::Reading::optional))]
 #[inline(always)]
-fn after_double(bytes: &[u8]) -> Option<&[u8]>
-    ensures { Gives (λ rest. rest.now) result
-        (option_map (λ read. read.1) (optional 113 (number_part w64) bytes.now)) }
+fn optional_double(bytes: &[u8]) -> Option<(Option<u64>, &[u8])>
+    ensures { Gives (λ read. (read.0, read.1.now)) result
+        (optional 113 (number_part w64) bytes.now) }
 {
     let [METRIC_D, rest @ ..] = bytes else {
-        return Some(bytes);
+        return Some((None, bytes));
     };
-    let (_, rest) = eight(rest)?;
-    Some(rest)
+    let (bits, rest) = eight(rest)?;
+    Some((Some(bits), rest))
 }
 
-/// The bytes after the bits of a metric that came as a float, if they begin with them.
+/// The bits of a metric that came as a float, if the bytes begin with them, and the bytes after them.
 #[tactic(auto, unfolding(crate::specs::Reading::optional))]
 #[inline(always)]
-fn after_float(bytes: &[u8]) -> Option<&[u8]>
-    ensures { Gives (λ rest. rest.now) result
-        (option_map (λ read. read.1) (optional 125 (number_part w32) bytes.now)) }
+fn optional_float(bytes: &[u8]) -> Option<(Option<u32>, &[u8])>
+    ensures { Gives (λ read. (read.0, read.1.now)) result
+        (optional 125 (number_part w32) bytes.now) }
 {
     let [METRIC_F, rest @ ..] = bytes else {
-        return Some(bytes);
+        return Some((None, bytes));
     };
-    let (_, rest) = four(rest)?;
-    Some(rest)
+    let (bits, rest) = four(rest)?;
+    Some((Some(bits), rest))
 }

@@ -11,7 +11,7 @@ ghost use Rattle.packed_event.specs.Packed.{IsPacked, LiesIn, text_at};
 ghost use Rattle.packed_event.specs.Reading.{Gives, packed_in};
 
 use crate::names::names_at;
-use crate::numbers::{after_numbers, optional_ttl};
+use crate::numbers::{numbers_at, optional_ttl};
 use crate::repeated::{after_attributes, after_tags};
 
 /// Where a text is in the bytes of an event.
@@ -56,6 +56,8 @@ pub fn places_of(bytes: &[u8]) -> Option<Places>
     ensures clean { IfSome result (λ places. event_fault bytes.now ≡ None) }
     ensures packed { IfSome result (λ places.
         (now : ℕ) → IsPacked bytes.now places (event_of (pos now) bytes.now)) }
+    // They are less than 4 GiB.
+    ensures few { IfSome result (λ places. length bytes.now < 2 ^ 32) }
     // The bytes of each event are recognised, if they are less than 4 GiB.
     ensures found { (event : Event) → IsWellFormedEvent event
         → bytes.now ≡ spelled (event_values event) → length bytes.now < 2 ^ 32 → IsSome result }
@@ -77,7 +79,7 @@ fn places_in(bytes: &[u8]) -> Option<Places>
     let rest = after_tags(rest)?;
     let (ttl, rest) = optional_ttl(rest)?;
     let rest = after_attributes(rest)?;
-    let rest = after_numbers(names.time, rest)?;
+    let (_, rest) = numbers_at(names.time, rest)?;
     if !rest.is_empty() {
         return None;
     }

@@ -4,13 +4,13 @@ ghost use Rattle.std.specs.Prelude.{◌≡◌};
 ghost use Rattle.std.specs.Option.{option_map};
 ghost use Rattle.packed_event.specs.Reading.{Gives, attribute_part, repeated, text_part};
 
-use crate::attribute::after_attribute;
+use crate::attribute::attribute_at;
 use crate::body::{after_tag, text};
 
 /// The tags of the fields.
-const TAGS: u8 = 0x3a;
+pub(crate) const TAGS: u8 = 0x3a;
 
-const ATTRIBUTES: u8 = 0x4a;
+pub(crate) const ATTRIBUTES: u8 = 0x4a;
 
 /// The bytes after the tags.
 pub(crate) fn after_tags(bytes: &[u8]) -> Option<&[u8]>
@@ -32,7 +32,8 @@ pub(crate) fn after_attributes(bytes: &[u8]) -> Option<&[u8]>
 {
     let mut rest = bytes;
     'each: while let Some(attribute) = after_tag(ATTRIBUTES, rest) {
-        rest = after_attribute(attribute)?;
+        let (_, after) = attribute_at(attribute)?;
+        rest = after;
     }
     Some(rest)
 }

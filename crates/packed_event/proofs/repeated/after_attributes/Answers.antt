@@ -1,4 +1,4 @@
-use Rattle.std.proofs.Common.{◌≡◌, ℕ, List, None, arith}
+use Rattle.std.proofs.Common.{◌≡◌, ℕ, List, None, ap, arith}
 use denote.Ref.{Bor}
 use Rattle.std.proofs.lemmas.Grind.{common_steps}
 use Rattle.packed_event.specs.Reading.{after_tag, attribute_part, repeated}
@@ -6,17 +6,18 @@ use Rattle.packed_event.proofs.Loops.{rest_of, skip_ends, skip_fails, skip_more}
 use Rattle.packed_event.proofs.Parts.{gives_none}
 use Rattle.packed_event.proofs.repeated.after_attributes.Goals as goal
 
-pub returns-in_err-rest : goal.returns-in_err-rest
-returns-in_err-rest c =
+pub returns-in_err-after : goal.returns-in_err-after
+returns-in_err-after c =
     let none : rest_of (repeated 74 attribute_part c.args.bytes.now) ≡ None =
     skip_fails 74 attribute_part c.args.bytes.now c.each.rest.now c.in-Some.attribute.now c.each.invariant
-    c.in-Some.ensures.reads c.in_err-rest.ensures.reads in
+    c.in-Some.ensures.reads (ap rest_of c.in_err-after.ensures.reads) in
     grind (arith, common_steps, none)
 
 pub each-preserved : goal.each-preserved
 each-preserved c =
-    skip_more 74 attribute_part c.args.bytes.now c.each.rest.now c.in-Some.attribute.now c.in_ok-rest.rest.now
-    c.each.invariant c.in-Some.ensures.reads c.in_ok-rest.ensures.reads (omega (arith, c.in_ok-rest.ensures.shorter))
+    skip_more 74 attribute_part c.args.bytes.now c.each.rest.now c.in-Some.attribute.now c.in_ok-after.after.now
+    c.each.invariant c.in-Some.ensures.reads (ap rest_of c.in_ok-after.ensures.reads)
+    (omega (arith, c.in_ok-after.ensures.shorter))
 
 pub returns : goal.returns
 returns c =
