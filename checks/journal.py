@@ -498,12 +498,12 @@ def short_journal():
 
 
 def try_bytes(checks, text):
-    """The program refuses a file that is no journal, and resumes one that is."""
+    """The program refuses a file that is no journal, and resumes one that is. Its turns stay the first of the journal."""
     path = checks.folder / "bytes"
     path.write_bytes(text)
     keeper = Keeper(checks, "resume", path)
     try:
-        kept, _, _ = read_journal(text)
+        kept, turns, _ = read_journal(text)
     except Misfit as misfit:
         expect_end(keeper, JOURNAL, b"riemann: journal refused at %d\n" % misfit.args[0])
         if path.read_bytes() != text:
@@ -519,6 +519,9 @@ def try_bytes(checks, text):
         keeper.kill()
     elif keeper.end()[0] not in (CONFIG, LINK_FAULT):
         raise Failed(f"{text.hex()}: status {keeper.process.returncode}")
+    _, left, _ = read_journal(path.read_bytes())
+    if left[: len(turns)] != turns:
+        raise Failed(f"{text.hex()}: the turns of the journal are not kept")
 
 
 def is_cut(checks):
