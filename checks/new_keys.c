@@ -1,7 +1,7 @@
 /*
- * new_keys PORT COUNT RATE: sends COUNT events, each of a host of its own, to a server on this machine, 100 in a message and
- * at most 64 messages at a time, and reads the reply to each. With a RATE other than 0 it sends so many in a second. It ends
- * with status 1 if a reply is not the one to accepted events, or the connection ends.
+ * new_keys PORT COUNT RATE: sends COUNT events with the state "ok", each of a host of its own, to a server on this machine,
+ * 100 in a message and at most 64 messages at a time, and reads the reply to each. With a RATE other than 0 it sends so
+ * many in a second. It ends with status 1 if a reply is not the one to accepted events, or the connection ends.
  */
 #include <arpa/inet.h>
 #include <stdio.h>
@@ -11,7 +11,7 @@
 #include <time.h>
 #include <unistd.h>
 
-enum { EVENTS = 100, MESSAGES = 64, HOST = 16, EVENT = 4 + HOST, MESSAGE = 4 + EVENTS * EVENT, REPLY = 6 };
+enum { EVENTS = 100, MESSAGES = 64, HOST = 16, EVENT = 8 + HOST, MESSAGE = 4 + EVENTS * EVENT, REPLY = 6 };
 
 static const char accepted[REPLY] = {0, 0, 0, 2, 16, 1};
 
@@ -25,9 +25,10 @@ static void put_message(unsigned char *at, long number) {
         snprintf(host, sizeof host, "host-%011ld", number + event);
         at[0] = 6 << 3 | 2;
         at[1] = EVENT - 2;
-        at[2] = 4 << 3 | 2;
-        at[3] = HOST;
-        memcpy(at + 4, host, HOST);
+        memcpy(at + 2, "\x12\x02ok", 4);
+        at[6] = 4 << 3 | 2;
+        at[7] = HOST;
+        memcpy(at + 8, host, HOST);
     }
 }
 
