@@ -24,7 +24,7 @@ use Rattle.stream_tree.specs.Ends.{idle_by}
 use Rattle.stream_tree.specs.Forest.{nodes_of, ForestRepresents}
 use Rattle.stream_tree.specs.Running.{ComesAt, ForestRuns, ForestStops, kind_of, children_of, fork_after, ForkRan, ForkComes, ForkRuns, ForkStops}
 use Rattle.stream_tree.specs.Tree.{Performs, PerformsPart}
-use Rattle.stream_tree.proofs.BelowLaws.{kind_of-opened, children_of-opened}
+use Rattle.stream_tree.proofs.ReceivedLaws.{kind_of-opened, children_of-opened}
 use Rattle.stream_tree.proofs.KeptLaws.{Kept, eqb-self, all-from_map, map-map, map-pointwise, at_number, only_kept}
 use Rattle.stream_tree.proofs.PerformLaws.{part_none, part_then}
 

@@ -8,6 +8,7 @@ pub mod ForkLaws
 pub mod DueLaws
 pub mod DueLoop
 pub mod GiveLaws
+pub mod ReceivedLaws
 pub mod BelowLaws
 pub mod EnterLaws
 pub mod StreamLaws
