@@ -1,5 +1,5 @@
 ghost use Rattle.std.specs.Prelude.{◌≡◌, ◌≤◌, ◌^◌, IfOk};
-ghost use Rattle.ev_types.specs.Expiry.{is_over, is_late, is_expired};
+ghost use Rattle.ev_types.specs.Expiry.{ends_key, is_late, is_expired};
 ghost use Rattle.ev_types.specs.Set.{event_at, has_text};
 
 use crate::{Items, Memory, Text};
@@ -112,12 +112,12 @@ impl Event {
         requires { t ≤ 2 ^ 40 }
         ensures { result ≡ is_expired t self.now }
     {
-        self.is_over() || self.is_late(t)
+        self.ends_key() || self.is_late(t)
     }
 
     /// Whether its state is "expired".
-    pub fn is_over(&self) -> bool
-        ensures { result ≡ is_over self.now }
+    pub fn ends_key(&self) -> bool
+        ensures { result ≡ ends_key self.now }
     {
         match &self.state {
             Some(state) => state.is(b"expired"),

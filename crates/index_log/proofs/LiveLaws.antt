@@ -5,7 +5,7 @@ use Rattle.std.specs.List.{AllByRecursion, filter, list_any}
 use Rattle.ev_types.specs.Expiry.{is_expired, is_late}
 use Rattle.index_log.specs.IndexKey.{index_key_cmp}
 use Rattle.ev_types.specs.declared.event.Event.{Event}
-use Rattle.index_log.specs.Live.{Logged, Write, Reap, ends, is_over, is_live, kept, placed, placed_onto, live_events, written, reaped}
+use Rattle.index_log.specs.Live.{Logged, Write, Reap, ends, ends_key, is_live, kept, placed, placed_onto, live_events, written, reaped}
 use Rattle.index_log.proofs.IndexKeys.{filter-placed_onto}
 
 placed_onto-append : (sorted es bs : List Event)
@@ -32,7 +32,7 @@ any-append event (first ∷ log) last =
     or_assoc true t u = refl
     or_assoc false t u = refl
 
--- of an event that is over by itself (s), by what came (t) or by the last step (u)
+-- of an event that is not live: by its own state (s), by what came after it (t) or by the last step (u)
 kept_step : (s t u : Bool) (event : Event) (rest new : List Event) →
     cond (not (s || (t || u))) (event ∷ (rest ++ new)) (rest ++ new)
     ≡ cond (not (s || t)) (cond (not u) (event ∷ rest) rest) rest ++ new
@@ -52,11 +52,11 @@ pub kept-append : (log : List Logged) (last : Logged)
     → kept (log ++ last ∷ []) ≡ spared last (kept log) ++ kept (last ∷ [])
 kept-append [] last = refl
 kept-append (Write event ∷ log) last =
-    ap (λ t. cond (not (is_over event || t)) (event ∷ kept (log ++ last ∷ [])) (kept (log ++ last ∷ [])))
+    ap (λ t. cond (not (ends_key event || t)) (event ∷ kept (log ++ last ∷ [])) (kept (log ++ last ∷ [])))
     (any-append event log last)
-    ∙ ap (λ es. cond (not (is_over event || (list_any (ends event) log || ends event last))) (event ∷ es) es)
+    ∙ ap (λ es. cond (not (ends_key event || (list_any (ends event) log || ends event last))) (event ∷ es) es)
     (kept-append log last)
-    ∙ kept_step (is_over event) (list_any (ends event) log) (ends event last) event (spared last (kept log))
+    ∙ kept_step (ends_key event) (list_any (ends event) log) (ends event last) event (spared last (kept log))
     (kept (last ∷ []))
     ∙ ap (λ es. es ++ kept (last ∷ []))
     (filter_step (is_live event log) (λ other. not (ends other last)) event (kept log))
@@ -84,56 +84,56 @@ write_step false event others = refl
 pub live-write : (log : List Logged) (event : Event)
     → live_events (log ++ Write event ∷ []) ≡ written event (live_events log)
 live-write log event =
-    live-append log (Write event) ∙ write_step (is_over event) event (spared (Write event) (live_events log))
+    live-append log (Write event) ∙ write_step (ends_key event) event (spared (Write event) (live_events log))
 
 pub live-reap : (log : List Logged) (t : ℕ) → live_events (log ++ Reap t ∷ []) ≡ reaped t (live_events log)
 live-reap log t = live-append log (Reap t)
 
--- ---- what is live is not over, so that it is expired exactly where it is late
+-- ---- no live event ends its key, so it is expired exactly if it is late
 
-abbrev IsNotOver : Event → Type 0
-IsNotOver event = is_over event ≡ false
+abbrev IsCurrent : Event → Type 0
+IsCurrent event = ends_key event ≡ false
 
-cond-all : (t : Bool) (xs ys : List Event) → AllByRecursion IsNotOver xs → AllByRecursion IsNotOver ys
-    → AllByRecursion IsNotOver (cond t xs ys)
+cond-all : (t : Bool) (xs ys : List Event) → AllByRecursion IsCurrent xs → AllByRecursion IsCurrent ys
+    → AllByRecursion IsCurrent (cond t xs ys)
 cond-all true xs ys h k = h
 cond-all false xs ys h k = k
 
-placed-all : (event : Event) (es : List Event) → IsNotOver event → AllByRecursion IsNotOver es
-    → AllByRecursion IsNotOver (placed event es)
+placed-all : (event : Event) (es : List Event) → IsCurrent event → AllByRecursion IsCurrent es
+    → AllByRecursion IsCurrent (placed event es)
 placed-all event [] h k = (h, tt)
 placed-all event (first ∷ es) h k =
     cond-all (is_lt (index_key_cmp event first)) (event ∷ first ∷ es) (first ∷ placed event es) (h, k)
     (k.0, placed-all event es h k.1)
 
-placed_onto-all : (sorted es : List Event) → AllByRecursion IsNotOver sorted → AllByRecursion IsNotOver es
-    → AllByRecursion IsNotOver (placed_onto sorted es)
+placed_onto-all : (sorted es : List Event) → AllByRecursion IsCurrent sorted → AllByRecursion IsCurrent es
+    → AllByRecursion IsCurrent (placed_onto sorted es)
 placed_onto-all sorted [] h k = h
 placed_onto-all sorted (event ∷ es) h k = placed_onto-all (placed event sorted) es (placed-all event sorted k.0 h) k.1
 
--- of an event that is over by itself (s) or by what came (t)
-kept_first : (s t : Bool) (event : Event) (rest : List Event) → is_over event ≡ s → AllByRecursion IsNotOver rest
-    → AllByRecursion IsNotOver (cond (not (s || t)) (event ∷ rest) rest)
+-- of an event that is not live: by its own state (s) or by what came after it (t)
+kept_first : (s t : Bool) (event : Event) (rest : List Event) → ends_key event ≡ s → AllByRecursion IsCurrent rest
+    → AllByRecursion IsCurrent (cond (not (s || t)) (event ∷ rest) rest)
 kept_first true t event rest h k = k
 kept_first false true event rest h k = k
 kept_first false false event rest h k = (h, k)
 
-kept-all : (log : List Logged) → AllByRecursion IsNotOver (kept log)
+kept-all : (log : List Logged) → AllByRecursion IsCurrent (kept log)
 kept-all [] = tt
 kept-all (Write event ∷ log) =
-    kept_first (is_over event) (list_any (ends event) log) event (kept log) refl (kept-all log)
+    kept_first (ends_key event) (list_any (ends event) log) event (kept log) refl (kept-all log)
 kept-all (Reap t ∷ log) = kept-all log
 
-live-all : (log : List Logged) → AllByRecursion IsNotOver (live_events log)
+live-all : (log : List Logged) → AllByRecursion IsCurrent (live_events log)
 unfolding live_events
 live-all log = placed_onto-all [] (kept log) tt (kept-all log)
 
-expired-late : (t : ℕ) (es : List Event) → AllByRecursion IsNotOver es
+expired-late : (t : ℕ) (es : List Event) → AllByRecursion IsCurrent es
     → filter (λ event. not (is_expired t event)) es ≡ reaped t es
 expired-late t [] k = refl
 expired-late t (event ∷ es) k =
     ap
-    (λ over. cond (not (over || is_late t event)) (event ∷ filter (λ other. not (is_expired t other)) es)
+    (λ s. cond (not (s || is_late t event)) (event ∷ filter (λ other. not (is_expired t other)) es)
     (filter (λ other. not (is_expired t other)) es))
     k.0
     ∙ ap (λ rest. cond (not (is_late t event)) (event ∷ rest) rest) (expired-late t es k.1)

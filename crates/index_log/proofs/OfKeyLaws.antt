@@ -14,7 +14,7 @@ use Rattle.ev_types.specs.declared.value.Value.{Value}
 use Rattle.ev_types.specs.Field.{text_value}
 use Rattle.ev_types.specs.Key.{same_key, event_key}
 use Rattle.index_log.specs.IndexKey.{text_cmp, index_key_cmp, same_index_key}
-use Rattle.index_log.specs.Live.{IndexLog, Write, Reap, ends, is_over, is_live, kept, placed_onto, live_events}
+use Rattle.index_log.specs.Live.{IndexLog, Write, Reap, ends, ends_key, is_live, kept, placed_onto, live_events}
 use Rattle.index_log.specs.OfKey.{are_index_fields, event_has, log_of_key, KeysHaveTheirLogs}
 use Rattle.index_log.proofs.IndexKeys.{filter-placed_onto}
 
@@ -120,7 +120,8 @@ module _ (fields : List Field) (key : List Value) (within : are_index_fields fie
           ap (λ es. cond (is_live event log) (event ∷ es) es) rest
           ∙ ap
           (λ s.
-          cond (not (is_over event || s)) (event ∷ kept (log_of_key fields key log)) (kept (log_of_key fields key log)))
+          cond (not (ends_key event || s)) (event ∷ kept (log_of_key fields key log))
+          (kept (log_of_key fields key log)))
           (sym (ends_by_its_log event e log))
       step false e rest = other_step (is_live event log) (filter (event_has fields key) (kept log)) ∙ rest
 

@@ -8,7 +8,7 @@ use Rattle.std.specs.List.{AllByRecursion, filter}
 use Rattle.std.specs.List.Sorted.{IsStrictlySortedBy}
 use Rattle.std.proofs.lemmas.List.{append-nil, append_assoc}
 use Rattle.ev_types.specs.declared.event.Event.{Event}
-use Rattle.index_log.specs.Live.{IndexLog, Logged, Write, Reap, is_over, placed, elsewhere, written, live_events}
+use Rattle.index_log.specs.Live.{IndexLog, Logged, Write, Reap, ends_key, placed, elsewhere, written, live_events}
 use Rattle.index_log.specs.IndexKey.{index_key_cmp, same_index_key}
 use Rattle.index_log.proofs.IndexKeys.{index_key_total}
 use Rattle.index_log.proofs.LiveLaws.{live-nil, live-write, live-reap}
@@ -92,7 +92,7 @@ all_left p (a ∷ es) = left_by p (p a) a (filter (λ other. not (p other)) es) 
 rising-written : (event : Event) (es : List Event) → IsRising es → IsRising (written event es)
 rising-written event es k =
     let rest = rising-filter (λ other. not (same_index_key other event)) es k in
-    rising-cond (is_over event) (elsewhere event es) (placed event (elsewhere event es)) rest
+    rising-cond (ends_key event) (elsewhere event es) (placed event (elsewhere event es)) rest
     (rising-placed event (elsewhere event es) (all_left (λ other. same_index_key other event) es) rest)
 
 rising-step : (log : IndexLog) (last : Logged) → IsRising (live_events log) → IsRising (live_events (log ++ last ∷ []))

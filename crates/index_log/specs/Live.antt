@@ -6,7 +6,7 @@ use Rattle.std.specs.List.Sorted.{IsStrictlySortedBy, IsPermutation}
 use Rattle.std.specs.Ordering.{is_lt}
 use Rattle.ev_types.specs.declared.event.Event.{Event}
 pub use Rattle.ev_types.specs.Text.{is_text}
-pub use Rattle.ev_types.specs.Expiry.{is_over, is_late}
+pub use Rattle.ev_types.specs.Expiry.{ends_key, is_late}
 use Rattle.ev_types.specs.Expiry.{is_expired}
 use Rattle.index_log.specs.IndexKey.{index_key_cmp, same_index_key}
 
@@ -24,7 +24,7 @@ ends event (Write later) = same_index_key event later
 ends event (Reap t) = is_late t event
 
 abbrev pub is_live : Event → IndexLog → Bool
-is_live event later = not (is_over event || list_any (ends event) later)
+is_live event later = not (ends_key event || list_any (ends event) later)
 
 -- the live events of a log, in the order in which they were written
 abbrev pub kept : IndexLog → List Event
@@ -52,7 +52,7 @@ elsewhere event = filter (λ other. not (same_index_key other event))
 
 -- what the live events become by a write
 abbrev pub written : Event → List Event → List Event
-written event events = if is_over event then elsewhere event events else placed event (elsewhere event events)
+written event events = if ends_key event then elsewhere event events else placed event (elsewhere event events)
 
 -- what the live events become by a reap
 abbrev pub reaped : ℕ → List Event → List Event
@@ -64,7 +64,7 @@ WritesAreLive = (log : IndexLog) (event : Event) → live_events (log ++ Write e
 abbrev pub ReapsAreLive : Type 0
 ReapsAreLive = (log : IndexLog) (t : ℕ) → live_events (log ++ Reap t ∷ []) ≡ reaped t (live_events log)
 
--- no live event is over, so a reap ends exactly what is expired at its moment
+-- no live event ends its key, so a reap ends exactly what is expired at its moment
 abbrev pub ReapsEndExpired : Type 0
 ReapsEndExpired = (log : IndexLog) (t : ℕ) → live_events (log ++ Reap t ∷ []) ≡ filter (λ event. not (is_expired t event)) (live_events log)
 

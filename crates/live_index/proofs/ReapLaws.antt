@@ -11,7 +11,7 @@ use Rattle.std.proofs.lemmas.Map.Keys.{IsDistinct-from_sorted}
 use Rattle.std.proofs.lemmas.Map.Entries.{lookup-filter-values, option_filter}
 use Rattle.std.proofs.lemmas.Map.Steps.{length-le_from_keys}
 use Rattle.ev_types.specs.declared.event.Event.{Event}
-use Rattle.ev_types.specs.Expiry.{is_over, is_late, is_expired}
+use Rattle.ev_types.specs.Expiry.{ends_key, is_late, is_expired}
 use Rattle.index_log.proofs.Rising.{rising-filter}
 use Rattle.key_map.specs.Keys.{IndexKey, key_cmp, Numbers, number_at}
 use Rattle.linked_slots.specs.Table.{value_at}
@@ -77,22 +77,22 @@ module _ (now : ℕ) (bound : now ≤ 2 ^ 40) (numbers : Numbers) (table : List 
       either true = refl
       either false = refl
 
-  no-over : (q : IndexKey) (e : Event) → event_of q numbers table ≡ Some e → is_over e ≡ false
-  no-over q e h = over_by (number_at q numbers) h
+  not-ending : (q : IndexKey) (e : Event) → event_of q numbers table ≡ Some e → ends_key e ≡ false
+  not-ending q e h = ending_by (number_at q numbers) h
     where
-      over_by : (r : Option ℕ) → slot_at table r ≡ Some e → is_over e ≡ false
-      over_by None h = absurd (cc)
-      over_by (Some m) h = linked.current m e h
+      ending_by : (r : Option ℕ) → slot_at table r ≡ Some e → ends_key e ≡ false
+      ending_by None h = absurd (cc)
+      ending_by (Some m) h = linked.current m e h
 
-  expired-in : (x : Option Event) → ((e : Event) → x ≡ Some e → is_over e ≡ false)
+  expired-in : (x : Option Event) → ((e : Event) → x ≡ Some e → ends_key e ≡ false)
       → option_filter (is_late now) x ≡ option_filter (is_expired now) x
   expired-in None h = refl
-  expired-in (Some e) h = ap (λ over. cond (over || is_late now e) (Some e) None) (sym (h e refl))
+  expired-in (Some e) h = ap (λ ends. cond (ends || is_late now e) (Some e) None) (sym (h e refl))
 
-  expired-out : (x : Option Event) → ((e : Event) → x ≡ Some e → is_over e ≡ false)
+  expired-out : (x : Option Event) → ((e : Event) → x ≡ Some e → ends_key e ≡ false)
       → option_filter (λ e. not (is_late now e)) x ≡ option_filter (λ e. not (is_expired now e)) x
   expired-out None h = refl
-  expired-out (Some e) h = ap (λ over. cond (not (over || is_late now e)) (Some e) None) (sym (h e refl))
+  expired-out (Some e) h = ap (λ ends. cond (not (ends || is_late now e)) (Some e) None) (sym (h e refl))
 
   find-filter : (p : Event → Bool) (q : IndexKey)
       → find_key q (filter p (events_in numbers table)) ≡ option_filter p (event_of q numbers table)
@@ -111,7 +111,7 @@ module _ (now : ℕ) (bound : now ≤ 2 ^ 40) (numbers : Numbers) (table : List 
       (rising-filter (is_expired now) (events_in numbers table) (events-rise numbers table linked))
       (λ q. taking.taken.taken q ∙ ap (λ b. cond b (event_of q numbers table) None) (late-has q)
       ∙ in-late (event_of q numbers table)
-      ∙ expired-in (event_of q numbers table) (no-over q) ∙ sym (find-filter (is_expired now) q))
+      ∙ expired-in (event_of q numbers table) (not-ending q) ∙ sym (find-filter (is_expired now) q))
 
   pub reap-kept : (numbers' : Numbers) (table' : List (Option Event)) (es : List Event)
       → IsTaking (due_ids now due) numbers table numbers' table' es
@@ -122,7 +122,7 @@ module _ (now : ℕ) (bound : now ≤ 2 ^ 40) (numbers : Numbers) (table : List 
       (rising-filter (λ e. not (is_expired now e)) (events_in numbers table) (events-rise numbers table linked))
       (λ q. find-events numbers' table' taking.linked q ∙ taking.kept q
       ∙ ap (λ b. cond b None (event_of q numbers table)) (late-has q) ∙ not-late (event_of q numbers table)
-      ∙ expired-out (event_of q numbers table) (no-over q) ∙ sym (find-filter (λ e. not (is_expired now e)) q))
+      ∙ expired-out (event_of q numbers table) (not-ending q) ∙ sym (find-filter (λ e. not (is_expired now e)) q))
 
   -- ---- the moments that are left
 
@@ -161,13 +161,13 @@ module _ (now : ℕ) (bound : now ≤ 2 ^ 40) (numbers : Numbers) (table : List 
   length-swapped (e ∷ entries) = ap suc (length-swapped entries)
 
   late-also : (slot : Option Event) (k : IndexKey) (entry : IndexKey × ℕ) (rest : Numbers) (es : List Event)
-      → option_map key_of slot ≡ Some k → ((e : Event) → slot ≡ Some e → is_over e ≡ false)
+      → option_map key_of slot ≡ Some k → ((e : Event) → slot ≡ Some e → ends_key e ≡ false)
       → length rest ≡ length (filter (is_expired now) es)
       → length (cond (is_late_in now slot) (entry ∷ rest) rest) ≡ length (filter (is_expired now) (also slot es))
   late-also None k entry rest es h current ih = absurd (cc)
   late-also (Some e) k entry rest es h current ih =
       late_by (is_late now e)
-      ∙ ap (λ over. length (cond (over || is_late now e) (e ∷ filter (is_expired now) es) (filter (is_expired now) es)))
+      ∙ ap (λ ends. length (cond (ends || is_late now e) (e ∷ filter (is_expired now) es) (filter (is_expired now) es)))
       (sym (current e refl))
     where
       late_by : (b : Bool)

@@ -5,7 +5,7 @@ use Rattle.std.specs.Map.{values_of}
 use Rattle.std.specs.Option.{option_map, IsSome}
 use Rattle.std.proofs.lemmas.Bool.{eqb-true, eqb-false, iff_false}
 use Rattle.ev_types.specs.declared.event.Event.{Event}
-use Rattle.ev_types.specs.Expiry.{is_over}
+use Rattle.ev_types.specs.Expiry.{ends_key}
 use Rattle.key_map.specs.Keys.{IndexKey, Numbers, number_at, IsRising, Sets}
 use Rattle.linked_slots.specs.Table.{value_at, IsLive, Changes}
 use Rattle.live_index.specs.Slots.{key_of, slot_at, event_of, events_in, events_unless, IsLinked, Puts}
@@ -82,7 +82,7 @@ end-linked numbers numbers' table table' k n linked at rising sets changes = rec
   current = λ m e h. current_by m e h (eqb m n) refl;
 }
   where
-    current_by : (m : ℕ) (e : Event) → value_at table' m ≡ Some e → (b : Bool) → eqb m n ≡ b → is_over e ≡ false
+    current_by : (m : ℕ) (e : Event) → value_at table' m ≡ Some e → (b : Bool) → eqb m n ≡ b → ends_key e ≡ false
     current_by m e h true is =
         absurd (let no : None ≡ Some e = sym changes.changed ∙ ap (value_at table') (sym (eqb-true m n is)) ∙ h in cc)
     current_by m e h false apart = linked.current m e (sym (changes.others m (eqb-false m n apart)) ∙ h)
@@ -100,7 +100,7 @@ end-put numbers numbers' table table' k n linked at sets changes q =
 
 pub put-linked : (numbers numbers' : Numbers) (table table' : List (Option Event)) (event : Event) (n : ℕ)
     → IsLinked numbers table → number_at (key_of event) numbers ≡ None
-    → value_at table n ≡ None → is_over event ≡ false → IsRising numbers'
+    → value_at table n ≡ None → ends_key event ≡ false → IsRising numbers'
     → Sets numbers numbers' (key_of event) (Some n) → Changes table table' n (Some event) → IsLinked numbers' table'
 put-linked numbers numbers' table table' event n linked none vacant current rising sets changes = record {
   rising = rising;
@@ -113,10 +113,10 @@ put-linked numbers numbers' table table' event n linked none vacant current risi
   current = λ m e h. current_by m e h (eqb m n) refl;
 }
   where
-    current_by : (m : ℕ) (e : Event) → value_at table' m ≡ Some e → (b : Bool) → eqb m n ≡ b → is_over e ≡ false
+    current_by : (m : ℕ) (e : Event) → value_at table' m ≡ Some e → (b : Bool) → eqb m n ≡ b → ends_key e ≡ false
     current_by m e h true is =
         let event_is : Some event ≡ Some e = sym changes.changed ∙ ap (value_at table') (sym (eqb-true m n is)) ∙ h in
-        let same_event : event ≡ e = cc in ap is_over (sym same_event) ∙ current
+        let same_event : event ≡ e = cc in ap ends_key (sym same_event) ∙ current
     current_by m e h false apart = linked.current m e (sym (changes.others m (eqb-false m n apart)) ∙ h)
 
 pub put-put : (numbers numbers' : Numbers) (table table' : List (Option Event)) (event : Event) (n : ℕ)
@@ -132,7 +132,7 @@ put-put numbers numbers' table table' event n linked none vacant sets changes q 
 -- ---- an event replaces the one of its key
 
 pub replace-linked : (numbers : Numbers) (table table' : List (Option Event)) (event : Event) (n : ℕ)
-    → IsLinked numbers table → number_at (key_of event) numbers ≡ Some n → is_over event ≡ false
+    → IsLinked numbers table → number_at (key_of event) numbers ≡ Some n → ends_key event ≡ false
     → Changes table table' n (Some event) → IsLinked numbers table'
 replace-linked numbers table table' event n linked at current changes = record {
   rising = linked.rising;
@@ -145,10 +145,10 @@ replace-linked numbers table table' event n linked at current changes = record {
   current = λ m e h. current_by m e h (eqb m n) refl;
 }
   where
-    current_by : (m : ℕ) (e : Event) → value_at table' m ≡ Some e → (b : Bool) → eqb m n ≡ b → is_over e ≡ false
+    current_by : (m : ℕ) (e : Event) → value_at table' m ≡ Some e → (b : Bool) → eqb m n ≡ b → ends_key e ≡ false
     current_by m e h true is =
         let event_is : Some event ≡ Some e = sym changes.changed ∙ ap (value_at table') (sym (eqb-true m n is)) ∙ h in
-        let same_event : event ≡ e = cc in ap is_over (sym same_event) ∙ current
+        let same_event : event ≡ e = cc in ap ends_key (sym same_event) ∙ current
     current_by m e h false apart = linked.current m e (sym (changes.others m (eqb-false m n apart)) ∙ h)
 
 pub replace-put : (numbers : Numbers) (table table' : List (Option Event)) (event : Event) (n : ℕ)

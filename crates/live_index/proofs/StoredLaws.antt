@@ -3,7 +3,7 @@ use Rattle.std.proofs.Common.{◌≡◌, ℕ, suc, ◌+◌, ◌-◌, ◌≤◌, 
 use Rattle.std.specs.List.Sorted.{IsStrictlySortedBy}
 use Rattle.std.proofs.lemmas.List.{get_or_past}
 use Rattle.ev_types.specs.declared.event.Event.{Event}
-use Rattle.ev_types.specs.Expiry.{is_over, is_late}
+use Rattle.ev_types.specs.Expiry.{ends_key, is_late}
 use Rattle.key_map.specs.Keys.{IndexKey, Numbers, number_at, IsRising, Sets}
 use Rattle.linked_slots.specs.Table.{value_at, Changes}
 use Rattle.tick_schedule.specs.Queue as queue
@@ -59,7 +59,7 @@ some-counted numbers numbers' k n count rising counted at rising' sets =
 pub put-stored : (numbers numbers' : Numbers) (table table' : List (Option Event)) (due due' : List (ℕ × ℕ)) (count : ℕ)
     (event : Event) (n : ℕ) (moment : Option ℕ)
     → IsStored numbers table due count
-    → number_at (key_of event) numbers ≡ None → value_at table n ≡ None → is_over event ≡ false → IsRising numbers'
+    → number_at (key_of event) numbers ≡ None → value_at table n ≡ None → ends_key event ≡ false → IsRising numbers'
     → Sets numbers numbers' (key_of event) (Some n) → Changes table table' n (Some event)
     → queue.Sets due due' n moment → queue.IsRising due'
     → ((now : ℕ) → now ≤ 2 ^ 40 → is_by now moment ≡ is_late now event) → IsStored numbers' table' due' (count + 1)
@@ -78,7 +78,7 @@ put-stored numbers numbers' table table' due due' count event n moment stored no
 pub replace-stored : (numbers : Numbers) (table table' : List (Option Event)) (due due' : List (ℕ × ℕ)) (count : ℕ)
     (event : Event) (n : ℕ) (moment : Option ℕ)
     → IsStored numbers table due count
-    → number_at (key_of event) numbers ≡ Some n → is_over event ≡ false → Changes table table' n (Some event)
+    → number_at (key_of event) numbers ≡ Some n → ends_key event ≡ false → Changes table table' n (Some event)
     → queue.Sets due due' n moment → queue.IsRising due'
     → ((now : ℕ) → now ≤ 2 ^ 40 → is_by now moment ≡ is_late now event) → IsStored numbers table' due' count
 replace-stored numbers table table' due due' count event n moment stored at current changes scheduled ordered

@@ -6,7 +6,7 @@ use Rattle.std.specs.List.{AllByRecursion}
 use Rattle.std.proofs.lemmas.Cmp.{eq_by_cmp_equiv}
 use Rattle.ev_types.specs.declared.event.Event.{Event}
 use Rattle.index_log.specs.IndexKey.{index_key_cmp, same_index_key}
-use Rattle.index_log.specs.Live.{IndexLog, Write, is_over, placed, elsewhere, written, live_events}
+use Rattle.index_log.specs.Live.{IndexLog, Write, ends_key, placed, elsewhere, written, live_events}
 use Rattle.index_log.proofs.LiveLaws.{live-write}
 use Rattle.index_log.proofs.Rising.{live-rising}
 use Rattle.key_map.specs.Keys.{IndexKey, Numbers}
@@ -119,11 +119,11 @@ put-at q event es =
 -- the event of each key after a write
 written-at : (q : IndexKey) (event : Event) (es : List Event)
     → find_key q (written event es) ≡ cond (same (key_of event) q) (slot_of event) (find_key q es)
-written-at q event es = written_by (is_over event)
+written-at q event es = written_by (ends_key event)
   where
-    written_by : (over : Bool)
-        → find_key q (cond over (elsewhere event es) (placed event (elsewhere event es)))
-        ≡ cond (same (key_of event) q) (cond over None (Some event)) (find_key q es)
+    written_by : (ends : Bool)
+        → find_key q (cond ends (elsewhere event es) (placed event (elsewhere event es)))
+        ≡ cond (same (key_of event) q) (cond ends None (Some event)) (find_key q es)
     written_by true = elsewhere-at q event es
     written_by false = put-at q event es
 

@@ -8,7 +8,7 @@ use Rattle.std.specs.List.Sorted.{IsStrictlySortedBy}
 use Rattle.index_log.specs.IndexKey.{index_key_cmp, text_cmp}
 use Rattle.std.specs.BTreeMap.{is_at}
 use Rattle.ev_types.specs.declared.event.Event.{Event}
-use Rattle.ev_types.specs.Expiry.{is_over, is_late}
+use Rattle.ev_types.specs.Expiry.{ends_key, is_late}
 use Rattle.ev_types.specs.declared.value.Value.{Value}
 use Rattle.ev_types.specs.declared.value.Value.TheVariants.{Nil, Number, Text}
 use Rattle.key_map.specs.Keys.{IndexKey, key_cmp, Numbers, number_at, of_host, IsRising}
@@ -41,12 +41,12 @@ slot_at table (Some number) = value_at table number
 abbrev pub event_of : IndexKey → Numbers → List (Option Event) → Option Event
 event_of key numbers table = slot_at table (number_at key numbers)
 
--- each number of a key has an event of that key, each event has the number of its key, and none is over
+-- each number of a key has an event of that key, each event has the number of its key, and none ends its key
 pub record IsLinked (numbers : Numbers) (table : List (Option Event)) : Type 0 where
   pub rising : IsRising numbers
   pub found : (key : IndexKey) (number : ℕ) → number_at key numbers ≡ Some number → option_map key_of (value_at table number) ≡ Some key
   pub placed : (number : ℕ) (event : Event) → value_at table number ≡ Some event → number_at (key_of event) numbers ≡ Some number
-  pub current : (number : ℕ) (event : Event) → value_at table number ≡ Some event → is_over event ≡ false
+  pub current : (number : ℕ) (event : Event) → value_at table number ≡ Some event → ends_key event ≡ false
 
 -- the moment has come, where there is one
 abbrev pub is_by : ℕ → Option ℕ → Bool
@@ -73,7 +73,7 @@ Puts key slot numbers table numbers' table' = (other : IndexKey) → event_of ot
 
 -- what a write leaves at the key of its event
 abbrev pub slot_of : Event → Option Event
-slot_of event = if is_over event then None else Some event
+slot_of event = if ends_key event then None else Some event
 
 -- each of these numbers has an event
 abbrev pub AreLive : List (Option Event) → List ℕ → Type 0

@@ -1,6 +1,6 @@
 ghost use Rattle.std.specs.Prelude.{◌≡◌, ℕ, ◌+◌, ◌-◌, ◌^◌, ◌≤◌, eqb, false, List, [], ◌∷◌, ◌++◌, Option, filter, length, take, not, option_copied, IfSome, IfOk, IsNone, IsSome, OnErr, OnOk, true, Some, None, if◌then◌else◌};
 ghost use Rattle.list_laws.specs.Prefix.{IsPrefix};
-ghost use Rattle.ev_types.specs.Expiry.{is_expired, is_late, is_over};
+ghost use Rattle.ev_types.specs.Expiry.{is_expired, is_late, ends_key};
 ghost use Rattle.ev_types.specs.declared.event.Event.{Event as StoredEvent};
 ghost use Rattle.key_map.specs.Keys.{number_at, Numbers};
 ghost use Rattle.linked_slots.specs.Table.{value_at, Changes, IsLive};
@@ -58,7 +58,7 @@ impl Slots {
         ensures puts { OnOk result (Puts (key_of event.old) (slot_of event.old)
             self.old.numbers self.old.events.values self.new.numbers self.new.events.values) }
     {
-        if event.is_over() {
+        if event.ends_key() {
             self.end(event.host.as_ref(), event.service.as_ref());
             return Ok(());
         }
@@ -66,11 +66,11 @@ impl Slots {
         Ok(())
     }
 
-    /// Moves the event, which is not over, into the slots, in place of the one of its host and service.
+    /// Moves the event, which does not end its key, into the slots, in place of the one of its host and service.
     fn enter(&mut self, alloc: Global, event: &mut Event) -> Result<(), Memory>
         requires stored { IsStored self.old.numbers self.old.events.values
             self.old.due self.old.count }
-        requires current { is_over event.old ≡ false }
+        requires current { ends_key event.old ≡ false }
         ensures stored { OnOk result
             (IsStored self.new.numbers self.new.events.values self.new.due self.new.count) }
         ensures puts { OnOk result (Puts (key_of event.old) (Some event.old)
@@ -137,7 +137,7 @@ impl Slots {
         requires stored { IsStored self.old.numbers self.old.events.values
             self.old.due self.old.count }
         requires known { number_at (key_of event.old) self.old.numbers ≡ Some number }
-        requires current { is_over event.old ≡ false }
+        requires current { ends_key event.old ≡ false }
         ensures stored { OnOk result
             (IsStored self.new.numbers self.new.events.values self.new.due self.new.count) }
         ensures puts { OnOk result (Puts (key_of event.old) (Some event.old)
@@ -172,7 +172,7 @@ impl Slots {
         requires stored { IsStored self.old.numbers self.old.events.values
             self.old.due self.old.count }
         requires absent { number_at (key_of event.old) self.old.numbers ≡ None }
-        requires current { is_over event.old ≡ false }
+        requires current { ends_key event.old ≡ false }
         ensures stored { OnOk result
             (IsStored self.new.numbers self.new.events.values self.new.due self.new.count) }
         ensures puts { OnOk result (Puts (key_of event.old) (Some event.old)

@@ -4,7 +4,7 @@ use Rattle.std.specs.Prelude.{FitsSigned, IfSome}
 use Rattle.std.specs.Int.{w32, w64, to_le_bytes}
 use Rattle.std.specs.Option.{option_map}
 use Rattle.std.specs.Str.{IsUtf8}
-use Rattle.ev_types.specs.Expiry.{is_over}
+use Rattle.ev_types.specs.Expiry.{ends_key}
 use Rattle.ev_types.specs.declared.event.Attr.{Attr}
 use Rattle.ev_types.specs.declared.event.Event.{Event}
 use Rattle.riemann_msg.specs.ReadBack.{IsWellFormedAttribute, IsWellFormedEvent}
@@ -283,7 +283,7 @@ pub record EventSound (bytes : List ℕ) (read : Places × Event) : Type 0 where
   pub service_within : IfSome read.0.service (LiesIn bytes)
   pub time : read.0.time ≡ read.1.time
   pub ttl : read.0.ttl ≡ read.1.ttl
-  pub over : read.0.is_over ≡ is_over read.1
+  pub ends : read.0.ends_key ≡ ends_key read.1
 
 pub packed_sound : (bytes : List ℕ) (read : Places × Event) → IsBytes bytes → packed_in bytes ≡ Some read
     → EventSound bytes read
@@ -344,7 +344,7 @@ packed_sound bytes read fits e =
       service_within = names.service_within;
       time = refl;
       ttl = refl;
-      over = refl;
+      ends = refl;
     })
 
 pub packed_whole : (event : Event) → IsWellFormedEvent event → length (event_text event) < 2 ^ 64

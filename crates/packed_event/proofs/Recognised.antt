@@ -40,7 +40,7 @@ packed_from bytes read sound = record {
   service_within = sound.service_within;
   time = sound.time;
   ttl = sound.ttl;
-  over = sound.over;
+  ends = sound.ends;
 }
 
 -- ---- what is recognised is packed

@@ -1,7 +1,7 @@
 -- Events that are kept as the bytes that this server writes for them, with the places of some parts.
 use Rattle.std.specs.Prelude.{◌≡◌, ℕ, ◌+◌, ◌^◌, ◌<◌, ◌≤◌, List, length, IfSome, slice_range, None, pos}
 use Rattle.std.specs.Option.{option_map}
-use Rattle.ev_types.specs.Expiry.{is_over}
+use Rattle.ev_types.specs.Expiry.{ends_key}
 use Rattle.ev_types.specs.declared.event.Event.{Event}
 use Rattle.riemann_msg.specs.Fault.{event_fault}
 use Rattle.riemann_msg.specs.ReadBack.{IsWellFormedEvent}
@@ -28,7 +28,7 @@ pub record IsPacked (bytes : List ℕ) (places : Places) (event : Event) : Type 
   pub service_within : IfSome places.service (LiesIn bytes)
   pub time : places.time ≡ event.time
   pub ttl : places.ttl ≡ event.ttl
-  pub over : places.is_over ≡ is_over event
+  pub ends : places.ends_key ≡ ends_key event
 
 -- at any moment
 abbrev pub PackedEventsAreRead : Type 0

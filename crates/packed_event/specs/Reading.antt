@@ -176,7 +176,7 @@ abbrev pub names_seen : NamesRead × List ℕ → Names × List ℕ
 names_seen read = (
   record {
     time = read.0.time;
-    is_over = is_text (codes "expired") read.0.state;
+    ends_key = is_text (codes "expired") read.0.state;
     service = read.0.service_span;
     host = read.0.host_span;
   },
@@ -220,7 +220,7 @@ places_read names ttl = record {
   service = names.service_span;
   time = names.time;
   ttl = ttl;
-  is_over = is_text (codes "expired") names.state;
+  ends_key = is_text (codes "expired") names.state;
 }
 
 -- the event that all the bytes are, and the places of its parts

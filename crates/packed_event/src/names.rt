@@ -23,7 +23,7 @@ pub(crate) const DESCRIPTION: u8 = 0x2a;
 #[derive(Drop)]
 pub(crate) struct Names {
     pub(crate) time: i64,
-    pub(crate) is_over: bool,
+    pub(crate) ends_key: bool,
     pub(crate) service: Option<Span>,
     pub(crate) host: Option<Span>,
 }
@@ -44,7 +44,7 @@ pub(crate) fn names_at(bytes: &[u8]) -> Option<(Names, &[u8])>
     let (_, rest) = optional_text(DESCRIPTION, rest)?;
     let names = Names {
         time,
-        is_over: is_expired(state),
+        ends_key: is_expired(state),
         service,
         host,
     };

@@ -4,7 +4,7 @@ ghost use Rattle.std.specs.Prelude.{◌≡◌, ◌↔◌, ℕ, ◌+◌, ◌^◌,
 ghost use Rattle.std.specs.Option.{option_map};
 ghost use Rattle.std.specs.Str.{IsUtf8};
 ghost use Rattle.list_laws.specs.Prefix.{IsPrefix};
-ghost use Rattle.ev_types.specs.Expiry.{is_expired, is_over};
+ghost use Rattle.ev_types.specs.Expiry.{is_expired, ends_key};
 ghost use Rattle.riemann_msg.specs.ReadBack.{IsWellFormedEvent};
 ghost use Rattle.riemann_msg.specs.Reply.{found};
 ghost use Rattle.riemann_msg.specs.Spelling.{event_content, repeated, spelled, spelling};
@@ -110,10 +110,10 @@ impl PackedEvent {
 
     /// Whether its state is "expired".
     #[inline]
-    pub fn is_over(&self) -> bool
-        ensures { result ≡ is_over self.now }
+    pub fn ends_key(&self) -> bool
+        ensures { result ≡ ends_key self.now }
     {
-        self.places.is_over
+        self.places.ends_key
     }
 
     /// Whether it has expired at the moment `t`, in seconds since 1970, at most 2^40.
@@ -124,7 +124,7 @@ impl PackedEvent {
     {
         let ttl = self.places.ttl.unwrap_or(DEFAULT_TTL);
         let age = i128::from(t) - i128::from(self.places.time);
-        self.places.is_over || age > i128::from(ttl)
+        self.places.ends_key || age > i128::from(ttl)
     }
 
     /// How many bytes it adds to a reply, with its tag and its length. A reply with no events has 2 bytes.

@@ -45,7 +45,7 @@ pub struct Places {
     /// How many seconds after its time it expires.
     pub ttl: Option<u32>,
     /// Whether its state is "expired".
-    pub is_over: bool,
+    pub ends_key: bool,
 }
 
 /// The places of an event's parts, if the bytes are exactly those that this server writes for it: the fields by rising
@@ -88,6 +88,6 @@ fn places_in(bytes: &[u8]) -> Option<Places>
         service: names.service,
         time: names.time,
         ttl,
-        is_over: names.is_over,
+        ends_key: names.ends_key,
     })
 }

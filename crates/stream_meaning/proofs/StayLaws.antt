@@ -10,7 +10,7 @@ use Rattle.std.proofs.lemmas.Bool.Decides.{nat_tests}
 use Rattle.std.proofs.lemmas.Bool.{eqb-true}
 use Rattle.ev_types.specs.declared.event.Event.{Event}
 use Rattle.ev_types.specs.declared.item.Item.TheVariants.{One, Many}
-use Rattle.ev_types.specs.Expiry.{is_over, is_late, is_expired}
+use Rattle.ev_types.specs.Expiry.{ends_key, is_late, is_expired}
 use Rattle.index_log.specs.Live.{placed, placed_onto}
 use Rattle.stream_plan.specs.Tree.{KindTree, Rollup, Batch, Stable, Coalesce}
 use Rattle.stream_meaning.specs.History.{History, since, ◌▸◌, Tick, In, begun, moment_of, window_of, is_at}
@@ -75,7 +75,7 @@ or_late false l m f e = f e
 
 expired_later : (event : Event) (t secs : ℕ) → is_expired t event ≡ true → is_expired (t + secs) event ≡ true
 expired_later event t secs e =
-    or_late (is_over event) (is_late t event) (is_late (t + secs) event)
+    or_late (ends_key event) (is_late t event) (is_late (t + secs) event)
     (late_later (unwrap_or event.ttl 60) event.time t secs) e
 
 -- expired at the next moment (p), at this one (q), one length before (r), and come in between (s)

@@ -44,7 +44,7 @@ fn parts_are_those_of_the_bytes(rt: HostRuntime) -> Result<(), Fail> {
     assert!(rt; full.service() == Some("bb"));
     assert!(rt; full.time() == 1);
     assert!(rt; full.ttl() == Some(60));
-    assert!(rt; !full.is_over());
+    assert!(rt; !full.ends_key());
     assert!(rt; !full.is_expired(61));
     assert!(rt; full.is_expired(62));
     assert!(rt; full.reply_len() == FULL.len() + 2);
@@ -55,7 +55,7 @@ fn parts_are_those_of_the_bytes(rt: HostRuntime) -> Result<(), Fail> {
     };
     assert!(rt; last.host().is_none());
     assert!(rt; last.ttl().is_none());
-    assert!(rt; last.is_over());
+    assert!(rt; last.ends_key());
     assert!(rt; !last.is_same(&full));
     Ok(())
 }

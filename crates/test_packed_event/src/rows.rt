@@ -7,7 +7,7 @@ const BARE: Places = Places {
     service: None,
     time: 1,
     ttl: None,
-    is_over: false,
+    ends_key: false,
 };
 
 /// Bytes as this server writes them.
@@ -20,7 +20,7 @@ const WRITTEN: &[(&[u8], Places)] = &[
             service: None,
             time: -1,
             ttl: None,
-            is_over: false,
+            ends_key: false,
         },
     ),
     (
@@ -30,7 +30,7 @@ const WRITTEN: &[(&[u8], Places)] = &[
             service: None,
             time: 128,
             ttl: None,
-            is_over: true,
+            ends_key: true,
         },
     ),
     (
@@ -40,7 +40,7 @@ const WRITTEN: &[(&[u8], Places)] = &[
             service: Some(Span { start: 4, len: 2 }),
             time: 1,
             ttl: Some(60),
-            is_over: false,
+            ends_key: false,
         },
     ),
     (
@@ -50,7 +50,7 @@ const WRITTEN: &[(&[u8], Places)] = &[
             service: None,
             time: 1,
             ttl: Some(0),
-            is_over: false,
+            ends_key: false,
         },
     ),
     // A description, two tags, an attribute without a value and one with, 1.5 seconds, -3, and the bits of two numbers.

@@ -8,7 +8,7 @@ use Rattle.std.proofs.lemmas.Nat.{div-add-mod'}
 use Rattle.std.proofs.lemmas.Bool.Decides.{nat_tests}
 use Rattle.ev_types.specs.declared.event.Event.{Event}
 use Rattle.ev_types.specs.declared.item.Item.TheVariants.{One}
-use Rattle.ev_types.specs.Expiry.{is_over, is_late, is_expired}
+use Rattle.ev_types.specs.Expiry.{ends_key, is_late, is_expired}
 use Rattle.index_log.specs.IndexKey.{same_index_key}
 use Rattle.index_log.specs.Live.{placed, placed_onto, elsewhere}
 use Rattle.index_log.proofs.IndexKeys.{filter-placed_onto}
@@ -157,7 +157,7 @@ late-later : (event : Event) (t secs : ℕ) → is_late t event ≡ true → is_
 late-later event t secs h = grind (arith, ints)
 
 expired-later : (event : Event) (t secs : ℕ) → is_expired t event ≡ true → is_expired (t + secs) event ≡ true
-expired-later event t secs = by_test (is_over event)
+expired-later event t secs = by_test (ends_key event)
   where
     by_test : (u : Bool) → (u || is_late t event) ≡ true → (u || is_late (t + secs) event) ≡ true
     by_test true h = refl

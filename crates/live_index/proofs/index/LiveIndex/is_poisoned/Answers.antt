@@ -1,6 +1,6 @@
 use Rattle.std.proofs.Common.{◌≡◌, false, sym, ap, ◌∙◌}
 use Rattle.live_index.specs.Slots.{events_in}
-use Rattle.live_index.proofs.LogLaws.{log_of, log-live, none_over}
+use Rattle.live_index.proofs.LogLaws.{log_of, log-live, all_current}
 use Rattle.live_index.proofs.RowLaws.{events-rise}
 use Rattle.live_index.proofs.SlotsLaws.{not_poisoned}
 use Rattle.live_index.proofs.index.LiveIndex.is_poisoned.Goals as goal
@@ -17,6 +17,6 @@ returns-clause-represents c = λ sound.
         live =
             sym (not_poisoned c.self.inside.poisoned numbers table is_sound ∙ ap (λ index. index.events) c.self.view_is)
             ∙ sym
-            (log-live (events_in numbers table) (events-rise numbers table linked) (none_over numbers table linked));
+            (log-live (events_in numbers table) (events-rise numbers table linked) (all_current numbers table linked));
       },
     )
