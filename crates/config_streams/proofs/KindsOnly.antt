@@ -21,7 +21,7 @@ use Rattle.config_terms.specs.declared.word.StreamWord.{StreamWord}
 use Rattle.config_terms.specs.declared.word.StreamWord.TheVariants as word
 use Rattle.config_terms.specs.Code.{later}
 use Rattle.config_terms.specs.Steps.{Fault, ◌>>=◌, start_of, nth, argument}
-use Rattle.config_terms.specs.Words.{stream_text, stream_word, passing_word, counting_word, window_word, fold_word, init_text}
+use Rattle.config_terms.specs.Words.{stream_text, stream_word, passing_word, choosing_or_gathering_word, window_or_test_word, fold_word, init_text}
 use Rattle.config_terms.specs.Arguments.{Env, text_at, number_at, field_at, value_at, texts_at, fields_at, some_of, set_at, sets_from, one_entry, idle_in}
 use Rattle.config_terms.specs.Rules.{rule_at}
 use Rattle.config_terms.specs.Grammar.{symbol, IsLiteral, IsPredicate}
@@ -33,7 +33,7 @@ use Rattle.config_terms.proofs.VectorLaws.{ranges_are_read, text_vectors_are_rea
 use Rattle.config_terms.proofs.SetLaws.{sets_are_read, set_maps_are_read, inits_are_read}
 use Rattle.config_terms.proofs.IdleLaws.{idles_are_read}
 use Rattle.stream_plan.specs.declared.kinds.TheConstants.{MAX_COUNT, MAX_SECS}
-use Rattle.config_streams.specs.Kinds.{count_at, secs_at, is_map, is_map_in, one_set, sets_of, some_init, init_of, most_idle, some_idle, idle_of, by_kind, fold_by, fold_named, fold_at, has_secs, coalesce_secs, all_tagged, tagged_kind, one_argument, two_arguments, order_kind, changed_kind, window_kind, counting_kind, kind_of, leads, two_if, one_if}
+use Rattle.config_streams.specs.Kinds.{count_at, secs_at, is_map, is_map_in, one_set, sets_of, some_init, init_of, most_idle, some_idle, idle_of, by_kind, fold_by, fold_named, fold_at, has_secs, coalesce_secs, all_tagged, tagged_kind, one_argument, two_arguments, order_kind, changed_kind, window_or_test_kind, choosing_or_gathering_kind, kind_of, leads, two_if, one_if}
 use Rattle.config_streams.specs.Streams.{is_where}
 use Rattle.config_streams.specs.Grammar.{IsCount, AreSecs, IsFold, sum, minimum, maximum, counted, and_then, IsKind, sdo, where_, with_one, with_all, default_one, default_all, tagging, by, by_idle, changed, changed_from, runs, throttle, rollup, batch, stable, fixed_event, moving_event, fixed_time, moving_time, coalesce, coalesce_every, smap, expired, tagged, over, under}
 use Rattle.config_streams.proofs.KindsRead.{all_tags_are}
@@ -245,7 +245,7 @@ some_tags in_fork env a rest (one ∷ tags) are =
 
 tagged_means : (in_fork : Bool) (env : Env) (start : ℕ) (forms : FormTrees)
     → OkGood (Known in_fork env word.Tagged forms) (kind_of in_fork env word.Tagged start forms)
-unfolding kind_of counting_kind window_kind tagged_kind argument
+unfolding kind_of choosing_or_gathering_kind window_or_test_kind tagged_kind argument
 tagged_means in_fork env start none = tt
 tagged_means in_fork env start (also a rest) =
     bind_good (IsTexts env (bare_tree a)) (Known in_fork env word.Tagged (also a rest)) (texts_at env a) _
@@ -271,7 +271,7 @@ coalesced in_fork env start (also a rest) false = record { own = no_trees; is = 
 
 coalesce_means : (in_fork : Bool) (env : Env) (start : ℕ) (forms : FormTrees)
     → OkGood (Known in_fork env word.Coalesce forms) (kind_of in_fork env word.Coalesce start forms)
-unfolding kind_of counting_kind coalesce_secs leads
+unfolding kind_of choosing_or_gathering_kind coalesce_secs leads
 coalesce_means in_fork env start forms =
     bind_good (Coalesced in_fork env forms (has_secs env forms)) (Known in_fork env word.Coalesce forms) _ _
     (coalesced in_fork env start forms (has_secs env forms))
@@ -373,7 +373,7 @@ inited env place entries =
 
 changed_means : (in_fork : Bool) (env : Env) (start : ℕ) (forms : FormTrees)
     → OkGood (Known in_fork env word.Changed forms) (kind_of in_fork env word.Changed start forms)
-unfolding kind_of counting_kind changed_kind init_of leads argument
+unfolding kind_of choosing_or_gathering_kind changed_kind init_of leads argument
 changed_means in_fork env start none = tt
 changed_means in_fork env start (also a none) =
     bind_good (IsField env (bare_tree a)) (Known in_fork env word.Changed (also a none)) (field_at env a) _
@@ -496,7 +496,7 @@ by_means in_fork env start (also a (also (Group Curly entries begin last) rest))
 
 pub kind_means : (in_fork : Bool) (env : Env) (from : StreamWord) (start : ℕ) (forms : FormTrees)
     → OkGood (Known in_fork env from forms) (kind_of in_fork env from start forms)
-unfolding kind_of counting_kind window_kind order_kind leads
+unfolding kind_of choosing_or_gathering_kind window_or_test_kind order_kind leads
 kind_means in_fork env word.Index start forms = record { own = no_trees; is = start_index; are = refl; divides = never }
 kind_means in_fork env word.Notice start forms =
     one_means in_fork env word.Notice text_at plan.Notice (TextIs env) (text_means env) (λ x name is. start_notice is)
@@ -571,13 +571,13 @@ spells_if name one other rest =
     (λ is. (bytes_eq-Decides name (stream_text one)).0 is) (λ _. rest)
 
 pub word_spells : (name : List ℕ) → SomeGood (Spells name) (stream_word name)
-unfolding stream_word passing_word counting_word window_word
+unfolding stream_word passing_word choosing_or_gathering_word window_or_test_word
 word_spells name =
     some_or (Spells name) (passing_word name) _
     (spells_if name word.Index _ (spells_if name word.Notice _ (spells_if name word.Sdo _ (spells_if name word.Where _
     (spells_if name word.Else _ (spells_if name word.With _ (spells_if name word.Default _ (spells_if name word.Tag _
     (spells_if name word.By _ tt)))))))))
-    (some_or (Spells name) (counting_word name) (window_word name)
+    (some_or (Spells name) (choosing_or_gathering_word name) (window_or_test_word name)
     (spells_if name word.Changed _
     (spells_if name word.Runs _ (spells_if name word.Throttle _ (spells_if name word.Rollup _
     (spells_if name word.Batch _

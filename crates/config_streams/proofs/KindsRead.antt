@@ -25,7 +25,7 @@ use Rattle.config_terms.specs.declared.word.StreamWord.{StreamWord}
 use Rattle.config_terms.specs.declared.word.StreamWord.TheVariants as word
 use Rattle.config_terms.specs.Code.{map_in}
 use Rattle.config_terms.specs.Steps.{Fault, ◌>>=◌, start_of, nth, argument}
-use Rattle.config_terms.specs.Words.{stream_text, stream_word, passing_word, counting_word, window_word, fold_text, fold_word, init_text}
+use Rattle.config_terms.specs.Words.{stream_text, stream_word, passing_word, choosing_or_gathering_word, window_or_test_word, fold_text, fold_word, init_text}
 use Rattle.config_terms.specs.Arguments.{Env, text_at, number_at, field_at, value_at, ranged_at, texts_at, fields_at, set_at, sets_from, one_entry, idle_in}
 use Rattle.config_terms.specs.Rules.{rule_at}
 use Rattle.config_terms.specs.Grammar.{IsLiteral, a_text, a_pattern, a_number, a_keyword, a_name, IsPredicate, all_of}
@@ -37,7 +37,7 @@ use Rattle.config_terms.proofs.TermLaws.{texts_are_read, numbers_are_read, field
 use Rattle.config_terms.proofs.VectorLaws.{ranges_are_read, text_vectors_are_read, field_vectors_are_read}
 use Rattle.config_terms.proofs.SetLaws.{sets_are_read, set_maps_are_read, inits_are_read}
 use Rattle.config_terms.proofs.IdleLaws.{idles_are_read}
-use Rattle.config_streams.specs.Kinds.{count_at, secs_at, is_map, is_map_in, is_number_in, one_set, sets_of, some_init, init_by, init_of, some_idle, idle_by, idle_of, by_kind, fold_by, fold_named, fold_at, has_secs, coalesce_secs, tag_rules, all_tagged, tagged_kind, one_argument, two_arguments, order_kind, changed_kind, window_kind, counting_kind, kind_of, leads}
+use Rattle.config_streams.specs.Kinds.{count_at, secs_at, is_map, is_map_in, is_number_in, one_set, sets_of, some_init, init_by, init_of, some_idle, idle_by, idle_of, by_kind, fold_by, fold_named, fold_at, has_secs, coalesce_secs, tag_rules, all_tagged, tagged_kind, one_argument, two_arguments, order_kind, changed_kind, window_or_test_kind, choosing_or_gathering_kind, kind_of, leads}
 use Rattle.config_streams.specs.Streams.{part_at, parts_in, is_else, is_by_in}
 use Rattle.config_streams.specs.Grammar.{IsCount, AreSecs, IsFold, sum, minimum, maximum, counted, each_tag, and_then, IsKind, sdo, where_, with_one, with_all, default_one, default_all, tagging, by, by_idle, changed, changed_from, runs, throttle, rollup, batch, stable, fixed_event, moving_event, fixed_time, moving_time, coalesce, coalesce_every, smap, expired, tagged, over, under}
 use Rattle.config_streams.proofs.KindLaws.{no_map_of_sets}
@@ -160,7 +160,7 @@ is_no_map (Group Curly forms start last) h = cc
 -- ---- words
 
 pub word_read : (one : StreamWord) → stream_word (stream_text one) ≡ Some one
-unfolding stream_word passing_word counting_word window_word
+unfolding stream_word passing_word choosing_or_gathering_word window_or_test_word
 word_read word.Index = refl
 word_read w = refl
 
@@ -270,7 +270,7 @@ two_led in_fork env from one forms a b more not_else reads h =
 
 coalesce_none : (in_fork : Bool) (env : Env) (forms : FormTrees) → has_secs env forms ≡ false
     → ReadsKind in_fork env word.Coalesce (plan.Coalesce 1) forms 0
-unfolding kind_of counting_kind coalesce_secs leads
+unfolding kind_of choosing_or_gathering_kind coalesce_secs leads
 coalesce_none in_fork env forms is = ((λ start. rw is refl), rw is refl)
 
 no_secs : (env : Env) (forms : FormTrees) → is_number_in env (nth 0 forms) ≡ false → has_secs env forms ≡ false
@@ -338,7 +338,7 @@ all_tags_are tag (second ∷ tags) =
 tagged_one : (in_fork : Bool) (env : Env) (f : FormTree) (rest : FormTrees) (tag : List ℕ) (tags : List (List ℕ))
     → texts_at env f ≡ Ok (tag ∷ tags)
     → ReadsKind in_fork env word.Tagged (plan.Where (all_of (Tagged tag) (each_tag tags))) (also f rest) 1
-unfolding kind_of counting_kind window_kind tagged_kind leads argument
+unfolding kind_of choosing_or_gathering_kind window_or_test_kind tagged_kind leads argument
 tagged_one in_fork env f rest tag tags is =
     ((λ start. rw is (ap (λ (rule : Tree). Ok (plan.Where rule)) (all_tags_are tag tags))), refl)
 
@@ -350,7 +350,7 @@ has_number env dt secs (a_ranged is low high) f rest h = rw (literal_read env dt
 coalesce_one : (in_fork : Bool) (env : Env) (f : FormTree) (rest : FormTrees) (secs : ℕ) → has_secs env (also f rest)
     ≡ true
     → secs_at env f ≡ Ok secs → ReadsKind in_fork env word.Coalesce (plan.Coalesce secs) (also f rest) 1
-unfolding kind_of counting_kind coalesce_secs leads argument
+unfolding kind_of choosing_or_gathering_kind coalesce_secs leads argument
 coalesce_one in_fork env f rest secs has is = ((λ start. rw (has, is) refl), rw has refl)
 
 no_init : (env : Env) (found : Option FormTree) → is_map_in found ≡ false → init_by env found ≡ Ok None
@@ -363,7 +363,7 @@ no_init env (Some (Group Curly forms start last)) h = cc
 changed_one : (in_fork : Bool) (env : Env) (f : FormTree) (rest : FormTrees) (one : Field) → is_map_in (nth 0 rest)
     ≡ false
     → field_at env f ≡ Ok one → ReadsKind in_fork env word.Changed (plan.Changed one None) (also f rest) 1
-unfolding kind_of counting_kind changed_kind init_of leads argument
+unfolding kind_of choosing_or_gathering_kind changed_kind init_of leads argument
 changed_one in_fork env f rest one no_map is =
     ((λ start. rw (is, no_init env (nth 0 rest) no_map) refl), rw no_map refl)
 
@@ -442,7 +442,7 @@ changed_two : (in_fork : Bool) (env : Env) (f g : FormTree) (rest : FormTrees) (
     → field_at env f ≡ Ok one
     → init_by env (Some g) ≡ Ok (Some held) → is_map g ≡ true
     → ReadsKind in_fork env word.Changed (plan.Changed one (Some held)) (also f (also g rest)) 2
-unfolding kind_of counting_kind changed_kind init_of leads argument
+unfolding kind_of choosing_or_gathering_kind changed_kind init_of leads argument
 changed_two in_fork env f g rest one held first second map = ((λ start. rw (first, second) refl), rw map refl)
 
 -- ---- fields, and when forks end
@@ -488,7 +488,7 @@ pub kind_read : (in_fork : Bool) (env : Env) (name : List ℕ) (own : BareTrees)
     → IsKind in_fork env name own one
     → (forms : FormTrees) (more : BareTrees) → bare_trees forms ≡ and_then own more → IsPlainRow env more
     → Led in_fork env name one forms more
-unfolding kind_of counting_kind window_kind order_kind leads
+unfolding kind_of choosing_or_gathering_kind window_or_test_kind order_kind leads
 kind_read in_fork env _ _ _ sdo forms more h plain =
     none_led in_fork env word.Sdo plan.Sdo forms more refl ((λ start. refl), refl) h
 kind_read in_fork env _ _ _ (where_ {p = p} {rule = rule} is) forms more h plain =
@@ -602,6 +602,6 @@ kind_passes in_fork env _ _ _ is = refl
 -- a list is a `by` exactly where its word says so
 pub kind_forks : (in_fork : Bool) (env : Env) (name : List ℕ) (own : BareTrees) (one : KindTree)
     → IsKind in_fork env name own one → is_by_in (stream_word name) ≡ is_by one
-unfolding stream_word passing_word counting_word window_word
+unfolding stream_word passing_word choosing_or_gathering_word window_or_test_word
 kind_forks in_fork env _ _ _ sdo = refl
 kind_forks in_fork env _ _ _ is = refl

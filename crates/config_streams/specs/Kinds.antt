@@ -172,29 +172,30 @@ by_kind in_fork env start forms =
 
 -- ---- all kinds
 
--- windows, and tests of one thing
-unfoldable pub window_kind : Env → StreamWord → ℕ → FormTrees → Result KindTree Fault
-window_kind env word.FixedEvent start forms = one_argument count_at kind.FixedEvent env start forms
-window_kind env word.MovingEvent start forms = one_argument count_at kind.MovingEvent env start forms
-window_kind env word.FixedTime start forms = one_argument secs_at kind.FixedTime env start forms
-window_kind env word.MovingTime start forms = one_argument secs_at kind.MovingTime env start forms
-window_kind env word.Expired start forms = Ok (kind.Where expired_rule)
-window_kind env word.Tagged start forms = tagged_kind env start forms
-window_kind env word.Over start forms = order_kind Greater env start forms
-window_kind env word.Under start forms = order_kind Less env start forms
-window_kind env _ start forms = Err (start, why.Form)
+-- windows, and tests of one event by itself
+unfoldable pub window_or_test_kind : Env → StreamWord → ℕ → FormTrees → Result KindTree Fault
+window_or_test_kind env word.FixedEvent start forms = one_argument count_at kind.FixedEvent env start forms
+window_or_test_kind env word.MovingEvent start forms = one_argument count_at kind.MovingEvent env start forms
+window_or_test_kind env word.FixedTime start forms = one_argument secs_at kind.FixedTime env start forms
+window_or_test_kind env word.MovingTime start forms = one_argument secs_at kind.MovingTime env start forms
+window_or_test_kind env word.Expired start forms = Ok (kind.Where expired_rule)
+window_or_test_kind env word.Tagged start forms = tagged_kind env start forms
+window_or_test_kind env word.Over start forms = order_kind Greater env start forms
+window_or_test_kind env word.Under start forms = order_kind Less env start forms
+window_or_test_kind env _ start forms = Err (start, why.Form)
 
--- and those that count or compare
-unfoldable pub counting_kind : Env → StreamWord → ℕ → FormTrees → Result KindTree Fault
-counting_kind env word.Changed start forms = changed_kind env start forms
-counting_kind env word.Runs start forms = two_arguments count_at field_at kind.Runs env start forms
-counting_kind env word.Throttle start forms = two_arguments count_at secs_at kind.Throttle env start forms
-counting_kind env word.Rollup start forms = two_arguments count_at secs_at kind.Rollup env start forms
-counting_kind env word.Batch start forms = two_arguments count_at secs_at kind.Batch env start forms
-counting_kind env word.Stable start forms = two_arguments secs_at field_at kind.Stable env start forms
-counting_kind env word.Coalesce start forms = coalesce_secs env start forms >>= λ secs. Ok (kind.Coalesce secs)
-counting_kind env word.Smap start forms = one_argument fold_at kind.Smap env start forms
-counting_kind env word start forms = window_kind env word start forms
+-- and those that choose among events by what came before, and those that make one item of several
+unfoldable pub choosing_or_gathering_kind : Env → StreamWord → ℕ → FormTrees → Result KindTree Fault
+choosing_or_gathering_kind env word.Changed start forms = changed_kind env start forms
+choosing_or_gathering_kind env word.Runs start forms = two_arguments count_at field_at kind.Runs env start forms
+choosing_or_gathering_kind env word.Throttle start forms = two_arguments count_at secs_at kind.Throttle env start forms
+choosing_or_gathering_kind env word.Rollup start forms = two_arguments count_at secs_at kind.Rollup env start forms
+choosing_or_gathering_kind env word.Batch start forms = two_arguments count_at secs_at kind.Batch env start forms
+choosing_or_gathering_kind env word.Stable start forms = two_arguments secs_at field_at kind.Stable env start forms
+choosing_or_gathering_kind env word.Coalesce start forms =
+    coalesce_secs env start forms >>= λ secs. Ok (kind.Coalesce secs)
+choosing_or_gathering_kind env word.Smap start forms = one_argument fold_at kind.Smap env start forms
+choosing_or_gathering_kind env word start forms = window_or_test_kind env word start forms
 
 -- And those that pass events on or end their way. The truth value says whether the stream is below a `by`.
 unfoldable pub kind_of : Bool → Env → StreamWord → ℕ → FormTrees → Result KindTree Fault
@@ -206,7 +207,7 @@ kind_of in_fork env word.With start forms = sets_of env start forms >>= λ sets.
 kind_of in_fork env word.Default start forms = sets_of env start forms >>= λ sets. Ok (kind.Default sets)
 kind_of in_fork env word.Tag start forms = one_argument texts_at kind.Tag env start forms
 kind_of in_fork env word.By start forms = by_kind in_fork env start forms
-kind_of in_fork env word start forms = counting_kind env word start forms
+kind_of in_fork env word start forms = choosing_or_gathering_kind env word start forms
 
 -- ---- the number of arguments before the streams
 

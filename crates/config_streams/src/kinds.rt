@@ -9,7 +9,7 @@ ghost use Rattle.std.specs.Option.{option_map};
 ghost use Rattle.config_terms.specs.Code.{argument_in, map_in};
 ghost use Rattle.config_terms.specs.Arguments.{some_of};
 ghost use Rattle.config_terms.specs.Words.{fold_word as fold_word_of};
-ghost use Rattle.config_streams.specs.Kinds.{count_at as count_in, secs_at as secs_in, sets_of as sets_in, one_set as one_set_of, is_map, is_map_in, init_of as init_in, some_init as some_init_of, most_idle as most_idle_of, some_idle as some_idle_of, idle_of as idle_in, by_kind as by_kind_of, fold_named as fold_named_by, fold_at as fold_from, has_secs as secs_stand, is_number as is_number_of, coalesce_secs as coalesce_secs_of, expired_rule as expired_tree, all_tagged as all_tagged_by, tag_rules as tag_trees, tagged_kind as tagged_kind_of, order_kind as order_kind_of, changed_kind as changed_kind_of, window_kind as window_kind_of, counting_kind as counting_kind_of, kind_of as kind_from, leads as leads_of};
+ghost use Rattle.config_streams.specs.Kinds.{count_at as count_in, secs_at as secs_in, sets_of as sets_in, one_set as one_set_of, is_map, is_map_in, init_of as init_in, some_init as some_init_of, most_idle as most_idle_of, some_idle as some_idle_of, idle_of as idle_in, by_kind as by_kind_of, fold_named as fold_named_by, fold_at as fold_from, has_secs as secs_stand, is_number as is_number_of, coalesce_secs as coalesce_secs_of, expired_rule as expired_tree, all_tagged as all_tagged_by, tag_rules as tag_trees, tagged_kind as tagged_kind_of, order_kind as order_kind_of, changed_kind as changed_kind_of, window_or_test_kind as window_or_test_kind_of, choosing_or_gathering_kind as choosing_or_gathering_kind_of, kind_of as kind_from, leads as leads_of};
 
 use config_terms::{
     Argument, Binding, ConfigFault, ConfigWhy, StreamWord, View, argument, argument_of, field_at,
@@ -322,13 +322,13 @@ pub(crate) fn kind_of(
         }
         StreamWord::Tag => Ok(Kind::Tag(texts_at(alloc, env, argument(start, 0, forms)?)?)),
         StreamWord::By => by_kind(alloc, env, in_fork, start, forms),
-        _ => counting_kind(alloc, env, word, start, forms),
+        _ => choosing_or_gathering_kind(alloc, env, word, start, forms),
     }
 }
 
-/// The kinds that count or compare.
-#[tactic(auto, unfolding(crate::specs::Kinds::counting_kind))]
-fn counting_kind(
+/// The kinds that choose among events by what came before, and those that make one item of several.
+#[tactic(auto, unfolding(crate::specs::Kinds::choosing_or_gathering_kind))]
+fn choosing_or_gathering_kind(
     alloc: Global,
     env: &[Binding],
     word: StreamWord,
@@ -336,7 +336,7 @@ fn counting_kind(
     forms: &[Form],
 ) -> Result<Kind, ConfigFault>
     ensures { GivesAs kind_tree result
-        (counting_kind_of env.now word start (form_trees forms.now)) }
+        (choosing_or_gathering_kind_of env.now word start (form_trees forms.now)) }
 {
     match word {
         StreamWord::Changed => changed_kind(alloc, env, start, forms),
@@ -365,20 +365,21 @@ fn counting_kind(
             Ok(Kind::Coalesce { secs })
         }
         StreamWord::Smap => Ok(Kind::Smap(fold_at(env, argument(start, 0, forms)?)?)),
-        _ => window_kind(alloc, env, word, start, forms),
+        _ => window_or_test_kind(alloc, env, word, start, forms),
     }
 }
 
-/// The windows, and the tests of one thing.
-#[tactic(auto, unfolding(crate::specs::Kinds::window_kind))]
-fn window_kind(
+/// The windows, and the tests of one event by itself.
+#[tactic(auto, unfolding(crate::specs::Kinds::window_or_test_kind))]
+fn window_or_test_kind(
     alloc: Global,
     env: &[Binding],
     word: StreamWord,
     start: usize,
     forms: &[Form],
 ) -> Result<Kind, ConfigFault>
-    ensures { GivesAs kind_tree result (window_kind_of env.now word start (form_trees forms.now)) }
+    ensures { GivesAs kind_tree result
+        (window_or_test_kind_of env.now word start (form_trees forms.now)) }
 {
     match word {
         StreamWord::FixedEvent => Ok(Kind::FixedEvent {

@@ -81,9 +81,9 @@ passing_word name =
     (is_stream name stream.Tag
     (is_stream name stream.By None))))))))
 
--- those that count or compare
-unfoldable pub counting_word : List ℕ → Option StreamWord
-counting_word name =
+-- those that choose among events by what came before, and those that make one item of several
+unfoldable pub choosing_or_gathering_word : List ℕ → Option StreamWord
+choosing_or_gathering_word name =
     is_stream name stream.Changed
     (is_stream name stream.Runs
     (is_stream name stream.Throttle
@@ -93,9 +93,9 @@ counting_word name =
     (is_stream name stream.Coalesce
     (is_stream name stream.Smap None)))))))
 
--- windows, and tests of one thing
-unfoldable pub window_word : List ℕ → Option StreamWord
-window_word name =
+-- windows, and tests of one event by itself
+unfoldable pub window_or_test_word : List ℕ → Option StreamWord
+window_or_test_word name =
     is_stream name stream.FixedEvent
     (is_stream name stream.MovingEvent
     (is_stream name stream.FixedTime
@@ -106,7 +106,9 @@ window_word name =
     (is_stream name stream.Under None)))))))
 
 unfoldable pub stream_word : List ℕ → Option StreamWord
-stream_word name = option_or (passing_word name) (option_or (counting_word name) (window_word name))
+stream_word name =
+    option_or (passing_word name)
+    (option_or (choosing_or_gathering_word name) (window_or_test_word name))
 
 -- ---- what predicates begin with, beside fields
 

@@ -3,7 +3,7 @@
 ghost use Rattle.std.specs.Prelude.{◌≡◌, IfOk};
 ghost use Rattle.std.specs.Str.{bytes_eq};
 ghost use Rattle.ev_types.specs.Names.{named_field};
-ghost use Rattle.config_terms.specs.Words.{top_word, passing_word, counting_word, window_word, stream_word, joining_word, comparing_word, rule_word, same_field, fold_word};
+ghost use Rattle.config_terms.specs.Words.{top_word, passing_word, choosing_or_gathering_word, window_or_test_word, stream_word, joining_word, comparing_word, rule_word, same_field, fold_word};
 
 use ev_types::{Field, Fold, Memory, Text};
 use pred_eval::Ordering;
@@ -96,10 +96,10 @@ pub fn stream_word(name: &Text) -> Option<StreamWord>
     if let Some(word) = passing_word(name) {
         return Some(word);
     }
-    if let Some(word) = counting_word(name) {
+    if let Some(word) = choosing_or_gathering_word(name) {
         return Some(word);
     }
-    window_word(name)
+    window_or_test_word(name)
 }
 
 #[tactic(auto, unfolding(crate::specs::Words::passing_word))]
@@ -129,9 +129,9 @@ fn passing_word(name: &[u8]) -> Option<StreamWord>
     }
 }
 
-#[tactic(auto, unfolding(crate::specs::Words::counting_word))]
-fn counting_word(name: &[u8]) -> Option<StreamWord>
-    ensures { result ≡ counting_word name.now }
+#[tactic(auto, unfolding(crate::specs::Words::choosing_or_gathering_word))]
+fn choosing_or_gathering_word(name: &[u8]) -> Option<StreamWord>
+    ensures { result ≡ choosing_or_gathering_word name.now }
 {
     if is(name, b"changed") {
         Some(StreamWord::Changed)
@@ -154,9 +154,9 @@ fn counting_word(name: &[u8]) -> Option<StreamWord>
     }
 }
 
-#[tactic(auto, unfolding(crate::specs::Words::window_word))]
-fn window_word(name: &[u8]) -> Option<StreamWord>
-    ensures { result ≡ window_word name.now }
+#[tactic(auto, unfolding(crate::specs::Words::window_or_test_word))]
+fn window_or_test_word(name: &[u8]) -> Option<StreamWord>
+    ensures { result ≡ window_or_test_word name.now }
 {
     if is(name, b"fixed-event-window") {
         Some(StreamWord::FixedEvent)
