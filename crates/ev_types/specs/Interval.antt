@@ -2,7 +2,8 @@
 use Rattle.std.specs.Prelude.{◌≤◌, Option}
 use Rattle.std.specs.Option.{ForSome}
 use Rattle.ev_types.specs.declared.settings.Expiry.{Expiry}
+use Rattle.ev_types.specs.Limits.{longest_interval}
 
--- every second at the most often, and every week, which has 604800 seconds, at the least
+-- the seconds from one look to the next, if there are looks: at least one, and at most the longest interval
 abbrev pub IsInterval : Option Expiry → Type 0
-IsInterval expiry = ForSome expiry (λ set. (1 ≤ set.interval) × (set.interval ≤ 604800))
+IsInterval expiry = ForSome expiry (λ set. (1 ≤ set.interval) × (set.interval ≤ longest_interval))

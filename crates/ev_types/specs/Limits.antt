@@ -1,4 +1,4 @@
--- The ttl of an event that has none, and the limit of one that is set, as numbers.
+-- Limits and defaults in seconds, as numbers.
 use Rattle.std.specs.Prelude.{ℕ}
 
 -- the greatest ttl that a configuration can set, in seconds
@@ -8,3 +8,7 @@ greatest_set_ttl = 16777216
 -- after how many seconds an event without a ttl expires
 abbrev pub default_ttl : ℕ
 default_ttl = 60
+
+-- the most seconds that a configuration gives a stream, or leaves between two looks for expired events: a week
+abbrev pub longest_interval : ℕ
+longest_interval = 604800

@@ -12,6 +12,7 @@ use Rattle.sexp_read.specs.declared.piece.Atom.TheVariants as atom
 use Rattle.sexp_read.specs.declared.piece.Bracket.TheVariants.{Round, Square, Curly}
 use Rattle.sexp_read.specs.Tree.{FormTree, FormTrees, Single, Group, none, also}
 use Rattle.sexp_read.specs.Written.{BareTree, BareTrees, no_trees, and_trees, bare_tree, bare_trees, listed}
+use Rattle.stream_plan.specs.declared.kinds.TheConstants.{MAX_SECS}
 use Rattle.config_terms.specs.declared.binding.Bound.{Bound}
 use Rattle.config_terms.specs.declared.binding.Bound.TheVariants as bound
 use Rattle.config_terms.specs.declared.word.StreamWord.TheVariants as word
@@ -476,7 +477,7 @@ entry_means place env (also key (also f forms)) =
 
 -- the arguments of two forms
 two_given : (env : Env) (n g : BareTree) (secs : ℕ) (keys : List KeepKey) (entries : BareTrees)
-    → IsRanged 1 604800 env n secs → g ≡ map_of entries → IsEntry env entries keys
+    → IsRanged 1 MAX_SECS env n secs → g ≡ map_of entries → IsEntry env entries keys
     → IsExpiry env (listed (n ∷ g ∷ [])) (record { interval = secs; keep = keys })
 two_given env n g secs keys entries secs_are g_is known =
     let given : IsExpiry env (listed (n ∷ map_of (listed (known.key ∷ vector_of known.keys_are.forms ∷ [])) ∷ []))
@@ -502,15 +503,15 @@ pub expiry_means : (env : Env) (forms : FormTrees) → OkGood (IsExpiry env (bar
 unfolding expiry_in at_most
 expiry_means env none = every_ten
 expiry_means env (also f none) =
-    bind_good (IsRanged 1 604800 env (bare_tree f)) (IsExpiry env (bare_trees (also f none))) (ranged_at 1 604800 env f)
-    _ (ranged_means 1 604800 env f) (λ secs is. every is)
+    bind_good (IsRanged 1 MAX_SECS env (bare_tree f)) (IsExpiry env (bare_trees (also f none)))
+    (ranged_at 1 MAX_SECS env f) _ (ranged_means 1 MAX_SECS env f) (λ secs is. every is)
 expiry_means env (also f (also g none)) =
     let Q = IsExpiry env (bare_trees (also f (also g none))) in
-    bind_good (IsRanged 1 604800 env (bare_tree f)) Q (ranged_at 1 604800 env f) _ (ranged_means 1 604800 env f)
+    bind_good (IsRanged 1 MAX_SECS env (bare_tree f)) Q (ranged_at 1 MAX_SECS env f) _ (ranged_means 1 MAX_SECS env f)
     (λ secs is.
     bind_good (KeysOf env (bare_tree g)) Q (keys_of_map env g) _ (keys_of_means env g)
     (λ keys known. two_given env (bare_tree f) (bare_tree g) secs keys known.0 is known.1 known.2))
 expiry_means env (also f (also g (also h forms))) =
     let Q = IsExpiry env (bare_trees (also f (also g (also h forms)))) in
-    bind_good Any_ Q (ranged_at 1 604800 env f) _ (any_good (ranged_at 1 604800 env f))
+    bind_good Any_ Q (ranged_at 1 MAX_SECS env f) _ (any_good (ranged_at 1 MAX_SECS env f))
     (λ secs _. bind_good Any_ Q (keys_of_map env g) _ (any_good (keys_of_map env g)) (λ keys _. tt))

@@ -14,6 +14,7 @@ use Rattle.sexp_read.specs.declared.piece.Atom.TheVariants as atom
 use Rattle.sexp_read.specs.declared.piece.Bracket.TheVariants.{Round, Square, Curly}
 use Rattle.sexp_read.specs.Tree.{FormTree, FormTrees, Single, Group, none, also}
 use Rattle.sexp_read.specs.Written.{BareTree, BareTrees, no_trees, and_trees, bare_tree, bare_trees, listed}
+use Rattle.stream_plan.specs.declared.kinds.TheConstants.{MAX_SECS}
 use Rattle.config_terms.specs.declared.binding.Bound.{Bound}
 use Rattle.config_terms.specs.declared.binding.Bound.TheVariants as bound
 use Rattle.config_terms.specs.Steps.{argument, at_most, each}
@@ -331,13 +332,13 @@ expiry_none : (env : Env) → expiry_in env none ≡ Ok (record { interval = 10;
 unfolding expiry_in at_most
 expiry_none env = refl
 
-expiry_one : (env : Env) (f : FormTree) (secs : ℕ) → ranged_at 1 604800 env f ≡ Ok secs
+expiry_one : (env : Env) (f : FormTree) (secs : ℕ) → ranged_at 1 MAX_SECS env f ≡ Ok secs
     → expiry_in env (also f none) ≡ Ok (record { interval = secs; keep = host_and_service })
 unfolding expiry_in at_most
 expiry_one env f secs is = rw is refl
 
 expiry_two : (env : Env) (f : FormTree) (entries : FormTrees) (begin end secs : ℕ) (keys : List KeepKey)
-    → ranged_at 1 604800 env f ≡ Ok secs → one_entry keep_text keys_at begin env None entries ≡ Ok keys
+    → ranged_at 1 MAX_SECS env f ≡ Ok secs → one_entry keep_text keys_at begin env None entries ≡ Ok keys
     → expiry_in env (also f (also (Group Curly entries begin end) none)) ≡ Ok (record { interval = secs; keep = keys })
 unfolding expiry_in at_most
 expiry_two env f entries begin end secs keys first second = rw (first, map_group env entries begin end, second) refl
@@ -348,7 +349,7 @@ expiry_read env _ _ every_ten forms h = ap (expiry_in env) (none_of forms h) ∙
 expiry_read env _ _ (every {n = n} {secs = secs} is) forms h =
     let one = also_of forms n no_trees h in
     ap (expiry_in env) (one.are ∙ ap (also one.first) (none_of one.rest one.rest_are))
-    ∙ expiry_one env one.first secs (ranged_given 1 604800 env n secs is one.first one.first_is)
+    ∙ expiry_one env one.first secs (ranged_given 1 MAX_SECS env n secs is one.first one.first_is)
 expiry_read env _ _ (keeping {n = n} {key = key} {forms = row} {secs = secs} {keys = keys} is key_is are) forms h =
     let entry = listed (key ∷ vector_of row ∷ []) in
     let two = pair_of forms n (map_of entry) no_trees h in
@@ -358,7 +359,7 @@ expiry_read env _ _ (keeping {n = n} {key = key} {forms = row} {secs = secs} {ke
     ∙ ap (λ (rest : FormTrees). also two.a (also two.b rest)) (none_of two.rest two.rest_are)
     ∙ ap (λ (f : FormTree). also two.a (also f none)) group.is)
     ∙ expiry_two env two.a group.forms group.start group.last secs keys
-    (ranged_given 1 604800 env n secs is two.a two.a_is)
+    (ranged_given 1 MAX_SECS env n secs is two.a two.a_is)
     (ap (one_entry keep_text keys_at group.start env None)
     (inner.are ∙ ap (λ (rest : FormTrees). also inner.a (also inner.b rest)) (none_of inner.rest inner.rest_are))
     ∙ keep_entry env group.start inner.a inner.b keys

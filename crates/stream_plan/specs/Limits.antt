@@ -5,10 +5,6 @@ use Rattle.std.specs.Prelude.{ℕ}
 abbrev pub count_limit : ℕ
 count_limit = 1000000
 
--- the most seconds of a stream and of an expiry: a week
-abbrev pub secs_limit : ℕ
-secs_limit = 604800
-
 -- the most streams of a plan
 abbrev pub streams_limit : ℕ
 streams_limit = 4096
