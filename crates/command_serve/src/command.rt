@@ -15,9 +15,8 @@ use pred_eval::Patterns;
 use std::alloc::Global;
 use step_count::{Ledger, Steps};
 
-/// Carries out `serve CONFIG --turns N`, with `turns` for N: it runs a server over the links, for at most `turns`
-/// turns. Notice lines go to `out`, and the line of the ending to `err`. A write of that line that fails cuts it, and does
-/// not change the status.
+/// Runs a server over the links for at most `turns` turns, as `serve CONFIG --turns N` does. Notice lines go to `out`,
+/// and the line of the ending goes to `err`. If the write of that line fails, the line is cut and the status stays.
 ///
 /// | Status | When | Line on `err` |
 /// |---|---|---|

@@ -188,7 +188,7 @@ fn part_at(
     }
 }
 
-/// What a list gives that a symbol begins.
+/// What a list gives. The first form of the list is the symbol `name`, and `forms` are the rest.
 #[cycle(parts)]
 #[tactic(auto, unfolding(crate::specs::Streams::worded))]
 fn call_part(

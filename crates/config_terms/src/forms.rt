@@ -14,9 +14,9 @@ use sexp_read::{Form, Shape};
 #[derive(Clone, Copy)]
 pub enum View<'a> {
     Symbol(&'a Text),
-    /// A list that a symbol begins, and the forms after it.
+    /// A list whose first form is a symbol: the name of the symbol, and the other forms.
     Call(&'a Text, &'a [Form]),
-    /// A list that a keyword begins, and the forms after it.
+    /// A list whose first form is a keyword: the name of the keyword, and the other forms.
     Lookup(&'a Text, &'a [Form]),
     Other,
 }

@@ -220,7 +220,7 @@ pub fn rule_at(alloc: Global, env: &[Binding], form: &Form) -> Result<Rule, Conf
     }
 }
 
-/// The predicate of a list that a keyword begins.
+/// The predicate of a list. The first form of the list is the keyword `name`, and `forms` are the rest.
 fn keyed_rule(
     alloc: Global,
     env: &[Binding],
@@ -237,7 +237,7 @@ fn keyed_rule(
     }
 }
 
-/// The predicate of a list that a symbol begins.
+/// The predicate of a list. The first form of the list is the symbol `name`, and `forms` are the rest.
 #[cycle(rules)]
 fn call_rule(
     alloc: Global,

@@ -59,7 +59,7 @@ impl<F: Drop> ForkTable<F> {
         self.labels.is_live(number) && self.labels.index(number) < self.forks.len()
     }
 
-    /// The moment of the last item of the fork of the number, and 0 where it has none.
+    /// The moment of the last item of the number's fork. If the number has no fork, the answer means nothing.
     pub fn moment(&self, number: usize) -> u64
         ensures { IsTable self.now →
             IfSome (kept_at number (kept_forks self.now)) (λ kept. result ≡ kept.moment) }

@@ -92,7 +92,7 @@ impl FrameLink {
     }
 
     /// Hands out the first frame's body, if that frame is whole. Only a body takes memory, and after [`Taken::Memory`]
-    /// nothing has changed. Once the answer was [`Taken::TooLong`], it is from then on.
+    /// nothing has changed. After one answer [`Taken::TooLong`] all later answers are [`Taken::TooLong`].
     pub fn take(&mut self, alloc: Global) -> Taken
         ensures takes { Takes self.old result self.new }
         ensures keeps { KeepsOnTake self.old result self.new }

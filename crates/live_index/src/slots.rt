@@ -99,7 +99,7 @@ impl Slots {
         }
     }
 
-    /// That of the two numbers noted for the hash which is the number of the event's host and service, if one is.
+    /// The number of the event's host and service, if it is one of the two that were noted for the hash.
     fn hinted(&self, hash: u64, event: &Event) -> Option<usize>
         requires { IsLinked self.now.numbers self.now.events.values }
         ensures { IfSome result (λ number.

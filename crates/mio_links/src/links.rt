@@ -53,7 +53,8 @@ impl<'a, R: Net + Clock> MioLinks<'a, R> {
         })
     }
 
-    /// The next turn but for its time, which is the last reading, or why none can be given.
+    /// What happens in the next turn, or why no turn can be given. The clock is read too, and its reading is the turn's
+    /// time.
     fn found(&mut self, wants: &Wants, buf: &mut [u8]) -> Result<What, LinksFault>
         requires { length buf.old ≡ PIECE_LIMIT }
         ensures within { IfOk result (IsPieceWithin PIECE_LIMIT) }
@@ -76,7 +77,7 @@ impl<'a, R: Net + Clock> MioLinks<'a, R> {
         Ok(what)
     }
 
-    /// The next turn but for its time. A fault is counted.
+    /// What happens in the next turn. A fault is counted.
     #[tactic(auto, using(crate::proofs::TurnLemmas::given_counts, crate::proofs::TurnLemmas::given_goes_on))]
     fn what(&mut self, wants: &Wants, buf: &mut [u8]) -> What
         requires { length buf.old ≡ PIECE_LIMIT }

@@ -62,7 +62,7 @@ impl Queue {
         Ok(())
     }
 
-    /// Has the link wait where it has to.
+    /// Adds the link to the queue, or to the links that are held back, if it has anything to give.
     pub(crate) fn enter(&mut self, client: &mut Client, want: &Want) -> Result<(), LinksFault> {
         client.waiting = client.next_waiting(want);
         match client.waiting {

@@ -134,7 +134,8 @@ impl Sockets {
         Ok(())
     }
 
-    /// Has each link that is held back wait where it has to.
+    /// Looks once more at each link that is held back. The link is queued if what it has to give is wanted now, and else
+    /// it is held back again.
     fn release(&mut self, wants: &Wants) -> Result<(), LinksFault> {
         for _ in 0..self.queue.held_back() {
             let Some(link) = self.queue.take_held_back() else {

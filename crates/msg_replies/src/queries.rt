@@ -183,8 +183,8 @@ fn put_limited(alloc: Global, events: &[&Event], replies: &mut Blob) -> Result<(
     }
 }
 
-/// Appends the reply with what many events meet the predicate. The index knows its length without a look at most of them,
-/// so that no event is lent if it would be too long.
+/// Appends the reply with the live events that meet the predicate, of which there may be many. The length of the reply
+/// is known before any event is lent, so no event is lent for a reply that is too long.
 fn put_many<G: Ledger>(
     alloc: Global,
     pred: &mut Pred,

@@ -48,17 +48,17 @@ pub struct Places {
     pub ends_key: bool,
 }
 
-/// The places of an event's parts, if the bytes are exactly those that this server writes for it: the fields by rising
-/// number, each in its shortest spelling, with the time, and no field that it does not write. `None` says nothing about
-/// the event, which is then read field by field.
+/// The places of an event's parts, if the bytes are exactly those that this server writes for the event. Those have the
+/// fields by rising number, each in its shortest spelling. The time is there, and no field that this server does not
+/// write. `None` says nothing about the event: other bytes may represent one too, and are read field by field.
 pub fn places_of(bytes: &[u8]) -> Option<Places>
-    // The bytes are read with no fault, as an event whose bytes these are.
+    // The bytes have no fault, and they are those that this server writes for the event that they are read as.
     ensures clean { IfSome result (λ places. event_fault bytes.now ≡ None) }
     ensures packed { IfSome result (λ places.
         (now : ℕ) → IsPacked bytes.now places (event_of (pos now) bytes.now)) }
-    // They are less than 4 GiB.
+    // The bytes are less than 4 GiB.
     ensures few { IfSome result (λ places. length bytes.now < 2 ^ 32) }
-    // The bytes of each event are recognised, if they are less than 4 GiB.
+    // Every event is recognised by the bytes that this server writes for it, if they are less than 4 GiB.
     ensures found { (event : Event) → IsWellFormedEvent event
         → bytes.now ≡ spelled (event_values event) → length bytes.now < 2 ^ 32 → IsSome result }
 {

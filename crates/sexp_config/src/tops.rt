@@ -111,7 +111,7 @@ fn top_at(
     }
 }
 
-/// The draft with what a list says that a symbol begins.
+/// Adds to the draft what a list says. The first form of the list is the symbol `name`, and `forms` are the rest.
 #[cycle(tops)]
 #[tactic(auto, unfolding(crate::specs::Tops::top_by))]
 fn call_top(

@@ -17,7 +17,7 @@ use Rattle.index_log.proofs.OfKeyLaws.{both_true}
 use Rattle.stream_meaning.specs.History.{History, since, ◌▸◌, Entry, Tick, In, moment_of, is_at, TicksAlone}
 use Rattle.stream_meaning.specs.Came.{timed_events}
 use Rattle.stream_meaning.specs.Ends.{last_moment, idle_after, ends_next, times_ended, KeyFork, same_fork, fork_of, forks_that_came}
-use Rattle.stream_meaning.specs.EndLaws.{has_key, at_of, moments_of_key, IsLast, LastMomentsAreLast, CameBefore, EndsFollowSilence, is_event_of, EndsAreApart, ForksComeByNumber, EndedForksReceiveTicks}
+use Rattle.stream_meaning.specs.EndLaws.{has_key, at_of, moments_of_key, IsLast, LastMomentsAreLast, CameBefore, EndsFollowSilence, is_event_of, EndsAreApart, ForksComeByNumber, EndedForksGetNoItems}
 use Rattle.stream_meaning.specs.KeyOrderLaws.{lengthened}
 use Rattle.stream_meaning.specs.Laws.{of_fork, UnseenForksHaveTicks}
 use Rattle.stream_meaning.proofs.ForkLaws.{fork_events, event_step}
@@ -230,9 +230,9 @@ pub unseen_forks_have_ticks : UnseenForksHaveTicks
 unseen_forks_have_ticks idle fields fork h e =
     subst TicksAlone (sym (fork_events idle fields fork h)) (new_forks_have_ticks idle fields fork h e)
 
-pub ended_forks_receive_ticks : EndedForksReceiveTicks
-ended_forks_receive_ticks idle fields fork h (Many es) less = refl
-ended_forks_receive_ticks idle fields fork h (One event) less =
+pub ended_forks_get_no_items : EndedForksGetNoItems
+ended_forks_get_no_items idle fields fork h (Many es) less = refl
+ended_forks_get_no_items idle fields fork h (One event) less =
     ap (λ t. cond t (of_fork idle fields fork h ▸ In (One event)) (of_fork idle fields fork h))
     (differs (same_fork (fork_of idle fields event h) fork) refl)
   where

@@ -67,9 +67,9 @@ abbrev pub ForksComeByNumber : Type 0
 ForksComeByNumber = (idle : Option ℕ) (fields : List Field) (fork : KeyFork) (h : History) → times_ended idle fields fork.key h < fork.number →
     IsFalse (list_any (λ other. same_fork other fork) (forks_that_came idle fields h))
 
--- once its key has ended a fork receives ticks alone
-abbrev pub EndedForksReceiveTicks : Type 0
-EndedForksReceiveTicks = (idle : Option ℕ) (fields : List Field) (fork : KeyFork) (h : History) (item : Item) → fork.number < times_ended idle fields fork.key h →
+-- once its key has ended, a fork gets no more items
+abbrev pub EndedForksGetNoItems : Type 0
+EndedForksGetNoItems = (idle : Option ℕ) (fields : List Field) (fork : KeyFork) (h : History) (item : Item) → fork.number < times_ended idle fields fork.key h →
     of_fork idle fields fork (h ▸ In item) ≡ of_fork idle fields fork h
 
 -- ---- without `idle`

@@ -16,7 +16,7 @@ ghost use Rattle.stream_meaning.specs.EndLaws.{
   EndsFollowSilence,
   EndsAreApart,
   ForksComeByNumber,
-  EndedForksReceiveTicks,
+  EndedForksGetNoItems,
   NothingEndsWithoutIdle,
   LiveKeysAreApart,
   LiveForksAreTheLatest,
@@ -52,10 +52,10 @@ pub fn keys_end_after_silence()
     ensures apart { EndsAreApart }
 {}
 
-/// A fork has ticks alone once its key has ended. The forks of a key come by their numbers.
+/// Once its key has ended, a fork gets no more items. The forks of a key come by their numbers.
 pub fn forks_end_with_their_keys()
     ensures numbers { ForksComeByNumber }
-    ensures ended { EndedForksReceiveTicks }
+    ensures ended { EndedForksGetNoItems }
 {}
 
 /// Without `idle` no key ends: each key that came has one fork, with all its events, and all forks are live.
