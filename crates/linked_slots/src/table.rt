@@ -6,7 +6,6 @@ use list_laws::Memory;
 use slab::Slab;
 use std::alloc::Global;
 use std::marker::Model;
-use std::mem;
 use step_count::{Ledger, Steps};
 
 /// Values under numbers that the table picks. The number of a removed value is used again: numbers are below the count of
@@ -88,17 +87,6 @@ impl<T: Drop> StepTable<T> {
     {
         steps.visit_entry();
         &mut self.values[number]
-    }
-
-    /// Swaps the value with the one at the number. It takes no memory and counts nothing.
-    pub fn swap(&mut self, number: usize, value: &mut T)
-        requires { IsLive self.old.values number }
-        ensures given { value_at self.old.values number ≡ Some value.new }
-        ensures swapped { Changes self.old.values self.new.values number (Some value.old) }
-        ensures count { count_of self.new ≡ count_of self.old }
-        ensures room { self.new.room ≡ self.old.room }
-    {
-        mem::swap(&mut self.values[number], value);
     }
 
     /// Takes the value at the number out.
