@@ -8,11 +8,12 @@ ghost use Rattle.stream_meaning.specs.Emitted.{emitted};
 ghost use Rattle.stream_meaning.specs.declared.entry.Entry.TheVariants.{Tick, Item as In};
 ghost use Rattle.stream_meaning.specs.History.{History, ◌▸◌, TicksAlone, begun, moment_of};
 ghost use Rattle.stream_meaning.specs.Runs.{differs_from};
-ghost use Rattle.flow_streams.specs.Changed.{changed_kind, changed_at, is_poisoned, compared_with, ChangedRepresents};
+ghost use Rattle.flow_streams.specs.Changed.{changed_kind, changed_at, is_poisoned, ChangedRepresents};
 
 use crate::emit::{copy_value, emit_if};
 use ev_types::{Emissions, Event, Field, Memory, Value, field_is};
 use std::alloc::Global;
+use std::snapshot::Snapshot;
 
 /// What a `changed` stream is made from.
 #[derive(Drop)]
@@ -25,8 +26,10 @@ pub struct ChangedParams {
 /// What a `changed` stream keeps. It passes on each event whose field differs from that of the event before.
 #[derive(Drop)]
 pub struct ChangedState {
-    params: ChangedParams,
-    // What the field held in the last event, or `None` as long as no event's field differed from `init`.
+    field: Field,
+    // What the first event's field is compared with. Only proofs see it, and it has no bytes.
+    init: Snapshot<Option<Value>>,
+    // What the next event's field is compared with: what the last event's field held, or `init` if none has come.
     last: Option<Value>,
     poisoned: bool,
 }
@@ -40,9 +43,11 @@ impl ChangedState {
             begun h ≡ start →
             ChangedRepresents s h) }
     {
+        let ChangedParams { field, init } = params;
         Ok(ChangedState {
-            params,
-            last: None,
+            field,
+            init: Snapshot::of(&init),
+            last: init,
             poisoned: false,
         })
     }
@@ -116,27 +121,28 @@ impl ChangedState {
 
     /// Whether the event's field differs. If so, what it holds is kept, and only that takes memory.
     fn follow(&mut self, alloc: Global, event: &Event) -> Result<bool, Memory>
-        ensures params { self.new.params ≡ self.old.params }
+        ensures field { self.new.field ≡ self.old.field }
+        ensures init { self.new.init ≡ self.old.init }
         ensures poisoned { self.new.poisoned ≡ self.old.poisoned }
         ensures differs { IfOk result (λ differs. differs
-            ≡ differs_from self.old.params.field (compared_with self.old) event.now) }
+            ≡ differs_from self.old.field self.old.last event.now) }
         ensures last { IfOk result (λ differs. self.new.last ≡ (if differs
-            then Some (field_value event.now self.old.params.field) else self.old.last)) }
-        ensures memory { differs_from self.old.params.field (compared_with self.old) event.now
+            then Some (field_value event.now self.old.field) else self.old.last)) }
+        ensures memory { differs_from self.old.field self.old.last event.now
             ≡ false → IsOk result }
     {
         if !self.differs(event) {
             return Ok(false);
         }
-        self.last = Some(copy_value(alloc, event, &self.params.field)?);
+        self.last = Some(copy_value(alloc, event, &self.field)?);
         Ok(true)
     }
 
     fn differs(&self, event: &Event) -> bool
-        ensures { result ≡ differs_from self.now.params.field (compared_with self.now) event.now }
+        ensures { result ≡ differs_from self.now.field self.now.last event.now }
     {
-        match self.last.as_ref().or(self.params.init.as_ref()) {
-            Some(value) => !field_is(event, &self.params.field, value),
+        match &self.last {
+            Some(value) => !field_is(event, &self.field, value),
             None => true,
         }
     }

@@ -104,11 +104,11 @@ coalesce_same s h es r = record { sound = r.sound; start = r.start; last = r.las
 history_same : (state : KeptState) (h : History) (es : List Event) → HasHistory state h
     → HasHistory state (h ▸ In (Many es))
 history_same (kept.Changed s) h es r = changed_same s h es r
-history_same (kept.Runs s) h es r = runs_same s h es r
+history_same (kept.Runs s) h es r = runs_same s.value h es r
 history_same (kept.Throttle s) h es r = throttle_same s h es r
 history_same (kept.Rollup s) h es r = rollup_same s h es r
 history_same (kept.Batch s) h es r = batch_same s h es r
-history_same (kept.Stable s) h es r = stable_same s h es r
+history_same (kept.Stable s) h es r = stable_same s.value h es r
 history_same (kept.FixedEvent s) h es r = fixed_event_same s h es r
 history_same (kept.MovingEvent s) h es r = moving_event_same s h es r
 history_same (kept.FixedTime s) h es r = fixed_time_same s h es r

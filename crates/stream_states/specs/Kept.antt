@@ -36,11 +36,11 @@ keeps _ = true
 -- the kind of the stream whose state it is
 abbrev pub kept_kind : KeptState → KindTree
 kept_kind (Changed state) = changed_kind state
-kept_kind (Runs state) = runs_kind state
+kept_kind (Runs state) = runs_kind state.value
 kept_kind (Throttle state) = throttle_kind state
 kept_kind (Rollup state) = rollup_kind state
 kept_kind (Batch state) = batch_kind state
-kept_kind (Stable state) = stable_kind state
+kept_kind (Stable state) = stable_kind state.value
 kept_kind (FixedEvent state) = fixed_event_kind state
 kept_kind (MovingEvent state) = moving_event_kind state
 kept_kind (FixedTime state) = fixed_time_kind state
@@ -50,11 +50,11 @@ kept_kind (Coalesce state) = coalesce_kind state
 -- it ran out of memory
 abbrev pub kept_poisoned : KeptState → Bool
 kept_poisoned (Changed state) = changed_poisoned state
-kept_poisoned (Runs state) = runs_poisoned state
+kept_poisoned (Runs state) = runs_poisoned state.value
 kept_poisoned (Throttle state) = throttle_poisoned state
 kept_poisoned (Rollup state) = rollup_poisoned state
 kept_poisoned (Batch state) = batch_poisoned state
-kept_poisoned (Stable state) = stable_poisoned state
+kept_poisoned (Stable state) = stable_poisoned state.value
 kept_poisoned (FixedEvent state) = fixed_event_poisoned state
 kept_poisoned (MovingEvent state) = moving_event_poisoned state
 kept_poisoned (FixedTime state) = fixed_time_poisoned state
@@ -64,11 +64,11 @@ kept_poisoned (Coalesce state) = coalesce_poisoned state
 -- the state has what a stream of its kind has to know of this history
 abbrev pub HasHistory : KeptState → History → Type 0
 HasHistory (Changed state) h = ChangedRepresents state h
-HasHistory (Runs state) h = RunsRepresents state h
+HasHistory (Runs state) h = RunsRepresents state.value h
 HasHistory (Throttle state) h = ThrottleRepresents state h
 HasHistory (Rollup state) h = RollupRepresents state h
 HasHistory (Batch state) h = BatchRepresents state h
-HasHistory (Stable state) h = StableRepresents state h
+HasHistory (Stable state) h = StableRepresents state.value h
 HasHistory (FixedEvent state) h = FixedEventRepresents state h
 HasHistory (MovingEvent state) h = MovingEventRepresents state h
 HasHistory (FixedTime state) h = FixedTimeRepresents state h

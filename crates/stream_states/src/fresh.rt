@@ -72,7 +72,8 @@ fn runs(alloc: Global, count: u32, field: &Field, start: u64) -> Result<KeptStat
         count,
         field: field.copy(alloc)?,
     };
-    Ok(KeptState::Runs(RunsState::fresh(alloc, params, start)?))
+    let state = RunsState::fresh(alloc, params, start)?;
+    Ok(KeptState::Runs(Box::new(alloc, state)?))
 }
 
 fn throttle(alloc: Global, count: u32, secs: u32, start: u64) -> Result<KeptState, Memory>
@@ -107,7 +108,8 @@ fn stable(alloc: Global, secs: u32, field: &Field, start: u64) -> Result<KeptSta
         secs,
         field: field.copy(alloc)?,
     };
-    Ok(KeptState::Stable(StableState::fresh(alloc, params, start)?))
+    let state = StableState::fresh(alloc, params, start)?;
+    Ok(KeptState::Stable(Box::new(alloc, state)?))
 }
 
 fn fixed_event(alloc: Global, count: u32, start: u64) -> Result<KeptState, Memory>

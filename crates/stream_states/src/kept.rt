@@ -21,15 +21,16 @@ use window_streams::{
 };
 
 /// What a stream of one of the kinds that keep something keeps of what came. Once it was out of memory it is poisoned,
-/// and each later `item` and `tick` answers `Memory`.
+/// and each later `item` and `tick` answers `Memory`. The largest states are in boxes, since each state takes as much
+/// memory as the largest that is not, and a fork has one for each of its streams.
 #[derive(Drop)]
 pub enum KeptState {
     Changed(ChangedState),
-    Runs(RunsState),
+    Runs(Box<RunsState>),
     Throttle(ThrottleState),
     Rollup(RollupState),
     Batch(BatchState),
-    Stable(StableState),
+    Stable(Box<StableState>),
     FixedEvent(FixedEventState),
     MovingEvent(MovingEventState),
     FixedTime(FixedTimeState),

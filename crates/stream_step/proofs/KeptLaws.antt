@@ -148,11 +148,11 @@ stable_still state h r none = record {
 history_still : (state : KeptState) (h : History) → emissions (kept_kind state) (h ▸ Tick) ≡ [] → HasHistory state h
     → HasHistory state (h ▸ Tick)
 history_still (Changed state) h quiet r = changed_still state h r
-history_still (Runs state) h quiet r = runs_still state h r
+history_still (Runs state) h quiet r = runs_still state.value h r
 history_still (Throttle state) h quiet r = tick_represents state h r
 history_still (Rollup state) h quiet r = rollup_still state h r (none_passed _ quiet)
 history_still (Batch state) h quiet r = batch_still state h r (none_passed _ quiet)
-history_still (Stable state) h quiet r = stable_still state h r (none_passed _ quiet)
+history_still (Stable state) h quiet r = stable_still state.value h r (none_passed _ quiet)
 history_still (FixedEvent state) h quiet r = fixed_event_still state h r
 history_still (MovingEvent state) h quiet r = moving_event_still state h r
 history_still (FixedTime state) h quiet r = fixed_time_still state h r
