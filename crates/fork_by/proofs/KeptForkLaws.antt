@@ -12,6 +12,7 @@ use Rattle.ev_types.specs.Key.{same_key}
 use Rattle.ev_types.proofs.Values.{same_key_decides}
 use Rattle.linked_slots.proofs.ListLaws.{bool_cases, eqb-same, eqb-true, eqb-apart}
 use Rattle.fork_by.specs.Labels.{Adds, Label, IsLatest, IsLive, Touches, due_moments, due_numbers, dues_cleared, dues_set, index_at, is_due_by, label_at, last_moment_at, number_of, with_due, with_moment, without_due}
+use Rattle.fork_by.specs.Laws.{FoundFork}
 use Rattle.fork_by.specs.declared.table.ForkTable.{ForkTable}
 use Rattle.fork_by.specs.Table.{AreApart, HasFork, IsTable, KeptFork, due_kept, fork_labels, fork_replaced, fork_with, kept_at, kept_dues, kept_forks, kept_number, labelled, place_of, with_fork}
 use Rattle.fork_by.proofs.TableLaws.{found_label, is_within, label_from, number_found}
@@ -71,12 +72,6 @@ module _ {F : Type 0} where
             (subst (λ b. IsSome (cond b (Some k) (kept_at k.number rest))) (sym (eqb-same k.number)) refl),
         each rest (λ n some. in_all n (later k n rest (eqb k.number n) some)),
       )
-
--- a fork of the key and the number is among these
-pub record FoundFork {F : Type 0} (key : List Value) (number : ℕ) (ks : List (KeptFork F)) : Type 0 where
-  pub kept : KeptFork F
-  pub at : kept_at number ks ≡ Some kept
-  pub of_key : kept.key ≡ key
 
 module _ {F : Type 0} where
   pub apart-found : (key : List Value) (number : ℕ) (ks : List (KeptFork F)) → AreApart ks

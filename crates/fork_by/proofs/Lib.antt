@@ -5,6 +5,7 @@ pub mod DueLaws
 pub mod KeptForkLaws
 pub mod KeptLaws
 pub mod LabelLaws
+pub mod Laws
 pub mod ListLaws
 pub mod MomentLaws
 pub mod NewNumberLaws

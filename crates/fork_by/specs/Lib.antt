@@ -1,4 +1,5 @@
 pub mod Labels
+pub mod Laws
 pub mod Order
 pub mod Register
 pub mod Renew

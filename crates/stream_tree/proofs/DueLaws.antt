@@ -9,7 +9,7 @@ use Rattle.ev_types.specs.declared.value.Value.{Value}
 use Rattle.fork_by.specs.declared.table.ForkTable.{ForkTable}
 use Rattle.fork_by.specs.Table.{kept_forks, due_kept, fork_cleared, HasFork, IsTable}
 use Rattle.fork_by.specs.Labels.{is_due_by}
-use Rattle.fork_by.proofs.KeptForkLaws.{kept-apart, kept-all-have}
+use Rattle.fork_by.proofs.Laws.{forks_apart, forks_reached}
 use Rattle.stream_plan.specs.Tree.{StreamTrees}
 use Rattle.stream_meaning.specs.Deadlines.{until, plan_deadline}
 use Rattle.stream_meaning.specs.DueLaws.{has_effects}
@@ -175,7 +175,7 @@ module _ (streams : StreamTrees) (Means : Meaning) (idle : Option ℕ) (keys : L
     due_ones = due_kept now first_forks
 
     apart : IsDistinct eqb (numbers_of first_forks)
-    apart = (kept-apart forks represents.is_table).numbers
+    apart = (forks_apart forks represents.is_table).numbers
 
     pub due_apart : IsDistinct eqb due_ones
     due_apart = chosen_apart is_due first_forks apart
@@ -198,7 +198,7 @@ module _ (streams : StreamTrees) (Means : Meaning) (idle : Option ℕ) (keys : L
     due_have_forks number h =
         has_all (λ n. HasFork n forks) due_ones number
         (all-chosen_numbers (λ n. HasFork n forks) is_due first_forks
-        (kept-all-have forks represents.is_table)) h
+        (forks_reached forks represents.is_table)) h
 
   -- a fork on the way: those that are due and are left have not got the tick, and all others have
   pub record Halfway (key_of : ℕ → List Value) (left : List ℕ) (k : Kept) : Type 0 where
@@ -271,7 +271,7 @@ module _ (streams : StreamTrees) (Means : Meaning) (idle : Option ℕ) (keys : L
   due_begins still forks forks' represents is_table later has_on =
       let ks = kept_forks forks in
       let ids = due_kept now ks in
-      let distinct = (kept-apart forks represents.is_table).numbers in
+      let distinct = (forks_apart forks represents.is_table).numbers in
       let key_of = key_at ks in record {
         is_table = is_table;
         keys_are = ap keys_of_kept later ∙ keys_stay (fork_cleared now) ks cleared_key ∙ represents.keys_are;

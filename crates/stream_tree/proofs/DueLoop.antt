@@ -8,7 +8,6 @@ use Rattle.ev_types.specs.declared.value.Value.{Value}
 use Rattle.fork_by.specs.declared.table.ForkTable.{ForkTable}
 use Rattle.fork_by.specs.Table.{kept_forks, fork_labels, fork_cleared, due_kept, HasFork, IsTable}
 use Rattle.fork_by.specs.Labels.{due_numbers}
-use Rattle.fork_by.proofs.KeptForkLaws.{due-kept}
 use Rattle.step_count.specs.Count.{StepCount}
 use Rattle.pred_eval.specs.Search.{AreReadFrom}
 use Rattle.regex.specs.declared.string.regex.Regex.{Regex}
@@ -56,6 +55,10 @@ module _ {G : Type 0} (patterns : List Regex) (start moment : ℕ) (a : List Out
   abbrev pub numbers : List ℕ
   numbers = due_numbers moment (fork_labels first)
 
+  -- what the table says of them
+  abbrev pub AreDue : Type 0
+  AreDue = IsTable first → numbers ≡ due_kept moment (kept_forks first)
+
   abbrev pub key_of : ℕ → List Value
   key_of = key_at (kept_forks first)
 
@@ -95,10 +98,10 @@ module _ {G : Type 0} (patterns : List Regex) (start moment : ℕ) (a : List Out
       Ran texts live received ranges comes (drop i numbers) forks
       × Performs a t' b u (Given_to received (take i numbers))
 
-  module _ (texts : List (List ℕ)) (live : LiveKeys) (received : List Value → History) (ranges : AreInRange streams)
-      (comes : Comes received) (represents : Represents texts live received first) where
+  module _ (are_due : AreDue) (texts : List (List ℕ)) (live : LiveKeys) (received : List Value → History)
+      (ranges : AreInRange streams) (comes : Comes received) (represents : Represents texts live received first) where
     chosen : numbers ≡ due_kept moment (kept_forks first)
-    chosen = due-kept first represents.is_table moment
+    chosen = are_due represents.is_table
 
     numbers_apart : IsDistinct eqb numbers
     numbers_apart =
@@ -118,12 +121,12 @@ module _ {G : Type 0} (patterns : List Regex) (start moment : ℕ) (a : List Out
         ∙ none_due streams (ForestRepresents texts streams) idle live.keys live.last received moment ranges
         (now received comes) first represents none
 
-  pub loop_begins : (forks : ForkTable Forest) → (IsTable first → IsTable forks)
+  pub loop_begins : AreDue → (forks : ForkTable Forest) → (IsTable first → IsTable forks)
       → kept_forks forks ≡ map (fork_cleared moment) (kept_forks first)
       → ((other : ℕ) → HasFork other first → HasFork other forks) → LoopRan 0 forks a t'
-  loop_begins forks table later has_on texts live received from ranges endless represents comes = (
+  loop_begins are_due forks table later has_on texts live received from ranges endless represents comes = (
     subst (λ (ids : List ℕ). Ran texts live received ranges comes ids forks)
-        (sym (chosen texts live received ranges comes represents))
+        (sym (chosen are_due texts live received ranges comes represents))
         (due_begins streams (ForestRepresents texts streams) idle live.keys live.last received moment ranges
         (now received comes) (λ nodes h here none. forest_still texts streams nodes h endless here none) first forks
         represents
@@ -158,10 +161,11 @@ module _ {G : Type 0} (patterns : List Regex) (start moment : ℕ) (a : List Out
         comes = comes (key_of id);
       }
 
-  pub loop_more : (i id : ℕ) (forks forks' : ForkTable Forest) (b c : List Output) (u v : StepCount G) →
+  pub loop_more : AreDue → (i id : ℕ) (forks forks' : ForkTable Forest) (b c : List Output) (u v : StepCount G) →
       i < length numbers → id ≡ get_or numbers i id → LoopRan i forks b u →
       ForkRuns patterns start moment b u c v Tick streams idle id forks forks' → LoopRan (i + 1) forks' c v
-  loop_more i id forks forks' b c u v within is so_far runs texts live received from ranges endless represents comes =
+  loop_more are_due i id forks forks' b c u v within is so_far runs texts live received from ranges endless represents
+      comes =
       let before = so_far texts live received from ranges endless represents comes in
       let Means : Meaning = ForestRepresents texts streams in
       let at = fork_next texts live received ranges comes i id forks within is before.0 in
@@ -170,7 +174,7 @@ module _ {G : Type 0} (patterns : List Regex) (start moment : ℕ) (a : List Out
       let gone : has id (drop (i + 1) numbers) ≡ false =
       has_rest id (drop (i + 1) numbers)
       (subst (IsDistinct eqb) left
-      (distinct_drop i numbers (numbers_apart texts live received ranges comes represents))) in
+      (distinct_drop i numbers (numbers_apart are_due texts live received ranges comes represents))) in
       let reported : Given_to received (take i numbers) ++ (Given ∷ effects_at received id)
       ≡ Given_to received (take (i + 1) numbers) =
       flat_more (λ n. Given ∷ effects_at received n) numbers i id within is in (
@@ -214,29 +218,31 @@ module _ {G : Type 0} (patterns : List Regex) (start moment : ℕ) (a : List Out
       }
 
   -- all have got the tick, and those are dropped that end at it
-  pub loop_ends : (i : ℕ) (forks forks' : ForkTable Forest) (b : List Output) (u : StepCount G)
+  pub loop_ends : AreDue → (i : ℕ) (forks forks' : ForkTable Forest) (b : List Output) (u : StepCount G)
       → length numbers ≤ i → Taken → LoopRan i forks b u
       → (IsTable forks → kept_forks forks' ≡ not_ended idle moment (kept_forks forks))
       → (IsTable forks → IsTable forks')
       → DueRuns patterns start moment a t b u streams idle first forks'
-  loop_ends i forks forks' b u past taken so_far dropped table texts live received from ranges endless represents
-      comes =
+  loop_ends are_due i forks forks' b u past taken so_far dropped table texts live received from ranges endless
+      represents comes =
       let Means : Meaning = ForestRepresents texts streams in
       let ran = so_far texts live received from ranges endless represents comes in (
         due_ends streams Means idle live.keys live.last received moment ranges (now received comes) key_of forks forks'
             (subst (λ (l : List ℕ). Ran texts live received ranges comes l forks) (drop_all i numbers past) ran.0)
             (table ran.0.is_table) (dropped ran.0.is_table),
-        subst (λ (hs : List Effect). Performs a t b u hs) (sym (all_due texts live received ranges comes represents))
+        subst (λ (hs : List Effect). Performs a t b u hs)
+            (sym (all_due are_due texts live received ranges comes represents))
             (all_performed received b u taken
             (subst (λ (l : List ℕ). Performs a t' b u (Given_to received l)) (take_all i numbers past) ran.1)),
       )
 
-  pub loop_stops : (i id : ℕ) (forks : ForkTable Forest) (b c : List Output) (u v : StepCount G)
+  pub loop_stops : AreDue → (i id : ℕ) (forks : ForkTable Forest) (b c : List Output) (u v : StepCount G)
       → i < length numbers →
       id ≡ get_or numbers i id → Taken → LoopRan i forks b u →
       ForkStops patterns start moment b u c v Tick streams id forks →
       DueStops patterns start moment a t c v streams idle first
-  loop_stops i id forks b c u v within is taken so_far stops texts live received from ranges endless represents comes =
+  loop_stops are_due i id forks b c u v within is taken so_far stops texts live received from ranges endless represents
+      comes =
       let before = so_far texts live received from ranges endless represents comes in
       let at = fork_next texts live received ranges comes i id forks within is before.0 in
       let stop = stops texts (received (key_of id)) from at in
@@ -247,25 +253,26 @@ module _ {G : Type 0} (patterns : List Regex) (start moment : ℕ) (a : List Out
       ∙ flat_whole f numbers (i + 1) in record {
         part =
             subst (λ (hs : List Effect). PerformsPart a t c v hs)
-            (sym (all_due texts live received ranges comes represents))
+            (sym (all_due are_due texts live received ranges comes represents))
             (part_performed received c v taken
             (subst (λ (hs : List Effect). PerformsPart a t' c v hs) whole
             (part_more a c t' v (Given_to received (take i numbers) ++ f id) rest
             (part_then a b c t' u v (Given_to received (take i numbers)) (f id) before.1 stop))));
         busy = λ tick none.
-            let no_number : numbers ≡ [] = no_numbers texts live received ranges comes represents none in
+            let no_number : numbers ≡ [] = no_numbers are_due texts live received ranges comes represents none in
             let few : i < 0 = subst (λ (l : List ℕ). i < length l) no_number within in absurd (omega (arith, few));
       }
 
   -- the numbers were not taken
-  pub due_stop : (steps : StepCount G) → steps.forks ≡ t.forks → steps.entries ≤ t.entries + length numbers
+  pub due_stop : AreDue → (steps : StepCount G) → steps.forks ≡ t.forks → steps.entries ≤ t.entries + length numbers
       → t.entries ≤ steps.entries → steps.began ≡ t.began → (numbers ≡ [] → ⊥)
       → DueStops patterns start moment a t a steps streams idle first
-  due_stop steps forks_same at_most at_least goes_on some texts live received from ranges endless represents comes =
+  due_stop are_due steps forks_same at_most at_least goes_on some texts live received from ranges endless represents
+      comes =
       let counts = entered_as_given (effects_at received) numbers in record {
         part =
             subst (λ (hs : List Effect). PerformsPart a t a steps hs)
-            (sym (all_due texts live received ranges comes represents)) (record {
+            (sym (all_due are_due texts live received ranges comes represents)) (record {
               begins = extends_none a;
               within = (outputs_among (Due_in received numbers), refl);
               forks = omega (arith, forks_same);
@@ -274,7 +281,7 @@ module _ {G : Type 0} (patterns : List Regex) (start moment : ℕ) (a : List Out
               no_fewer_entries = at_least;
               began = goes_on;
             });
-        busy = λ tick none. some (no_numbers texts live received ranges comes represents none);
+        busy = λ tick none. some (no_numbers are_due texts live received ranges comes represents none);
       }
 
 -- the number that the code reads

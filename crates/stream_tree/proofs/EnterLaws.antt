@@ -6,7 +6,7 @@ use Rattle.std.proofs.lemmas.List.{append-nil}
 use Rattle.ev_types.specs.declared.item.Output.{Output}
 use Rattle.fork_by.specs.declared.table.ForkTable.{ForkTable}
 use Rattle.fork_by.specs.Table.{kept_forks, kept_at, with_fork, fork_dated, fork_replaced, HasFork, IsTable}
-use Rattle.fork_by.proofs.KeptForkLaws.{has-kept, kept-apart, written-kept, written-table, written-has}
+use Rattle.fork_by.proofs.Laws.{forks_apart, numbers_reach, written_is_table, written_has_forks, written_is_replaced}
 use Rattle.step_count.specs.Count.{StepCount}
 use Rattle.regex.specs.declared.string.regex.Regex.{Regex}
 use Rattle.stream_plan.specs.declared.plan.Stream.{Stream, out-Stream}
@@ -35,7 +35,8 @@ module _ (forks : ForkTable Forest) (number : ℕ) (is_table : IsTable forks) (h
   pub lent : (P : Forest → Type 0) (fork : Forest)
       → IfSome (kept_at number (kept_forks forks)) (λ kept. fork ≡ kept.fork)
       → AllByRecursion (λ (k : Kept). eqb k.number number ≡ true → P k.fork) (kept_forks forks) → P fork
-  lent P fork is all = by_known (kept_at number (kept_forks forks)) refl is (has-kept forks is_table number has_fork)
+  lent P fork is all =
+      by_known (kept_at number (kept_forks forks)) refl is (numbers_reach forks is_table number has_fork)
     where
       by_known : (known : Option Kept) → kept_at number (kept_forks forks) ≡ known
           → IfSome known (λ kept. fork ≡ kept.fork) → IsSome known → P fork
@@ -49,7 +50,7 @@ module _ (forks : ForkTable Forest) (number : ℕ) (is_table : IsTable forks) (h
   moments_are : (moment : ℕ) → IfSome (kept_at number (kept_forks forks)) (λ kept. moment ≡ kept.moment)
       → AllByRecursion (λ (k : Kept). eqb k.number number ≡ true → moment ≡ k.moment) (kept_forks forks)
   moments_are moment is =
-      by_known (kept_at number (kept_forks forks)) refl is (has-kept forks is_table number has_fork)
+      by_known (kept_at number (kept_forks forks)) refl is (numbers_reach forks is_table number has_fork)
     where
       by_known : (known : Option Kept) → kept_at number (kept_forks forks) ≡ known
           → IfSome known (λ kept. moment ≡ kept.moment) → IsSome known
@@ -59,7 +60,7 @@ module _ (forks : ForkTable Forest) (number : ℕ) (is_table : IsTable forks) (h
           all-weaker (λ (k : Kept). eqb k.number number ≡ true → k ≡ kept)
           (λ (k : Kept). eqb k.number number ≡ true → moment ≡ k.moment)
           (λ k only same. is ∙ ap (λ (other : Kept). other.moment) (sym (only same))) (kept_forks forks)
-          (only_kept number (kept_forks forks) kept (kept-apart forks is_table).numbers at)
+          (only_kept number (kept_forks forks) kept (forks_apart forks is_table).numbers at)
 
 -- a fork that was written and then got a due moment
 written : (idle : Option ℕ) (number : ℕ) (fork : Forest) (moment : ℕ) (due deadline : Option ℕ) (k : Kept) →
@@ -102,17 +103,19 @@ fork_replaced_is texts streams idle number forks forks' fork moment due h is_tab
     represents due_is =
     let ks = kept_forks forks in
     let middle = with_fork forks number fork in
-    let middle_table : IsTable middle = written-table forks is_table number fork in
-    let put : kept_forks middle ≡ map (fork_replaced number fork) ks = written-kept forks is_table number fork has_fork in
+    let middle_table : IsTable middle = written_is_table forks is_table number fork in
+    let put : kept_forks middle ≡ map (fork_replaced number fork) ks =
+    written_is_replaced forks is_table number fork has_fork in
     let moments : AllByRecursion (λ (k : Kept). eqb k.number number ≡ true → moment ≡ k.moment) ks =
     all-weaker
     (λ (k : Kept). eqb (fork_replaced number fork k).number number ≡ true → moment ≡ (fork_replaced number fork k).moment)
     (λ (k : Kept). eqb k.number number ≡ true → moment ≡ k.moment) (replaced_moment number fork moment) ks
     (all-from_map (λ (k : Kept). eqb k.number number ≡ true → moment ≡ k.moment) (fork_replaced number fork) ks
     (subst (AllByRecursion (λ (k : Kept). eqb k.number number ≡ true → moment ≡ k.moment)) put
-    (moments_are middle number middle_table (written-has forks number fork number has_fork) moment read))) in record {
+    (moments_are middle number middle_table (written_has_forks forks number fork number has_fork) moment
+    read))) in record {
       is_table = table middle_table;
-      has_forks = λ other there. has_on other (written-has forks number fork other there);
+      has_forks = λ other there. has_on other (written_has_forks forks number fork other there);
       fork = fork;
       represents = represents;
       kept =
@@ -198,7 +201,7 @@ module _ {G : Type 0} (patterns : List Regex) (start moment : ℕ) (s : Stream) 
       ∙ ap (λ (ts : StreamTrees). plan_deadline ts (h ▸ x)) trees in (
         fork_replaced_is texts (children_of (opened s)) (idle_by (kind_of (opened s))) number forks forks' fork' read due
             (h ▸ x) represents.is_table has_fork
-            (read_is (written-table forks represents.is_table number fork')) dated table has_on
+            (read_is (written_is_table forks represents.is_table number fork')) dated table has_on
             (subst (λ (ts : StreamTrees). ForestRepresents texts ts (nodes_of fork') (h ▸ x)) trees ran.0)
             (due_is ∙ ap (λ (i : Option ℕ). until (idle_after i (Some read)) deadline) (idle_opened s)
             ∙ ap (until (idle_after (idle_by (kind_of (opened s))) (Some read))) deadline_so),

@@ -11,7 +11,7 @@ use Rattle.ev_types.specs.Key.{same_key}
 use Rattle.fork_by.specs.declared.table.ForkTable.{ForkTable}
 use Rattle.fork_by.specs.Table.{kept_forks, kept_number, fork_labels, fork_touched, AreApart, HasFork, IsTable}
 use Rattle.fork_by.specs.Labels.{IsLatest}
-use Rattle.fork_by.proofs.KeptForkLaws.{kept-apart, found-key, latest-kept}
+use Rattle.fork_by.proofs.Laws.{forks_apart, keys_have_forks, latest_of_forks}
 use Rattle.stream_plan.specs.Tree.{StreamTrees}
 use Rattle.stream_meaning.specs.Branches.{with_key}
 use Rattle.stream_meaning.specs.declared.entry.Entry.{Entry}
@@ -124,11 +124,12 @@ found_known streams first start now key forks forks' number found has touched ta
     let ks = kept_forks forks in
     let is_table = represents.is_table in
     let latest =
-    touched (latest-kept forks is_table now (came_by Means deadline idle last received now past ks represents.each)) in
-    let own = found-key forks is_table key number (sym (found is_table)) in
+    touched
+    (latest_of_forks forks is_table now (came_by Means deadline idle last received now past ks represents.each)) in
+    let own = keys_have_forks forks is_table key number (sym (found is_table)) in
     let there =
     at_number (λ one. AllByRecursion (Tied one.key one.number) ks) number ks own.kept
-    (apart_tied ks (kept-apart forks is_table)) own.at in
+    (apart_tied ks (forks_apart forks is_table)) own.at in
     let tied : AllByRecursion (Tied key number) ks =
     subst (λ (k : List Value). AllByRecursion (Tied k number) ks) own.of_key
     (subst (λ (n : ℕ). AllByRecursion (Tied own.kept.key n) ks) there.1 there.0) in
@@ -170,13 +171,13 @@ found_new streams first start now next key forks forks' fork number absent fresh
     let new : Kept = record { key = key; number = number; fork = fork; moment = now; due = None } in
     let list_is : kept_forks forks' ≡ ks ++ new ∷ [] =
     added is_table
-    (latest-kept forks is_table now (came_by Means deadline idle last received now past ks represents.each)) in
+    (latest_of_forks forks is_table now (came_by Means deadline idle last received now past ks represents.each)) in
     let none : kept_number key ks ≡ None = sym (absent is_table) in
     let among : is_among key keys ≡ false =
     subst (λ (l : Keys). is_among key l ≡ false) represents.keys_are (new_key key ks none) in
     let tied : AllByRecursion (Tied key number) (ks ++ new ∷ []) =
     all-last (λ one. AllByRecursion (Tied one.key one.number) (ks ++ new ∷ [])) ks new
-    (apart_tied (ks ++ new ∷ []) (subst AreApart list_is (kept-apart forks' (table is_table)))) in
+    (apart_tied (ks ++ new ∷ []) (subst AreApart list_is (forks_apart forks' (table is_table)))) in
     let made : Means (nodes_of fork) (received key) =
     subst (λ (ts : List (List ℕ)). ForestRepresents ts streams (nodes_of fork) (received key)) (sym can.among)
     (fresh.represents can.before can.after true (received key) (unseen among) begins can.in_range can.endless can.begins

@@ -68,7 +68,8 @@ run_due-returns-in_err-due_forks-clause-stops g t c =
     on_error c.from_residual.result
     (due_stop c.args.context.now.patterns.now c.args.context.now.start c.args.context.now.moment c.args.out.now
     c.args.steps.now c.args.steps.now (children_of (opened c.args.stream.now))
-    (idle_by (kind_of (opened c.args.stream.now))) c.args.forks.now c.due_forks.new.steps
+    (idle_by (kind_of (opened c.args.stream.now))) c.args.forks.now
+    c.due_forks.ensures.kept c.due_forks.new.steps
     c.due_forks.ensures.forks c.due_forks.ensures.at_most c.due_forks.ensures.at_least c.due_forks.ensures.began
     (λ none. let bad = c.in_err-due_forks.ensures.quiet none in cc))
 
@@ -79,6 +80,7 @@ run_due-loop-number-init g t c =
           loop_begins c.args.context.now.patterns.now c.args.context.now.start c.args.context.now.moment c.args.out.now
           c.args.steps.now c.due_forks.new.steps (children_of (opened c.args.stream.now))
           (idle_by (kind_of (opened c.args.stream.now))) c.args.forks.now
+          c.due_forks.ensures.kept
           c.due_forks.new.self c.due_forks.ensures.table c.in_ok-due_forks.ensures.later c.due_forks.ensures.has;
       taken = record {
         forks = c.due_forks.ensures.forks;
@@ -98,6 +100,7 @@ run_due-returns-in_err-run_fork-clause-stops g t c =
     (loop_stops c.args.context.now.patterns.now c.args.context.now.start c.args.context.now.moment c.args.out.now
     c.args.steps.now c.due_forks.new.steps (children_of (opened c.args.stream.now))
     (idle_by (kind_of (opened c.args.stream.now))) c.args.forks.now
+    c.due_forks.ensures.kept
     c.loop-number.number-index (get_or c.as_slice-number-items.result.now c.loop-number.number-index 0)
     c.loop-number.forks c.loop-number.out c.run_fork.new.out c.loop-number.steps c.run_fork.new.steps
     (items_within c.as_slice-number-items.result.now (due_numbers c.args.context.now.moment (fork_labels c.args.forks.now))
@@ -113,6 +116,7 @@ run_due-loop-number-preserved g t c =
           loop_more c.args.context.now.patterns.now c.args.context.now.start c.args.context.now.moment c.args.out.now
           c.args.steps.now c.due_forks.new.steps (children_of (opened c.args.stream.now))
           (idle_by (kind_of (opened c.args.stream.now))) c.args.forks.now
+          c.due_forks.ensures.kept
           c.loop-number.number-index (get_or c.as_slice-number-items.result.now c.loop-number.number-index 0)
           c.loop-number.forks c.run_fork.new.forks c.loop-number.out c.run_fork.new.out c.loop-number.steps
           c.run_fork.new.steps
@@ -134,6 +138,7 @@ run_due-returns-clause-runs g t c =
     loop_ends c.args.context.now.patterns.now c.args.context.now.start c.args.context.now.moment c.args.out.now
     c.args.steps.now c.due_forks.new.steps (children_of (opened c.args.stream.now))
     (idle_by (kind_of (opened c.args.stream.now))) c.args.forks.now
+    c.due_forks.ensures.kept
     c.loop-number.number-index c.loop-number.forks c.drop_ended.new.forks c.loop-number.out c.loop-number.steps
     (items_past c.as_slice-number-items.result.now (due_numbers c.args.context.now.moment (fork_labels c.args.forks.now))
     c.loop-number.number-index c.loop-number.invariant.numbers c.loop-number-test.false)
