@@ -1,5 +1,6 @@
 -- How an exchange ends, from its first call on.
-use Rattle.std.proofs.Common.{◌≡◌, ℕ, inl, inr, Bool, true, false, List, [], ◌++◌, Ok, Err, Option, None, refl, ap, sym, subst}
+use Rattle.std.proofs.Common.{◌≡◌, ℕ, inl, inr, Bool, true, false, List, [], ◌++◌, Ok, Err, Option, None, refl, ap, sym}
+use Rattle.std.proofs.Common.{subst}
 use Rattle.ports.specs.declared.entry.Entry.{Entry}
 use Rattle.framing.specs.Frames.{has_frame}
 use Rattle.riemann_client.specs.Client.{IsUnclosed, Represents, replies_of, stream_of, wants_in}

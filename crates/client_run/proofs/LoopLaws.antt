@@ -14,7 +14,8 @@ use Rattle.client_run.specs.declared.outcome.Outcome.TheVariants.{Lost}
 use Rattle.client_run.specs.declared.outcome.RunFault.{RunFault}
 use Rattle.client_run.specs.declared.outcome.RunFault.TheVariants.{Links, Memory}
 use Rattle.client_run.proofs.AddsLaws.{adds_made, adds_nothing, adds_then}
-use Rattle.client_run.proofs.TakenLaws.{Took, ends_at_limit, ends_in_turn, loses_links, runs_out, stops_short, took_more, took_nothing}
+use Rattle.client_run.proofs.TakenLaws.{Took, ends_at_limit, ends_in_turn, loses_links, runs_out, stops_short}
+use Rattle.client_run.proofs.TakenLaws.{took_more, took_nothing}
 
 -- a turn that had no outcome
 pub none_of : (found : Option Outcome) → ((outcome : Outcome) → found ≡ Some outcome → ⊥) → found ≡ None

@@ -1,5 +1,6 @@
 -- What one more turn adds to those that were taken.
-use Rattle.std.proofs.Common.{◌≡◌, ℕ, ◌+◌, ◌<◌, inl, inr, List, [], ◌∷◌, ◌++◌, length, map, refl, ap, sym, ◌∙◌, subst, arith, append-nil, length-append}
+use Rattle.std.proofs.Common.{◌≡◌, ℕ, ◌+◌, ◌<◌, inl, inr, List, [], ◌∷◌, ◌++◌, length, map, refl, ap, sym, ◌∙◌, subst}
+use Rattle.std.proofs.Common.{arith, append-nil, length-append}
 use Rattle.std.specs.List.{AllByRecursion}
 use Rattle.std.proofs.lemmas.Grind.{flat_map-append}
 use Rattle.std.proofs.lemmas.List.Sums.{fold-append}
@@ -7,14 +8,17 @@ use Rattle.ports.specs.declared.entry.Entry.{Entry}
 use Rattle.ports.specs.declared.entry.Entry.TheVariants.{Next}
 use Rattle.riemann_client.specs.Client.{Represents, link_of, replies_of, stream_of, wants_in}
 use Rattle.riemann_client.specs.Exchange.{Exchange, begun, message_in, wants_of}
-use Rattle.riemann_client.specs.Run.{AreGoing, ClientTurn, IsGoing, after_turn, entries_of, entries_of_turn, exchange_after, exchange_from}
+use Rattle.riemann_client.specs.Run.{AreGoing, ClientTurn, IsGoing, after_turn, entries_of, entries_of_turn}
+use Rattle.riemann_client.specs.Run.{exchange_after, exchange_from}
 use Rattle.riemann_client.specs.Sending.{AreSends}
-use Rattle.riemann_client.specs.Turning.{Ends, FailsToSend, GoesOn, RunsOut as OutOfMemory, TurnsTo as ClientTurnsTo, closing}
+use Rattle.riemann_client.specs.Turning.{Ends, FailsToSend, GoesOn, RunsOut as OutOfMemory, TurnsTo as ClientTurnsTo}
+use Rattle.riemann_client.specs.Turning.{closing}
 use Rattle.riemann_client.specs.declared.client.Client.{Client}
 use Rattle.riemann_client.specs.declared.progress.Progress.{Progress}
 use Rattle.riemann_client.specs.declared.progress.Progress.TheVariants as progress
 use Rattle.riemann_client.proofs.RunLaws.{last_lem, sends_bring, turns_lem}
-use Rattle.client_run.specs.Runs.{EndsAtLimit, EndsInTurn, GoesThrough, IsTurn, LosesLinks, RunsOut, StopsShort, TakesLast, heard_last, progress_in}
+use Rattle.client_run.specs.Runs.{EndsAtLimit, EndsInTurn, GoesThrough, IsTurn, LosesLinks, RunsOut, StopsShort}
+use Rattle.client_run.specs.Runs.{TakesLast, heard_last, progress_in}
 use Rattle.client_run.specs.Taking.{AskFails, DoesTurn}
 use Rattle.client_run.specs.declared.outcome.Outcome.{Outcome}
 use Rattle.client_run.specs.declared.outcome.Outcome.TheVariants.{Whole, Unasked, Refused, Lost}

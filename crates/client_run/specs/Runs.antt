@@ -1,5 +1,6 @@
 -- What the exchange of a client comes to.
-use Rattle.std.specs.Prelude.{◌≡◌, ◌≢◌, ℕ, ◌<◌, ◌⊎◌, Bool, true, false, List, [], ◌∷◌, ◌++◌, length, map, Result, Ok, Err}
+use Rattle.std.specs.Prelude.{◌≡◌, ◌≢◌, ℕ, ◌<◌, ◌⊎◌, Bool, true, false, List, [], ◌∷◌, ◌++◌, length, map, Result, Ok}
+use Rattle.std.specs.Prelude.{Err}
 use Rattle.std.specs.List.{AllByRecursion}
 use Rattle.framing.specs.Frames.{has_frame}
 use Rattle.ports.specs.Calls.{AddsCalls, LinksReport}
@@ -42,8 +43,8 @@ progress_in Lost = progress.Lost
 abbrev pub IsTurn : ClientTurn → Type 0
 IsTurn taken = is_turn_answer taken.turn.what ≡ true
 
--- Turns after each of which the exchange goes on: what was waited for was asked for, all requests are sent that are taken,
--- and nothing else is done.
+-- Turns after each of which the exchange goes on: what was waited for was asked for, all requests are sent that are
+-- taken, and nothing else is done.
 pub record GoesThrough (stream : List ℕ) (start : ℕ) (turns : List ClientTurn) : Type 0 where
   pub going : AreGoing stream (begun start) turns
   pub each : AllByRecursion IsTurn turns
@@ -54,7 +55,8 @@ abbrev pub heard_last : ℕ → List ClientTurn → ClientTurn → Exchange
 heard_last start turns last = heard last.turn last.piece (exchange_after start turns)
 
 -- One turn more was asked for, and in it these sends were made.
-pub record TakesLast (stream : List ℕ) (start limit : ℕ) (turns : List ClientTurn) (last : ClientTurn) (sends : List Entry) : Type 0 where
+pub record TakesLast (stream : List ℕ) (start limit : ℕ) (turns : List ClientTurn) (last : ClientTurn)
+    (sends : List Entry) : Type 0 where
   pub before : GoesThrough stream start turns
   pub fewer : length turns < limit
   pub wanted : last.wants ≡ wants_of stream (exchange_after start turns)
@@ -70,13 +72,15 @@ pub record EndsHeard (stream : List ℕ) (before after : Exchange) (outcome : Ou
   pub none : sends ≡ []
 
 -- it went on after what came, and was lost by a send that failed
-pub record EndsUnsent (stream : List ℕ) (before after : Exchange) (outcome : Outcome) (sends : List Entry) : Type 0 where
+pub record EndsUnsent (stream : List ℕ) (before after : Exchange) (outcome : Outcome)
+    (sends : List Entry) : Type 0 where
   pub lost : outcome ≡ Lost
   pub going : progress_of stream before after ≡ progress.More
   pub failed : (after_sends sends after).gone ≡ true
 
 -- It was over in a turn, the first after which it did not go on. In that turn the link was closed.
-pub record EndsInTurn (stream : List ℕ) (start limit : ℕ) (outcome : Outcome) (replies : List Msg) (run : List Entry) : Type 0 where
+pub record EndsInTurn (stream : List ℕ) (start limit : ℕ) (outcome : Outcome) (replies : List Msg)
+    (run : List Entry) : Type 0 where
   pub turns : List ClientTurn
   pub last : ClientTurn
   pub sends : List Entry
@@ -88,7 +92,8 @@ pub record EndsInTurn (stream : List ℕ) (start limit : ℕ) (outcome : Outcome
   pub accepted : replies ≡ map message_in (after_last start turns last sends).replies
 
 -- As many turns were taken as may be, and it went on after each: it is lost, and the link was closed.
-pub record EndsAtLimit (stream : List ℕ) (start limit : ℕ) (outcome : Outcome) (replies : List Msg) (run : List Entry) : Type 0 where
+pub record EndsAtLimit (stream : List ℕ) (start limit : ℕ) (outcome : Outcome) (replies : List Msg)
+    (run : List Entry) : Type 0 where
   pub turns : List ClientTurn
   pub are : run ≡ entries_of turns ++ closing (exchange_after start turns).link
   pub takes : GoesThrough stream start turns
@@ -118,11 +123,13 @@ pub record StopsShort (stream : List ℕ) (start limit : ℕ) (run : List Entry)
   pub last : ClientTurn
   pub are : run ≡ entries_of (turns ++ last ∷ [])
   pub takes : TakesLast stream start limit turns last last.calls
-  pub none : progress_of stream (exchange_after start turns) (heard_last start turns last) ≢ progress.More → last.calls ≡ []
+  pub none : progress_of stream (exchange_after start turns) (heard_last start turns last) ≢ progress.More
+      → last.calls ≡ []
 
 -- how the turns end, and with which replies
 abbrev pub TurnsTo : List ℕ → ℕ → ℕ → List Msg → Result Outcome RunFault → List Entry → Type 0
-TurnsTo stream start limit replies (Ok outcome) run = EndsInTurn stream start limit outcome replies run ⊎ EndsAtLimit stream start limit outcome replies run
+TurnsTo stream start limit replies (Ok outcome) run =
+    EndsInTurn stream start limit outcome replies run ⊎ EndsAtLimit stream start limit outcome replies run
 TurnsTo stream start limit replies (Err Links) run = LosesLinks stream start limit run
 TurnsTo stream start limit replies (Err Memory) run = RunsOut stream start limit run ⊎ StopsShort stream start limit run
 
@@ -137,10 +144,12 @@ pub record Opens (address : List ℕ) (P : ℕ → List Entry → Type 0) (run :
 
 -- with at least one request
 abbrev pub Asks : List ℕ → List ℕ → ℕ → Result Exchanged RunFault → List Entry → Type 0
-Asks address stream limit (Ok exchanged) run = Opens address (λ start. TurnsTo stream start limit exchanged.replies (Ok exchanged.outcome)) run
+Asks address stream limit (Ok exchanged) run =
+    Opens address (λ start. TurnsTo stream start limit exchanged.replies (Ok exchanged.outcome)) run
 Asks address stream limit (Err Links) run =
     (run ≡ Listen address listen.Failed ∷ []) ⊎ Opens address (λ start. TurnsTo stream start limit [] (Err Links)) run
-Asks address stream limit (Err Memory) run = (run ≡ []) ⊎ Opens address (λ start. TurnsTo stream start limit [] (Err Memory)) run
+Asks address stream limit (Err Memory) run =
+    (run ≡ []) ⊎ Opens address (λ start. TurnsTo stream start limit [] (Err Memory)) run
 
 -- without a request: no call is made
 abbrev pub AsksNothing : Result Exchanged RunFault → List Entry → Type 0

@@ -12,8 +12,8 @@ use riemann_client::{Client, Msgs, has_request};
 use std::alloc::Global;
 
 /// Has the exchange of a client with the server at `address`, a text `HOST:PORT`: the requests are `frames`, one after
-/// another. It takes turns until the exchange is over, or until it took `turns` of them, which loses it. Without a request
-/// it is whole at once, and no call is made.
+/// another. It takes turns until the exchange is over, or until it took `turns` of them, which loses it. Without a
+/// request it is whole at once, and no call is made.
 pub fn exchange<L: Links>(
     alloc: Global,
     address: &Text,
@@ -67,8 +67,8 @@ fn listen<L: Links>(alloc: Global, address: &Text, links: &mut L) -> Result<u64,
     }
 }
 
-/// Takes turns until the exchange is over, or until `turns` of them were taken. Then the link is closed, and the exchange
-/// is lost.
+/// Takes turns until the exchange is over, or until `turns` of them were taken. Then the link is closed, and the
+/// exchange is lost.
 fn take_turns<L: Links>(
     alloc: Global,
     client: &mut Client,

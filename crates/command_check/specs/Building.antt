@@ -15,14 +15,21 @@ use Rattle.command_io.specs.hub_meaning.Verdicts.{PatternsReport}
 
 -- the text of a configuration whose patterns were built, or why it was not made
 abbrev pub BuildsText : Config → PatternsReport → PatternsReport → Result (List ℕ) BuildFault → Type 0
-BuildsText config patterns patterns' (Ok text) = (text ≡ canonical_text config) × AreBuilt config.plan × (patterns' ≡ patterns)
-BuildsText config patterns patterns' (Err (build.Pattern number)) = IsRefusedPattern (plan_patterns config.plan) number patterns patterns'
+BuildsText config patterns patterns' (Ok text) =
+    (text ≡ canonical_text config) × AreBuilt config.plan × (patterns' ≡ patterns)
+BuildsText config patterns patterns' (Err (build.Pattern number)) =
+    IsRefusedPattern (plan_patterns config.plan) number patterns patterns'
 BuildsText config patterns patterns' (Err build.Memory) = patterns' ≡ patterns
 
 -- how `check` ends once it has its configuration
 abbrev pub EndsCheck : Config → PatternsReport → PatternsReport → SinkReport → SinkReport → Ending → Type 0
-EndsCheck config patterns patterns' out out' Finished = AreBuilt config.plan × Got out.text (canonical_text config) out'.text × (out'.faults ≡ out.faults) × (patterns' ≡ patterns)
-EndsCheck config patterns patterns' out out' WriteFailed = AreBuilt config.plan × GotPrefix out.text (canonical_text config) out'.text × Rose out.faults out'.faults × (patterns' ≡ patterns)
-EndsCheck config patterns patterns' out out' (ConfigRefused (Pattern number)) = IsRefusedPattern (plan_patterns config.plan) number patterns patterns' × (out' ≡ out)
+EndsCheck config patterns patterns' out out' Finished =
+    AreBuilt config.plan × Got out.text (canonical_text config) out'.text × (out'.faults ≡ out.faults)
+    × (patterns' ≡ patterns)
+EndsCheck config patterns patterns' out out' WriteFailed =
+    AreBuilt config.plan × GotPrefix out.text (canonical_text config) out'.text × Rose out.faults out'.faults
+    × (patterns' ≡ patterns)
+EndsCheck config patterns patterns' out out' (ConfigRefused (Pattern number)) =
+    IsRefusedPattern (plan_patterns config.plan) number patterns patterns' × (out' ≡ out)
 EndsCheck config patterns patterns' out out' OutOfMemory = (patterns' ≡ patterns) × (out' ≡ out)
 EndsCheck config patterns patterns' out out' _ = ⊥

@@ -7,19 +7,22 @@ use Rattle.command_io.specs.sexp_config.declared.config.Config.{Config as Config
 use Rattle.command_io.specs.sexp_config.Canonical.{canonical_text}
 use Rattle.command_io.specs.sexp_config.Config.{IsConfigOf}
 use Rattle.command_io.specs.declared.ending.Ending.{Ending}
-use Rattle.command_io.specs.declared.ending.Ending.TheVariants.{Finished, ConfigRefused, Unread, OverLimit, BytesLeft, WriteFailed, LinksFailed, ScriptRefused}
+use Rattle.command_io.specs.declared.ending.Ending.TheVariants.{Finished, ConfigRefused, Unread, OverLimit, BytesLeft}
+use Rattle.command_io.specs.declared.ending.Ending.TheVariants.{WriteFailed, LinksFailed, ScriptRefused}
 use Rattle.command_io.specs.declared.limits.TheConstants.{CONFIG_LIMIT}
 use Rattle.command_io.specs.declared.status.Status.{Status}
 use Rattle.command_io.specs.Building.{AreBuilt}
 use Rattle.command_io.specs.Configs.{ForConfig, RefusesConfig}
-use Rattle.command_io.specs.Endings.{HasNoConfig, IsComplete, IsDoneOrMemory, IsReadOnce, ReadsFiles, Says, TookMore, status_of}
+use Rattle.command_io.specs.Endings.{HasNoConfig, IsComplete, IsDoneOrMemory, IsReadOnce, ReadsFiles, Says, TookMore}
+use Rattle.command_io.specs.Endings.{status_of}
 use Rattle.command_io.specs.Reports.{Reports}
 use Rattle.command_io.specs.hub_meaning.Verdicts.{PatternsReport}
 
 -- what an ending says of the file of the name, and of its content
 abbrev pub CheckCause : List ℕ → Content → Ending → Type 0
 CheckCause name config (Unread unread) = unread.now ≡ name
-CheckCause name config (OverLimit over limit) = IsOverLimit config CONFIG_LIMIT × (over.now ≡ name) × (limit ≡ CONFIG_LIMIT)
+CheckCause name config (OverLimit over limit) =
+    IsOverLimit config CONFIG_LIMIT × (over.now ≡ name) × (limit ≡ CONFIG_LIMIT)
 CheckCause name config (BytesLeft count) = ⊥
 CheckCause name config LinksFailed = ⊥
 CheckCause name config (ScriptRefused line) = ⊥
@@ -32,9 +35,12 @@ WritesText content Wrote = ForConfig content (λ config. AreBuilt config.plan ×
 -- What was written, and which pattern was refused: the canonical text where all was done, and a prefix of it where a
 -- write failed.
 abbrev pub CheckWrites : Content → PatternsReport → PatternsReport → SinkReport → SinkReport → Ending → Type 0
-CheckWrites config patterns patterns' out out' Finished = WritesText config (λ text. Got out.text text out'.text) × (patterns' ≡ patterns)
-CheckWrites config patterns patterns' out out' WriteFailed = WritesText config (λ text. GotPrefix out.text text out'.text) × Rose out.faults out'.faults × (patterns' ≡ patterns)
-CheckWrites config patterns patterns' out out' (ConfigRefused refusal) = RefusesConfig config patterns patterns' refusal × (out' ≡ out)
+CheckWrites config patterns patterns' out out' Finished =
+    WritesText config (λ text. Got out.text text out'.text) × (patterns' ≡ patterns)
+CheckWrites config patterns patterns' out out' WriteFailed =
+    WritesText config (λ text. GotPrefix out.text text out'.text) × Rose out.faults out'.faults × (patterns' ≡ patterns)
+CheckWrites config patterns patterns' out out' (ConfigRefused refusal) =
+    RefusesConfig config patterns patterns' refusal × (out' ≡ out)
 CheckWrites config patterns patterns' out out' _ = (patterns' ≡ patterns) × (out' ≡ out)
 
 -- with a configuration within its limit, no fault and no pattern refused, its text is written, or memory runs out

@@ -16,6 +16,7 @@ without_disk others (Unasked number) e = cc
 without_disk others (Refused number place why) e = cc
 
 -- no call of a disk failed, since none is made
-pub not_of_disk : ((ending : Ending) → shared.status_of ending ≡ DiskFault → ⊥) → (status : Status) (ending : ClientEnding)
+pub not_of_disk : ((ending : Ending) → shared.status_of ending ≡ DiskFault → ⊥)
+    → (status : Status) (ending : ClientEnding)
     → status ≡ status_of ending → status ≡ DiskFault → ⊥
 not_of_disk others status ending ended e = without_disk others ending (rw ended at e)

@@ -1,5 +1,6 @@
 -- The frame of a message that asks a query.
-use Rattle.std.proofs.Common.{◌≡◌, ℕ, ◌+◌, ◌<◌, ◌≤◌, ◌^◌, List, [], ◌∷◌, length, Some, refl, ap, sym, ◌∙◌, arith, append-nil}
+use Rattle.std.proofs.Common.{◌≡◌, ℕ, ◌+◌, ◌<◌, ◌≤◌, ◌^◌, List, [], ◌∷◌, length, Some, refl, ap, sym, ◌∙◌, arith}
+use Rattle.std.proofs.Common.{append-nil}
 use Rattle.framing.specs.Frames.{frames_of}
 use Rattle.framing.specs.declared.TheConstants.{BODY_LIMIT}
 use Rattle.framing.proofs.FrameLaws.{frames_of_frame, frames_of_nothing}

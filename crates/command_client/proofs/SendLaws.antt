@@ -5,7 +5,8 @@ use Rattle.command_io.proofs.EndingLaws.{not_over, reported_of}
 use Rattle.command_io.specs.Endings.{IsRefusal}
 use Rattle.command_io.specs.Fetches.{ending_of_file}
 use Rattle.command_io.specs.Files.{IsFileFault, ReadMore, good_read, reads_of}
-use Rattle.command_io.specs.declared.ending.Ending.TheVariants.{Unread, OverLimit, BytesLeft, LinksFailed, WriteFailed, OutOfMemory}
+use Rattle.command_io.specs.declared.ending.Ending.TheVariants.{Unread, OverLimit, BytesLeft, LinksFailed, WriteFailed}
+use Rattle.command_io.specs.declared.ending.Ending.TheVariants.{OutOfMemory}
 use Rattle.command_io.specs.declared.limits.TheConstants.{FILE_LIMIT}
 use Rattle.command_io.specs.declared.read.FileFault.{FileFault}
 use Rattle.command_io.specs.declared.read.FileFault.TheVariants as file

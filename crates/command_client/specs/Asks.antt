@@ -23,7 +23,8 @@ pub record HasNoRequest (links links' : LinksReport) (out out' : SinkReport) (en
 
 abbrev pub QueryEnds : List ℕ → List ℕ → ℕ → LinksReport → LinksReport → SinkReport → SinkReport → ClientEnding → Type 0
 QueryEnds address text limit links links' out out' ending =
-    HasNoRequest links links' out out' ending ⊎ ExchangeEnds address (query_frame text) limit links links' out out' ending
+    HasNoRequest links links' out out' ending
+    ⊎ ExchangeEnds address (query_frame text) limit links links' out out' ending
 
 -- the status of a call that met no fault
 abbrev pub HasAsked : Status → Type 0
@@ -35,7 +36,8 @@ HasAsked _ = ⊥
 
 -- without a fault the status says what the exchange came to, or memory runs out
 abbrev pub AskCompletes : Reports → Reports → Status → Type 0
-AskCompletes old new status = IsStill old.links.faults new.links.faults → IsStill old.out.faults new.out.faults → HasAsked status
+AskCompletes old new status =
+    IsStill old.links.faults new.links.faults → IsStill old.out.faults new.out.faults → HasAsked status
 
 pub record Asks (address text : List ℕ) (limit : ℕ) (old new : Reports) (status : Status) : Type 0 where
   -- how it ended, as the status and the line on the error stream say

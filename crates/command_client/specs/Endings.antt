@@ -38,13 +38,16 @@ ending_of_fault fault.Memory = OutOfMemory
 -- ---- lines
 
 abbrev pub lost_line : ℕ → ℕ → List ℕ
-lost_line replies requests = codes "riemann: " ++ (decimal replies ++ (codes " of " ++ (decimal requests ++ (codes " replies" ++ 10 ∷ []))))
+lost_line replies requests =
+    codes "riemann: " ++ (decimal replies ++ (codes " of " ++ (decimal requests ++ (codes " replies" ++ 10 ∷ []))))
 
 abbrev pub unasked_line : ℕ → List ℕ
 unasked_line number = codes "riemann: reply " ++ (decimal number ++ (codes " refused: unasked" ++ 10 ∷ []))
 
 abbrev pub refused_line : ℕ → ℕ → MsgWhy → List ℕ
-refused_line number place why = codes "riemann: reply " ++ (decimal number ++ (codes " refused at " ++ (decimal place ++ (codes ": " ++ (why_name why ++ 10 ∷ [])))))
+refused_line number place why =
+    codes "riemann: reply "
+    ++ (decimal number ++ (codes " refused at " ++ (decimal place ++ (codes ": " ++ (why_name why ++ 10 ∷ [])))))
 
 -- the error stream got the line of an ending, or a prefix of it where a put failed; without a line nothing was put
 abbrev pub Says : ClientEnding → SinkReport → SinkReport → Type 0

@@ -17,4 +17,5 @@ abbrev pub query_frame : List ℕ → List ℕ
 query_frame text = frame (spelling (asking text))
 
 abbrev pub QueriesAreRequests : Type 0
-QueriesAreRequests = (text : List ℕ) → length text ≤ MAX_BYTES → frames_of (query_frame text) ≡ spelling (asking text) ∷ []
+QueriesAreRequests =
+    (text : List ℕ) → length text ≤ MAX_BYTES → frames_of (query_frame text) ≡ spelling (asking text) ∷ []

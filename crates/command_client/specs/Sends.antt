@@ -20,14 +20,16 @@ use Rattle.command_client.specs.declared.ending.ClientEnding.TheVariants.{Shared
 -- ---- the frames
 
 -- bytes are left after the last whole frame, and nothing was done
-pub record LeavesBytes (stream : List ℕ) (links links' : LinksReport) (out out' : SinkReport) (ending : ClientEnding) : Type 0 where
+pub record LeavesBytes (stream : List ℕ) (links links' : LinksReport) (out out' : SinkReport)
+    (ending : ClientEnding) : Type 0 where
   pub ended : ending ≡ Shared (BytesLeft (length (partial stream)))
   pub left : partial stream ≢ []
   pub uncalled : links' ≡ links
   pub untouched : out' ≡ out
 
 -- the stream is whole frames, and they were sent
-pub record SendsFrames (address stream : List ℕ) (limit : ℕ) (links links' : LinksReport) (out out' : SinkReport) (ending : ClientEnding) : Type 0 where
+pub record SendsFrames (address stream : List ℕ) (limit : ℕ) (links links' : LinksReport) (out out' : SinkReport)
+    (ending : ClientEnding) : Type 0 where
   pub none_left : partial stream ≡ []
   pub ends : ExchangeEnds address stream limit links links' out out' ending
 
@@ -46,20 +48,24 @@ IsUnread file store store' (Shared OutOfMemory) = Unit {0}
 IsUnread file store store' _ = ⊥
 
 -- the file was not read, and nothing was done
-pub record RefusesFile (file : List ℕ) (store store' : StoreReport) (links links' : LinksReport) (out out' : SinkReport) (ending : ClientEnding) : Type 0 where
+pub record RefusesFile (file : List ℕ) (store store' : StoreReport) (links links' : LinksReport) (out out' : SinkReport)
+    (ending : ClientEnding) : Type 0 where
   pub unread : IsUnread file store store' ending
   pub uncalled : links' ≡ links
   pub untouched : out' ≡ out
 
 -- the file is these bytes, within its limit
-pub record SendsFile (address : List ℕ) (limit : ℕ) (content : Content) (links links' : LinksReport) (out out' : SinkReport) (ending : ClientEnding) : Type 0 where
+pub record SendsFile (address : List ℕ) (limit : ℕ) (content : Content) (links links' : LinksReport)
+    (out out' : SinkReport) (ending : ClientEnding) : Type 0 where
   pub frames : List ℕ
   pub file : ForHeld content (λ held. (held ≡ frames) × (length frames ≤ FILE_LIMIT))
   pub ends : FramesEnd address frames limit links links' out out' ending
 
-abbrev pub FileEnds : List ℕ → List ℕ → ℕ → StoreReport → StoreReport → LinksReport → LinksReport → SinkReport → SinkReport → ClientEnding → Type 0
+abbrev pub FileEnds : List ℕ → List ℕ → ℕ → StoreReport → StoreReport → LinksReport → LinksReport → SinkReport
+    → SinkReport → ClientEnding → Type 0
 FileEnds address file limit store store' links links' out out' ending =
-    RefusesFile file store store' links links' out out' ending ⊎ SendsFile address limit (store.held file) links links' out out' ending
+    RefusesFile file store store' links links' out out' ending
+    ⊎ SendsFile address limit (store.held file) links links' out out' ending
 
 -- The file was read once, and the read failed exactly where the ending says so. If memory ran out, it may not have been
 -- read.
@@ -83,7 +89,8 @@ HasSent frames _ = ⊥
 -- memory runs out.
 abbrev pub SendCompletes : List ℕ → Reports → Reports → Status → Type 0
 SendCompletes file old new status = (frames : List ℕ) → IsHeld (old.store.held file) frames → length frames ≤ FILE_LIMIT
-    → IsStill old.store.faults new.store.faults → IsStill old.links.faults new.links.faults → IsStill old.out.faults new.out.faults
+    → IsStill old.store.faults new.store.faults → IsStill old.links.faults new.links.faults
+    → IsStill old.out.faults new.out.faults
     → HasSent frames status
 
 pub record Sends (address file : List ℕ) (limit : ℕ) (old new : Reports) (status : Status) : Type 0 where

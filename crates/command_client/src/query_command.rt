@@ -17,8 +17,8 @@ use ev_types::Text;
 use ports::{Links, Sink};
 use std::alloc::Global;
 
-/// Carries out `query ADDRESS TEXT`: the query is asked of the server at `address`, a text `HOST:PORT`, and the reply is
-/// written to `out`. It takes at most `turns` turns.
+/// Carries out `query ADDRESS TEXT`: the query is asked of the server at `address`, a text `HOST:PORT`, and the reply
+/// is written to `out`. It takes at most `turns` turns.
 ///
 /// The lines of the reply, the statuses and their lines are those of [`crate::send`], without those of a file.
 pub fn query<L: Links, O: Sink, E: Sink>(

@@ -10,8 +10,8 @@ use notice_sink::{put_item, put_quoted};
 use riemann_msg::Msg;
 use std::alloc::Global;
 
-/// The lines of the replies, which are numbered from 0. The first line of a reply is its number and `ok`, or `error` and
-/// the quoted reason if it has one. A line for each of its events comes after it, as lines of notices write them.
+/// The lines of the replies, which are numbered from 0. The first line of a reply is its number and `ok`, or `error`
+/// and the quoted reason if it has one. A line for each of its events comes after it, as lines of notices write them.
 #[tactic(auto, using(crate::proofs::ReplyLaws::replies_step, crate::proofs::ReplyLaws::replies_all))]
 pub(crate) fn replies_text(alloc: Global, replies: &[Msg]) -> Result<Blob, Memory>
     ensures { IfOk result (λ text. text ≡ replies_from 0 replies.now) }

@@ -17,8 +17,8 @@ use std::alloc::Global;
 /// Carries out `send ADDRESS FILE`: the frames of the file are sent as requests to the server at `address`, a text
 /// `HOST:PORT`, and each reply that is accepted is written to `out`. It takes at most `turns` turns.
 ///
-/// The lines of a reply are its number, from 0, and `ok`, or `error` and the quoted reason if it has one; and then a line
-/// for each event, as lines of notices write them.
+/// The lines of a reply are its number, from 0, and `ok`, or `error` and the quoted reason if it has one; and then a
+/// line for each event, as lines of notices write them.
 ///
 /// | Status | When | Line on `err` |
 /// |---|---|---|
@@ -32,8 +32,8 @@ use std::alloc::Global;
 /// | `TooLong` | the file has over [`FILE_LIMIT`] bytes | yes |
 /// | `Memory` | out of memory | yes |
 ///
-/// After the last five `out` gets nothing, and after `Truncated`, `ReadFault` and `TooLong` no link was called. A write of
-/// the line on `err` that fails cuts it, and does not change the status.
+/// After the last five `out` gets nothing, and after `Truncated`, `ReadFault` and `TooLong` no link was called. A write
+/// of the line on `err` that fails cuts it, and does not change the status.
 pub fn send<S: Store, L: Links, O: Sink, E: Sink>(
     alloc: Global,
     address: &Text,

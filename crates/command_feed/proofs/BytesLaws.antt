@@ -3,7 +3,9 @@ use Rattle.std.proofs.Common.{◌≡◌, ◌≢◌, ℕ, List, [], ◌∷◌, le
 use Rattle.std.specs.Prelude.{Result, Err}
 use Rattle.file_run.specs.command_io.Reports.{Reports}
 use Rattle.file_run.specs.command_io.declared.ending.Ending.{Ending}
-use Rattle.file_run.specs.command_io.declared.ending.Ending.TheVariants.{Finished, ConfigRefused, Unread, OverLimit, BytesLeft, WriteFailed, LinksFailed, ScriptRefused, OutOfMemory}
+use Rattle.file_run.specs.command_io.declared.ending.Ending.TheVariants.{Finished, ConfigRefused, Unread, OverLimit}
+use Rattle.file_run.specs.command_io.declared.ending.Ending.TheVariants.{BytesLeft, WriteFailed, LinksFailed}
+use Rattle.file_run.specs.command_io.declared.ending.Ending.TheVariants.{ScriptRefused, OutOfMemory}
 use Rattle.command_setup.specs.Endings.{ending_of_fault}
 use Rattle.command_setup.specs.Setups.{run_report_of}
 use Rattle.file_run.specs.Files.{IsAfterRun}

@@ -45,15 +45,20 @@ pub record FeedsAll (setup : Setup) (bytes : List ℕ) (old new : Reports) (Wrot
 -- the run was cut off, and nothing was written to the output
 pub record FeedsSome (setup : Setup) (bytes : List ℕ) (old new : Reports) (fault : RunFault) : Type 0 where
   pub run : List Entry
-  pub ran : RunsScript setup (feed_script PIECE_LIMIT bytes) (run_report_of old old.err) (run_report_of new new.err) (Err fault) run
+  pub ran : RunsScript setup (feed_script PIECE_LIMIT bytes) (run_report_of old old.err) (run_report_of new new.err)
+      (Err fault) run
   pub no_reply : new.out ≡ old.out
 
 abbrev pub BytesEnd : Setup → List ℕ → Reports → Reports → Ending → Type 0
-BytesEnd setup bytes old new Finished = FeedsAll setup bytes old new (λ replies. Got old.out.text replies new.out.text) × (partial bytes ≡ [])
-BytesEnd setup bytes old new (BytesLeft count) = FeedsAll setup bytes old new (λ replies. Got old.out.text replies new.out.text)
+BytesEnd setup bytes old new Finished =
+    FeedsAll setup bytes old new (λ replies. Got old.out.text replies new.out.text) × (partial bytes ≡ [])
+BytesEnd setup bytes old new (BytesLeft count) =
+    FeedsAll setup bytes old new (λ replies. Got old.out.text replies new.out.text)
     × (partial bytes ≢ []) × (count ≡ length (partial bytes))
-BytesEnd setup bytes old new WriteFailed = (FeedsSome setup bytes old new cause.Sink × Rose old.err.faults new.err.faults)
-    ⊎ (FeedsAll setup bytes old new (λ replies. GotPrefix old.out.text replies new.out.text) × Rose old.out.faults new.out.faults)
+BytesEnd setup bytes old new WriteFailed =
+    (FeedsSome setup bytes old new cause.Sink × Rose old.err.faults new.err.faults)
+    ⊎ (FeedsAll setup bytes old new (λ replies. GotPrefix old.out.text replies new.out.text)
+    × Rose old.out.faults new.out.faults)
 BytesEnd setup bytes old new OutOfMemory = (IsIdle old new × (new.err ≡ old.err) × (new.patterns ≡ old.patterns))
     ⊎ (FeedsSome setup bytes old new cause.Memory × (new.err.faults ≡ old.err.faults))
 BytesEnd setup bytes old new _ = ⊥
@@ -66,8 +71,8 @@ FileEnds setup file old new ending =
     (RefusesFile file old.store new.store ending × (new.patterns ≡ old.patterns) × (new.err ≡ old.err) × IsIdle old new)
     ⊎ ((bytes : List ℕ) × IsFile (old.store.held file) bytes × BytesEnd setup bytes old new ending)
 
--- The configuration was refused, nothing was run and the file was not read; or it was accepted, and both files were read.
--- The error stream is as it was before the line of the ending. `Unasked` is that no pattern was asked for.
+-- The configuration was refused, nothing was run and the file was not read; or it was accepted, and both files were
+-- read. The error stream is as it was before the line of the ending. `Unasked` is that no pattern was asked for.
 abbrev pub FeedEnds : List ℕ → List ℕ → Reports → Reports → Type 0 → Ending → Type 0
 FeedEnds config file old new Unasked ending =
     (RefusesSetup config old.store new.store old.patterns new.patterns ending × (new.err ≡ old.err) × IsIdle old new
@@ -88,7 +93,8 @@ abbrev pub FeedCompletes : List ℕ → List ℕ → Reports → Reports → Sta
 FeedCompletes config file old new status = (text bytes : List ℕ) (read : Configuration)
     → IsHeld (old.store.held config) text → IsConfigOf text read → length text ≤ CONFIG_LIMIT
     → IsHeld (old.store.held file) bytes → length bytes ≤ FILE_LIMIT
-    → IsStill old.store.faults new.store.faults → IsStill old.out.faults new.out.faults → IsStill old.err.faults new.err.faults
+    → IsStill old.store.faults new.store.faults → IsStill old.out.faults new.out.faults
+    → IsStill old.err.faults new.err.faults
     → IsStill old.patterns.refusals new.patterns.refusals → HasFed (partial bytes) status
 
 -- `Unasked` is that no pattern was asked for.

@@ -1,5 +1,6 @@
 -- How a call of the command ends.
-use Rattle.std.proofs.Common.{◌≡◌, ◌≢◌, ℕ, ◌+◌, ◌<◌, ◌≤◌, ◌⊎◌, List, [], ◌∷◌, ◌++◌, length, take, get_or, Option, Some, None, Result, Ok, Err, refl, sym, ◌∙◌, ap, subst, arith, inl, inr, append-nil}
+use Rattle.std.proofs.Common.{◌≡◌, ◌≢◌, ℕ, ◌+◌, ◌<◌, ◌≤◌, ◌⊎◌, List, [], ◌∷◌, ◌++◌, length, take, get_or, Option, Some}
+use Rattle.std.proofs.Common.{None, Result, Ok, Err, refl, sym, ◌∙◌, ap, subst, arith, inl, inr, append-nil}
 use Rattle.std.proofs.lemmas.Grind.{flat_map-append}
 use Rattle.std.specs.Borrow.{Bor}
 use Rattle.std.proofs.lemmas.List.{take_more}
@@ -12,7 +13,9 @@ use Rattle.command_io.specs.declared.limits.TheConstants.{FILE_LIMIT}
 use Rattle.command_io.specs.declared.read.FileFault.{FileFault}
 use Rattle.command_io.specs.declared.read.FileFault.TheVariants as file
 use Rattle.command_io.specs.declared.status.Status.{Status}
-use Rattle.command_io.specs.declared.status.Status.TheVariants.{Done, Usage, Config, ReadFault, SinkFault, LinkFault, Memory, Script, Truncated, TooLong, Lines, Tests, Verdict, Unanswered, BadReply, Journal, DiskFault}
+use Rattle.command_io.specs.declared.status.Status.TheVariants.{Done, Usage, Config, ReadFault, SinkFault, LinkFault}
+use Rattle.command_io.specs.declared.status.Status.TheVariants.{Memory, Script, Truncated, TooLong, Lines, Tests}
+use Rattle.command_io.specs.declared.status.Status.TheVariants.{Verdict, Unanswered, BadReply, Journal, DiskFault}
 use Rattle.graphite_lines.specs.Frames.{AreReadBack, FramesAreReadBack, accepted, frames_in, refused_lines}
 use Rattle.graphite_lines.specs.Lines.{lines_of}
 use Rattle.graphite_lines.specs.declared.bad.BadLine.{BadLine}
@@ -20,7 +23,8 @@ use Rattle.ports.specs.Counts.{IsStill, Rose}
 use Rattle.ports.specs.Reading.{IsHeld}
 use Rattle.ports.specs.Writing.{SinkReport}
 use Rattle.ports.specs.declared.store.StoreRead.{StoreRead}
-use Rattle.command_graphite.specs.Converts.{ConvertCompletes, ConvertEnds, ConvertsText, HasConverted, IsConverted, IsText, ReadsOnce, WritesFrames, refused_line, refused_text}
+use Rattle.command_graphite.specs.Converts.{ConvertCompletes, ConvertEnds, ConvertsText, HasConverted, IsConverted}
+use Rattle.command_graphite.specs.Converts.{IsText, ReadsOnce, WritesFrames, refused_line, refused_text}
 use Rattle.command_graphite.specs.Writing.{Writes, WritesAll, WritesSome}
 
 -- ---- the lines of refused lines

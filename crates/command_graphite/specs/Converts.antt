@@ -38,9 +38,12 @@ abbrev pub ConvertsText : Option ℕ → List ℕ → SinkReport → SinkReport 
 ConvertsText host_part text out out' err err' Done =
     (refused_lines host_part text ≡ []) × WritesFrames host_part text out out' × (err' ≡ err)
 ConvertsText host_part text out out' err err' Lines =
-    (refused_lines host_part text ≢ []) × WritesFrames host_part text out out' × WritesAll (refused_text (refused_lines host_part text)) err err'
-ConvertsText host_part text out out' err err' SinkFault = (WritesSome (frames_in host_part text) out out' × (err' ≡ err))
-    ⊎ ((refused_lines host_part text ≢ []) × WritesFrames host_part text out out' × WritesSome (refused_text (refused_lines host_part text)) err err')
+    (refused_lines host_part text ≢ []) × WritesFrames host_part text out out'
+    × WritesAll (refused_text (refused_lines host_part text)) err err'
+ConvertsText host_part text out out' err err' SinkFault =
+    (WritesSome (frames_in host_part text) out out' × (err' ≡ err))
+    ⊎ ((refused_lines host_part text ≢ []) × WritesFrames host_part text out out'
+    × WritesSome (refused_text (refused_lines host_part text)) err err')
 ConvertsText host_part text out out' err err' Memory = (out' ≡ out) × GotLineOf memory_line err err'
 ConvertsText host_part text out out' err err' _ = ⊥
 
@@ -55,7 +58,8 @@ abbrev pub ConvertEnds : List ℕ → Option ℕ → Reports → Reports → Sta
 ConvertEnds file host_part old new ReadFault =
     Rose old.store.faults new.store.faults × (new.out ≡ old.out) × GotLineOf (unread_line file) old.err new.err
 ConvertEnds file host_part old new TooLong = IsOverLimit (old.store.held file) FILE_LIMIT
-    × RoseBy (FILE_LIMIT + 1) old.store.taken new.store.taken × (new.out ≡ old.out) × GotLineOf (too_long_line file FILE_LIMIT) old.err new.err
+    × RoseBy (FILE_LIMIT + 1) old.store.taken new.store.taken × (new.out ≡ old.out)
+    × GotLineOf (too_long_line file FILE_LIMIT) old.err new.err
 ConvertEnds file host_part old new Memory = (new.out ≡ old.out) × GotLineOf memory_line old.err new.err
 ConvertEnds file host_part old new status = (text : List ℕ) × IsText (old.store.held file) text
     × ConvertsText host_part text old.out new.out old.err new.err status
@@ -82,8 +86,10 @@ HasConverted bad _ = ⊥
 
 -- with a file within its limit and no fault all is written, or memory runs out
 abbrev pub ConvertCompletes : List ℕ → Option ℕ → Reports → Reports → Status → Type 0
-ConvertCompletes file host_part old new status = (text : List ℕ) → IsHeld (old.store.held file) text → length text ≤ FILE_LIMIT
-    → IsStill old.store.faults new.store.faults → IsStill old.out.faults new.out.faults → IsStill old.err.faults new.err.faults
+ConvertCompletes file host_part old new status =
+    (text : List ℕ) → IsHeld (old.store.held file) text → length text ≤ FILE_LIMIT
+    → IsStill old.store.faults new.store.faults → IsStill old.out.faults new.out.faults
+    → IsStill old.err.faults new.err.faults
     → HasConverted (refused_lines host_part text) status
 
 pub record Converts (file : List ℕ) (host_part : Option ℕ) (old new : Reports) (status : Status) : Type 0 where

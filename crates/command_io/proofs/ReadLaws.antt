@@ -4,7 +4,8 @@ use Rattle.std.specs.Borrow.{Bor}
 use Rattle.std.specs.Prelude.{Err, Option, map}
 use Rattle.ports.specs.declared.store.StoreRead.{StoreRead}
 use Rattle.command_io.specs.declared.ending.Ending.{Ending}
-use Rattle.command_io.specs.declared.ending.Ending.TheVariants.{Finished, ConfigRefused, Unread, OverLimit, BytesLeft, WriteFailed, LinksFailed, ScriptRefused, OutOfMemory}
+use Rattle.command_io.specs.declared.ending.Ending.TheVariants.{Finished, ConfigRefused, Unread, OverLimit, BytesLeft}
+use Rattle.command_io.specs.declared.ending.Ending.TheVariants.{WriteFailed, LinksFailed, ScriptRefused, OutOfMemory}
 use Rattle.command_io.specs.declared.fetch.FetchFault.{FetchFault}
 use Rattle.command_io.specs.declared.fetch.FetchFault.TheVariants as fetch
 use Rattle.config_terms.specs.declared.fault.ConfigFault.TheVariants.{Refused, Memory}

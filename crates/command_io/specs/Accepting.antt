@@ -11,10 +11,12 @@ use Rattle.command_io.specs.declared.limits.TheConstants.{CONFIG_LIMIT}
 -- Why the file of the name gave no configuration whose patterns were built, from what the store and the builder of
 -- patterns report before and after. The ending has this name and its limit.
 abbrev pub RefusesSetup : List ℕ → StoreReport → StoreReport → PatternsReport → PatternsReport → Ending → Type 0
-RefusesSetup name store store' patterns patterns' (ConfigRefused refusal) = RefusesConfig (store.held name) patterns patterns' refusal
+RefusesSetup name store store' patterns patterns' (ConfigRefused refusal) =
+    RefusesConfig (store.held name) patterns patterns' refusal
 RefusesSetup name store store' patterns patterns' (Unread unread) =
     Rose store.faults store'.faults × (patterns' ≡ patterns) × (unread.now ≡ name)
 RefusesSetup name store store' patterns patterns' (OverLimit over limit) = IsOverLimit (store.held name) CONFIG_LIMIT
-    × RoseBy (CONFIG_LIMIT + 1) store.taken store'.taken × (patterns' ≡ patterns) × (over.now ≡ name) × (limit ≡ CONFIG_LIMIT)
+    × RoseBy (CONFIG_LIMIT + 1) store.taken store'.taken × (patterns' ≡ patterns) × (over.now ≡ name)
+    × (limit ≡ CONFIG_LIMIT)
 RefusesSetup name store store' patterns patterns' OutOfMemory = patterns' ≡ patterns
 RefusesSetup name store store' patterns patterns' _ = ⊥

@@ -27,7 +27,8 @@ pub record IsRefused (text : List ℕ) (place : ℕ) (why : ConfigWhy) : Type 0 
 
 -- the same of a text within the limit
 abbrev pub ForConfig : Content → (Config → Type 0) → Type 0
-ForConfig content P = ForHeld content (λ text. (length text ≤ CONFIG_LIMIT) × ((config : Config) × ReadsAs text config × P config))
+ForConfig content P =
+    ForHeld content (λ text. (length text ≤ CONFIG_LIMIT) × ((config : Config) × ReadsAs text config × P config))
 
 abbrev pub ForRefused : Content → ℕ → ConfigWhy → Type 0
 ForRefused content place why = ForHeld content (λ text. (length text ≤ CONFIG_LIMIT) × IsRefused text place why)

@@ -5,11 +5,15 @@ use Rattle.ports.specs.Writing.{GotLine, SinkReport}
 use Rattle.ports.specs.declared.store.StoreRead.{StoreRead}
 use Rattle.command_io.specs.declared.ending.ConfigRefusal.TheVariants.{Refused}
 use Rattle.command_io.specs.declared.ending.Ending.{Ending}
-use Rattle.command_io.specs.declared.ending.Ending.TheVariants.{Finished, ConfigRefused, Unread, OverLimit, BytesLeft, WriteFailed, LinksFailed, ScriptRefused, OutOfMemory}
+use Rattle.command_io.specs.declared.ending.Ending.TheVariants.{Finished, ConfigRefused, Unread, OverLimit, BytesLeft}
+use Rattle.command_io.specs.declared.ending.Ending.TheVariants.{WriteFailed, LinksFailed, ScriptRefused, OutOfMemory}
 use Rattle.command_io.specs.declared.status.Status.{Status}
-use Rattle.command_io.specs.declared.status.Status.TheVariants.{Done, Usage, Config, ReadFault, SinkFault, LinkFault, Memory, Script, Truncated, TooLong, Lines, Tests, Verdict, Unanswered, BadReply, Journal, DiskFault}
+use Rattle.command_io.specs.declared.status.Status.TheVariants.{Done, Usage, Config, ReadFault, SinkFault, LinkFault}
+use Rattle.command_io.specs.declared.status.Status.TheVariants.{Memory, Script, Truncated, TooLong, Lines, Tests}
+use Rattle.command_io.specs.declared.status.Status.TheVariants.{Verdict, Unanswered, BadReply, Journal, DiskFault}
 use Rattle.command_io.specs.Files.{LastFailed, NoneFailed, ReadMore, read_name}
-use Rattle.command_io.specs.Lines.{left_line, links_line, memory_line, refusal_line, script_line, too_long_line, unread_line}
+use Rattle.command_io.specs.Lines.{left_line, links_line, memory_line, refusal_line, script_line, too_long_line}
+use Rattle.command_io.specs.Lines.{unread_line}
 
 -- the number of each status
 abbrev pub code_of : Status → ℕ
@@ -121,7 +125,8 @@ IsReadOnce OutOfMemory count = Unit {0}
 IsReadOnce _ count = count ≡ 1
 
 -- What a command read: the first of these files, in order, each once, and as many of them as its ending says.
-pub record ReadsFiles (files : List (List ℕ)) (Counted : ℕ → Type 0) (old new : Option (List StoreRead)) (ending : Ending) : Type 0 where
+pub record ReadsFiles (files : List (List ℕ)) (Counted : ℕ → Type 0) (old new : Option (List StoreRead))
+    (ending : Ending) : Type 0 where
   pub made : List StoreRead
   pub grew : ReadMore made old new
   pub named : map read_name made ≡ take (length made) files

@@ -39,7 +39,8 @@ IsTextFault text (fetch.Config Memory) = Unit {0}
 
 -- Why there is no configuration. `faults` and `taken` are the counts of the store, before and after.
 abbrev pub IsFetchFault : Content → ℕ → ℕ → ℕ → ℕ → FetchFault → Type 0
-IsFetchFault content faults faults' taken taken' (fetch.File fault) = IsFileFault content CONFIG_LIMIT faults faults' taken taken' fault
+IsFetchFault content faults faults' taken taken' (fetch.File fault) =
+    IsFileFault content CONFIG_LIMIT faults faults' taken taken' fault
 IsFetchFault content faults faults' taken taken' (fetch.Config (Refused place why)) = ForRefused content place why
 IsFetchFault content faults faults' taken taken' (fetch.Config Memory) = Unit {0}
 

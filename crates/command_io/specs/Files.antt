@@ -14,7 +14,8 @@ ForHeld content P = ForSome content (λ held. (bytes : List ℕ) × (held ≡ So
 -- Why a file was not read. `faults` and `taken` are the counts of the store, before and after.
 abbrev pub IsFileFault : Content → ℕ → ℕ → ℕ → ℕ → ℕ → FileFault → Type 0
 IsFileFault content limit faults faults' taken taken' Unread = Rose faults faults'
-IsFileFault content limit faults faults' taken taken' TooLong = IsOverLimit content limit × RoseBy (limit + 1) taken taken'
+IsFileFault content limit faults faults' taken taken' TooLong =
+    IsOverLimit content limit × RoseBy (limit + 1) taken taken'
 IsFileFault content limit faults faults' taken taken' Memory = Unit {0}
 
 abbrev pub good_read : List ℕ → StoreRead

@@ -12,7 +12,8 @@ abbrev pub usage_line : List ℕ
 usage_line = codes "riemann: usage: feed CONFIG FILE, check CONFIG, replay CONFIG SCRIPT, serve CONFIG [--turns N], load CONFIG N START, graphite FILE [--host K], test CONFIG TESTS, send ADDRESS FILE [--turns N], query ADDRESS TEXT [--turns N], record CONFIG JOURNAL, resume JOURNAL" ++ 10 ∷ []
 
 abbrev pub refused_line : ℕ → ConfigWhy → List ℕ
-refused_line place why = codes "riemann: config refused at " ++ (decimal place ++ (codes ": " ++ (why_name why ++ 10 ∷ [])))
+refused_line place why =
+    codes "riemann: config refused at " ++ (decimal place ++ (codes ": " ++ (why_name why ++ 10 ∷ [])))
 
 abbrev pub pattern_line : ℕ → List ℕ
 pattern_line number = codes "riemann: config pattern " ++ (decimal number ++ (codes " refused" ++ 10 ∷ []))
@@ -26,7 +27,8 @@ abbrev pub unread_line : List ℕ → List ℕ
 unread_line name = codes "riemann: cannot read " ++ (name ++ 10 ∷ [])
 
 abbrev pub too_long_line : List ℕ → ℕ → List ℕ
-too_long_line name limit = codes "riemann: " ++ (name ++ (codes " is longer than " ++ (decimal limit ++ (codes " bytes" ++ 10 ∷ []))))
+too_long_line name limit =
+    codes "riemann: " ++ (name ++ (codes " is longer than " ++ (decimal limit ++ (codes " bytes" ++ 10 ∷ []))))
 
 abbrev pub left_line : ℕ → List ℕ
 left_line count = codes "riemann: " ++ (decimal count ++ (codes " bytes left of no whole frame" ++ 10 ∷ []))

@@ -11,7 +11,8 @@ use Rattle.command_setup.specs.command_io.declared.ending.Ending.{Ending}
 use Rattle.command_setup.specs.command_io.declared.ending.Ending.TheVariants.{Finished, WriteFailed, OutOfMemory}
 use Rattle.command_setup.specs.command_io.declared.limits.TheConstants.{CONFIG_LIMIT}
 use Rattle.command_setup.specs.command_io.declared.status.Status.{Status}
-use Rattle.command_setup.specs.command_io.Endings.{HasNoConfig, IsComplete, IsDoneOrMemory, IsReadOnce, ReadsFiles, Says, status_of}
+use Rattle.command_setup.specs.command_io.Endings.{HasNoConfig, IsComplete, IsDoneOrMemory, IsReadOnce, ReadsFiles}
+use Rattle.command_setup.specs.command_io.Endings.{Says, status_of}
 use Rattle.command_setup.specs.command_io.Reports.{IsIdle, Reports}
 use Rattle.command_setup.specs.command_io.Accepting.{RefusesSetup}
 use Rattle.command_setup.specs.Setups.{SetsUp}
@@ -21,7 +22,8 @@ use Rattle.command_load.specs.declared.summary.Summary.{Summary}
 -- the summary was written as a line, or a prefix of it, or memory ran out first
 abbrev pub WritesSummary : Summary → SinkReport → SinkReport → Ending → Type 0
 WritesSummary summary out out' Finished = Got out.text (summary_line summary) out'.text × (out'.faults ≡ out.faults)
-WritesSummary summary out out' WriteFailed = GotPrefix out.text (summary_line summary) out'.text × Rose out.faults out'.faults
+WritesSummary summary out out' WriteFailed =
+    GotPrefix out.text (summary_line summary) out'.text × Rose out.faults out'.faults
 WritesSummary summary out out' OutOfMemory = out' ≡ out
 WritesSummary summary out out' _ = ⊥
 
@@ -29,7 +31,8 @@ WritesSummary summary out out' _ = ⊥
 abbrev pub RunEnds : Setup → ℕ → ℕ → PatternsReport → PatternsReport → ℕ → ℕ → SinkReport → SinkReport → Ending → Type 0
 RunEnds setup count start patterns patterns' forks forks' out out' ending =
     ((ending ≡ OutOfMemory) × IsCutOff setup count start patterns patterns' forks forks' × (out' ≡ out))
-    ⊎ ((summary : Summary) × IsPlayed setup count start patterns patterns' forks forks' summary × WritesSummary summary out out' ending)
+    ⊎ ((summary : Summary) × IsPlayed setup count start patterns patterns' forks forks' summary
+    × WritesSummary summary out out' ending)
 
 -- The configuration in the file of the name was refused and nothing was run, or its server was run over the load.
 abbrev pub LoadEnds : List ℕ → ℕ → ℕ → Reports → Reports → Ending → Type 0
@@ -38,8 +41,8 @@ LoadEnds config count start old new ending =
     ⊎ ((setup : Setup) × SetsUp (old.store.held config) setup
     × RunEnds setup count start old.patterns new.patterns old.forks new.forks old.out new.out ending)
 
--- with a configuration within its limit, no fault and no pattern refused, the load is played and its summary written, or
--- memory runs out
+-- with a configuration within its limit, no fault and no pattern refused, the load is played and its summary written,
+-- or memory runs out
 abbrev pub LoadCompletes : List ℕ → Reports → Reports → Status → Type 0
 LoadCompletes config old new status = (text : List ℕ) (read : Config)
     → IsHeld (old.store.held config) text → IsConfigOf text read → length text ≤ CONFIG_LIMIT
@@ -47,7 +50,8 @@ LoadCompletes config old new status = (text : List ℕ) (read : Config)
     → IsStill old.patterns.refusals new.patterns.refusals → IsDoneOrMemory status
 
 -- `Unasked` is that no pattern was asked for.
-pub record Loads (config : List ℕ) (count start : ℕ) (old new : Reports) (Unasked : Type 0) (status : Status) : Type 0 where
+pub record Loads (config : List ℕ) (count start : ℕ) (old new : Reports) (Unasked : Type 0)
+    (status : Status) : Type 0 where
   -- how it ended, as the status and the line on the error stream say
   pub ending : Ending
   pub ended : status ≡ status_of ending

@@ -39,9 +39,10 @@ summary_of count config steps run = record {
 abbrev pub counted : PatternsReport → ℕ → ℕ → RunReport
 counted patterns forks lines = run_report patterns forks (record { text = None; puts = Some lines; faults = 0 })
 
--- A server was run over the load of `count` events that are drawn from the number `start`, to its last turn, and this is
--- what the load came to.
-pub record IsPlayed (setup : Setup) (count start : ℕ) (patterns patterns' : PatternsReport) (forks forks' : ℕ) (summary : Summary) : Type 0 where
+-- A server was run over the load of `count` events that are drawn from the number `start`, to its last turn, and this
+-- is what the load came to.
+pub record IsPlayed (setup : Setup) (count start : ℕ) (patterns patterns' : PatternsReport) (forks forks' : ℕ)
+    (summary : Summary) : Type 0 where
   pub run : List Entry
   pub hub : Hub
   pub scripted : IsScriptedRun (load_script count start) run
@@ -49,7 +50,8 @@ pub record IsPlayed (setup : Setup) (count start : ℕ) (patterns patterns' : Pa
   pub sums : summary ≡ summary_of count (config_at setup finishes.secs) (steps_of finishes.turns) run
 
 -- a server was run over the load until memory ran out
-pub record IsCutOff (setup : Setup) (count start : ℕ) (patterns patterns' : PatternsReport) (forks forks' : ℕ) : Type 0 where
+pub record IsCutOff (setup : Setup) (count start : ℕ) (patterns patterns' : PatternsReport)
+    (forks forks' : ℕ) : Type 0 where
   pub run : List Entry
   pub lines : ℕ
   pub scripted : IsScriptedRun (load_script count start) run

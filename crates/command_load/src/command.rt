@@ -19,8 +19,8 @@ use std::alloc::Global;
 use step_count::{Ledger, Steps};
 
 /// Carries out `load CONFIG N START`, with `count` for N: it runs a server over a generated load of `count` events.
-/// What the load came to goes to `out`, and the line of the ending to `err`. A write of that line that fails cuts it, and
-/// does not change the status.
+/// What the load came to goes to `out`, and the line of the ending to `err`. A write of that line that fails cuts it,
+/// and does not change the status.
 ///
 /// | Status | When | Line on `err` |
 /// |---|---|---|

@@ -2,7 +2,8 @@
 use Rattle.std.proofs.Common.{◌≡◌, ◌≢◌, Result, Ok, Err, refl}
 use Rattle.command_setup.specs.command_io.Endings.{IsRefusal}
 use Rattle.command_setup.specs.command_io.declared.ending.Ending.TheVariants.{Finished, LinksFailed, WriteFailed}
-use Rattle.command_setup.specs.command_io.declared.status.Status.TheVariants.{Usage, ReadFault, SinkFault, LinkFault, DiskFault}
+use Rattle.command_setup.specs.command_io.declared.status.Status.TheVariants.{Usage, ReadFault, SinkFault, LinkFault}
+use Rattle.command_setup.specs.command_io.declared.status.Status.TheVariants.{DiskFault}
 use Rattle.command_setup.specs.conn_core.declared.hub.Hub.{Hub}
 use Rattle.journal_run.specs.declared.fault.JournalRunFault.{JournalRunFault}
 use Rattle.journal_run.specs.declared.fault.JournalRunFault.TheVariants as run

@@ -1,5 +1,6 @@
 -- What `record` promises, from what its parts say.
-use Rattle.std.proofs.Common.{◌≡◌, ◌≢◌, ℕ, ◌≤◌, List, [], ◌∷◌, length, Option, Some, inl, inr, refl, ap, sym, ◌∙◌, subst}
+use Rattle.std.proofs.Common.{◌≡◌, ◌≢◌, ℕ, ◌≤◌, List, [], ◌∷◌, length, Option, Some, inl, inr, refl, ap, sym, ◌∙◌}
+use Rattle.std.proofs.Common.{subst}
 use Rattle.command_setup.proofs.CommandIoReadLaws.{read_alone}
 use Rattle.command_setup.proofs.SetupLaws.{refused_for_memory}
 use Rattle.command_setup.specs.Setups.{run_report_of}
@@ -8,7 +9,9 @@ use Rattle.command_setup.specs.command_io.Endings.{IsDoneOrMemory}
 use Rattle.command_setup.specs.command_io.Files.{ReadMore, good_read}
 use Rattle.command_setup.specs.command_io.Reports.{Reports as Reporting}
 use Rattle.command_setup.specs.command_io.declared.ending.Ending.{Ending}
-use Rattle.command_setup.specs.command_io.declared.ending.Ending.TheVariants.{Finished, ConfigRefused, Unread, OverLimit, BytesLeft, WriteFailed, LinksFailed, ScriptRefused, OutOfMemory}
+use Rattle.command_setup.specs.command_io.declared.ending.Ending.TheVariants.{Finished, ConfigRefused, Unread}
+use Rattle.command_setup.specs.command_io.declared.ending.Ending.TheVariants.{OverLimit, BytesLeft, WriteFailed}
+use Rattle.command_setup.specs.command_io.declared.ending.Ending.TheVariants.{LinksFailed, ScriptRefused, OutOfMemory}
 use Rattle.command_setup.specs.command_io.declared.limits.TheConstants.{CONFIG_LIMIT}
 use Rattle.command_setup.specs.command_io.declared.status.Status.TheVariants.{ReadFault}
 use Rattle.command_setup.specs.hub_meaning.Verdicts.{PatternsReport}
@@ -112,7 +115,8 @@ record_complete config journal text read past old new disk disk' ending holds is
           reads_still patterns_still none.refuses in
           subst (λ (e : JournalEnding). IsDoneOrMemory (status_of e)) (sym (none.ended ∙ ap Shared e)) tt
       | inr records ↦
-          recording_complete journal records.text records.setup old.links new.links disk disk' (run_report_of old old.out)
+          recording_complete journal records.text records.setup old.links new.links disk disk'
+          (run_report_of old old.out)
           (run_report_of new new.out) ending past told free
           still causes records.ends
     ]

@@ -3,7 +3,8 @@ use Rattle.std.specs.Prelude.{ℕ, List, [], ◌∷◌, ◌++◌, codes, Result,
 use Rattle.std.specs.Fmt.{decimal}
 use Rattle.command_setup.specs.command_io.Endings as shared
 use Rattle.command_setup.specs.command_io.Endings.{GotLineOf}
-use Rattle.command_setup.specs.command_io.declared.ending.Ending.TheVariants.{Finished, WriteFailed, LinksFailed, OutOfMemory}
+use Rattle.command_setup.specs.command_io.declared.ending.Ending.TheVariants.{Finished, WriteFailed, LinksFailed}
+use Rattle.command_setup.specs.command_io.declared.ending.Ending.TheVariants.{OutOfMemory}
 use Rattle.command_setup.specs.command_io.declared.status.Status.{Status}
 use Rattle.command_setup.specs.command_io.declared.status.Status.TheVariants.{Journal, DiskFault}
 use Rattle.command_setup.specs.conn_core.declared.hub.Hub.{Hub}

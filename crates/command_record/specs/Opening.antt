@@ -23,9 +23,10 @@ OpensFor name old new (Err (Refused place)) = Opens name old new
 OpensFor name old new (Err DiskFault) = Opens name old new
 OpensFor name old new (Err Memory) = (new.opened ≡ old.opened) ⊎ Opens name old new
 
--- A journal of the configuration was begun in the file of the name, or why it was not. A file that may hold a journal is
--- refused at 0, and no other is.
-pub record BeginsJournal (name config : List ℕ) (old new : DiskReport) (result : Result Found JournalFault) : Type 0 where
+-- A journal of the configuration was begun in the file of the name, or why it was not. A file that may hold a journal
+-- is refused at 0, and no other is.
+pub record BeginsJournal (name config : List ℕ) (old new : DiskReport)
+    (result : Result Found JournalFault) : Type 0 where
   pub opens : OpensFor name old new result
   pub cause : HasFaultCause old.faults new.faults result
   -- once it is begun, every crash leaves the journal
@@ -36,10 +37,11 @@ pub record BeginsJournal (name config : List ℕ) (old new : DiskReport) (result
   pub unwritten : ForSome old.past (λ past. is_taken (text_of past) ≡ true → IsSyncedOrNot old.past new.past)
   -- In a file that is not refused, a crash at any moment after the first sync leaves the journal, or a file that is not
   -- refused.
-  pub any_moment : ForSome old.past (λ past. IsFree (text_of past) → LeavesAfterSync past new.past (HoldsBlankOrFree config))
+  pub any_moment : ForSome old.past
+      (λ past. IsFree (text_of past) → LeavesAfterSync past new.past (HoldsBlankOrFree config))
 
--- The journal in the file of the name was loaded, or why it was not. Nothing was written. A file that holds no journal is
--- refused at the first place that does not fit, and no other is.
+-- The journal in the file of the name was loaded, or why it was not. Nothing was written. A file that holds no journal
+-- is refused at the first place that does not fit, and no other is.
 pub record LoadsJournal (name : List ℕ) (old new : DiskReport) (result : Result Loaded JournalFault) : Type 0 where
   pub opens : OpensFor name old new result
   pub cause : HasFaultCause old.faults new.faults result

@@ -24,7 +24,8 @@ use Rattle.command_record.specs.declared.ending.JournalEnding.{JournalEnding}
 use Rattle.command_record.specs.declared.ending.JournalEnding.TheVariants.{Shared}
 
 -- there is no configuration that a server can be run with, and nothing was done
-pub record HasNoSetup (config : List ℕ) (old new : Reports) (disk disk' : DiskReport) (ending : JournalEnding) : Type 0 where
+pub record HasNoSetup (config : List ℕ) (old new : Reports) (disk disk' : DiskReport)
+    (ending : JournalEnding) : Type 0 where
   pub shared : Ending
   pub ended : ending ≡ Shared shared
   pub refuses : RefusesSetup config old.store new.store old.patterns new.patterns shared
@@ -32,7 +33,8 @@ pub record HasNoSetup (config : List ℕ) (old new : Reports) (disk disk' : Disk
   pub uncalled : disk' ≡ disk
 
 -- the file is this configuration, whose patterns were built; so ends what was done with it
-pub record RecordsConfig (content : Content) (journal : List ℕ) (links links' : LinksReport) (disk disk' : DiskReport) (old new : RunReport) (ending : JournalEnding) : Type 0 where
+pub record RecordsConfig (content : Content) (journal : List ℕ) (links links' : LinksReport) (disk disk' : DiskReport)
+    (old new : RunReport) (ending : JournalEnding) : Type 0 where
   pub text : List ℕ
   pub setup : Setup
   pub has : HasText content text
@@ -41,18 +43,22 @@ pub record RecordsConfig (content : Content) (journal : List ℕ) (links links' 
 
 abbrev pub RecordEnds : List ℕ → List ℕ → Reports → Reports → DiskReport → DiskReport → JournalEnding → Type 0
 RecordEnds config journal old new disk disk' ending = HasNoSetup config old new disk disk' ending
-    ⊎ RecordsConfig (old.store.held config) journal old.links new.links disk disk' (run_report_of old old.out) (run_report_of new new.out) ending
+    ⊎ RecordsConfig (old.store.held config) journal old.links new.links disk disk' (run_report_of old old.out)
+    (run_report_of new new.out) ending
 
--- With a configuration within its limit, a file that holds no journal, no fault and no pattern refused, all turns are taken,
--- or memory runs out.
+-- With a configuration within its limit, a file that holds no journal, no fault and no pattern refused, all turns are
+-- taken, or memory runs out.
 abbrev pub RecordCompletes : List ℕ → Reports → Reports → DiskReport → DiskReport → Status → Type 0
 RecordCompletes config old new disk disk' status = (text : List ℕ) (read : Config) (past : Past)
-    → IsHeld (old.store.held config) text → IsConfigOf text read → length text ≤ CONFIG_LIMIT → disk.past ≡ Some past → IsFree (text_of past)
-    → IsStill old.store.faults new.store.faults → IsStill old.links.faults new.links.faults → IsStill old.out.faults new.out.faults
+    → IsHeld (old.store.held config) text → IsConfigOf text read → length text ≤ CONFIG_LIMIT → disk.past ≡ Some past
+    → IsFree (text_of past)
+    → IsStill old.store.faults new.store.faults → IsStill old.links.faults new.links.faults
+    → IsStill old.out.faults new.out.faults
     → IsStill disk.faults disk'.faults → IsStill old.patterns.refusals new.patterns.refusals → IsDoneOrMemory status
 
 -- `disk` and `disk'` are what the disk reports, before and after. `Unasked` is that no pattern was asked for.
-pub record Records (config journal : List ℕ) (old new : Reports) (disk disk' : DiskReport) (Unasked : Type 0) (status : Status) : Type 0 where
+pub record Records (config journal : List ℕ) (old new : Reports) (disk disk' : DiskReport) (Unasked : Type 0)
+    (status : Status) : Type 0 where
   -- how it ended, as the status and the line on the error stream say
   pub ending : JournalEnding
   pub ended : status ≡ status_of ending

@@ -15,8 +15,8 @@ use Rattle.command_record.specs.Resuming.{ResumingEnds}
 use Rattle.command_record.specs.Running.{HasCauses}
 use Rattle.command_record.specs.declared.ending.JournalEnding.{JournalEnding}
 
--- With a file that holds a journal of a configuration, no fault and no pattern refused, all turns are taken, or memory runs
--- out.
+-- With a file that holds a journal of a configuration, no fault and no pattern refused, all turns are taken, or memory
+-- runs out.
 abbrev pub ResumeCompletes : Reports → Reports → DiskReport → DiskReport → Status → Type 0
 ResumeCompletes old new disk disk' status = (past : Past) (journal : Journal) (read : Config)
     → disk.past ≡ Some past → Holds journal (text_of past) → IsConfigOf journal.config read
@@ -24,13 +24,15 @@ ResumeCompletes old new disk disk' status = (past : Past) (journal : Journal) (r
     → IsStill disk.faults disk'.faults → IsStill old.patterns.refusals new.patterns.refusals → IsDoneOrMemory status
 
 -- `disk` and `disk'` are what the disk reports, before and after. `Unasked` is that no pattern was asked for.
-pub record Resumes (journal : List ℕ) (old new : Reports) (disk disk' : DiskReport) (Unasked : Type 0) (status : Status) : Type 0 where
+pub record Resumes (journal : List ℕ) (old new : Reports) (disk disk' : DiskReport) (Unasked : Type 0)
+    (status : Status) : Type 0 where
   -- how it ended, as the status and the line on the error stream say
   pub ending : JournalEnding
   pub ended : status ≡ status_of ending
   pub says : Says ending old.err new.err
   -- the run and its journal, or why there are none
-  pub ends : ResumingEnds journal old.links new.links disk disk' (run_report_of old old.out) (run_report_of new new.out) ending
+  pub ends : ResumingEnds journal old.links new.links disk disk' (run_report_of old old.out)
+      (run_report_of new new.out) ending
   -- patterns are asked for once there is a configuration
   pub unasked : HasNoConfig ending → Unasked
   -- what failed, as the ending says

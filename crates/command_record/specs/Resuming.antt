@@ -18,7 +18,8 @@ use Rattle.command_record.specs.declared.ending.JournalEnding.TheVariants.{Share
 use Rattle.command_record.specs.declared.journal.Loaded.{Loaded}
 
 -- no journal was loaded from the file of the name, and no server was run
-pub record IsUnloaded (name : List ℕ) (links links' : LinksReport) (disk disk' : DiskReport) (old new : RunReport) (ending : JournalEnding) : Type 0 where
+pub record IsUnloaded (name : List ℕ) (links links' : LinksReport) (disk disk' : DiskReport) (old new : RunReport)
+    (ending : JournalEnding) : Type 0 where
   pub fault : JournalFault
   pub ended : ending ≡ ending_of_fault fault
   pub loads : LoadsJournal name disk disk' (Err fault)
@@ -26,7 +27,8 @@ pub record IsUnloaded (name : List ℕ) (links links' : LinksReport) (disk disk'
   pub same : new ≡ old
 
 -- no server can be run with the configuration of the journal, and none was
-pub record IsUnset (config : List ℕ) (links links' : LinksReport) (disk disk' : DiskReport) (old new : RunReport) (ending : JournalEnding) : Type 0 where
+pub record IsUnset (config : List ℕ) (links links' : LinksReport) (disk disk' : DiskReport) (old new : RunReport)
+    (ending : JournalEnding) : Type 0 where
   pub shared : Ending
   pub ended : ending ≡ Shared shared
   pub refuses : RefusesText config old.patterns new.patterns shared
@@ -36,7 +38,8 @@ pub record IsUnset (config : List ℕ) (links links' : LinksReport) (disk disk' 
   pub sink : new.sink ≡ old.sink
 
 -- Its server was run: it was given the turns of the journal again, and the turns after them were recorded.
-pub record IsResumed (loaded : Loaded) (links links' : LinksReport) (disk disk' : DiskReport) (old new : RunReport) (ending : JournalEnding) : Type 0 where
+pub record IsResumed (loaded : Loaded) (links links' : LinksReport) (disk disk' : DiskReport) (old new : RunReport)
+    (ending : JournalEnding) : Type 0 where
   pub setup : Setup
   pub sets : SetsUpText loaded.config setup
   pub once : disk'.opened ≡ disk.opened
@@ -44,18 +47,22 @@ pub record IsResumed (loaded : Loaded) (links links' : LinksReport) (disk disk' 
   pub ended : ending ≡ ending_of_run result
   pub runs : RunsResumed setup greatest loaded.found loaded.records links links' disk disk' old new result
 
-abbrev pub GoesOn : Loaded → LinksReport → LinksReport → DiskReport → DiskReport → RunReport → RunReport → JournalEnding → Type 0
+abbrev pub GoesOn : Loaded → LinksReport → LinksReport → DiskReport → DiskReport → RunReport → RunReport → JournalEnding
+    → Type 0
 GoesOn loaded links links' disk disk' old new ending =
-    IsUnset loaded.config links links' disk disk' old new ending ⊎ IsResumed loaded links links' disk disk' old new ending
+    IsUnset loaded.config links links' disk disk' old new ending
+    ⊎ IsResumed loaded links links' disk disk' old new ending
 
 -- a journal was loaded from the file of the name, and so ends what was done with it
-pub record IsLoadedFrom (name : List ℕ) (links links' : LinksReport) (disk disk' : DiskReport) (old new : RunReport) (ending : JournalEnding) : Type 0 where
+pub record IsLoadedFrom (name : List ℕ) (links links' : LinksReport) (disk disk' : DiskReport) (old new : RunReport)
+    (ending : JournalEnding) : Type 0 where
   pub loaded : Loaded
   -- what the disk reports once the journal is loaded
   pub loaded_disk : DiskReport
   pub loads : LoadsJournal name disk loaded_disk (Ok loaded)
   pub goes : GoesOn loaded links links' loaded_disk disk' old new ending
 
-abbrev pub ResumingEnds : List ℕ → LinksReport → LinksReport → DiskReport → DiskReport → RunReport → RunReport → JournalEnding → Type 0
+abbrev pub ResumingEnds : List ℕ → LinksReport → LinksReport → DiskReport → DiskReport → RunReport → RunReport
+    → JournalEnding → Type 0
 ResumingEnds name links links' disk disk' old new ending =
     IsUnloaded name links links' disk disk' old new ending ⊎ IsLoadedFrom name links links' disk disk' old new ending

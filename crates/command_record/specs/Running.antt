@@ -17,16 +17,18 @@ use Rattle.command_record.specs.declared.ending.JournalEnding.{JournalEnding}
 use Rattle.command_record.specs.declared.ending.JournalEnding.TheVariants.{Shared, DiskFailed}
 
 -- no journal was begun in the file of the name, and no server was run
-pub record IsUnbegun (name text : List ℕ) (links links' : LinksReport) (disk disk' : DiskReport) (old new : RunReport) (ending : JournalEnding) : Type 0 where
+pub record IsUnbegun (name text : List ℕ) (links links' : LinksReport) (disk disk' : DiskReport) (old new : RunReport)
+    (ending : JournalEnding) : Type 0 where
   pub fault : JournalFault
   pub ended : ending ≡ ending_of_fault fault
   pub begins : BeginsJournal name text disk disk' (Err fault)
   pub uncalled : links' ≡ links
   pub same : new ≡ old
 
--- A journal of the configuration was begun in the file of the name. Then its server was run, and the turns recorded in the
--- journal.
-pub record IsRecorded (name text : List ℕ) (setup : Setup) (links links' : LinksReport) (disk disk' : DiskReport) (old new : RunReport) (ending : JournalEnding) : Type 0 where
+-- A journal of the configuration was begun in the file of the name. Then its server was run, and the turns recorded in
+-- the journal.
+pub record IsRecorded (name text : List ℕ) (setup : Setup) (links links' : LinksReport) (disk disk' : DiskReport)
+    (old new : RunReport) (ending : JournalEnding) : Type 0 where
   pub found : Found
   -- what the disk reports once the journal is begun
   pub begun_disk : DiskReport
@@ -36,12 +38,14 @@ pub record IsRecorded (name text : List ℕ) (setup : Setup) (links links' : Lin
   pub ended : ending ≡ ending_of_run result
   pub runs : RunsRecorded setup greatest found links links' begun_disk disk' old new result
 
-abbrev pub RecordingEnds : List ℕ → List ℕ → Setup → LinksReport → LinksReport → DiskReport → DiskReport → RunReport → RunReport → JournalEnding → Type 0
+abbrev pub RecordingEnds : List ℕ → List ℕ → Setup → LinksReport → LinksReport → DiskReport → DiskReport → RunReport
+    → RunReport → JournalEnding → Type 0
 RecordingEnds name text setup links links' disk disk' old new ending =
-    IsUnbegun name text links links' disk disk' old new ending ⊎ IsRecorded name text setup links links' disk disk' old new ending
+    IsUnbegun name text links links' disk disk' old new ending
+    ⊎ IsRecorded name text setup links links' disk disk' old new ending
 
--- What failed, as the ending says, from the counts of faults of links, output and disk. After a fault of the disk nothing is
--- said of the links.
+-- What failed, as the ending says, from the counts of faults of links, output and disk. After a fault of the disk
+-- nothing is said of the links.
 pub record HasCauses (links links' out out' disk disk' : ℕ) (ending : JournalEnding) : Type 0 where
   pub links_failed : ending ≡ Shared LinksFailed → Rose links links'
   pub links_work : ending ≢ Shared LinksFailed → ending ≢ DiskFailed → links' ≡ links

@@ -1,4 +1,5 @@
-//! The commands of a server that keeps a journal: `record CONFIG JOURNAL` begins one, and `resume JOURNAL` goes on with it.
+//! The commands of a server that keeps a journal: `record CONFIG JOURNAL` begins one, and `resume JOURNAL` goes on with
+//! it.
 #![tactic(auto)]
 
 mod ending;

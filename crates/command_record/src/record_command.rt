@@ -24,9 +24,9 @@ use pred_eval::Patterns;
 use std::alloc::Global;
 use step_count::{Ledger, Steps};
 
-/// Carries out `record CONFIG JOURNAL`: it runs a server over the links, as `serve` does, and keeps a journal of the run in
-/// the file JOURNAL of the disk. A turn is in the journal before the server is handed it. Notice lines go to `out`, and the
-/// line of the ending to `err`. A write of that line that fails cuts it, and does not change the status.
+/// Carries out `record CONFIG JOURNAL`: it runs a server over the links, as `serve` does, and keeps a journal of the
+/// run in the file JOURNAL of the disk. A turn is in the journal before the server is handed it. Notice lines go to
+/// `out`, and the line of the ending to `err`. A write of that line that fails cuts it, and does not change the status.
 ///
 /// | Status | When | Line on `err` |
 /// |---|---|---|

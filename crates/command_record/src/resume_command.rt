@@ -25,9 +25,9 @@ use pred_eval::Patterns;
 use std::alloc::Global;
 use step_count::{Ledger, Steps};
 
-/// Carries out `resume JOURNAL`: it goes on with the run of the journal in the file JOURNAL of the disk. A server of the
-/// journal's configuration is given the turns of the journal again, and then those of the links, which are recorded as
-/// [`crate::record`] does. Notice lines go to `out`, but not those of the journal's turns before its last.
+/// Carries out `resume JOURNAL`: it goes on with the run of the journal in the file JOURNAL of the disk. A server of
+/// the journal's configuration is given the turns of the journal again, and then those of the links, which are recorded
+/// as [`crate::record`] does. Notice lines go to `out`, but not those of the journal's turns before its last.
 ///
 /// | Status | When | Line on `err` |
 /// |---|---|---|

@@ -6,7 +6,9 @@ use Rattle.ports.specs.Calls.{LinksReport}
 use Rattle.ports.specs.Writing.{SinkReport}
 use Rattle.file_run.specs.command_io.Reports.{Reports, reports}
 use Rattle.file_run.specs.command_io.declared.ending.Ending.{Ending}
-use Rattle.file_run.specs.command_io.declared.ending.Ending.TheVariants.{Finished, ConfigRefused, Unread, OverLimit, BytesLeft, WriteFailed, LinksFailed, ScriptRefused, OutOfMemory}
+use Rattle.file_run.specs.command_io.declared.ending.Ending.TheVariants.{Finished, ConfigRefused, Unread, OverLimit}
+use Rattle.file_run.specs.command_io.declared.ending.Ending.TheVariants.{BytesLeft, WriteFailed, LinksFailed}
+use Rattle.file_run.specs.command_io.declared.ending.Ending.TheVariants.{ScriptRefused, OutOfMemory}
 use Rattle.file_run.specs.command_io.declared.limits.TheConstants.{CONFIG_LIMIT, FILE_LIMIT}
 use Rattle.file_run.specs.command_io.declared.status.Status.TheVariants.{ReadFault, SinkFault, LinkFault}
 use Rattle.command_setup.proofs.SetupLaws.{refused_for_memory, refused_not_linked, refused_not_written, refused_rose}

@@ -5,7 +5,9 @@ use Rattle.file_run.proofs.CommandIoEndingLaws.{reported_of}
 use Rattle.file_run.specs.command_io.Endings.{IsComplete, status_of}
 use Rattle.file_run.specs.command_io.Files.{ForHeld, ReadMore, good_read}
 use Rattle.file_run.specs.command_io.declared.ending.Ending.{Ending}
-use Rattle.file_run.specs.command_io.declared.ending.Ending.TheVariants.{Finished, ConfigRefused, Unread, OverLimit, BytesLeft, WriteFailed, LinksFailed, ScriptRefused, OutOfMemory}
+use Rattle.file_run.specs.command_io.declared.ending.Ending.TheVariants.{Finished, ConfigRefused, Unread, OverLimit}
+use Rattle.file_run.specs.command_io.declared.ending.Ending.TheVariants.{BytesLeft, WriteFailed, LinksFailed}
+use Rattle.file_run.specs.command_io.declared.ending.Ending.TheVariants.{ScriptRefused, OutOfMemory}
 use Rattle.file_run.specs.command_io.declared.limits.TheConstants.{FILE_LIMIT}
 use Rattle.file_run.specs.command_io.declared.status.Status.TheVariants.{ReadFault}
 use Rattle.file_run.proofs.OtherLaws.{file_refused_for_memory, file_refused_since, file_rose}

@@ -28,7 +28,8 @@ use Rattle.command_replay.specs.Scripts.{IsScript, RefusesScript}
 
 -- The run came to its last turn, and the notice lines of all turns were written. Then `Wrote` holds of the lines of the
 -- links.
-pub record PlaysAll (setup : Setup) (script : Script) (old new : Reports) (Wrote : Option (List ℕ) → List ℕ → Type 0) : Type 0 where
+pub record PlaysAll (setup : Setup) (script : Script) (old new : Reports)
+    (Wrote : Option (List ℕ) → List ℕ → Type 0) : Type 0 where
   pub run : List Entry
   -- what the output reported before the lines of the links
   pub before : SinkReport
@@ -60,8 +61,8 @@ ScriptEnds setup name old new ending =
     (RefusesScript name old.store new.store ending × (new.patterns ≡ old.patterns) × IsIdle old new)
     ⊎ ((script : Script) × IsScript (old.store.held name) script × PlayEnds setup script old new ending)
 
--- The configuration was refused, nothing was run and the script was not read; or it was accepted, and both files were read.
--- `Unasked` is that no pattern was asked for.
+-- The configuration was refused, nothing was run and the script was not read; or it was accepted, and both files were
+-- read. `Unasked` is that no pattern was asked for.
 abbrev pub ReplayEnds : List ℕ → List ℕ → Reports → Reports → Type 0 → Ending → Type 0
 ReplayEnds config script old new Unasked ending =
     (RefusesSetup config old.store new.store old.patterns new.patterns ending × IsIdle old new

@@ -11,10 +11,13 @@ use Rattle.ports.specs.declared.store.StoreRead.{StoreRead}
 use Rattle.command_setup.specs.sexp_config.declared.config.Config.{Config}
 use Rattle.command_setup.specs.sexp_config.Config.{IsConfigOf}
 use Rattle.command_setup.specs.command_io.declared.ending.Ending.{Ending}
-use Rattle.command_setup.specs.command_io.declared.ending.Ending.TheVariants.{Finished, ConfigRefused, Unread, OverLimit, BytesLeft, WriteFailed, LinksFailed, ScriptRefused, OutOfMemory}
+use Rattle.command_setup.specs.command_io.declared.ending.Ending.TheVariants.{Finished, ConfigRefused, Unread}
+use Rattle.command_setup.specs.command_io.declared.ending.Ending.TheVariants.{OverLimit, BytesLeft, WriteFailed}
+use Rattle.command_setup.specs.command_io.declared.ending.Ending.TheVariants.{LinksFailed, ScriptRefused, OutOfMemory}
 use Rattle.command_setup.specs.command_io.declared.limits.TheConstants.{CONFIG_LIMIT}
 use Rattle.command_setup.specs.command_io.declared.status.Status.TheVariants.{ReadFault, SinkFault, LinkFault}
-use Rattle.command_setup.specs.command_io.Endings.{HasNoConfig, IsComplete, IsDoneOrMemory, IsReadOnce, IsRefusal, ReadsFiles, status_of}
+use Rattle.command_setup.specs.command_io.Endings.{HasNoConfig, IsComplete, IsDoneOrMemory, IsReadOnce, IsRefusal}
+use Rattle.command_setup.specs.command_io.Endings.{ReadsFiles, status_of}
 use Rattle.command_setup.specs.command_io.Files.{ReadMore, good_read}
 use Rattle.command_setup.specs.command_io.Reports.{IsIdle, Reports as Reporting}
 use Rattle.command_setup.proofs.CommandIoReadLaws.{read_alone}

@@ -10,10 +10,12 @@ use Rattle.ports.specs.Reading.{IsHeld}
 use Rattle.command_setup.specs.sexp_config.declared.config.Config.{Config}
 use Rattle.command_setup.specs.sexp_config.Config.{IsConfigOf}
 use Rattle.command_setup.specs.command_io.declared.ending.Ending.{Ending}
-use Rattle.command_setup.specs.command_io.declared.ending.Ending.TheVariants.{Finished, WriteFailed, LinksFailed, OutOfMemory}
+use Rattle.command_setup.specs.command_io.declared.ending.Ending.TheVariants.{Finished, WriteFailed, LinksFailed}
+use Rattle.command_setup.specs.command_io.declared.ending.Ending.TheVariants.{OutOfMemory}
 use Rattle.command_setup.specs.command_io.declared.limits.TheConstants.{CONFIG_LIMIT}
 use Rattle.command_setup.specs.command_io.declared.status.Status.{Status}
-use Rattle.command_setup.specs.command_io.Endings.{HasNoConfig, IsComplete, IsDoneOrMemory, IsReadOnce, ReadsFiles, Says, status_of}
+use Rattle.command_setup.specs.command_io.Endings.{HasNoConfig, IsComplete, IsDoneOrMemory, IsReadOnce, ReadsFiles}
+use Rattle.command_setup.specs.command_io.Endings.{Says, status_of}
 use Rattle.command_setup.specs.command_io.Reports.{IsIdle, Reports}
 use Rattle.command_setup.specs.command_io.Accepting.{RefusesSetup}
 use Rattle.command_setup.specs.Endings.{ending_of_fault}
@@ -35,21 +37,25 @@ abbrev pub ServeEnds : List ℕ → ℕ → Reports → Reports → Ending → T
 ServeEnds config turns old new Finished =
     (setup : Setup) × SetsUp (old.store.held config) setup × ((hub : Hub) × RanOn setup turns old new (Ok hub))
 ServeEnds config turns old new LinksFailed =
-    (setup : Setup) × SetsUp (old.store.held config) setup × RanOn setup turns old new (Err Links) × Rose old.links.faults new.links.faults
+    (setup : Setup) × SetsUp (old.store.held config) setup × RanOn setup turns old new (Err Links)
+    × Rose old.links.faults new.links.faults
 ServeEnds config turns old new WriteFailed =
-    (setup : Setup) × SetsUp (old.store.held config) setup × RanOn setup turns old new (Err Sink) × Rose old.out.faults new.out.faults
+    (setup : Setup) × SetsUp (old.store.held config) setup × RanOn setup turns old new (Err Sink)
+    × Rose old.out.faults new.out.faults
 ServeEnds config turns old new OutOfMemory =
     (RefusesSetup config old.store new.store old.patterns new.patterns OutOfMemory × IsIdle old new)
     ⊎ ((setup : Setup) × SetsUp (old.store.held config) setup × RanOn setup turns old new (Err Memory)
     × (new.links.faults ≡ old.links.faults) × (new.out.faults ≡ old.out.faults))
-ServeEnds config turns old new ending = RefusesSetup config old.store new.store old.patterns new.patterns ending × IsIdle old new
+ServeEnds config turns old new ending =
+    RefusesSetup config old.store new.store old.patterns new.patterns ending × IsIdle old new
 
 -- with a configuration within its limit, no fault and no pattern refused, all turns are taken, or memory runs out
 abbrev pub ServeCompletes : List ℕ → Reports → Reports → Status → Type 0
 ServeCompletes config old new status = (text : List ℕ) (read : Config)
     → IsHeld (old.store.held config) text → IsConfigOf text read → length text ≤ CONFIG_LIMIT
     → IsStill old.store.faults new.store.faults → IsStill old.links.faults new.links.faults
-    → IsStill old.out.faults new.out.faults → IsStill old.patterns.refusals new.patterns.refusals → IsDoneOrMemory status
+    → IsStill old.out.faults new.out.faults → IsStill old.patterns.refusals new.patterns.refusals
+    → IsDoneOrMemory status
 
 -- `Unasked` is that no pattern was asked for.
 pub record Serves (config : List ℕ) (turns : ℕ) (old new : Reports) (Unasked : Type 0) (status : Status) : Type 0 where
@@ -65,5 +71,6 @@ pub record Serves (config : List ℕ) (turns : ℕ) (old new : Reports) (Unasked
   pub unasked : HasNoConfig ending → Unasked
   -- where it did all that it had to, nothing failed
   pub quiet : IsComplete ending
-      → (new.store.faults ≡ old.store.faults) × (new.links.faults ≡ old.links.faults) × (new.out.faults ≡ old.out.faults)
+      → (new.store.faults ≡ old.store.faults) × (new.links.faults ≡ old.links.faults)
+      × (new.out.faults ≡ old.out.faults)
   pub complete : ServeCompletes config old new status

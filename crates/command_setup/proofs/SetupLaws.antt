@@ -7,7 +7,8 @@ use Rattle.ports.specs.Reading.{IsHeld, StoreReport}
 use Rattle.command_io.specs.sexp_config.declared.config.Config.{Config}
 use Rattle.command_io.specs.sexp_config.Config.{IsConfigOf}
 use Rattle.command_io.specs.declared.ending.Ending.{Ending}
-use Rattle.command_io.specs.declared.ending.Ending.TheVariants.{Finished, ConfigRefused, Unread, OverLimit, BytesLeft, WriteFailed, LinksFailed, ScriptRefused, OutOfMemory}
+use Rattle.command_io.specs.declared.ending.Ending.TheVariants.{Finished, ConfigRefused, Unread, OverLimit, BytesLeft}
+use Rattle.command_io.specs.declared.ending.Ending.TheVariants.{WriteFailed, LinksFailed, ScriptRefused, OutOfMemory}
 use Rattle.command_io.specs.declared.fetch.FetchFault.{FetchFault}
 use Rattle.command_io.specs.declared.fetch.FetchFault.TheVariants as fetch
 use Rattle.command_io.specs.config_terms.declared.fault.ConfigFault.TheVariants.{Refused, Memory}

@@ -27,47 +27,69 @@ use Rattle.command_setup.specs.Setups.{MakesSetup, RefusesText, SetsUp, SetsUpTe
 -- ---- a text
 
 -- what was made of the configuration that a text is
-pub makes_text : (text : List ℕ) (config : Config) (patterns patterns' : PatternsReport) (made : Result Setup Ending) → ReadsAs text config
-    → MakesSetup config patterns patterns' made → IfOk made (SetsUpText text) × IfErr made (RefusesText text patterns patterns')
+pub makes_text : (text : List ℕ) (config : Config) (patterns patterns' : PatternsReport) (made : Result Setup Ending)
+    → ReadsAs text config
+    → MakesSetup config patterns patterns' made
+    → IfOk made (SetsUpText text) × IfErr made (RefusesText text patterns patterns')
 makes_text text config patterns patterns' (Ok setup) reads makes = ((config, reads, makes.1, makes.0), tt)
-makes_text text config patterns patterns' (Err (ConfigRefused (Pattern number))) reads makes = (tt, (config, reads, makes))
+makes_text text config patterns patterns' (Err (ConfigRefused (Pattern number))) reads makes =
+    (tt, (config, reads, makes))
 makes_text text config patterns patterns' (Err OutOfMemory) reads makes = (tt, makes)
 makes_text text config patterns patterns' (Err _) reads makes = absurd makes
 
 -- one that is not a configuration
 pub text_refused : (text : List ℕ) (fault : ConfigFault) (patterns : PatternsReport) → IsRefusedFor text fault
     → ((place : ℕ) (why : ConfigWhy) → IsConfigFault text place why → IsRefusedAs place why (Err fault))
-    → ((config : Config) → IsConfigOf text config → IsReadAs config (Err fault)) → RefusesText text patterns patterns (ending_of_config fault)
-text_refused text (cause.Refused place why) patterns refused only_refused only =
-    (record { fault = refused; only = only_refused; unread = λ config is. let other : cause.Refused place why ≡ cause.Memory = only config is in cc }, refl)
+    → ((config : Config) → IsConfigOf text config → IsReadAs config (Err fault))
+    → RefusesText text patterns patterns (ending_of_config fault)
+text_refused text (cause.Refused place why) patterns refused only_refused only = (
+  record {
+    fault = refused;
+    only = only_refused;
+    unread = λ config is. let other : cause.Refused place why ≡ cause.Memory = only config is in cc;
+  },
+  refl,
+)
 text_refused text cause.Memory patterns refused only_refused only = refl
 
 -- ---- the text of a file within its limit
 
-module _ (content : Content) (text : List ℕ) (holds : ForHeld content (λ held. (held ≡ text) × (length text ≤ CONFIG_LIMIT))) where
+module _ (content : Content) (text : List ℕ)
+    (holds : ForHeld content (λ held. (held ≡ text) × (length text ≤ CONFIG_LIMIT))) where
   -- a fact of the text is one of the file
   pub on_file : (P : List ℕ → Type 0) → P text → ForHeld content (λ bytes. (length bytes ≤ CONFIG_LIMIT) × P bytes)
   on_file P fact = λ held reported.
-      let file = holds held reported in
-      (file.0, file.1, subst (λ (bytes : List ℕ). (length bytes ≤ CONFIG_LIMIT) × P bytes) (sym file.2.0) (file.2.1, fact))
+      let file = holds held reported in (
+        file.0,
+        file.1,
+        subst (λ (bytes : List ℕ). (length bytes ≤ CONFIG_LIMIT) × P bytes) (sym file.2.0) (file.2.1, fact),
+      )
 
   pub sets_file : (setup : Setup) → SetsUpText text setup → SetsUp content setup
   sets_file setup sets =
-      on_file (λ (bytes : List ℕ). (config : Config) × ReadsAs bytes config × (AreBuilt config.plan × (setup ≡ setup_of config))) (sets.0, sets.1, (sets.2, sets.3))
+      on_file
+      (λ (bytes : List ℕ). (config : Config) × ReadsAs bytes config
+      × (AreBuilt config.plan × (setup ≡ setup_of config))) (sets.0, sets.1, (sets.2, sets.3))
 
-pub refuses_file : (name text : List ℕ) (store store' : StoreReport) (patterns patterns' : PatternsReport) (ending : Ending)
-    → ForHeld (store.held name) (λ held. (held ≡ text) × (length text ≤ CONFIG_LIMIT)) → RefusesText text patterns patterns' ending
+pub refuses_file : (name text : List ℕ) (store store' : StoreReport) (patterns patterns' : PatternsReport)
+    (ending : Ending)
+    → ForHeld (store.held name) (λ held. (held ≡ text) × (length text ≤ CONFIG_LIMIT))
+    → RefusesText text patterns patterns' ending
     → RefusesSetup name store store' patterns patterns' ending
 refuses_file name text store store' patterns patterns' (ConfigRefused (Refused place why)) holds refuses =
     (on_file (store.held name) text holds (λ bytes. IsRefused bytes place why) refuses.0, refuses.1)
 refuses_file name text store store' patterns patterns' (ConfigRefused (Pattern number)) holds refuses =
-    refuses_pattern (store.held name) refuses.0 number patterns patterns' (on_file (store.held name) text holds (λ bytes. ReadsAs bytes refuses.0) refuses.1) refuses.2
+    refuses_pattern (store.held name) refuses.0 number patterns patterns'
+    (on_file (store.held name) text holds (λ bytes. ReadsAs bytes refuses.0) refuses.1) refuses.2
 refuses_file name text store store' patterns patterns' OutOfMemory holds refuses = refuses
 refuses_file name text store store' patterns patterns' _ holds refuses = absurd refuses
 
 -- it was read once
-pub refused_reads : (name text : List ℕ) (patterns patterns' : PatternsReport) (ending : Ending) (old new : Option (List StoreRead)) → RefusesText text patterns patterns' ending
+pub refused_reads : (name text : List ℕ) (patterns patterns' : PatternsReport) (ending : Ending)
+    (old new : Option (List StoreRead)) → RefusesText text patterns patterns' ending
     → ReadMore (good_read name ∷ []) old new → ReadsFiles (name ∷ []) (IsReadOnce ending) old new ending
-refused_reads name text patterns patterns' (ConfigRefused refusal) old new refuses grew = read_alone _ old new name _ grew refl (refl, tt)
-refused_reads name text patterns patterns' OutOfMemory old new refuses grew = read_alone _ old new name _ grew tt (refl, tt)
+refused_reads name text patterns patterns' (ConfigRefused refusal) old new refuses grew =
+    read_alone _ old new name _ grew refl (refl, tt)
+refused_reads name text patterns patterns' OutOfMemory old new refuses grew =
+    read_alone _ old new name _ grew tt (refl, tt)
 refused_reads name text patterns patterns' _ old new refuses grew = absurd refuses

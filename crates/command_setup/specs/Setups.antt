@@ -33,7 +33,8 @@ SetsUpText text setup = (config : Config) × ReadsAs text config × AreBuilt con
 
 -- why no server is run with a text, from what is reported of patterns before and after
 abbrev pub RefusesText : List ℕ → PatternsReport → PatternsReport → Ending → Type 0
-RefusesText text patterns patterns' (ConfigRefused (Refused place why)) = IsRefused text place why × (patterns' ≡ patterns)
+RefusesText text patterns patterns' (ConfigRefused (Refused place why)) =
+    IsRefused text place why × (patterns' ≡ patterns)
 RefusesText text patterns patterns' (ConfigRefused (Pattern number)) =
     (config : Config) × ReadsAs text config × IsRefusedPattern (plan_patterns config.plan) number patterns patterns'
 RefusesText text patterns patterns' OutOfMemory = patterns' ≡ patterns
@@ -45,7 +46,9 @@ run_report_of reports sink = run_report reports.patterns reports.forks sink
 
 -- what a configuration that was read is run with, or why it is not
 abbrev pub MakesSetup : Config → PatternsReport → PatternsReport → Result Setup Ending → Type 0
-MakesSetup config patterns patterns' (Ok setup) = (setup ≡ setup_of config) × AreBuilt config.plan × (patterns' ≡ patterns)
-MakesSetup config patterns patterns' (Err (ConfigRefused (Pattern number))) = IsRefusedPattern (plan_patterns config.plan) number patterns patterns'
+MakesSetup config patterns patterns' (Ok setup) =
+    (setup ≡ setup_of config) × AreBuilt config.plan × (patterns' ≡ patterns)
+MakesSetup config patterns patterns' (Err (ConfigRefused (Pattern number))) =
+    IsRefusedPattern (plan_patterns config.plan) number patterns patterns'
 MakesSetup config patterns patterns' (Err OutOfMemory) = patterns' ≡ patterns
 MakesSetup config patterns patterns' (Err _) = ⊥

@@ -1,5 +1,5 @@
-//! Setting up a server: its configuration is read, and the patterns in it are built. And how a command ends whose server
-//! was cut off.
+//! Setting up a server: its configuration is read, and the patterns in it are built. And how a command ends whose
+//! server was cut off.
 #![tactic(auto)]
 
 mod ending;

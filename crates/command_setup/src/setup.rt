@@ -45,8 +45,8 @@ pub fn fetch_setup<'a, S: Store, P: Patterns>(
     }
 }
 
-/// Reads the text as a configuration, builds its patterns, and gives what a server is run with. An error is how the command
-/// ends.
+/// Reads the text as a configuration, builds its patterns, and gives what a server is run with. An error is how the
+/// command ends.
 pub fn read_setup<'a, P: Patterns>(
     alloc: Global,
     text: &[u8],

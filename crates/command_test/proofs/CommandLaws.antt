@@ -3,7 +3,8 @@ use Rattle.std.proofs.Common.{◌≡◌, ℕ, ◌≤◌, inl, inr, List, length,
 use Rattle.command_io.proofs.EndingLaws.{not_over, reported_of}
 use Rattle.command_io.specs.Configs.{ReadsAs}
 use Rattle.command_io.specs.declared.ending.ConfigRefusal.TheVariants.{Refused, Pattern}
-use Rattle.command_io.specs.declared.ending.Ending.TheVariants.{Finished, ConfigRefused, Unread, OverLimit, WriteFailed, LinksFailed, OutOfMemory}
+use Rattle.command_io.specs.declared.ending.Ending.TheVariants.{Finished, ConfigRefused, Unread, OverLimit, WriteFailed}
+use Rattle.command_io.specs.declared.ending.Ending.TheVariants.{LinksFailed, OutOfMemory}
 use Rattle.command_io.specs.declared.limits.TheConstants.{CONFIG_LIMIT}
 use Rattle.command_io.specs.declared.status.Status.TheVariants.{Usage, ReadFault, SinkFault, LinkFault}
 use Rattle.command_io.specs.hub_meaning.Verdicts.{PatternsReport}

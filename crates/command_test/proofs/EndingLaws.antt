@@ -15,6 +15,7 @@ without_disk others Differed e = cc
 without_disk others (TestsRefused place why) e = cc
 
 -- no call of a disk failed, since none is made
-pub not_of_disk : ((ending : Ending) → shared.status_of ending ≡ DiskFault → ⊥) → (status : Status) (ending : TestsEnding)
+pub not_of_disk : ((ending : Ending) → shared.status_of ending ≡ DiskFault → ⊥)
+    → (status : Status) (ending : TestsEnding)
     → status ≡ status_of ending → status ≡ DiskFault → ⊥
 not_of_disk others status ending ended e = without_disk others ending (rw ended at e)

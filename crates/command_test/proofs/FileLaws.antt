@@ -20,7 +20,8 @@ use Rattle.ports.specs.Reading.{Content, IsOverLimit, StoreReport}
 use Rattle.ports.specs.declared.store.StoreRead.{StoreRead}
 use Rattle.sexp_config.specs.declared.config.Config.{Config}
 use Rattle.command_test.specs.Endings.{HasNoTests, IsComplete}
-use Rattle.command_test.specs.Given.{AreRefused, HasConfig, HasTests, HoldsConfig, IsReadConfig, ReadsAsTests, RefusesConfig, RefusesTests, RefusesTestsText}
+use Rattle.command_test.specs.Given.{AreRefused, HasConfig, HasTests, HoldsConfig, IsReadConfig, ReadsAsTests}
+use Rattle.command_test.specs.Given.{RefusesConfig, RefusesTests, RefusesTestsText}
 use Rattle.command_test.specs.Reading.{ReadsOnce}
 use Rattle.command_test.specs.Running.{RunEnds, RunReport}
 use Rattle.command_test.specs.declared.ending.TestsEnding.{TestsEnding}

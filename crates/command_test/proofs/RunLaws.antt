@@ -1,5 +1,6 @@
 -- Tests that were run one after another, and how the run ends.
-use Rattle.std.proofs.Common.{◌≡◌, ℕ, zero, suc, ◌+◌, ◌<◌, List, [], ◌∷◌, ◌++◌, length, take, drop, get_or, Bool, true, false, Result, Ok, Err, refl, ap, sym, ◌∙◌, subst, arith}
+use Rattle.std.proofs.Common.{◌≡◌, ℕ, zero, suc, ◌+◌, ◌<◌, List, [], ◌∷◌, ◌++◌, length, take, drop, get_or, Bool, true}
+use Rattle.std.proofs.Common.{false, Result, Ok, Err, refl, ap, sym, ◌∙◌, subst, arith}
 use Rattle.std.specs.Prelude.{◌&&◌, MatchBool, IfErr, IfOk, OnOk, map}
 use Rattle.std.specs.List.{AllByRecursion}
 use Rattle.std.specs.Option.{option_map}
@@ -20,7 +21,8 @@ use Rattle.stream_tests.specs.declared.fault.RunFault.TheVariants as fault
 use Rattle.stream_tests.specs.declared.verdict.Verdict.{Verdict}
 use Rattle.stream_tests.specs.declared.verdict.Verdict.TheVariants.{Pass, Differs}
 use Rattle.command_test.specs.Lines.{IsJudged, Judged, is_pass, judged_line, judged_test, verdict_line}
-use Rattle.command_test.specs.Running.{AllPass, GotLines, Judges, Passes, RunEnds, RunReport, ShowsAll, ShowsOne, StopsAt, StopsRun, run_report}
+use Rattle.command_test.specs.Running.{AllPass, GotLines, Judges, Passes, RunEnds, RunReport, ShowsAll, ShowsOne}
+use Rattle.command_test.specs.Running.{StopsAt, StopsRun, run_report}
 use Rattle.command_test.specs.Stopping.{CutsLine, IsUnrun, ending_of, stop_of}
 use Rattle.command_test.specs.declared.ending.TestsEnding.TheVariants.{Shared, Differed}
 use Rattle.command_test.specs.declared.stop.Stop.{Stop}

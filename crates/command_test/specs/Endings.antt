@@ -18,7 +18,8 @@ status_of Differed = Verdict
 status_of (TestsRefused place why) = Tests
 
 abbrev pub tests_line : ℕ → ConfigWhy → List ℕ
-tests_line place why = codes "riemann: tests refused at " ++ (decimal place ++ (codes ": " ++ (why_name why ++ 10 ∷ [])))
+tests_line place why =
+    codes "riemann: tests refused at " ++ (decimal place ++ (codes ": " ++ (why_name why ++ 10 ∷ [])))
 
 -- the error stream got the line of an ending, or a prefix of it where a put failed; without a line nothing was put
 abbrev pub Says : TestsEnding → SinkReport → SinkReport → Type 0

@@ -18,7 +18,8 @@ use Rattle.command_test.specs.declared.ending.TestsEnding.TheVariants.{Shared, D
 
 -- ---- a file
 
--- why the file of the name was not read, from what the store reports before and after; the ending has this name and its limit
+-- why the file of the name was not read, from what the store reports before and after; the ending has this name and its
+-- limit
 abbrev pub RefusesFile : List ℕ → StoreReport → StoreReport → Ending → Type 0
 RefusesFile name old new (Unread unread) = Rose old.faults new.faults × (unread.now ≡ name)
 RefusesFile name old new (OverLimit over limit) = IsOverLimit (old.held name) CONFIG_LIMIT

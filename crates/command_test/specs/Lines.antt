@@ -27,7 +27,8 @@ pass_line name = codes "pass " ++ (quoted name ++ 10 ∷ [])
 -- the first expectation that is not met is of the notice, and its items differ first at the number
 abbrev pub fail_line : List ℕ → List ℕ → ℕ → List ℕ
 fail_line name notice number =
-    codes "fail " ++ (quoted name ++ (codes ": notice " ++ (quoted notice ++ (codes " number " ++ (decimal number ++ 10 ∷ [])))))
+    codes "fail "
+    ++ (quoted name ++ (codes ": notice " ++ (quoted notice ++ (codes " number " ++ (decimal number ++ 10 ∷ [])))))
 
 -- the line of the verdict on the test of this name
 abbrev pub verdict_line : List ℕ → Verdict → List ℕ

@@ -83,7 +83,8 @@ pub record FailsToShow (core : CoreConfig) (test : Test) (old new : SinkReport) 
 
 -- why the run stopped at the test: a pattern was refused, or its line was not written, or memory ran out
 abbrev pub StopsAt : Config → Test → Stop → RunReport → RunReport → Type 0
-StopsAt config test (Pattern number) old new = IsRefusedPattern (plan_patterns config.plan) number old.patterns new.patterns × (new.out ≡ old.out)
+StopsAt config test (Pattern number) old new =
+    IsRefusedPattern (plan_patterns config.plan) number old.patterns new.patterns × (new.out ≡ old.out)
 StopsAt config test Write old new = FailsToShow (core_of config) test old.out new.out × (new.patterns ≡ old.patterns)
 StopsAt config test Memory old new = new ≡ old
 
@@ -102,9 +103,12 @@ pub record StopsRun (config : Config) (tests : List Test) (stop : Stop) (old new
 -- ---- how a run ends
 
 abbrev pub RunEnds : Config → List Test → RunReport → RunReport → TestsEnding → Type 0
-RunEnds config tests old new (Shared Finished) = Judges (core_of config) tests old.out new.out × AllPass (core_of config) tests × (new.patterns ≡ old.patterns)
-RunEnds config tests old new Differed = Judges (core_of config) tests old.out new.out × (AllPass (core_of config) tests → ⊥) × (new.patterns ≡ old.patterns)
-RunEnds config tests old new (Shared (ConfigRefused (refusal.Pattern number))) = StopsRun config tests (Pattern number) old new
+RunEnds config tests old new (Shared Finished) =
+    Judges (core_of config) tests old.out new.out × AllPass (core_of config) tests × (new.patterns ≡ old.patterns)
+RunEnds config tests old new Differed =
+    Judges (core_of config) tests old.out new.out × (AllPass (core_of config) tests → ⊥) × (new.patterns ≡ old.patterns)
+RunEnds config tests old new (Shared (ConfigRefused (refusal.Pattern number))) =
+    StopsRun config tests (Pattern number) old new
 RunEnds config tests old new (Shared WriteFailed) = StopsRun config tests Write old new
 RunEnds config tests old new (Shared OutOfMemory) = StopsRun config tests Memory old new
 RunEnds config tests old new _ = ⊥

@@ -34,7 +34,8 @@ abbrev pub TestsEnd : List ℕ → List ℕ → StoreReport → StoreReport → 
 TestsEnd config tests store store' old new ending =
     (RefusesConfig config store store' ending × (new ≡ old) × ReadsOnce [] config store.reads store'.reads ending)
     ⊎ ((read : Configuration) × HasConfig (store.held config) read
-    × ReadsOnce (good_read config ∷ []) tests store.reads store'.reads ending × SuiteEnds read tests store store' old new ending)
+    × ReadsOnce (good_read config ∷ []) tests store.reads store'.reads ending
+    × SuiteEnds read tests store store' old new ending)
 
 -- the status of a command that ran all tests, or ran out of memory
 abbrev pub HasShown : CoreConfig → List Test → Status → Type 0
@@ -43,8 +44,8 @@ HasShown core tests Verdict = AllPass core tests → ⊥
 HasShown core tests Memory = Unit {0}
 HasShown core tests _ = ⊥
 
--- With both files within their limits, a configuration and tests, no fault and no pattern refused, the status says whether
--- all tests pass, or memory runs out.
+-- With both files within their limits, a configuration and tests, no fault and no pattern refused, the status says
+-- whether all tests pass, or memory runs out.
 abbrev pub TestsComplete : List ℕ → List ℕ → Reports → Reports → Status → Type 0
 TestsComplete config tests old new status = (text lines : List ℕ) (read : Configuration) (given : List Test)
     → IsHeld (old.store.held config) text → IsConfigOf text read → length text ≤ CONFIG_LIMIT
@@ -53,7 +54,8 @@ TestsComplete config tests old new status = (text lines : List ℕ) (read : Conf
     → IsStill old.patterns.refusals new.patterns.refusals → HasShown (core_of read) given status
 
 -- `Unasked` is that no pattern was asked for, and `Untouched` that the output is as it was.
-pub record RunsTests (config tests : List ℕ) (old new : Reports) (Unasked Untouched : Type 0) (status : Status) : Type 0 where
+pub record RunsTests (config tests : List ℕ) (old new : Reports) (Unasked Untouched : Type 0)
+    (status : Status) : Type 0 where
   -- how it ended, as the status and the line on the error stream say
   pub ending : TestsEnding
   pub ended : status ≡ status_of ending

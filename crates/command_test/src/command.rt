@@ -21,11 +21,11 @@ use pred_eval::Patterns;
 use std::alloc::Global;
 use step_count::{Ledger, Steps};
 
-/// Carries out `test CONFIG TESTS`: it runs the tests of the second file, in order, with the configuration of the first,
-/// and writes a line for each to `out`, in one put each, once it was run.
+/// Carries out `test CONFIG TESTS`: it runs the tests of the second file, in order, with the configuration of the
+/// first, and writes a line for each to `out`, in one put each, once it was run.
 ///
-/// The line of a test is `pass "t"`, or `fail "t": notice "c" number 1` with the name of the first expectation that is not
-/// met, and the number, from 0, of the first item of it that differs. The configuration is read anew for each test.
+/// The line of a test is `pass "t"`, or `fail "t": notice "c" number 1` with the name of the first expectation that is
+/// not met, and the number, from 0, of the first item of it that differs. The configuration is read anew for each test.
 ///
 /// | Status | When | Line on `err` |
 /// |---|---|---|
@@ -38,8 +38,8 @@ use step_count::{Ledger, Steps};
 /// | `TooLong` | one of them has over `command_io::CONFIG_LIMIT` bytes | yes |
 /// | `Memory` | out of memory; `out` may have got lines | yes |
 ///
-/// Both files are read before the first test is run, the configuration first. A write of the line on `err` that fails cuts
-/// it, and does not change the status.
+/// Both files are read before the first test is run, the configuration first. A write of the line on `err` that fails
+/// cuts it, and does not change the status.
 pub fn run_tests<S: Store, O: Sink, E: Sink, P: Patterns, G: Ledger>(
     alloc: Global,
     config: &Text,

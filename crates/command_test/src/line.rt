@@ -9,8 +9,8 @@ use notice_sink::put_quoted;
 use std::alloc::Global;
 use stream_tests::Verdict;
 
-/// The line of the verdict on the test of this name: `pass "t"`, or `fail "t": notice "c" number 1`. Names are quoted as
-/// in the lines of notices.
+/// The line of the verdict on the test of this name: `pass "t"`, or `fail "t": notice "c" number 1`. Names are quoted
+/// as in the lines of notices.
 pub(crate) fn verdict_line(alloc: Global, name: &Text, verdict: &Verdict) -> Result<Blob, Memory>
     ensures { IfOk result (λ line. line ≡ verdict_line name.now verdict.now) }
 {

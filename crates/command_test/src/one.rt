@@ -25,8 +25,8 @@ use std::alloc::Global;
 use step_count::{Ledger, Steps};
 use stream_tests::{RunFault, Test, Verdict, run_test};
 
-/// Runs the test with the configuration that the text is, and writes the line of the verdict in one put. Whether the test
-/// passed.
+/// Runs the test with the configuration that the text is, and writes the line of the verdict in one put. Whether the
+/// test passed.
 pub(crate) fn run_one<O: Sink, P: Patterns, G: Ledger>(
     alloc: Global,
     config: &[u8],

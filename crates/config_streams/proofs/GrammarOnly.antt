@@ -1,5 +1,6 @@
 -- What is read as a stream is one of the grammar.
-use Rattle.std.proofs.Common.{◌≡◌, ℕ, zero, suc, Bool, true, false, ◌||◌, codes, List, [], ◌∷◌, drop, Option, Some, None, Ok, refl, ap, sym, subst, ◌∙◌}
+use Rattle.std.proofs.Common.{◌≡◌, ℕ, zero, suc, Bool, true, false, ◌||◌, codes, List, [], ◌∷◌, drop, Option, Some}
+use Rattle.std.proofs.Common.{None, Ok, refl, ap, sym, subst, ◌∙◌}
 use Rattle.std.proofs.lemmas.Slice.Eq.{bytes_eq-Decides}
 use Rattle.std.specs.Str.{bytes_eq}
 use Rattle.sexp_read.specs.declared.piece.Atom.TheVariants as atom
@@ -22,10 +23,15 @@ use Rattle.config_terms.proofs.Outcomes.{OkGood, SomeGood, bind_good, weaker, ok
 use Rattle.config_streams.specs.Kinds.{kind_of, leads}
 use Rattle.config_streams.specs.Sources.{SourceTree}
 use Rattle.config_streams.specs.Streams as read
-use Rattle.config_streams.specs.Streams.{Located, Below, nothing, Part, One, Rest, with_child, with_part, next_place, Readings, symbol_by, followed, else_part, is_else, is_where, is_where_in, is_by_in, stream_of, part_at, parts_in, all_read}
-use Rattle.config_streams.specs.Grammar.{and_then, IsKind, IsStream, index_word, index_name, index_list, notice, passing, where_else, AreStreams, no_streams, more_streams, with_streams, AreThose, OnlyStreamsAreRead}
+use Rattle.config_streams.specs.Streams.{Located, Below, nothing, Part, One, Rest, with_child, with_part, next_place}
+use Rattle.config_streams.specs.Streams.{Readings, symbol_by, followed, else_part, is_else, is_where, is_where_in}
+use Rattle.config_streams.specs.Streams.{is_by_in, stream_of, part_at, parts_in, all_read}
+use Rattle.config_streams.specs.Grammar.{and_then, IsKind, IsStream, index_word, index_name, index_list, notice}
+use Rattle.config_streams.specs.Grammar.{passing, where_else, AreStreams, no_streams, more_streams, with_streams}
+use Rattle.config_streams.specs.Grammar.{AreThose, OnlyStreamsAreRead}
 use Rattle.config_streams.proofs.KindsRead.{word_read, kind_passes, kind_forks}
-use Rattle.config_streams.proofs.KindsOnly.{Starts, start_index, start_notice, start_kind, Known, Divides, kind_means, Spells, word_spells}
+use Rattle.config_streams.proofs.KindsOnly.{Starts, start_index, start_notice, start_kind, Known, Divides, kind_means}
+use Rattle.config_streams.proofs.KindsOnly.{Spells, word_spells}
 use Rattle.config_streams.proofs.GrammarRead.{with_none, with_more}
 use Rattle.config_streams.proofs.StreamLaws.{parts_later}
 

@@ -1,5 +1,6 @@
 -- Streams of the grammar are read.
-use Rattle.std.proofs.Common.{◌≡◌, ℕ, Bool, true, false, ◌||◌, codes, List, [], ◌∷◌, drop, Option, Some, None, Result, Ok, refl, ap, sym, ◌∙◌}
+use Rattle.std.proofs.Common.{◌≡◌, ℕ, Bool, true, false, ◌||◌, codes, List, [], ◌∷◌, drop, Option, Some, None, Result}
+use Rattle.std.proofs.Common.{Ok, refl, ap, sym, ◌∙◌}
 use Rattle.pred_eval.specs.Tree.{Tree}
 use Rattle.sexp_read.specs.declared.piece.Atom.TheVariants as atom
 use Rattle.sexp_read.specs.declared.piece.Bracket.TheVariants.{Round}
@@ -24,8 +25,12 @@ use Rattle.config_streams.specs.Kinds.{is_map, is_map_in, is_number, is_number_i
 use Rattle.config_streams.specs.Sources.{SourceTree, SourceTrees, source}
 use Rattle.config_streams.specs.Sources as sources
 use Rattle.config_streams.specs.Streams as read
-use Rattle.config_streams.specs.Streams.{Located, Below, nothing, Part, One, Rest, with_stream, with_child, Readings, symbol_by, followed, else_part, is_else, is_where_in, is_by_in, part_at, parts_in, all_read}
-use Rattle.config_streams.specs.Grammar.{and_then, IsKind, IsStream, index_word, index_name, index_list, notice, passing, where_else, AreStreams, no_streams, more_streams, with_streams, IsGrown, StreamsAreRead}
+use Rattle.config_streams.specs.Streams.{Located, Below, nothing, Part, One, Rest, with_stream, with_child, Readings}
+use Rattle.config_streams.specs.Streams.{symbol_by, followed, else_part, is_else, is_where_in, is_by_in, part_at}
+use Rattle.config_streams.specs.Streams.{parts_in, all_read}
+use Rattle.config_streams.specs.Grammar.{and_then, IsKind, IsStream, index_word, index_name, index_list, notice}
+use Rattle.config_streams.specs.Grammar.{passing, where_else, AreStreams, no_streams, more_streams, with_streams}
+use Rattle.config_streams.specs.Grammar.{IsGrown, StreamsAreRead}
 use Rattle.config_streams.proofs.KindsRead.{rule_is, text_is, word_read, IsPlainRow, kind_read, kind_passes, kind_forks}
 use Rattle.config_streams.proofs.StreamLaws.{parts_more}
 

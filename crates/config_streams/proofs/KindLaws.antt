@@ -1,5 +1,6 @@
 -- Kinds of streams, by what is in their forms.
-use Rattle.std.proofs.Common.{◌≡◌, ◌≢◌, ◌<◌, ◌+◌, take, get_or, ℕ, List, [], ◌∷◌, ◌++◌, length, Vec, Global, Bool, Option, Some, None, Result, Ok, refl, ap, sym, ◌∙◌, arith}
+use Rattle.std.proofs.Common.{◌≡◌, ◌≢◌, ◌<◌, ◌+◌, take, get_or, ℕ, List, [], ◌∷◌, ◌++◌, length, Vec, Global, Bool}
+use Rattle.std.proofs.Common.{Option, Some, None, Result, Ok, refl, ap, sym, ◌∙◌, arith}
 use Rattle.std.specs.Option.{is_some}
 use Rattle.ev_types.specs.declared.settings.Fold.{Fold}
 use Rattle.ev_types.specs.declared.settings.Set.{Set}
@@ -15,7 +16,8 @@ use Rattle.sexp_read.specs.Tree.{FormTree, FormTrees, Single, Group, none, also}
 use Rattle.config_terms.specs.Steps.{Fault, ◌>>=◌, start_of, nth, argument}
 use Rattle.config_terms.specs.Words.{fold_word}
 use Rattle.config_terms.specs.Arguments.{Env, sets_from}
-use Rattle.config_streams.specs.Kinds.{is_map, one_set, sets_by, sets_of, init_of, init_by, some_init, some_idle, idle_by, idle_of, fold_named, tag_rules, all_tagged}
+use Rattle.config_streams.specs.Kinds.{is_map, one_set, sets_by, sets_of, init_of, init_by, some_init, some_idle}
+use Rattle.config_streams.specs.Kinds.{idle_by, idle_of, fold_named, tag_rules, all_tagged}
 use Rattle.std.proofs.lemmas.List.{take_more}
 use Rattle.config_terms.specs.Rules.{with_rule}
 use Rattle.config_terms.proofs.RuleLaws.{rule_pushed}

@@ -1,5 +1,6 @@
 -- The arguments of which a kind of stream is read are those of the grammar.
-use Rattle.std.proofs.Common.{◌≡◌, ℕ, ℤ, Bool, true, false, not, codes, List, [], ◌∷◌, if◌then◌else◌, Option, Some, None, Result, Ok, Err, refl, ap, sym, ◌∙◌, subst, arith}
+use Rattle.std.proofs.Common.{◌≡◌, ℕ, ℤ, Bool, true, false, not, codes, List, [], ◌∷◌, if◌then◌else◌, Option, Some}
+use Rattle.std.proofs.Common.{None, Result, Ok, Err, refl, ap, sym, ◌∙◌, subst, arith}
 use Rattle.std.proofs.lemmas.Slice.Eq.{bytes_eq-Decides}
 use Rattle.std.specs.Str.{bytes_eq}
 use Rattle.ev_types.specs.declared.field.Field.{Field}
@@ -21,11 +22,14 @@ use Rattle.config_terms.specs.declared.word.StreamWord.{StreamWord}
 use Rattle.config_terms.specs.declared.word.StreamWord.TheVariants as word
 use Rattle.config_terms.specs.Code.{later}
 use Rattle.config_terms.specs.Steps.{Fault, ◌>>=◌, start_of, nth, argument}
-use Rattle.config_terms.specs.Words.{stream_text, stream_word, passing_word, choosing_or_gathering_word, window_or_test_word, fold_word, init_text}
-use Rattle.config_terms.specs.Arguments.{Env, text_at, number_at, field_at, value_at, texts_at, fields_at, some_of, set_at, sets_from, one_entry, idle_in}
+use Rattle.config_terms.specs.Words.{stream_text, stream_word, passing_word, choosing_or_gathering_word}
+use Rattle.config_terms.specs.Words.{window_or_test_word, fold_word, init_text}
+use Rattle.config_terms.specs.Arguments.{Env, text_at, number_at, field_at, value_at, texts_at, fields_at, some_of}
+use Rattle.config_terms.specs.Arguments.{set_at, sets_from, one_entry, idle_in}
 use Rattle.config_terms.specs.Rules.{rule_at}
 use Rattle.config_terms.specs.Grammar.{symbol, IsLiteral, IsPredicate}
-use Rattle.config_terms.specs.Terms.{map_of, IsField, IsTexts, IsFields, IsSet, AreSets, IsInit, IsRanged, a_ranged, IsIdle, an_idle}
+use Rattle.config_terms.specs.Terms.{map_of, IsField, IsTexts, IsFields, IsSet, AreSets, IsInit, IsRanged, a_ranged}
+use Rattle.config_terms.specs.Terms.{IsIdle, an_idle}
 use Rattle.config_terms.proofs.GrammarLaws.{predicates_are_those}
 use Rattle.config_terms.proofs.Outcomes.{OkGood, SomeGood, Any_, bind_good, any_good, weaker, some_if, some_or}
 use Rattle.config_terms.proofs.TermLaws.{texts_are_read, numbers_are_read, fields_are_read}
@@ -33,9 +37,17 @@ use Rattle.config_terms.proofs.VectorLaws.{ranges_are_read, text_vectors_are_rea
 use Rattle.config_terms.proofs.SetLaws.{sets_are_read, set_maps_are_read, inits_are_read}
 use Rattle.config_terms.proofs.IdleLaws.{idles_are_read}
 use Rattle.stream_plan.specs.declared.kinds.TheConstants.{MAX_COUNT, MAX_SECS}
-use Rattle.config_streams.specs.Kinds.{count_at, secs_at, is_map, is_map_in, one_set, sets_of, some_init, init_of, most_idle, some_idle, idle_of, by_kind, fold_by, fold_named, fold_at, has_secs, coalesce_secs, all_tagged, tagged_kind, one_argument, two_arguments, order_kind, changed_kind, window_or_test_kind, choosing_or_gathering_kind, kind_of, leads, two_if, one_if}
+use Rattle.config_streams.specs.Kinds.{count_at, secs_at, is_map, is_map_in, one_set, sets_of, some_init, init_of}
+use Rattle.config_streams.specs.Kinds.{most_idle, some_idle, idle_of, by_kind, fold_by, fold_named, fold_at, has_secs}
+use Rattle.config_streams.specs.Kinds.{coalesce_secs, all_tagged, tagged_kind, one_argument, two_arguments, order_kind}
+use Rattle.config_streams.specs.Kinds.{changed_kind, window_or_test_kind, choosing_or_gathering_kind, kind_of, leads}
+use Rattle.config_streams.specs.Kinds.{two_if, one_if}
 use Rattle.config_streams.specs.Streams.{is_where}
-use Rattle.config_streams.specs.Grammar.{IsCount, AreSecs, IsFold, sum, minimum, maximum, counted, and_then, IsKind, sdo, where_, with_one, with_all, default_one, default_all, tagging, by, by_idle, changed, changed_from, runs, throttle, rollup, batch, stable, fixed_event, moving_event, fixed_time, moving_time, coalesce, coalesce_every, smap, expired, tagged, over, under}
+use Rattle.config_streams.specs.Grammar.{IsCount, AreSecs, IsFold, sum, minimum, maximum, counted, and_then, IsKind}
+use Rattle.config_streams.specs.Grammar.{sdo, where_, with_one, with_all, default_one, default_all, tagging, by}
+use Rattle.config_streams.specs.Grammar.{by_idle, changed, changed_from, runs, throttle, rollup, batch, stable}
+use Rattle.config_streams.specs.Grammar.{fixed_event, moving_event, fixed_time, moving_time, coalesce, coalesce_every}
+use Rattle.config_streams.specs.Grammar.{smap, expired, tagged, over, under}
 use Rattle.config_streams.proofs.KindsRead.{all_tags_are}
 
 -- ---- arguments

@@ -1,5 +1,6 @@
 -- What the grammar says of a stream's word and arguments is read.
-use Rattle.std.proofs.Common.{◌≡◌, ℕ, ℤ, pos, Bool, true, false, codes, List, [], ◌∷◌, drop, Option, Some, None, Result, Ok, refl, ap, sym, subst, ◌∙◌}
+use Rattle.std.proofs.Common.{◌≡◌, ℕ, ℤ, pos, Bool, true, false, codes, List, [], ◌∷◌, drop, Option, Some, None, Result}
+use Rattle.std.proofs.Common.{Ok, refl, ap, sym, subst, ◌∙◌}
 use Rattle.ev_types.specs.declared.field.Field.{Field}
 use Rattle.ev_types.specs.declared.field.Field.TheVariants as field
 use Rattle.ev_types.specs.declared.settings.Fold.{Fold}
@@ -25,11 +26,14 @@ use Rattle.config_terms.specs.declared.word.StreamWord.{StreamWord}
 use Rattle.config_terms.specs.declared.word.StreamWord.TheVariants as word
 use Rattle.config_terms.specs.Code.{map_in}
 use Rattle.config_terms.specs.Steps.{Fault, ◌>>=◌, start_of, nth, argument}
-use Rattle.config_terms.specs.Words.{stream_text, stream_word, passing_word, choosing_or_gathering_word, window_or_test_word, fold_text, fold_word, init_text}
-use Rattle.config_terms.specs.Arguments.{Env, text_at, number_at, field_at, value_at, ranged_at, texts_at, fields_at, set_at, sets_from, one_entry, idle_in}
+use Rattle.config_terms.specs.Words.{stream_text, stream_word, passing_word, choosing_or_gathering_word}
+use Rattle.config_terms.specs.Words.{window_or_test_word, fold_text, fold_word, init_text}
+use Rattle.config_terms.specs.Arguments.{Env, text_at, number_at, field_at, value_at, ranged_at, texts_at, fields_at}
+use Rattle.config_terms.specs.Arguments.{set_at, sets_from, one_entry, idle_in}
 use Rattle.config_terms.specs.Rules.{rule_at}
 use Rattle.config_terms.specs.Grammar.{IsLiteral, a_text, a_pattern, a_number, a_keyword, a_name, IsPredicate, all_of}
-use Rattle.config_terms.specs.Terms.{map_of, IsRanged, a_ranged, IsField, a_field, IsTexts, IsFields, IsSet, AreSets, IsInit, IsIdle}
+use Rattle.config_terms.specs.Terms.{map_of, IsRanged, a_ranged, IsField, a_field, IsTexts, IsFields, IsSet, AreSets}
+use Rattle.config_terms.specs.Terms.{IsInit, IsIdle}
 use Rattle.config_terms.proofs.BareForms.{IsSingle, single_of, group_of, also_of}
 use Rattle.config_terms.proofs.GrammarLaws.{predicates_are_those}
 use Rattle.config_terms.proofs.GrammarRead.{literal_read}
@@ -37,9 +41,17 @@ use Rattle.config_terms.proofs.TermLaws.{texts_are_read, numbers_are_read, field
 use Rattle.config_terms.proofs.VectorLaws.{ranges_are_read, text_vectors_are_read, field_vectors_are_read}
 use Rattle.config_terms.proofs.SetLaws.{sets_are_read, set_maps_are_read, inits_are_read}
 use Rattle.config_terms.proofs.IdleLaws.{idles_are_read}
-use Rattle.config_streams.specs.Kinds.{count_at, secs_at, is_map, is_map_in, is_number_in, one_set, sets_of, some_init, init_by, init_of, some_idle, idle_by, idle_of, by_kind, fold_by, fold_named, fold_at, has_secs, coalesce_secs, tag_rules, all_tagged, tagged_kind, one_argument, two_arguments, order_kind, changed_kind, window_or_test_kind, choosing_or_gathering_kind, kind_of, leads}
+use Rattle.config_streams.specs.Kinds.{count_at, secs_at, is_map, is_map_in, is_number_in, one_set, sets_of, some_init}
+use Rattle.config_streams.specs.Kinds.{init_by, init_of, some_idle, idle_by, idle_of, by_kind, fold_by, fold_named}
+use Rattle.config_streams.specs.Kinds.{fold_at, has_secs, coalesce_secs, tag_rules, all_tagged, tagged_kind}
+use Rattle.config_streams.specs.Kinds.{one_argument, two_arguments, order_kind, changed_kind, window_or_test_kind}
+use Rattle.config_streams.specs.Kinds.{choosing_or_gathering_kind, kind_of, leads}
 use Rattle.config_streams.specs.Streams.{part_at, parts_in, is_else, is_by_in}
-use Rattle.config_streams.specs.Grammar.{IsCount, AreSecs, IsFold, sum, minimum, maximum, counted, each_tag, and_then, IsKind, sdo, where_, with_one, with_all, default_one, default_all, tagging, by, by_idle, changed, changed_from, runs, throttle, rollup, batch, stable, fixed_event, moving_event, fixed_time, moving_time, coalesce, coalesce_every, smap, expired, tagged, over, under}
+use Rattle.config_streams.specs.Grammar.{IsCount, AreSecs, IsFold, sum, minimum, maximum, counted, each_tag, and_then}
+use Rattle.config_streams.specs.Grammar.{IsKind, sdo, where_, with_one, with_all, default_one, default_all, tagging, by}
+use Rattle.config_streams.specs.Grammar.{by_idle, changed, changed_from, runs, throttle, rollup, batch, stable}
+use Rattle.config_streams.specs.Grammar.{fixed_event, moving_event, fixed_time, moving_time, coalesce, coalesce_every}
+use Rattle.config_streams.specs.Grammar.{smap, expired, tagged, over, under}
 use Rattle.config_streams.proofs.KindLaws.{no_map_of_sets}
 
 -- ---- arguments

@@ -1,5 +1,6 @@
 -- Streams and their places, at the values that the code makes.
-use Rattle.std.proofs.Common.{◌≡◌, ℕ, zero, suc, Bool, ◌||◌, List, [], ◌∷◌, ◌++◌, drop, Vec, Global, Option, Result, Ok, Err, refl, ap, sym, ◌∙◌}
+use Rattle.std.proofs.Common.{◌≡◌, ℕ, zero, suc, Bool, ◌||◌, List, [], ◌∷◌, ◌++◌, drop, Vec, Global, Option, Result, Ok}
+use Rattle.std.proofs.Common.{Err, refl, ap, sym, ◌∙◌}
 use Rattle.sexp_read.specs.declared.piece.Atom.TheVariants as atom
 use Rattle.sexp_read.specs.declared.piece.Bracket.TheVariants.{Round, Square, Curly}
 use Rattle.sexp_read.specs.Tree.{FormTree, FormTrees, Single, Group, none, also}
@@ -9,7 +10,9 @@ use Rattle.stream_plan.specs.Search.{opened}
 use Rattle.stream_plan.specs.Tree.{KindTree, StreamTree, stream, StreamTrees, kind_tree, stream_tree, list_trees}
 use Rattle.stream_plan.specs.Tree as plan
 use Rattle.stream_plan.proofs.Trees.{stream_tree-opened}
-use Rattle.config_streams.specs.declared.source.Source.{Source, Row_of-Source, end_of-Source, more_of-Source, out-Source, is-Source', items-the_row-Source, items_hidden-the_row-Source-0}
+use Rattle.config_streams.specs.declared.source.Source.{Source, Row_of-Source, end_of-Source, more_of-Source}
+use Rattle.config_streams.specs.declared.source.Source.{out-Source, is-Source', items-the_row-Source}
+use Rattle.config_streams.specs.declared.source.Source.{items_hidden-the_row-Source-0}
 use Rattle.config_streams.specs.declared.source.Source.TheBlock.{hidden-the_row-Source-0}
 use Rattle.config_terms.specs.declared.fault.ConfigWhy.TheVariants as why
 use Rattle.config_terms.specs.Steps.{Fault, start_of}
@@ -17,7 +20,8 @@ use Rattle.config_terms.specs.Words.{stream_word}
 use Rattle.config_terms.specs.Arguments.{Env, bound_value}
 use Rattle.config_streams.specs.Sources.{SourceTree, SourceTrees, source, with_source}
 use Rattle.config_streams.specs.Sources as sources
-use Rattle.config_streams.specs.Streams.{Below, Part, next_place, with_stream, with_part, all_read, is_where_in, is_by_in, symbol_by, worded, part_at, parts_in}
+use Rattle.config_streams.specs.Streams.{Below, Part, next_place, with_stream, with_part, all_read, is_where_in}
+use Rattle.config_streams.specs.Streams.{is_by_in, symbol_by, worded, part_at, parts_in}
 use Rattle.config_terms.specs.Code.{Look, Symbol, Call, Lookup, Other, look_of, later, next_of}
 use Rattle.config_streams.specs.Made.{source_tree, source_trees, source_list}
 

@@ -1,6 +1,6 @@
--- The grammar of streams, as a relation: which forms, apart from their places, represent which streams. Each case belongs
--- to a row of the table in docs/CONFIGURATIONS.md. That a stream takes what comes to it, and how many streams there are,
--- is said of whole plans (`stream_plan`).
+-- The grammar of streams, as a relation: which forms, apart from their places, represent which streams. Each case
+-- belongs to a row of the table in docs/CONFIGURATIONS.md. That a stream takes what comes to it, and how many streams
+-- there are, is said of whole plans (`stream_plan`).
 use Rattle.std.specs.Prelude.{◌≡◌, ℕ, ℤ, Bool, false, ◌||◌, List, [], ◌∷◌, codes, Some, None, Ok}
 use Rattle.ev_types.specs.declared.field.Field.{Field}
 use Rattle.ev_types.specs.declared.field.Field.TheVariants as field
@@ -53,56 +53,93 @@ and_then (and_trees form forms) others = and_trees form (and_then forms others)
 
 -- ---- streams
 
--- A list that begins with the word and these arguments is a stream of the kind, and streams follow. The truth value says
--- whether it is below a `by`: there a `by` has no `idle`.
+-- A list that begins with the word and these arguments is a stream of the kind, and streams follow. The truth value
+-- says whether it is below a `by`: there a `by` has no `idle`.
 pub data IsKind : Bool → Env → List ℕ → BareTrees → KindTree → Type 0 where
   sdo : {in_fork : Bool} {env : Env} → IsKind in_fork env (codes "sdo") no_trees kind.Sdo
-  where_ : {in_fork : Bool} {env : Env} {p : BareTree} {rule : Tree} → IsPredicate env p rule → IsKind in_fork env (codes "where") (listed (p ∷ [])) (kind.Where rule)
-  with_one : {in_fork : Bool} {env : Env} {f v : BareTree} {one : Field} {set : Set} → IsField env f one → IsSet env one v set → IsKind in_fork env (codes "with") (listed (f ∷ v ∷ [])) (kind.With (set ∷ []))
-  with_all : {in_fork : Bool} {env : Env} {entries : BareTrees} {sets : List Set} → AreSets env entries sets → IsKind in_fork env (codes "with") (listed (map_of entries ∷ [])) (kind.With sets)
-  default_one : {in_fork : Bool} {env : Env} {f v : BareTree} {one : Field} {set : Set} → IsField env f one → IsSet env one v set → IsKind in_fork env (codes "default") (listed (f ∷ v ∷ [])) (kind.Default (set ∷ []))
-  default_all : {in_fork : Bool} {env : Env} {entries : BareTrees} {sets : List Set} → AreSets env entries sets → IsKind in_fork env (codes "default") (listed (map_of entries ∷ [])) (kind.Default sets)
-  tagging : {in_fork : Bool} {env : Env} {x : BareTree} {tags : List (List ℕ)} → IsTexts env x tags → IsKind in_fork env (codes "tag") (listed (x ∷ [])) (kind.Tag tags)
-  by : {in_fork : Bool} {env : Env} {f : BareTree} {fields : List Field} → IsFields env f fields → IsKind in_fork env (codes "by") (listed (f ∷ [])) (kind.By fields None)
-  by_idle : {env : Env} {f : BareTree} {entries : BareTrees} {fields : List Field} {secs : ℕ} → IsFields env f fields → IsIdle MAX_SECS env entries secs
+  where_ : {in_fork : Bool} {env : Env} {p : BareTree} {rule : Tree} → IsPredicate env p rule
+      → IsKind in_fork env (codes "where") (listed (p ∷ [])) (kind.Where rule)
+  with_one : {in_fork : Bool} {env : Env} {f v : BareTree} {one : Field} {set : Set} → IsField env f one
+      → IsSet env one v set → IsKind in_fork env (codes "with") (listed (f ∷ v ∷ [])) (kind.With (set ∷ []))
+  with_all : {in_fork : Bool} {env : Env} {entries : BareTrees} {sets : List Set} → AreSets env entries sets
+      → IsKind in_fork env (codes "with") (listed (map_of entries ∷ [])) (kind.With sets)
+  default_one : {in_fork : Bool} {env : Env} {f v : BareTree} {one : Field} {set : Set} → IsField env f one
+      → IsSet env one v set → IsKind in_fork env (codes "default") (listed (f ∷ v ∷ [])) (kind.Default (set ∷ []))
+  default_all : {in_fork : Bool} {env : Env} {entries : BareTrees} {sets : List Set} → AreSets env entries sets
+      → IsKind in_fork env (codes "default") (listed (map_of entries ∷ [])) (kind.Default sets)
+  tagging : {in_fork : Bool} {env : Env} {x : BareTree} {tags : List (List ℕ)} → IsTexts env x tags
+      → IsKind in_fork env (codes "tag") (listed (x ∷ [])) (kind.Tag tags)
+  by : {in_fork : Bool} {env : Env} {f : BareTree} {fields : List Field} → IsFields env f fields
+      → IsKind in_fork env (codes "by") (listed (f ∷ [])) (kind.By fields None)
+  by_idle : {env : Env} {f : BareTree} {entries : BareTrees} {fields : List Field} {secs : ℕ} → IsFields env f fields
+      → IsIdle MAX_SECS env entries secs
       → IsKind false env (codes "by") (listed (f ∷ map_of entries ∷ [])) (kind.By fields (Some secs))
-  changed : {in_fork : Bool} {env : Env} {f : BareTree} {one : Field} → IsField env f one → IsKind in_fork env (codes "changed") (listed (f ∷ [])) (kind.Changed one None)
-  changed_from : {in_fork : Bool} {env : Env} {f : BareTree} {entries : BareTrees} {one : Field} {held : Value} → IsField env f one → IsInit env entries held
+  changed : {in_fork : Bool} {env : Env} {f : BareTree} {one : Field} → IsField env f one
+      → IsKind in_fork env (codes "changed") (listed (f ∷ [])) (kind.Changed one None)
+  changed_from : {in_fork : Bool} {env : Env} {f : BareTree} {entries : BareTrees} {one : Field} {held : Value}
+      → IsField env f one → IsInit env entries held
       → IsKind in_fork env (codes "changed") (listed (f ∷ map_of entries ∷ [])) (kind.Changed one (Some held))
-  runs : {in_fork : Bool} {env : Env} {n f : BareTree} {count : ℕ} {one : Field} → IsCount env n count → IsField env f one → IsKind in_fork env (codes "runs") (listed (n ∷ f ∷ [])) (kind.Runs count one)
-  throttle : {in_fork : Bool} {env : Env} {n dt : BareTree} {count secs : ℕ} → IsCount env n count → AreSecs env dt secs → IsKind in_fork env (codes "throttle") (listed (n ∷ dt ∷ [])) (kind.Throttle count secs)
-  rollup : {in_fork : Bool} {env : Env} {n dt : BareTree} {count secs : ℕ} → IsCount env n count → AreSecs env dt secs → IsKind in_fork env (codes "rollup") (listed (n ∷ dt ∷ [])) (kind.Rollup count secs)
-  batch : {in_fork : Bool} {env : Env} {n dt : BareTree} {count secs : ℕ} → IsCount env n count → AreSecs env dt secs → IsKind in_fork env (codes "batch") (listed (n ∷ dt ∷ [])) (kind.Batch count secs)
-  stable : {in_fork : Bool} {env : Env} {dt f : BareTree} {secs : ℕ} {one : Field} → AreSecs env dt secs → IsField env f one → IsKind in_fork env (codes "stable") (listed (dt ∷ f ∷ [])) (kind.Stable secs one)
-  fixed_event : {in_fork : Bool} {env : Env} {n : BareTree} {count : ℕ} → IsCount env n count → IsKind in_fork env (codes "fixed-event-window") (listed (n ∷ [])) (kind.FixedEvent count)
-  moving_event : {in_fork : Bool} {env : Env} {n : BareTree} {count : ℕ} → IsCount env n count → IsKind in_fork env (codes "moving-event-window") (listed (n ∷ [])) (kind.MovingEvent count)
-  fixed_time : {in_fork : Bool} {env : Env} {dt : BareTree} {secs : ℕ} → AreSecs env dt secs → IsKind in_fork env (codes "fixed-time-window") (listed (dt ∷ [])) (kind.FixedTime secs)
-  moving_time : {in_fork : Bool} {env : Env} {dt : BareTree} {secs : ℕ} → AreSecs env dt secs → IsKind in_fork env (codes "moving-time-window") (listed (dt ∷ [])) (kind.MovingTime secs)
+  runs : {in_fork : Bool} {env : Env} {n f : BareTree} {count : ℕ} {one : Field} → IsCount env n count
+      → IsField env f one → IsKind in_fork env (codes "runs") (listed (n ∷ f ∷ [])) (kind.Runs count one)
+  throttle : {in_fork : Bool} {env : Env} {n dt : BareTree} {count secs : ℕ} → IsCount env n count → AreSecs env dt secs
+      → IsKind in_fork env (codes "throttle") (listed (n ∷ dt ∷ [])) (kind.Throttle count secs)
+  rollup : {in_fork : Bool} {env : Env} {n dt : BareTree} {count secs : ℕ} → IsCount env n count → AreSecs env dt secs
+      → IsKind in_fork env (codes "rollup") (listed (n ∷ dt ∷ [])) (kind.Rollup count secs)
+  batch : {in_fork : Bool} {env : Env} {n dt : BareTree} {count secs : ℕ} → IsCount env n count → AreSecs env dt secs
+      → IsKind in_fork env (codes "batch") (listed (n ∷ dt ∷ [])) (kind.Batch count secs)
+  stable : {in_fork : Bool} {env : Env} {dt f : BareTree} {secs : ℕ} {one : Field} → AreSecs env dt secs
+      → IsField env f one → IsKind in_fork env (codes "stable") (listed (dt ∷ f ∷ [])) (kind.Stable secs one)
+  fixed_event : {in_fork : Bool} {env : Env} {n : BareTree} {count : ℕ} → IsCount env n count
+      → IsKind in_fork env (codes "fixed-event-window") (listed (n ∷ [])) (kind.FixedEvent count)
+  moving_event : {in_fork : Bool} {env : Env} {n : BareTree} {count : ℕ} → IsCount env n count
+      → IsKind in_fork env (codes "moving-event-window") (listed (n ∷ [])) (kind.MovingEvent count)
+  fixed_time : {in_fork : Bool} {env : Env} {dt : BareTree} {secs : ℕ} → AreSecs env dt secs
+      → IsKind in_fork env (codes "fixed-time-window") (listed (dt ∷ [])) (kind.FixedTime secs)
+  moving_time : {in_fork : Bool} {env : Env} {dt : BareTree} {secs : ℕ} → AreSecs env dt secs
+      → IsKind in_fork env (codes "moving-time-window") (listed (dt ∷ [])) (kind.MovingTime secs)
   coalesce : {in_fork : Bool} {env : Env} → IsKind in_fork env (codes "coalesce") no_trees (kind.Coalesce 1)
-  coalesce_every : {in_fork : Bool} {env : Env} {dt : BareTree} {secs : ℕ} → AreSecs env dt secs → IsKind in_fork env (codes "coalesce") (listed (dt ∷ [])) (kind.Coalesce secs)
-  smap : {in_fork : Bool} {env : Env} {f : BareTree} {fold : Fold} → IsFold f fold → IsKind in_fork env (codes "smap") (listed (f ∷ [])) (kind.Smap fold)
-  expired : {in_fork : Bool} {env : Env} → IsKind in_fork env (codes "expired") no_trees (kind.Where (Equal field.State (value.Text (codes "expired"))))
-  tagged : {in_fork : Bool} {env : Env} {x : BareTree} {tag : List ℕ} {tags : List (List ℕ)} → IsTexts env x (tag ∷ tags) → IsKind in_fork env (codes "tagged") (listed (x ∷ [])) (kind.Where (all_of (Tagged tag) (each_tag tags)))
-  over : {in_fork : Bool} {env : Env} {k : BareTree} {number : ℤ} → IsLiteral env k (bound.Number number) → IsKind in_fork env (codes "over") (listed (k ∷ [])) (kind.Where (Order field.Metric Greater number))
-  under : {in_fork : Bool} {env : Env} {k : BareTree} {number : ℤ} → IsLiteral env k (bound.Number number) → IsKind in_fork env (codes "under") (listed (k ∷ [])) (kind.Where (Order field.Metric Less number))
+  coalesce_every : {in_fork : Bool} {env : Env} {dt : BareTree} {secs : ℕ} → AreSecs env dt secs
+      → IsKind in_fork env (codes "coalesce") (listed (dt ∷ [])) (kind.Coalesce secs)
+  smap : {in_fork : Bool} {env : Env} {f : BareTree} {fold : Fold} → IsFold f fold
+      → IsKind in_fork env (codes "smap") (listed (f ∷ [])) (kind.Smap fold)
+  expired : {in_fork : Bool} {env : Env}
+      → IsKind in_fork env (codes "expired") no_trees (kind.Where (Equal field.State (value.Text (codes "expired"))))
+  tagged : {in_fork : Bool} {env : Env} {x : BareTree} {tag : List ℕ} {tags : List (List ℕ)}
+      → IsTexts env x (tag ∷ tags)
+      → IsKind in_fork env (codes "tagged") (listed (x ∷ [])) (kind.Where (all_of (Tagged tag) (each_tag tags)))
+  over : {in_fork : Bool} {env : Env} {k : BareTree} {number : ℤ} → IsLiteral env k (bound.Number number)
+      → IsKind in_fork env (codes "over") (listed (k ∷ [])) (kind.Where (Order field.Metric Greater number))
+  under : {in_fork : Bool} {env : Env} {k : BareTree} {number : ℤ} → IsLiteral env k (bound.Number number)
+      → IsKind in_fork env (codes "under") (listed (k ∷ [])) (kind.Where (Order field.Metric Less number))
 
 -- the truth value says whether it is below a `by`
 mutual
   pub data IsStream : Bool → Env → BareTree → StreamTree → Type 0 where
-    index_word : {in_fork : Bool} {env : Env} → bound_value (codes "index") env ≡ None → IsStream in_fork env (symbol (codes "index")) (stream kind.Index none none)
-    index_name : {in_fork : Bool} {env : Env} {name : List ℕ} → bound_value name env ≡ Some bound.Index → IsStream in_fork env (symbol name) (stream kind.Index none none)
-    index_list : {in_fork : Bool} {env : Env} → IsStream in_fork env (worded (codes "index") no_trees) (stream kind.Index none none)
-    notice : {in_fork : Bool} {env : Env} {x : BareTree} {name : List ℕ} → IsLiteral env x (bound.Text name) → IsStream in_fork env (worded (codes "notice") (listed (x ∷ []))) (stream (kind.Notice name) none none)
-    passing : {in_fork : Bool} {env : Env} {word : List ℕ} {arguments forms : BareTrees} {one : KindTree} {children : StreamTrees} → IsKind in_fork env word arguments one → AreStreams (is_by one || in_fork) env forms children
+    index_word : {in_fork : Bool} {env : Env} → bound_value (codes "index") env ≡ None
+        → IsStream in_fork env (symbol (codes "index")) (stream kind.Index none none)
+    index_name : {in_fork : Bool} {env : Env} {name : List ℕ} → bound_value name env ≡ Some bound.Index
+        → IsStream in_fork env (symbol name) (stream kind.Index none none)
+    index_list : {in_fork : Bool} {env : Env}
+        → IsStream in_fork env (worded (codes "index") no_trees) (stream kind.Index none none)
+    notice : {in_fork : Bool} {env : Env} {x : BareTree} {name : List ℕ} → IsLiteral env x (bound.Text name)
+        → IsStream in_fork env (worded (codes "notice") (listed (x ∷ []))) (stream (kind.Notice name) none none)
+    passing : {in_fork : Bool} {env : Env} {word : List ℕ} {arguments forms : BareTrees} {one : KindTree}
+        {children : StreamTrees} → IsKind in_fork env word arguments one
+        → AreStreams (is_by one || in_fork) env forms children
         → IsStream in_fork env (worded word (and_then arguments forms)) (stream one children none)
     -- `else` comes last
-    where_else : {in_fork : Bool} {env : Env} {p : BareTree} {rule : Tree} {forms rest : BareTrees} {children otherwise : StreamTrees} → IsPredicate env p rule → AreStreams in_fork env forms children → AreStreams in_fork env rest otherwise
-        → IsStream in_fork env (worded (codes "where") (and_trees p (and_then forms (listed (worded (codes "else") rest ∷ []))))) (stream (kind.Where rule) children otherwise)
+    where_else : {in_fork : Bool} {env : Env} {p : BareTree} {rule : Tree} {forms rest : BareTrees}
+        {children otherwise : StreamTrees} → IsPredicate env p rule → AreStreams in_fork env forms children
+        → AreStreams in_fork env rest otherwise
+        → IsStream in_fork env
+        (worded (codes "where") (and_trees p (and_then forms (listed (worded (codes "else") rest ∷ [])))))
+        (stream (kind.Where rule) children otherwise)
 
   -- streams in a row
   pub data AreStreams : Bool → Env → BareTrees → StreamTrees → Type 0 where
     no_streams : {in_fork : Bool} {env : Env} → AreStreams in_fork env no_trees none
-    more_streams : {in_fork : Bool} {env : Env} {form : BareTree} {forms : BareTrees} {one : StreamTree} {streams : StreamTrees} → IsStream in_fork env form one → AreStreams in_fork env forms streams
+    more_streams : {in_fork : Bool} {env : Env} {form : BareTree} {forms : BareTrees} {one : StreamTree}
+        {streams : StreamTrees} → IsStream in_fork env form one → AreStreams in_fork env forms streams
         → AreStreams in_fork env (and_trees form forms) (also one streams)
 
 -- ---- what is read
@@ -130,7 +167,11 @@ pub record AreThose (env : Env) (before : Below) (forms : FormTrees) (below : Be
   pub grown : IsGrown before streams below
 
 abbrev pub StreamsAreRead : Type 0
-StreamsAreRead = (env : Env) (before : Below) (forms : FormTrees) (streams : StreamTrees) → AreStreams false env (bare_trees forms) streams → AreReadAs env before forms streams
+StreamsAreRead =
+    (env : Env) (before : Below) (forms : FormTrees) (streams : StreamTrees)
+    → AreStreams false env (bare_trees forms) streams → AreReadAs env before forms streams
 
 abbrev pub OnlyStreamsAreRead : Type 0
-OnlyStreamsAreRead = (env : Env) (before : Below) (forms : FormTrees) (below : Below) → all_read before (parts_in false false env forms) ≡ Ok below → AreThose env before forms below
+OnlyStreamsAreRead =
+    (env : Env) (before : Below) (forms : FormTrees) (below : Below)
+    → all_read before (parts_in false false env forms) ≡ Ok below → AreThose env before forms below

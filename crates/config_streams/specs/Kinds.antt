@@ -1,5 +1,6 @@
 -- The kinds of streams, by their words and arguments.
-use Rattle.std.specs.Prelude.{ℕ, Bool, true, false, not, if◌then◌else◌, List, [], ◌∷◌, codes, Option, Some, None, Result, Ok, Err}
+use Rattle.std.specs.Prelude.{ℕ, Bool, true, false, not, if◌then◌else◌, List, [], ◌∷◌, codes, Option, Some, None}
+use Rattle.std.specs.Prelude.{Result, Ok, Err}
 use Rattle.ev_types.specs.declared.field.Field.TheVariants.{State, Metric}
 use Rattle.ev_types.specs.declared.settings.Fold.{Fold}
 use Rattle.ev_types.specs.declared.settings.Set.{Set}
@@ -20,7 +21,9 @@ use Rattle.config_terms.specs.declared.word.StreamWord.{StreamWord}
 use Rattle.config_terms.specs.declared.word.StreamWord.TheVariants as word
 use Rattle.config_terms.specs.Steps.{Fault, ◌>>=◌, start_of, nth, argument}
 use Rattle.config_terms.specs.Words.{fold_word, init_text}
-use Rattle.config_terms.specs.Arguments.{Env, Argument, Number, argument_of, misfit, field_at, number_at, value_at, text_at, texts_at, fields_at, some_of, set_at, sets_from, ranged_at, one_entry, idle_in}
+use Rattle.config_terms.specs.Arguments.{Env, Argument, Number, argument_of, misfit, field_at, number_at, value_at}
+use Rattle.config_terms.specs.Arguments.{text_at, texts_at, fields_at, some_of, set_at, sets_from, ranged_at, one_entry}
+use Rattle.config_terms.specs.Arguments.{idle_in}
 use Rattle.config_terms.specs.Rules.{rule_at}
 
 -- ---- counts and seconds
@@ -136,14 +139,16 @@ tagged_kind env start forms =
 -- ---- the arguments of a kind
 
 -- one, that is read so
-abbrev pub one_argument : {A : Type 0} → (Env → FormTree → Result A Fault) → (A → KindTree) → Env → ℕ → FormTrees → Result KindTree Fault
+abbrev pub one_argument : {A : Type 0} → (Env → FormTree → Result A Fault) → (A → KindTree) → Env → ℕ → FormTrees
+    → Result KindTree Fault
 one_argument read make env start forms =
     argument start 0 forms >>= λ first.
     read env first >>= λ a.
     Ok (make a)
 
 -- two, each read so
-abbrev pub two_arguments : {A B : Type 0} → (Env → FormTree → Result A Fault) → (Env → FormTree → Result B Fault) → (A → B → KindTree) → Env → ℕ → FormTrees → Result KindTree Fault
+abbrev pub two_arguments : {A B : Type 0} → (Env → FormTree → Result A Fault) → (Env → FormTree → Result B Fault)
+    → (A → B → KindTree) → Env → ℕ → FormTrees → Result KindTree Fault
 two_arguments read read_next make env start forms =
     argument start 0 forms >>= λ first.
     read env first >>= λ a.
@@ -152,7 +157,8 @@ two_arguments read read_next make env start forms =
     Ok (make a b)
 
 unfoldable pub order_kind : Ordering → Env → ℕ → FormTrees → Result KindTree Fault
-order_kind order env start forms = one_argument number_at (λ number. kind.Where (Order Metric order number)) env start forms
+order_kind order env start forms =
+    one_argument number_at (λ number. kind.Where (Order Metric order number)) env start forms
 
 -- a field, and what it was before the first event
 unfoldable pub changed_kind : Env → ℕ → FormTrees → Result KindTree Fault

@@ -11,7 +11,8 @@ use Rattle.config_streams.specs.Streams.{Located, Below, Part, One, Rest}
 
 abbrev mutual
   pub source_tree : Source → SourceTree
-  source_tree (Source' place shape children shape' otherwise) = source place (source_trees children) (source_trees otherwise)
+  source_tree (Source' place shape children shape' otherwise) =
+      source place (source_trees children) (source_trees otherwise)
 
   pub source_trees : {m : _} → Row_of-Source m → SourceTrees
   source_trees end_of-Source = none

@@ -36,4 +36,5 @@ sources_of (Some (source place children otherwise)) = with_sources children othe
 
 abbrev pub place_along : ℕ → SourceTrees → List ℕ → ℕ
 place_along here sources [] = here
-place_along here sources (n ∷ path) = place_along (place_of here (nth_source n sources)) (sources_of (nth_source n sources)) path
+place_along here sources (n ∷ path) =
+    place_along (place_of here (nth_source n sources)) (sources_of (nth_source n sources)) path

@@ -1,5 +1,6 @@
 -- Streams, and the streams below them.
-use Rattle.std.specs.Prelude.{ℕ, Bool, true, false, ◌||◌, if◌then◌else◌, List, [], ◌∷◌, drop, Option, Some, None, Result, Ok, Err}
+use Rattle.std.specs.Prelude.{ℕ, Bool, true, false, ◌||◌, if◌then◌else◌, List, [], ◌∷◌, drop, Option, Some, None}
+use Rattle.std.specs.Prelude.{Result, Ok, Err}
 use Rattle.std.specs.Str.{bytes_eq}
 use Rattle.sexp_read.specs.declared.piece.Bracket.TheVariants.{Round}
 use Rattle.sexp_read.specs.Tree.{FormTree, FormTrees, Single, Group, none, also}
@@ -47,11 +48,13 @@ with_stream plan.none one = plan.also one plan.none
 with_stream (plan.also first streams) one = plan.also first (with_stream streams one)
 
 abbrev pub with_one : Located → StreamTree → SourceTree → Located
-with_one located one place = record { streams = with_stream located.streams one; places = with_source located.places place }
+with_one located one place =
+    record { streams = with_stream located.streams one; places = with_source located.places place }
 
 abbrev pub stream_of : KindTree → ℕ → Below → Part
 stream_of kind start below =
-    One (stream kind below.children.streams below.otherwise.streams) (source start below.children.places below.otherwise.places)
+    One (stream kind below.children.streams below.otherwise.streams)
+    (source start below.children.places below.otherwise.places)
 
 -- ---- the forms after a stream's own arguments
 
@@ -107,8 +110,12 @@ is_else _ = false
 
 -- a symbol is the stream `index`, by that word or as its value
 abbrev pub symbol_by : Option Bound → List ℕ → ℕ → Result Part Fault
-symbol_by None name start = if bytes_eq name (stream_text word.Index) then Ok (One (stream plan.Index plan.none plan.none) (source start sources.none sources.none)) else Err (start, why.Name)
-symbol_by (Some bound.Index) name start = Ok (One (stream plan.Index plan.none plan.none) (source start sources.none sources.none))
+symbol_by None name start =
+    if bytes_eq name (stream_text word.Index)
+    then Ok (One (stream plan.Index plan.none plan.none) (source start sources.none sources.none))
+    else Err (start, why.Name)
+symbol_by (Some bound.Index) name start =
+    Ok (One (stream plan.Index plan.none plan.none) (source start sources.none sources.none))
 symbol_by (Some _) name start = Err (start, why.Form)
 
 -- a stream of the kind at the place; what has no streams has no more arguments than its own
@@ -142,4 +149,5 @@ unfoldable mutual
 
   pub parts_in : Bool → Bool → Env → FormTrees → Readings
   parts_in may_else in_fork env none = []
-  parts_in may_else in_fork env (also f forms) = (start_of f, part_at may_else in_fork env f) ∷ parts_in may_else in_fork env forms
+  parts_in may_else in_fork env (also f forms) =
+      (start_of f, part_at may_else in_fork env f) ∷ parts_in may_else in_fork env forms

@@ -1,5 +1,6 @@
 -- Forms of the code, by their trees.
-use Rattle.std.proofs.Common.{◌≡◌, ℕ, zero, suc, ◌<◌, ◌≤◌, get_or, drop, take, ◌-◌, length-drop, List, [], ◌∷◌, length, Vec, Global, Some, None, refl, ap, sym, ◌∙◌, subst, arith}
+use Rattle.std.proofs.Common.{◌≡◌, ℕ, zero, suc, ◌<◌, ◌≤◌, get_or, drop, take, ◌-◌, length-drop, List, [], ◌∷◌, length}
+use Rattle.std.proofs.Common.{Vec, Global, Some, None, refl, ap, sym, ◌∙◌, subst, arith}
 use Rattle.sexp_read.specs.declared.form.Form.{Form}
 use Rattle.std.proofs.lemmas.List.{take_all}
 use Rattle.sexp_read.proofs.Forms as read

@@ -1,5 +1,6 @@
 -- What is read as a predicate is one of the grammar.
-use Rattle.std.proofs.Common.{◌≡◌, ℕ, ℤ, Bool, true, false, ◌||◌, codes, List, [], ◌∷◌, if◌then◌else◌, Option, Some, None, Result, Ok, refl, ap, sym, ◌∙◌, subst}
+use Rattle.std.proofs.Common.{◌≡◌, ℕ, ℤ, Bool, true, false, ◌||◌, codes, List, [], ◌∷◌, if◌then◌else◌, Option, Some}
+use Rattle.std.proofs.Common.{None, Result, Ok, refl, ap, sym, ◌∙◌, subst}
 use Rattle.std.proofs.lemmas.Slice.Eq.{bytes_eq-Decides}
 use Rattle.std.specs.Str.{bytes_eq}
 use Rattle.ev_types.specs.declared.field.Field.{Field}
@@ -18,11 +19,21 @@ use Rattle.config_terms.specs.declared.binding.Bound.TheVariants as bound
 use Rattle.config_terms.specs.declared.word.RuleWord.{RuleWord}
 use Rattle.config_terms.specs.declared.word.RuleWord.TheVariants as word
 use Rattle.config_terms.specs.Steps.{Fault, ◌>>=◌, start_of, argument, at_most}
-use Rattle.config_terms.specs.Words.{rule_text, rule_word, joining_word, comparing_word, true_text, false_text, nil_text}
-use Rattle.config_terms.specs.Arguments.{Env, bound_value, Argument, Text, Pattern, Number, Keyword, Index, Unbound, Forms, bound_argument, argument_of, taken, text_in, number_in, value_in, text_at, field_at, number_at, value_at}
-use Rattle.config_terms.specs.Rules.{symbol_rule, known_field, rule_field_at, field_head, symbol_head, rule_head, all_read, with_rule, joined, equal_rule, order_rule, like_rule, tagged_rule, sought, field_rule, word_rule, headed_rule, rule_at, rules_in}
-use Rattle.config_terms.specs.Grammar.{symbol, keyword, worded, list, order_word, IsLiteral, a_text, a_pattern, a_number, a_keyword, a_name, IsValue, text_value, number_value, nil_value, IsTested, bare, keyed, IsPredicate, always, never, never_nil, all_parts, any_part, negated, tagged, equal, unequal, compared, like, holds, found, ArePredicates, no_parts, more_parts}
-use Rattle.config_terms.proofs.Outcomes.{OkGood, SomeGood, Any_, bind_good, any_good, weaker, ok_if, some_if, some_or, some_from, fitting_good}
+use Rattle.config_terms.specs.Words.{rule_text, rule_word, joining_word, comparing_word, true_text, false_text}
+use Rattle.config_terms.specs.Words.{nil_text}
+use Rattle.config_terms.specs.Arguments.{Env, bound_value, Argument, Text, Pattern, Number, Keyword, Index, Unbound}
+use Rattle.config_terms.specs.Arguments.{Forms, bound_argument, argument_of, taken, text_in, number_in, value_in}
+use Rattle.config_terms.specs.Arguments.{text_at, field_at, number_at, value_at}
+use Rattle.config_terms.specs.Rules.{symbol_rule, known_field, rule_field_at, field_head, symbol_head, rule_head}
+use Rattle.config_terms.specs.Rules.{all_read, with_rule, joined, equal_rule, order_rule, like_rule, tagged_rule}
+use Rattle.config_terms.specs.Rules.{sought, field_rule, word_rule, headed_rule, rule_at, rules_in}
+use Rattle.config_terms.specs.Grammar.{symbol, keyword, worded, list, order_word, IsLiteral, a_text, a_pattern}
+use Rattle.config_terms.specs.Grammar.{a_number, a_keyword, a_name, IsValue, text_value, number_value, nil_value}
+use Rattle.config_terms.specs.Grammar.{IsTested, bare, keyed, IsPredicate, always, never, never_nil, all_parts}
+use Rattle.config_terms.specs.Grammar.{any_part, negated, tagged, equal, unequal, compared, like, holds, found}
+use Rattle.config_terms.specs.Grammar.{ArePredicates, no_parts, more_parts}
+use Rattle.config_terms.proofs.Outcomes.{OkGood, SomeGood, Any_, bind_good, any_good, weaker, ok_if, some_if, some_or}
+use Rattle.config_terms.proofs.Outcomes.{some_from, fitting_good}
 use Rattle.config_terms.proofs.GrammarRead.{join, join_first, join_none, join_rule, all_joined, any_joined, order_text}
 
 -- ---- arguments

@@ -1,5 +1,6 @@
 -- Predicates of the grammar are read.
-use Rattle.std.proofs.Common.{◌≡◌, ℕ, ℤ, codes, List, [], ◌∷◌, if◌then◌else◌, Option, Some, None, Result, Ok, refl, ap, sym, ◌∙◌}
+use Rattle.std.proofs.Common.{◌≡◌, ℕ, ℤ, codes, List, [], ◌∷◌, if◌then◌else◌, Option, Some, None, Result, Ok, refl, ap}
+use Rattle.std.proofs.Common.{sym, ◌∙◌}
 use Rattle.std.proofs.lemmas.Slice.Eq.{bytes_eq-Decides}
 use Rattle.std.specs.Str.{bytes_eq}
 use Rattle.ev_types.specs.declared.field.Field.{Field}
@@ -19,9 +20,16 @@ use Rattle.config_terms.specs.declared.word.RuleWord.{RuleWord}
 use Rattle.config_terms.specs.declared.word.RuleWord.TheVariants as word
 use Rattle.config_terms.specs.Steps.{Fault, argument, at_most}
 use Rattle.config_terms.specs.Words.{rule_text, rule_word, joining_word, comparing_word}
-use Rattle.config_terms.specs.Arguments.{Env, bound_value, Argument, Text, Number, bound_argument, argument_of, text_at, field_at, number_at, value_at}
-use Rattle.config_terms.specs.Rules.{Head, Word, Field_, rule_field_at, rule_head, Readings, with_rule, all_read, joined, equal_rule, order_rule, like_rule, tagged_rule, sought, field_rule, word_rule, headed_rule, rule_at, rules_in}
-use Rattle.config_terms.specs.Grammar.{symbol, worded, list, order_word, all_of, any_of, IsLiteral, a_text, a_pattern, a_number, a_keyword, a_name, IsValue, text_value, number_value, nil_value, IsTested, bare, keyed, IsPredicate, always, never, never_nil, all_parts, any_part, negated, tagged, equal, unequal, compared, like, holds, found, ArePredicates, no_parts, more_parts}
+use Rattle.config_terms.specs.Arguments.{Env, bound_value, Argument, Text, Number, bound_argument, argument_of, text_at}
+use Rattle.config_terms.specs.Arguments.{field_at, number_at, value_at}
+use Rattle.config_terms.specs.Rules.{Head, Word, Field_, rule_field_at, rule_head, Readings, with_rule, all_read}
+use Rattle.config_terms.specs.Rules.{joined, equal_rule, order_rule, like_rule, tagged_rule, sought, field_rule}
+use Rattle.config_terms.specs.Rules.{word_rule, headed_rule, rule_at, rules_in}
+use Rattle.config_terms.specs.Grammar.{symbol, worded, list, order_word, all_of, any_of, IsLiteral, a_text, a_pattern}
+use Rattle.config_terms.specs.Grammar.{a_number, a_keyword, a_name, IsValue, text_value, number_value, nil_value}
+use Rattle.config_terms.specs.Grammar.{IsTested, bare, keyed, IsPredicate, always, never, never_nil, all_parts}
+use Rattle.config_terms.specs.Grammar.{any_part, negated, tagged, equal, unequal, compared, like, holds, found}
+use Rattle.config_terms.specs.Grammar.{ArePredicates, no_parts, more_parts}
 use Rattle.config_terms.proofs.BareForms.{single_of, group_of, also_of, none_of, call_of}
 use Rattle.config_terms.proofs.Outcomes.{SomeGood, some_if, some_found}
 

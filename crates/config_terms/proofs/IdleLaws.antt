@@ -1,5 +1,6 @@
 -- Forms are read as the seconds in the map of a `by` exactly where they represent these.
-use Rattle.std.proofs.Common.{◌≡◌, ◌≤◌, ℕ, pos, codes, Bool, true, false, Option, Some, None, Result, Ok, refl, ap, subst, ◌∙◌}
+use Rattle.std.proofs.Common.{◌≡◌, ◌≤◌, ℕ, pos, codes, Bool, true, false, Option, Some, None, Result, Ok, refl, ap}
+use Rattle.std.proofs.Common.{subst, ◌∙◌}
 use Rattle.std.proofs.lemmas.Slice.Eq.{bytes_eq-Decides}
 use Rattle.std.specs.Str.{bytes_eq}
 use Rattle.sexp_read.specs.Tree.{FormTree, FormTrees, none, also}
@@ -7,7 +8,8 @@ use Rattle.sexp_read.specs.Written.{BareTree, BareTrees, bare_tree, bare_trees}
 use Rattle.config_terms.specs.declared.binding.Bound.TheVariants as bound
 use Rattle.config_terms.specs.Steps.{start_of}
 use Rattle.config_terms.specs.Words.{idle_text}
-use Rattle.config_terms.specs.Arguments.{Env, Argument, Text, Pattern, Number, Keyword, Index, Unbound, Forms, argument_of, is_idle_key, idle_number, idle_in}
+use Rattle.config_terms.specs.Arguments.{Env, Argument, Text, Pattern, Number, Keyword, Index, Unbound, Forms}
+use Rattle.config_terms.specs.Arguments.{argument_of, is_idle_key, idle_number, idle_in}
 use Rattle.config_terms.specs.Grammar.{IsLiteral}
 use Rattle.config_terms.specs.Terms.{IsRanged, a_ranged, IsIdle, an_idle, IdlesAreRead}
 use Rattle.config_terms.proofs.Outcomes.{OkGood, weaker, ok_if, ok_read}

@@ -1,5 +1,6 @@
 -- Predicates, by what their forms look like, and predicates that others are made of.
-use Rattle.std.proofs.Common.{◌≡◌, ◌≢◌, ℕ, List, [], ◌∷◌, ◌++◌, length, Vec, Global, Option, Some, None, Result, Ok, Err, refl, ap, sym, ◌∙◌}
+use Rattle.std.proofs.Common.{◌≡◌, ◌≢◌, ℕ, List, [], ◌∷◌, ◌++◌, length, Vec, Global, Option, Some, None, Result, Ok}
+use Rattle.std.proofs.Common.{Err, refl, ap, sym, ◌∙◌}
 use Rattle.ev_types.specs.declared.field.Field.{Field}
 use Rattle.pred_eval.specs.declared.rule.Rule.{Rule}
 use Rattle.pred_eval.specs.declared.rule.Rule as code
@@ -14,7 +15,8 @@ use Rattle.config_terms.specs.Steps.{Fault, start_of, name_in}
 use Rattle.ev_types.specs.Names.{named_field, protocol_field}
 use Rattle.config_terms.specs.Words.{rule_word}
 use Rattle.config_terms.specs.Arguments.{Env, field_at}
-use Rattle.config_terms.specs.Rules.{known_field, rule_field_at, symbol_rule, field_head, symbol_head, rule_head, headed_rule, rule_at, rules_in, with_rule, all_read, joined}
+use Rattle.config_terms.specs.Rules.{known_field, rule_field_at, symbol_rule, field_head, symbol_head, rule_head}
+use Rattle.config_terms.specs.Rules.{headed_rule, rule_at, rules_in, with_rule, all_read, joined}
 use Rattle.config_terms.specs.Code.{Look, Symbol, Call, Lookup, Other, look_of}
 
 -- ---- by what a form looks like

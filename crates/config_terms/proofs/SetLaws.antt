@@ -1,5 +1,6 @@
 -- Forms are read as a set, as the sets of a map or as the one value of a map exactly where they represent these.
-use Rattle.std.proofs.Common.{◌≡◌, ◌≢◌, ℕ, codes, Bool, true, false, ◌&&◌, List, [], ◌∷◌, ◌++◌, Option, Some, None, Ok, refl, ap, sym, subst, ◌∙◌, append_assoc, cond}
+use Rattle.std.proofs.Common.{◌≡◌, ◌≢◌, ℕ, codes, Bool, true, false, ◌&&◌, List, [], ◌∷◌, ◌++◌, Option, Some, None, Ok}
+use Rattle.std.proofs.Common.{refl, ap, sym, subst, ◌∙◌, append_assoc, cond}
 use Rattle.std.proofs.lemmas.Bool.{or_parts, or_from, false_from_ne_true}
 use Rattle.std.proofs.lemmas.List.{append-nil}
 use Rattle.std.proofs.lemmas.Slice.Eq.{bytes_eq-Decides}
@@ -16,9 +17,12 @@ use Rattle.sexp_read.specs.Written.{BareTree, BareTrees, and_trees, bare_tree, b
 use Rattle.config_terms.specs.declared.binding.Bound.TheVariants as bound
 use Rattle.config_terms.specs.Steps.{start_of}
 use Rattle.config_terms.specs.Words.{same_field, init_text}
-use Rattle.config_terms.specs.Arguments.{Env, Argument, Keyword, argument_of, keyword_in, keyword_at, field_at, value_at, is_ttl_field, is_number, fitted, set_at, has_field, new_field, new_field_at, sets_from, only_key, only_key_at, one_entry}
+use Rattle.config_terms.specs.Arguments.{Env, Argument, Keyword, argument_of, keyword_in, keyword_at, field_at}
+use Rattle.config_terms.specs.Arguments.{value_at, is_ttl_field, is_number, fitted, set_at, has_field, new_field}
+use Rattle.config_terms.specs.Arguments.{new_field_at, sets_from, only_key, only_key_at, one_entry}
 use Rattle.config_terms.specs.Grammar.{IsLiteral, IsValue}
-use Rattle.config_terms.specs.Terms.{IsField, a_field, IsSet, a_set, IsUnset, AreSets, no_sets, more_sets, IsInit, an_init, SetsAreRead, SetMapsAreRead, InitsAreRead}
+use Rattle.config_terms.specs.Terms.{IsField, a_field, IsSet, a_set, IsUnset, AreSets, no_sets, more_sets, IsInit}
+use Rattle.config_terms.specs.Terms.{an_init, SetsAreRead, SetMapsAreRead, InitsAreRead}
 use Rattle.config_terms.proofs.BareForms.{also_of, none_of}
 use Rattle.config_terms.proofs.Outcomes.{OkGood, SomeGood, Any_, bind_good, any_good, weaker, ok_if, ok_read}
 use Rattle.config_terms.proofs.GrammarRead.{literal_read, value_read, two_of}

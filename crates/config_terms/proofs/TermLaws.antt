@@ -5,12 +5,14 @@ use Rattle.ev_types.specs.Names.{named_field}
 use Rattle.sexp_read.specs.Tree.{FormTree}
 use Rattle.sexp_read.specs.Written.{BareTree, bare_tree}
 use Rattle.config_terms.specs.declared.binding.Bound.TheVariants as bound
-use Rattle.config_terms.specs.Arguments.{Env, Argument, Text, Pattern, Number, Keyword, Index, Unbound, Forms, argument_of, field_in, text_at, number_at, value_at, field_at}
+use Rattle.config_terms.specs.Arguments.{Env, Argument, Text, Pattern, Number, Keyword, Index, Unbound, Forms}
+use Rattle.config_terms.specs.Arguments.{argument_of, field_in, text_at, number_at, value_at, field_at}
 use Rattle.config_terms.specs.Grammar.{IsValue}
 use Rattle.config_terms.specs.Terms.{IsField, a_field, TextsAreRead, NumbersAreRead, ValuesAreRead, FieldsAreRead}
 use Rattle.config_terms.proofs.Outcomes.{OkGood, SomeGood, some_from, ok_read}
 use Rattle.config_terms.proofs.GrammarRead.{literal_read, text_read, number_read, value_read}
-use Rattle.config_terms.proofs.GrammarOnly.{TextIs, NumberIs, Meaning, taken_means, text_means, number_means, value_means}
+use Rattle.config_terms.proofs.GrammarOnly.{TextIs, NumberIs, Meaning, taken_means, text_means, number_means}
+use Rattle.config_terms.proofs.GrammarOnly.{value_means}
 
 pub texts_are_read : TextsAreRead
 texts_are_read env f text = (

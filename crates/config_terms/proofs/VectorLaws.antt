@@ -1,5 +1,6 @@
 -- A form is read as a number in a range, as texts or as fields exactly where it represents these.
-use Rattle.std.proofs.Common.{◌≡◌, ◌≤◌, ℕ, ℤ, pos, negsuc, List, [], ◌∷◌, ◌++◌, Option, Some, None, Result, Ok, refl, ap, sym, subst, ◌∙◌, append_assoc, int_le}
+use Rattle.std.proofs.Common.{◌≡◌, ◌≤◌, ℕ, ℤ, pos, negsuc, List, [], ◌∷◌, ◌++◌, Option, Some, None, Result, Ok, refl}
+use Rattle.std.proofs.Common.{ap, sym, subst, ◌∙◌, append_assoc, int_le}
 use Rattle.std.proofs.lemmas.Bool.{leb-true, le-leb, and_parts}
 use Rattle.std.proofs.lemmas.List.{append-nil}
 use Rattle.ev_types.specs.declared.field.Field.{Field}
@@ -10,9 +11,14 @@ use Rattle.sexp_read.specs.Written.{BareTree, BareTrees, Branch, and_trees, bare
 use Rattle.config_terms.specs.declared.binding.Bound.{Bound}
 use Rattle.config_terms.specs.declared.binding.Bound.TheVariants as bound
 use Rattle.config_terms.specs.Steps.{Fault, ◌>>=◌, start_of, each}
-use Rattle.config_terms.specs.Arguments.{Env, bound_value, Argument, Text, Pattern, Number, Keyword, Index, Unbound, Forms, bound_argument, argument_of, text_at, number_at, field_at, ranged, ranged_at, some_of, with_text, texts_by, texts_at, with_field, fields_by, fields_at}
+use Rattle.config_terms.specs.Arguments.{Env, bound_value, Argument, Text, Pattern, Number, Keyword, Index, Unbound}
+use Rattle.config_terms.specs.Arguments.{Forms, bound_argument, argument_of, text_at, number_at, field_at, ranged}
+use Rattle.config_terms.specs.Arguments.{ranged_at, some_of, with_text, texts_by, texts_at, with_field, fields_by}
+use Rattle.config_terms.specs.Arguments.{fields_at}
 use Rattle.config_terms.specs.Grammar.{IsLiteral}
-use Rattle.config_terms.specs.Terms.{vector_of, IsRanged, a_ranged, IsField, a_field, AreTexts, no_texts, more_texts, IsTexts, text_alone, text_vector, AreFields, no_fields, more_fields, IsFields, field_alone, field_vector, RangesAreRead, TextVectorsAreRead, FieldVectorsAreRead}
+use Rattle.config_terms.specs.Terms.{vector_of, IsRanged, a_ranged, IsField, a_field, AreTexts, no_texts, more_texts}
+use Rattle.config_terms.specs.Terms.{IsTexts, text_alone, text_vector, AreFields, no_fields, more_fields, IsFields}
+use Rattle.config_terms.specs.Terms.{field_alone, field_vector, RangesAreRead, TextVectorsAreRead, FieldVectorsAreRead}
 use Rattle.config_terms.proofs.BareForms.{group_of, also_of, none_of}
 use Rattle.config_terms.proofs.Outcomes.{OkGood, bind_good, weaker, ok_if, ok_read}
 use Rattle.config_terms.proofs.GrammarRead.{literal_read, text_read, number_read}

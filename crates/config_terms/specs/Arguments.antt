@@ -1,5 +1,6 @@
 -- The arguments of a form, and what fits there.
-use Rattle.std.specs.Prelude.{ℕ, ℤ, pos, nat_abs, int_le, Bool, true, false, ◌&&◌, if◌then◌else◌, List, [], ◌∷◌, ◌++◌, Option, Some, None, reverse, Result, Ok, Err}
+use Rattle.std.specs.Prelude.{ℕ, ℤ, pos, nat_abs, int_le, Bool, true, false, ◌&&◌, if◌then◌else◌, List, [], ◌∷◌, ◌++◌}
+use Rattle.std.specs.Prelude.{Option, Some, None, reverse, Result, Ok, Err}
 use Rattle.std.specs.List.{find, list_any}
 use Rattle.std.specs.Option.{option_map, is_some}
 use Rattle.std.specs.Str.{bytes_eq}
@@ -28,7 +29,8 @@ Env = List Binding
 
 -- what a name is bound to: of bindings of one name the last one holds
 abbrev pub bound_value : List ℕ → Env → Option Bound
-bound_value name env = option_map (λ binding. binding.value) (find (λ binding. bytes_eq binding.name name) (reverse env))
+bound_value name env =
+    option_map (λ binding. binding.value) (find (λ binding. bytes_eq binding.name name) (reverse env))
 
 -- an argument, where a bound symbol is its value
 pub data Argument : Type 0 where
@@ -120,7 +122,8 @@ value_at = taken value_in
 -- ---- numbers in their ranges
 
 abbrev pub ranged : ℕ → ℕ → ℕ → ℤ → Result ℕ Fault
-ranged least most place number = if int_le (pos least) number && int_le number (pos most) then Ok (nat_abs number) else Err (place, why.Range)
+ranged least most place number =
+    if int_le (pos least) number && int_le number (pos most) then Ok (nat_abs number) else Err (place, why.Range)
 
 unfoldable pub ranged_at : ℕ → ℕ → Env → FormTree → Result ℕ Fault
 ranged_at least most env f = number_at env f >>= ranged least most (start_of f)
@@ -229,9 +232,11 @@ held place None = Err (place, why.Arguments)
 held place (Some a) = Ok a
 
 -- keys and values alternately, of a map that starts at the place: what was found, and the rest
-unfoldable pub one_entry : {A : Type 0} → List ℕ → (Env → FormTree → Result A Fault) → ℕ → Env → Option A → FormTrees → Result A Fault
+unfoldable pub one_entry : {A : Type 0} → List ℕ → (Env → FormTree → Result A Fault) → ℕ → Env → Option A → FormTrees
+    → Result A Fault
 one_entry wanted read place env found none = held place found
-one_entry wanted read place env found (also key none) = only_key_at wanted (is_some found) env key >>= λ known. Err (place, why.Arguments)
+one_entry wanted read place env found (also key none) =
+    only_key_at wanted (is_some found) env key >>= λ known. Err (place, why.Arguments)
 one_entry wanted read place env found (also key (also f forms)) =
     only_key_at wanted (is_some found) env key >>= λ known.
     read env f >>= λ a.
@@ -253,7 +258,7 @@ idle_by most place env (Some entry) =
     if is_idle_key (argument_of env entry.0) then idle_number most place (start_of entry.1) (argument_of env entry.1)
     else Err (place, why.Arguments)
 
--- In a map that starts at the place, `:idle` and a number of seconds up to the most. Any other map is refused as a whole,
--- at its start, and a number outside the range at its own.
+-- In a map that starts at the place, `:idle` and a number of seconds up to the most. Any other map is refused as a
+-- whole, at its start, and a number outside the range at its own.
 unfoldable pub idle_in : ℕ → ℕ → Env → FormTrees → Result ℕ Fault
 idle_in most place env forms = idle_by most place env (pair_in forms)

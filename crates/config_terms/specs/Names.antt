@@ -1,7 +1,9 @@
 -- The names of causes, as the texts of refusals have them.
 use Rattle.std.specs.Prelude.{ℕ, List, codes}
 use Rattle.config_terms.specs.declared.fault.ConfigWhy.{ConfigWhy}
-use Rattle.config_terms.specs.declared.fault.ConfigWhy.TheVariants.{Long, Utf8, Open, Close, Token, Number, Escape, Deep, Form, Arguments, Range, Name, Twice, Many, Kind}
+use Rattle.config_terms.specs.declared.fault.ConfigWhy.TheVariants.{Long, Utf8, Open, Close, Token, Number, Escape}
+use Rattle.config_terms.specs.declared.fault.ConfigWhy.TheVariants.{Deep, Form, Arguments, Range, Name, Twice, Many}
+use Rattle.config_terms.specs.declared.fault.ConfigWhy.TheVariants.{Kind}
 
 unfoldable pub why_name : ConfigWhy → List ℕ
 why_name Long = codes "long"

@@ -15,7 +15,8 @@ use Rattle.config_terms.specs.declared.word.RuleWord.TheVariants as rule
 use Rattle.config_terms.specs.Steps.{Fault, ◌>>=◌, start_of, argument, at_most}
 use Rattle.ev_types.specs.Names.{named_field, protocol_field}
 use Rattle.config_terms.specs.Words.{true_text, false_text, nil_text, rule_word}
-use Rattle.config_terms.specs.Arguments.{Env, bound_value, Argument, Pattern, argument_of, text_at, field_at, number_at, value_at}
+use Rattle.config_terms.specs.Arguments.{Env, bound_value, Argument, Pattern, argument_of, text_at, field_at, number_at}
+use Rattle.config_terms.specs.Arguments.{value_at}
 
 -- ---- a predicate of one word
 
@@ -138,7 +139,8 @@ field_rule env field start forms =
 unfoldable pub word_rule : Env → RuleWord → ℕ → FormTrees → Readings → Result Tree Fault
 word_rule env rule.And start forms readings = all_read pred.none readings >>= joined All start
 word_rule env rule.Or start forms readings = all_read pred.none readings >>= joined Any start
-word_rule env rule.Not start forms readings = first_read start readings >>= λ one. at_most 1 forms >>= λ over. Ok (Not one)
+word_rule env rule.Not start forms readings =
+    first_read start readings >>= λ one. at_most 1 forms >>= λ over. Ok (Not one)
 word_rule env rule.Tagged start forms readings = tagged_rule env start forms
 word_rule env rule.Equal start forms readings = equal_rule env start forms
 word_rule env rule.NotEqual start forms readings = equal_rule env start forms >>= λ one. Ok (Not one)
@@ -154,7 +156,8 @@ headed_rule env Unknown start forms readings = Err (start, why.Form)
 unfoldable mutual
   pub rule_at : Env → FormTree → Result Tree Fault
   rule_at env (Single (form.Symbol name) start last) = symbol_rule env name start
-  rule_at env (Group Round (also head forms) start last) = headed_rule env (rule_head head) start forms (rules_in env forms)
+  rule_at env (Group Round (also head forms) start last) =
+      headed_rule env (rule_head head) start forms (rules_in env forms)
   rule_at env f = Err (start_of f, why.Form)
 
   pub rules_in : Env → FormTrees → Readings

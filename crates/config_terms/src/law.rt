@@ -17,8 +17,8 @@ pub fn terms_are_read()
     ensures fields { FieldsAreRead }
 {}
 
-/// The forms that are read as numbers in a range, as vectors of texts or of fields, as sets, and as maps of sets, with a
-/// value after `:init` or with a number after `:idle` are exactly those of the grammar.
+/// The forms that are read as numbers in a range, as vectors of texts or of fields, as sets, and as maps of sets, with
+/// a value after `:init` or with a number after `:idle` are exactly those of the grammar.
 pub fn groups_are_read()
     ensures ranges { RangesAreRead }
     ensures texts { TextVectorsAreRead }

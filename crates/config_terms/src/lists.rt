@@ -237,8 +237,8 @@ pub fn init_from(
     }
 }
 
-/// The seconds in the map of a `by` that starts at `place`: exactly `:idle` and a number from 1 to `most`. Any other map
-/// is refused at `place` (Arguments), and a number outside this range at its start (Range).
+/// The seconds in the map of a `by` that starts at `place`: exactly `:idle` and a number from 1 to `most`. Any other
+/// map is refused at `place` (Arguments), and a number outside this range at its start (Range).
 #[tactic(auto, unfolding(crate::specs::Arguments::idle_in))]
 pub fn idle_from(
     place: usize,

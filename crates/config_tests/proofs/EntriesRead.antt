@@ -1,5 +1,6 @@
 -- The entries of a test are read exactly as the grammar says, and refused exactly for their first fault.
-use Rattle.std.proofs.Common.{◌≡◌, ℕ, true, false, codes, List, [], ◌∷◌, Option, Some, None, Ok, Err, refl, ap, sym, subst, ◌∙◌, arith}
+use Rattle.std.proofs.Common.{◌≡◌, ℕ, true, false, codes, List, [], ◌∷◌, Option, Some, None, Ok, Err, refl, ap, sym}
+use Rattle.std.proofs.Common.{subst, ◌∙◌, arith}
 use Rattle.std.proofs.lemmas.Slice.Eq.{bytes_eq-Decides}
 use Rattle.std.specs.Str.{bytes_eq}
 use Rattle.ev_types.specs.declared.item.Item.{Item}
@@ -22,15 +23,23 @@ use Rattle.config_tests.specs.declared.entry.Expect.{Expect}
 use Rattle.config_tests.specs.declared.map.Described.{Described}
 use Rattle.config_tests.specs.declared.word.EntryWord.{EntryWord}
 use Rattle.config_tests.specs.declared.word.EntryWord.TheVariants as word
-use Rattle.config_tests.specs.Entries.{no_entries as no_draft, passed, posted, expected, count_at, with_tick, with_event, with_item, new_name, with_expect, entry_by, entry_looking, with_entry}
+use Rattle.config_tests.specs.Entries.{no_entries as no_draft, passed, posted, expected, count_at, with_tick}
+use Rattle.config_tests.specs.Entries.{with_event, with_item, new_name, with_expect, entry_by, entry_looking}
+use Rattle.config_tests.specs.Entries.{with_entry}
 use Rattle.config_tests.specs.Events.{event_of}
-use Rattle.config_tests.specs.Faults.{IsListOf, IsFirstFault, IsMisfit, HasCountFault, HasMapFault, HaveItemFault, HasEntryFault, no_entry, nothing_after, tick_count, tick_more, event_map, event_more, expect_name, expect_twice, expect_item, HaveEntryFault}
-use Rattle.config_tests.specs.Grammar.{then_one, AreEach, IsText, IsCount, IsMap, IsItem, Told, nothing_told, passed_in, with_entry_told, with_expect_told, has_expect, IsEntry, a_tick, an_event, an_expect, AreEntries, no_entries, more_entries}
+use Rattle.config_tests.specs.Faults.{IsListOf, IsFirstFault, IsMisfit, HasCountFault, HasMapFault, HaveItemFault}
+use Rattle.config_tests.specs.Faults.{HasEntryFault, no_entry, nothing_after, tick_count, tick_more, event_map}
+use Rattle.config_tests.specs.Faults.{event_more, expect_name, expect_twice, expect_item, HaveEntryFault}
+use Rattle.config_tests.specs.Grammar.{then_one, AreEach, IsText, IsCount, IsMap, IsItem, Told, nothing_told, passed_in}
+use Rattle.config_tests.specs.Grammar.{with_entry_told, with_expect_told, has_expect, IsEntry, a_tick, an_event}
+use Rattle.config_tests.specs.Grammar.{an_expect, AreEntries, no_entries, more_entries}
 use Rattle.config_tests.specs.Maps.{described_at}
 use Rattle.config_tests.specs.Words.{entry_text, entry_word}
-use Rattle.config_tests.proofs.ItemsRead.{Counted, count_both, count_read, count_refuses, items_both, items_read, items_refuse}
+use Rattle.config_tests.proofs.ItemsRead.{Counted, count_both, count_read, count_refuses, items_both, items_read}
+use Rattle.config_tests.proofs.ItemsRead.{items_refuse}
 use Rattle.config_tests.proofs.MapsRead.{map_both, map_read, map_refuses}
-use Rattle.config_tests.proofs.Refusals.{Refuses, Both, both_then, both_if, both_weaker, refuses_first, refuses_as, text_both, text_refuses}
+use Rattle.config_tests.proofs.Refusals.{Refuses, Both, both_then, both_if, both_weaker, refuses_first, refuses_as}
+use Rattle.config_tests.proofs.Refusals.{text_both, text_refuses}
 use Rattle.config_tests.proofs.Rows.{each_both, each_none, each_last, row_refuses, last_of}
 use Rattle.config_tests.proofs.ShortLaws.{seconds-append}
 

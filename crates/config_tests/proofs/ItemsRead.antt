@@ -1,5 +1,6 @@
 -- Items, and seconds after `tick`, are read exactly as the grammar says, and refused exactly for their first fault.
-use Rattle.std.proofs.Common.{◌≡◌, ℕ, ℤ, pos, ◌+◌, ◌<◌, ◌≤◌, nat_abs, nat_le, int_le, Bool, true, false, ◌&&◌, cond, List, [], ◌∷◌, Result, Ok, Err, refl, ap, sym, subst, ◌∙◌, arith}
+use Rattle.std.proofs.Common.{◌≡◌, ℕ, ℤ, pos, ◌+◌, ◌<◌, ◌≤◌, nat_abs, nat_le, int_le, Bool, true, false, ◌&&◌, cond}
+use Rattle.std.proofs.Common.{List, [], ◌∷◌, Result, Ok, Err, refl, ap, sym, subst, ◌∙◌, arith}
 use Rattle.std.proofs.lemmas.Bool.{leb-true, leb-false, le-leb, false_from_ne_true}
 use Rattle.ev_types.specs.declared.event.Event.{Event}
 use Rattle.ev_types.specs.declared.field.Field.TheVariants.{Time}
@@ -20,11 +21,15 @@ use Rattle.config_tests.specs.declared.draft.TheConstants.{MAX_SECONDS, MAX_TICK
 use Rattle.config_tests.specs.declared.map.Described.{Described}
 use Rattle.config_tests.specs.Entries.{within, count_at, timed, timed_at, with_timed, some_timed, item_at, with_item}
 use Rattle.config_tests.specs.Events.{event_of}
-use Rattle.config_tests.specs.Faults.{IsMisfit, IsNumber, HasCountFault, no_number, no_count, too_many, IsVector, HasMapFault, HasTimedFault, no_event, no_time, HaveTimedFault, HasItemFault, no_item, in_vector, no_events, HaveItemFault}
-use Rattle.config_tests.specs.Grammar.{AreEach, no_more, one_more, IsCount, IsMap, IsTimed, a_timed, IsItem, event_item, vector_item}
+use Rattle.config_tests.specs.Faults.{IsMisfit, IsNumber, HasCountFault, no_number, no_count, too_many, IsVector}
+use Rattle.config_tests.specs.Faults.{HasMapFault, HasTimedFault, no_event, no_time, HaveTimedFault, HasItemFault}
+use Rattle.config_tests.specs.Faults.{no_item, in_vector, no_events, HaveItemFault}
+use Rattle.config_tests.specs.Grammar.{AreEach, no_more, one_more, IsCount, IsMap, IsTimed, a_timed, IsItem, event_item}
+use Rattle.config_tests.specs.Grammar.{vector_item}
 use Rattle.config_tests.specs.Maps.{described_at}
 use Rattle.config_tests.proofs.MapsRead.{map_both, map_read, map_refuses, map_is_curly}
-use Rattle.config_tests.proofs.Refusals.{Refuses, Both, both_then, both_if, refuses_first, refuses_next, refuses_as, ok_err, number_both, number_refuses}
+use Rattle.config_tests.proofs.Refusals.{Refuses, Both, both_then, both_if, refuses_first, refuses_next, refuses_as}
+use Rattle.config_tests.proofs.Refusals.{ok_err, number_both, number_refuses}
 use Rattle.config_tests.proofs.Rows.{all_both, all_read, all_refuses}
 
 -- ---- seconds

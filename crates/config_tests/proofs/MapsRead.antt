@@ -1,5 +1,6 @@
 -- Maps are read exactly as the grammar says, and refused exactly for their first fault.
-use Rattle.std.proofs.Common.{◌≡◌, ◌↔◌, ℕ, Bool, true, false, ◌&&◌, codes, cond, List, [], ◌∷◌, ◌++◌, Option, Some, None, Result, Ok, Err, refl, ap, sym, subst, ◌∙◌}
+use Rattle.std.proofs.Common.{◌≡◌, ◌↔◌, ℕ, Bool, true, false, ◌&&◌, codes, cond, List, [], ◌∷◌, ◌++◌, Option, Some}
+use Rattle.std.proofs.Common.{None, Result, Ok, Err, refl, ap, sym, subst, ◌∙◌}
 use Rattle.std.proofs.lemmas.Slice.Eq.{bytes_eq-Decides}
 use Rattle.std.specs.Str.{bytes_eq}
 use Rattle.ev_types.specs.declared.field.Field.{Field}
@@ -15,7 +16,9 @@ use Rattle.config_terms.specs.declared.binding.Bound.TheVariants as bound
 use Rattle.config_terms.specs.declared.fault.ConfigWhy.TheVariants as why
 use Rattle.config_terms.specs.Steps.{Fault, ◌>>=◌, start_of, each}
 use Rattle.config_terms.specs.Words.{tags_text}
-use Rattle.config_terms.specs.Arguments.{Env, Argument, Text, Pattern, Number, Keyword, Index, Unbound, Forms, argument_of, is_number, is_ttl_field, fitted, text_at, value_at, set_at, with_text, texts_at, vector_at, map_at}
+use Rattle.config_terms.specs.Arguments.{Env, Argument, Text, Pattern, Number, Keyword, Index, Unbound, Forms}
+use Rattle.config_terms.specs.Arguments.{argument_of, is_number, is_ttl_field, fitted, text_at, value_at, set_at}
+use Rattle.config_terms.specs.Arguments.{with_text, texts_at, vector_at, map_at}
 use Rattle.config_terms.specs.Grammar.{IsLiteral, IsValue}
 use Rattle.config_terms.specs.Terms.{vector_of, a_field, IsSet, a_set, AreTexts, no_texts, more_texts, text_vector}
 use Rattle.config_terms.proofs.BareForms.{group_of, none_of}
@@ -28,11 +31,19 @@ use Rattle.config_terms.proofs.VectorLaws.{text_vectors_are_read}
 use Rattle.config_tests.specs.declared.map.Described.{Described}
 use Rattle.config_tests.specs.declared.map.MapKey.{MapKey}
 use Rattle.config_tests.specs.declared.map.MapKey.TheVariants as key
-use Rattle.config_tests.specs.Faults.{and_forms, misfit_why, IsMisfit, a_misfit, unfit_why, HasValueFault, no_value, unfit, IsVector, HaveTextFault, HasTagsFault, no_vector, no_tag, HasPartFault, HasNextFault, no_key, key_twice, key_alone, no_part, HavePartFault, IsMapOf, HasMapFault, no_map, in_map}
-use Rattle.config_tests.specs.Grammar.{then_one, IsText, nothing, IsKey, field_key, tags_key, has_key, IsPart, says_field, says_tags, AreParts, no_parts, more_parts, IsMap, a_map}
-use Rattle.config_tests.specs.Maps.{key_of_field, key_in, key_at, new_key, new_key_at, tags_at, with_part, described_from, described_at}
-use Rattle.config_tests.proofs.Refusals.{Refuses, Both, both_then, both_if, both_weaker, refuses_first, refuses_next, refuses_as, taken_both, taken_refuses, text_both, text_refuses, value_both, value_refuses}
-use Rattle.config_tests.proofs.Rows.{none_after, forms_after, and_form, bare_after, last_of, same_next, same_ok, each_both, row_refuses}
+use Rattle.config_tests.specs.Faults.{and_forms, misfit_why, IsMisfit, a_misfit, unfit_why, HasValueFault, no_value}
+use Rattle.config_tests.specs.Faults.{unfit, IsVector, HaveTextFault, HasTagsFault, no_vector, no_tag, HasPartFault}
+use Rattle.config_tests.specs.Faults.{HasNextFault, no_key, key_twice, key_alone, no_part, HavePartFault, IsMapOf}
+use Rattle.config_tests.specs.Faults.{HasMapFault, no_map, in_map}
+use Rattle.config_tests.specs.Grammar.{then_one, IsText, nothing, IsKey, field_key, tags_key, has_key, IsPart}
+use Rattle.config_tests.specs.Grammar.{says_field, says_tags, AreParts, no_parts, more_parts, IsMap, a_map}
+use Rattle.config_tests.specs.Maps.{key_of_field, key_in, key_at, new_key, new_key_at, tags_at, with_part}
+use Rattle.config_tests.specs.Maps.{described_from, described_at}
+use Rattle.config_tests.proofs.Refusals.{Refuses, Both, both_then, both_if, both_weaker, refuses_first, refuses_next}
+use Rattle.config_tests.proofs.Refusals.{refuses_as, taken_both, taken_refuses, text_both, text_refuses, value_both}
+use Rattle.config_tests.proofs.Refusals.{value_refuses}
+use Rattle.config_tests.proofs.Rows.{none_after, forms_after, and_form, bare_after, last_of, same_next, same_ok}
+use Rattle.config_tests.proofs.Rows.{each_both, row_refuses}
 
 -- ---- keys
 

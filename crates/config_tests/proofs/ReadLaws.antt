@@ -1,5 +1,6 @@
 -- What a text is read as, by its forms.
-use Rattle.std.proofs.Common.{◌≡◌, ℕ, List, Option, Some, None, Result, Ok, Err, IfOk, IfErr, inl, inr, refl, ap, sym, ◌∙◌, subst}
+use Rattle.std.proofs.Common.{◌≡◌, ℕ, List, Option, Some, None, Result, Ok, Err, IfOk, IfErr, inl, inr, refl, ap, sym}
+use Rattle.std.proofs.Common.{◌∙◌, subst}
 use Rattle.std.specs.List.{AllByRecursion}
 use Rattle.sexp_read.specs.declared.fault.SexpFault.{SexpFault}
 use Rattle.sexp_read.specs.declared.fault.SexpFault.TheVariants as sexp
@@ -18,7 +19,8 @@ use Rattle.config_terms.specs.Steps.{Fault}
 use Rattle.config_tests.specs.declared.entry.Test.{Test}
 use Rattle.config_tests.specs.declared.fault.TestFault.{TestFault}
 use Rattle.config_tests.specs.declared.fault.TestFault.TheVariants.{Refused, Memory}
-use Rattle.config_tests.specs.Tests.{tests_of, read_without_names, AreTestsOf, IsReadingFault, IsTestsFault, IsRefusedFor, AreReadAs, IsRefusedAs, Fails, TestsGive, fault_by, fault_in, why_of}
+use Rattle.config_tests.specs.Tests.{tests_of, read_without_names, AreTestsOf, IsReadingFault, IsTestsFault}
+use Rattle.config_tests.specs.Tests.{IsRefusedFor, AreReadAs, IsRefusedAs, Fails, TestsGive, fault_by, fault_in, why_of}
 use Rattle.config_tests.specs.Events.{IsShort}
 use Rattle.config_tests.proofs.ShortLaws.{tests_short}
 use Rattle.config_tests.proofs.TestsRead.{tests_are_read, faults_are_first}

@@ -1,12 +1,14 @@
 -- What is read, or for what it is refused, where a symbol is an argument that does not fit as any other.
-use Rattle.std.proofs.Common.{◌≡◌, ◌↔◌, Bool, true, false, cond, [], Option, Some, None, Result, Ok, Err, refl, ap, sym, subst}
+use Rattle.std.proofs.Common.{◌≡◌, ◌↔◌, Bool, true, false, cond, [], Option, Some, None, Result, Ok, Err, refl, ap, sym}
+use Rattle.std.proofs.Common.{subst}
 use Rattle.sexp_read.specs.declared.piece.Atom.TheVariants as atom
 use Rattle.sexp_read.specs.declared.piece.Bracket.TheVariants.{Round, Square, Curly}
 use Rattle.sexp_read.specs.Tree.{FormTree, Single, Group}
 use Rattle.sexp_read.specs.Written.{BareTree, bare_tree}
 use Rattle.config_terms.specs.declared.fault.ConfigWhy.{ConfigWhy}
 use Rattle.config_terms.specs.Steps.{Fault, ◌>>=◌, start_of}
-use Rattle.config_terms.specs.Arguments.{Argument, argument_of, misfit, fitting, taken, text_in, number_in, value_in, text_at, number_at, value_at}
+use Rattle.config_terms.specs.Arguments.{Argument, argument_of, misfit, fitting, taken, text_in, number_in, value_in}
+use Rattle.config_terms.specs.Arguments.{text_at, number_at, value_at}
 use Rattle.config_terms.specs.Grammar.{IsValue}
 use Rattle.config_terms.proofs.TermLaws.{texts_are_read, numbers_are_read, values_are_read}
 use Rattle.config_tests.specs.Faults.{misfit_why, IsMisfit, a_misfit, IsNumber}

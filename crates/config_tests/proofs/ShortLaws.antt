@@ -1,5 +1,6 @@
 -- No more seconds pass in a test that was read than in any test.
-use Rattle.std.proofs.Common.{◌≡◌, ℕ, ◌+◌, ◌≤◌, nat_le, List, [], ◌∷◌, ◌++◌, Option, Some, None, Result, Ok, Err, refl, arith}
+use Rattle.std.proofs.Common.{◌≡◌, ℕ, ◌+◌, ◌≤◌, nat_le, List, [], ◌∷◌, ◌++◌, Option, Some, None, Result, Ok, Err, refl}
+use Rattle.std.proofs.Common.{arith}
 use Rattle.std.proofs.lemmas.Bool.{leb-true}
 use Rattle.std.specs.List.{AllByRecursion}
 use Rattle.sexp_read.specs.Tree.{FormTree, FormTrees, none, also}
@@ -18,7 +19,8 @@ use Rattle.config_tests.specs.declared.word.EntryWord.{EntryWord}
 use Rattle.config_tests.specs.declared.word.EntryWord.TheVariants as word
 use Rattle.config_tests.specs.Events.{seconds_in, event_of, IsShort}
 use Rattle.config_tests.specs.Maps.{described_at}
-use Rattle.config_tests.specs.Entries.{no_entries, passed, posted, expected, within, count_at, with_tick, with_event, new_name, with_item, with_expect, entry_by, entry_looking, with_entry}
+use Rattle.config_tests.specs.Entries.{no_entries, passed, posted, expected, within, count_at, with_tick, with_event}
+use Rattle.config_tests.specs.Entries.{new_name, with_item, with_expect, entry_by, entry_looking, with_entry}
 use Rattle.config_tests.specs.Tests.{test_in, test_looking, with_test, test_from, read_without_names, tests_of}
 use Rattle.config_tests.specs.Words.{entry_word, test_text}
 use Rattle.std.specs.Str.{bytes_eq}

@@ -15,12 +15,16 @@ use Rattle.config_terms.proofs.TermLaws.{texts_are_read}
 use Rattle.config_tests.specs.declared.draft.Draft.{Draft}
 use Rattle.config_tests.specs.declared.entry.Test.{Test}
 use Rattle.config_tests.specs.Entries.{no_entries as no_draft, with_entry}
-use Rattle.config_tests.specs.Faults.{IsListOf, IsMisfit, HaveEntryFault, HasTestFault, no_test, no_name, test_name, test_entry, HaveTestFault}
+use Rattle.config_tests.specs.Faults.{IsListOf, IsMisfit, HaveEntryFault, HasTestFault, no_test, no_name, test_name}
+use Rattle.config_tests.specs.Faults.{test_entry, HaveTestFault}
 use Rattle.config_tests.specs.Grammar.{IsText, AreEntries, IsTest, a_test, AreTests}
-use Rattle.config_tests.specs.Tests.{test_from, test_in, test_by, test_looking, test_at, with_test, read_without_names, tests_of, TestsAreRead, FaultsAreFirst}
+use Rattle.config_tests.specs.Tests.{test_from, test_in, test_by, test_looking, test_at, with_test, read_without_names}
+use Rattle.config_tests.specs.Tests.{tests_of, TestsAreRead, FaultsAreFirst}
 use Rattle.config_tests.specs.Words.{test_text}
-use Rattle.config_tests.proofs.EntriesRead.{HeadIs, heads, looks, same_name, named_so, bare_list, list_of, draft_of, Holds, entries_both, entries_read, entries_refuse}
-use Rattle.config_tests.proofs.Refusals.{Refuses, Both, both_then, both_ok, both_err, refuses_first, refuses_next, refuses_as, text_both, text_refuses}
+use Rattle.config_tests.proofs.EntriesRead.{HeadIs, heads, looks, same_name, named_so, bare_list, list_of, draft_of}
+use Rattle.config_tests.proofs.EntriesRead.{Holds, entries_both, entries_read, entries_refuse}
+use Rattle.config_tests.proofs.Refusals.{Refuses, Both, both_then, both_ok, both_err, refuses_first, refuses_next}
+use Rattle.config_tests.proofs.Refusals.{refuses_as, text_both, text_refuses}
 use Rattle.config_tests.proofs.Rows.{all_both, all_read, all_refuses}
 
 -- ---- what follows `test`

@@ -16,11 +16,15 @@ TextsAreAnswered = (text : List ℕ) → IsTests text ⊎ IsRefused text
 
 -- not both
 abbrev pub TestsAreNotRefused : Type 0
-TestsAreNotRefused = (text : List ℕ) (tests : List Test) (place : ℕ) (why : ConfigWhy) → AreTestsOf text tests → IsTestsFault text place why → ⊥
+TestsAreNotRefused =
+    (text : List ℕ) (tests : List Test) (place : ℕ) (why : ConfigWhy) → AreTestsOf text tests
+    → IsTestsFault text place why → ⊥
 
 -- no other tests, and no other cause or place
 abbrev pub TestsAreOne : Type 0
-TestsAreOne = (text : List ℕ) (tests others : List Test) → AreTestsOf text tests → AreTestsOf text others → tests ≡ others
+TestsAreOne =
+    (text : List ℕ) (tests others : List Test) → AreTestsOf text tests → AreTestsOf text others → tests ≡ others
 
 abbrev pub RefusalsAreOne : Type 0
-RefusalsAreOne = (text : List ℕ) (place other : ℕ) (why cause : ConfigWhy) → IsTestsFault text place why → IsTestsFault text other cause → (place ≡ other) × (why ≡ cause)
+RefusalsAreOne = (text : List ℕ) (place other : ℕ) (why cause : ConfigWhy) → IsTestsFault text place why
+    → IsTestsFault text other cause → (place ≡ other) × (why ≡ cause)

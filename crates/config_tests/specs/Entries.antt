@@ -1,5 +1,6 @@
--- How the entries of a test are read, step by step, and what each step refuses at which place. Which forms are entries is
--- said by the grammar (`Grammar.antt`), and which fault is the first by a relation (`Faults.antt`), apart from these steps.
+-- How the entries of a test are read, step by step, and what each step refuses at which place. Which forms are entries
+-- is said by the grammar (`Grammar.antt`), and which fault is the first by a relation (`Faults.antt`), apart from these
+-- steps.
 use Rattle.std.specs.Prelude.{ℕ, ◌+◌, nat_le, if◌then◌else◌, List, [], ◌∷◌, ◌++◌, Option, Some, None, Result, Ok, Err}
 use Rattle.ev_types.specs.declared.event.Event.{Event}
 use Rattle.ev_types.specs.declared.field.Field.TheVariants.{Time}

@@ -18,7 +18,8 @@ abbrev pub with_tags : Event → Option (List (List ℕ)) → Event
 with_tags event None = event
 with_tags event (Some tags) = record event { tags = tags }
 
--- The event that holds what is said, and nothing else but a time. Where nothing is said of its time, that is the moment.
+-- The event that holds what is said, and nothing else but a time. Where nothing is said of its time, that is the
+-- moment.
 abbrev pub event_of : ℕ → Described → Event
 event_of moment described = with_tags (with_sets described.sets (event_at (pos moment))) described.tags
 

@@ -1,6 +1,6 @@
--- The grammar of tests, as a relation: which forms, apart from their places, represent which tests. Each case belongs to a
--- row of the table of forms in docs/STREAM_TESTS.md, or to what the page says of maps and items. No names are bound in
--- tests.
+-- The grammar of tests, as a relation: which forms, apart from their places, represent which tests. Each case belongs
+-- to a row of the table of forms in docs/STREAM_TESTS.md, or to what the page says of maps and items. No names are
+-- bound in tests.
 use Rattle.std.specs.Prelude.{◌≡◌, ℕ, ◌+◌, ◌≤◌, Bool, true, false, List, [], ◌∷◌, ◌++◌, codes, Some, None}
 use Rattle.std.specs.List.{list_any}
 use Rattle.std.specs.Option.{is_some}
@@ -36,7 +36,8 @@ then_one (and_trees first forms) form = and_trees first (then_one forms form)
 -- each form represents the value in its place in the list
 pub data AreEach {A : Type 0} (Is : BareTree → A → Type 0) : BareTrees → List A → Type 0 where
   no_more : AreEach Is no_trees []
-  one_more : {form : BareTree} {forms : BareTrees} {a : A} {all : List A} → Is form a → AreEach Is forms all → AreEach Is (and_trees form forms) (a ∷ all)
+  one_more : {form : BareTree} {forms : BareTrees} {a : A} {all : List A} → Is form a → AreEach Is forms all
+      → AreEach Is (and_trees form forms) (a ∷ all)
 
 -- ---- arguments
 
@@ -82,12 +83,14 @@ pub data IsMap : BareTree → Described → Type 0 where
 
 -- an event is expected with its time
 pub data IsTimed : BareTree → Event → Type 0 where
-  a_timed : {form : BareTree} {described : Described} → IsMap form described → has_field Time described.sets ≡ true → IsTimed form (event_of 0 described)
+  a_timed : {form : BareTree} {described : Described} → IsMap form described → has_field Time described.sets ≡ true
+      → IsTimed form (event_of 0 described)
 
 -- an event, or a vector of one event at least
 pub data IsItem : BareTree → Item → Type 0 where
   event_item : {form : BareTree} {event : Event} → IsTimed form event → IsItem form (One event)
-  vector_item : {forms : BareTrees} {event : Event} {events : List Event} → AreEach IsTimed forms (event ∷ events) → IsItem (vector_of forms) (Many (event ∷ events))
+  vector_item : {forms : BareTrees} {event : Event} {events : List Event} → AreEach IsTimed forms (event ∷ events)
+      → IsItem (vector_of forms) (Many (event ∷ events))
 
 -- ---- entries
 
@@ -112,25 +115,30 @@ with_expect_told told one = record told { expects = told.expects ++ one ∷ [] }
 abbrev pub has_expect : List ℕ → List Expect → Bool
 has_expect name = list_any (λ expect. bytes_eq expect.name name)
 
--- what is told once one more entry is. The seconds of all ticks are not more than the most; an event of which no time is
--- said comes at the second that the test has come to; and under each name something is expected once at most
+-- what is told once one more entry is. The seconds of all ticks are not more than the most; an event of which no time
+-- is said comes at the second that the test has come to; and under each name something is expected once at most
 pub data IsEntry : Told → BareTree → Told → Type 0 where
   a_tick : {told : Told} {n : BareTree} {count : ℕ} → IsCount n count → passed_in told + count ≤ MAX_SECONDS
       → IsEntry told (worded (codes "tick") (listed (n ∷ []))) (with_entry_told told (entry.Tick count))
   an_event : {told : Told} {map : BareTree} {described : Described} → IsMap map described
-      → IsEntry told (worded (codes "event") (listed (map ∷ []))) (with_entry_told told (entry.Event (event_of (passed_in told) described)))
-  an_expect : {told : Told} {x : BareTree} {forms : BareTrees} {name : List ℕ} {items : List Item} → IsText x name → has_expect name told.expects ≡ false → AreEach IsItem forms items
-      → IsEntry told (worded (codes "expect") (and_trees x forms)) (with_expect_told told (record { name = name; items = items }))
+      → IsEntry told (worded (codes "event") (listed (map ∷ [])))
+      (with_entry_told told (entry.Event (event_of (passed_in told) described)))
+  an_expect : {told : Told} {x : BareTree} {forms : BareTrees} {name : List ℕ} {items : List Item} → IsText x name
+      → has_expect name told.expects ≡ false → AreEach IsItem forms items
+      → IsEntry told (worded (codes "expect") (and_trees x forms))
+      (with_expect_told told (record { name = name; items = items }))
 
 pub data AreEntries : BareTrees → Told → Type 0 where
   no_entries : AreEntries no_trees nothing_told
-  more_entries : {forms : BareTrees} {form : BareTree} {told more : Told} → AreEntries forms told → IsEntry told form more → AreEntries (then_one forms form) more
+  more_entries : {forms : BareTrees} {form : BareTree} {told more : Told} → AreEntries forms told
+      → IsEntry told form more → AreEntries (then_one forms form) more
 
 -- ---- tests
 
 pub data IsTest : BareTree → Test → Type 0 where
   a_test : {x : BareTree} {forms : BareTrees} {name : List ℕ} {told : Told} → IsText x name → AreEntries forms told
-      → IsTest (worded (codes "test") (and_trees x forms)) (record { name = name; entries = told.entries; expects = told.expects })
+      → IsTest (worded (codes "test") (and_trees x forms))
+      (record { name = name; entries = told.entries; expects = told.expects })
 
 -- the forms represent the tests
 abbrev pub AreTests : BareTrees → List Test → Type 0

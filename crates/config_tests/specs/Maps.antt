@@ -1,5 +1,5 @@
--- How maps that describe an event are read, step by step, and what each step refuses at which place. Which forms are maps
--- is said by the grammar, apart from these steps (`Grammar.antt`).
+-- How maps that describe an event are read, step by step, and what each step refuses at which place. Which forms are
+-- maps is said by the grammar, apart from these steps (`Grammar.antt`).
 use Rattle.std.specs.Prelude.{ℕ, if◌then◌else◌, List, [], ◌∷◌, ◌++◌, Option, Some, None, Result, Ok, Err}
 use Rattle.std.specs.Str.{bytes_eq}
 use Rattle.ev_types.specs.declared.field.Field.{Field}
@@ -41,7 +41,8 @@ unfoldable pub tags_at : FormTree → Result (List (List ℕ)) Fault
 tags_at f = vector_at [] f >>= λ forms. texts_at [] f
 
 unfoldable pub with_part : Described → MapKey → FormTree → Result Described Fault
-with_part described (key.Field field) f = set_at [] field f >>= λ set. Ok (record described { sets = described.sets ++ set ∷ [] })
+with_part described (key.Field field) f =
+    set_at [] field f >>= λ set. Ok (record described { sets = described.sets ++ set ∷ [] })
 with_part described key.Tags f = tags_at f >>= λ tags. Ok (record described { tags = Some tags })
 
 -- ---- keys and what comes after them alternately, in a map that starts at the place

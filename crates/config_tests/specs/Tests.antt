@@ -59,8 +59,8 @@ abbrev pub read_without_names : {A : Type 0} → Result A Fault → Result A Fau
 read_without_names (Ok a) = Ok a
 read_without_names (Err fault) = Err (fault.0, without_names fault.1)
 
--- What the forms of a text are read as, step by step. Which forms represent tests is said by the grammar, and which fault of
--- the others is the first by a relation; that the steps keep to both are laws.
+-- What the forms of a text are read as, step by step. Which forms represent tests is said by the grammar, and which
+-- fault of the others is the first by a relation; that the steps keep to both are laws.
 unfoldable pub tests_of : FormTrees → Result (List Test) Fault
 tests_of forms = read_without_names (each with_test [] forms)
 
@@ -70,7 +70,8 @@ TestsAreRead = (forms : FormTrees) (tests : List Test) → AreTests (bare_trees 
 
 -- and are refused exactly for the first fault that they have
 abbrev pub FaultsAreFirst : Type 0
-FaultsAreFirst = (forms : FormTrees) (place : ℕ) (why : ConfigWhy) → HaveTestFault forms (place, why) ↔ (tests_of forms ≡ Err (place, why))
+FaultsAreFirst = (forms : FormTrees) (place : ℕ) (why : ConfigWhy)
+    → HaveTestFault forms (place, why) ↔ (tests_of forms ≡ Err (place, why))
 
 -- ---- texts
 

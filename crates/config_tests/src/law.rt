@@ -9,8 +9,8 @@ pub fn tests_are_read()
     ensures { TestsAreRead }
 {}
 
-/// Forms are refused for exactly the first fault that they have, at its place: what comes before it represents something
-/// by the grammar.
+/// Forms are refused for exactly the first fault that they have, at its place: what comes before it represents
+/// something by the grammar.
 pub fn faults_are_first()
     ensures { FaultsAreFirst }
 {}

@@ -18,11 +18,11 @@ use std::alloc::Global;
 ///
 /// A text is refused for the first of these that it has:
 /// - what [`read_forms`] refuses texts for, at its place;
-/// - in reading order, in each list the head first and then its arguments: a list that is not of a word of its place, or
-///   a form that is not a list where one has to be, at its start (Form); an argument that does not fit, at that
-///   argument, or one that is missing, at the bracket of the form that lacks it (Arguments); a number outside its range,
-///   or the number of a tick with which more than [`MAX_SECONDS`](crate::MAX_SECONDS) seconds pass in a test, at the
-///   number (Range); a key or field that its map has already, at the key, or a name under which the test expects
+/// - in reading order, in each list the head first and then its arguments: a list that is not of a word of its place,
+///   or a form that is not a list where one has to be, at its start (Form); an argument that does not fit, at that
+///   argument, or one that is missing, at the bracket of the form that lacks it (Arguments); a number outside its
+///   range, or the number of a tick with which more than [`MAX_SECONDS`](crate::MAX_SECONDS) seconds pass in a test, at
+///   the number (Range); a key or field that its map has already, at the key, or a name under which the test expects
 ///   something already, at the bracket of its `expect` (Twice).
 ///
 /// `Memory`: out of memory.

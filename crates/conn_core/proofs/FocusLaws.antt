@@ -1,5 +1,6 @@
 -- How one link of a table is looked at, and how the table is afterwards.
-use Rattle.std.proofs.Common.{◌≡◌, ◌≢◌, ℕ, zero, suc, ◌<◌, true, false, ◌||◌, List, [], ◌∷◌, ◌++◌, length, map, take, drop, get_or, set, refl, ap, sym, ◌∙◌, subst, arith}
+use Rattle.std.proofs.Common.{◌≡◌, ◌≢◌, ℕ, zero, suc, ◌<◌, true, false, ◌||◌, List, [], ◌∷◌, ◌++◌, length, map, take}
+use Rattle.std.proofs.Common.{drop, get_or, set, refl, ap, sym, ◌∙◌, subst, arith}
 use Rattle.std.specs.Prelude.{Some}
 use Rattle.std.specs.List.{remove}
 use Rattle.std.proofs.lemmas.List.{drop-set-lt, get_or-set_same, map-append, take-set, set_split, length-set}
@@ -8,14 +9,17 @@ use Rattle.hub_link.specs.hub_meaning.Laws.{AreRising}
 use Rattle.hub_link.specs.hub_meaning.Legal.{AreSettled, IsSettled}
 use Rattle.hub_link.specs.hub_meaning.declared.stage.Stage.{Stage}
 use Rattle.hub_link.specs.hub_meaning.declared.stage.Stage.TheVariants.{Closed}
-use Rattle.hub_link.specs.hub_meaning.Links.{Link, changed, closed, connected, find_link, is_above, is_connected, is_open_stage, is_read_closed_stage, want_of, wants_of}
+use Rattle.hub_link.specs.hub_meaning.Links.{Link, changed, closed, connected, find_link, is_above, is_connected}
+use Rattle.hub_link.specs.hub_meaning.Links.{is_open_stage, is_read_closed_stage, want_of, wants_of}
 use Rattle.hub_link.specs.declared.link.HubLink.{HubLink}
 use Rattle.hub_link.specs.HubLink.{RepresentsLink}
 use Rattle.link_table.specs.Kept.{Kept, IsAt, is_newer, number_at}
 use Rattle.ports.specs.declared.links.Want.{Want}
 use Rattle.conn_core.specs.Keeping.{AreBeside, Keeps}
 use Rattle.conn_core.specs.Reaching.{Focus}
-use Rattle.conn_core.proofs.Splits.{AreOther, beside_append, beside_cut, changed_at, connected_append, connected_cut, connected_yes, found_at, above_at, others_after, others_before, rising_at, settled_append, settled_first, settled_second, wants_append}
+use Rattle.conn_core.proofs.Splits.{AreOther, beside_append, beside_cut, changed_at, connected_append, connected_cut}
+use Rattle.conn_core.proofs.Splits.{connected_yes, found_at, above_at, others_after, others_before, rising_at}
+use Rattle.conn_core.proofs.Splits.{settled_append, settled_first, settled_second, wants_append}
 
 -- ---- lists
 

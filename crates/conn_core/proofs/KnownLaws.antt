@@ -1,5 +1,6 @@
 -- The links that are not closed, along a log.
-use Rattle.std.proofs.Common.{◌≡◌, ◌≢◌, ℕ, ◌+◌, ◌<◌, ◌≤◌, ◌==◌, ◌⊎◌, inl, inr, Bool, true, false, not, ◌||◌, List, [], ◌∷◌, ◌++◌, length, fold, set, refl, ap, sym, ◌∙◌, subst, arith, IsTrue}
+use Rattle.std.proofs.Common.{◌≡◌, ◌≢◌, ℕ, ◌+◌, ◌<◌, ◌≤◌, ◌==◌, ◌⊎◌, inl, inr, Bool, true, false, not, ◌||◌, List, []}
+use Rattle.std.proofs.Common.{◌∷◌, ◌++◌, length, fold, set, refl, ap, sym, ◌∙◌, subst, arith, IsTrue}
 use Rattle.std.specs.Prelude.{Option, Some, None}
 use Rattle.std.specs.List.{list_any, remove}
 use Rattle.std.proofs.lemmas.Bool.{eqb-true, eq-eqb, ne_eqb}
@@ -15,7 +16,8 @@ use Rattle.ports.specs.declared.entry.Entry.TheVariants.{Listen, Next, Send, Clo
 use Rattle.ports.specs.declared.links.Turn.{Turn}
 use Rattle.ports.specs.declared.links.Want.{Want}
 use Rattle.ports.specs.declared.links.What.{What}
-use Rattle.ports.specs.declared.links.What.TheVariants.{Idle, Opened, Read, Ended, Broken, Room, Stopped, Failed, Memory}
+use Rattle.ports.specs.declared.links.What.TheVariants.{Idle, Opened, Read, Ended, Broken, Room, Stopped, Failed}
+use Rattle.ports.specs.declared.links.What.TheVariants.{Memory}
 use Rattle.ports.specs.Links.{MayClose, grown, is_unclosed, unclosed, unclosed_after, unclosed_after_turn}
 use Rattle.conn_core.specs.Known.{Answered, AreUnclosed, EndsWith, IsOpenedBy, IsUnclosed}
 

@@ -1,5 +1,6 @@
 -- More steps give more notices, after those that were given.
-use Rattle.std.proofs.Common.{◌≡◌, ℕ, ◌-◌, ◌%◌, ◌==◌, Bool, true, false, cond, List, [], ◌∷◌, ◌++◌, replicate, refl, ap, sym, ◌∙◌, append-nil, append_assoc}
+use Rattle.std.proofs.Common.{◌≡◌, ℕ, ◌-◌, ◌%◌, ◌==◌, Bool, true, false, cond, List, [], ◌∷◌, ◌++◌, replicate, refl, ap}
+use Rattle.std.proofs.Common.{sym, ◌∙◌, append-nil, append_assoc}
 use Rattle.std.specs.Prelude.{Option, Some, None}
 use Rattle.ev_types.specs.declared.event.Event.{Event}
 use Rattle.ev_types.specs.declared.item.Item.TheVariants.{One}
@@ -11,7 +12,9 @@ use Rattle.hub_link.proofs.EventCoreMoves.{notices-append}
 use Rattle.ev_types.specs.Clock.{next_moment}
 use Rattle.hub_link.specs.hub_meaning.Links.{Link, find_link, is_open}
 use Rattle.hub_link.specs.hub_meaning.Messages.{posts_of}
-use Rattle.hub_link.specs.hub_meaning.Runs.{RunState, Step, Talk, after_entry, after_step, all_answered, answered, first_state, messages_in, notices_after, occurred, passed, read_by, state_after, state_from, talk_of, turned, with_talk}
+use Rattle.hub_link.specs.hub_meaning.Runs.{RunState, Step, Talk, after_entry, after_step, all_answered, answered}
+use Rattle.hub_link.specs.hub_meaning.Runs.{first_state, messages_in, notices_after, occurred, passed, read_by}
+use Rattle.hub_link.specs.hub_meaning.Runs.{state_after, state_from, talk_of, turned, with_talk}
 use Rattle.ports.specs.Playing.{is_turn_answer}
 use Rattle.hub_link.specs.hub_meaning.Verdicts.{Message, Refusal}
 use Rattle.hub_link.proofs.HubMeaningRunLaws.{state_append}
@@ -19,13 +22,15 @@ use Rattle.ports.specs.declared.entry.Entry.{Entry}
 use Rattle.ports.specs.declared.entry.Entry.TheVariants.{Listen, Next, Send, Close}
 use Rattle.ports.specs.declared.links.Turn.{Turn}
 use Rattle.ports.specs.declared.links.What.{What}
-use Rattle.ports.specs.declared.links.What.TheVariants.{Idle, Opened, Read, Ended, Broken, Room, Stopped, Failed, Memory}
+use Rattle.ports.specs.declared.links.What.TheVariants.{Idle, Opened, Read, Ended, Broken, Room, Stopped, Failed}
+use Rattle.ports.specs.declared.links.What.TheVariants.{Memory}
 use Rattle.stream_plan.specs.Tree.{StreamTrees}
 use Rattle.stream_meaning.specs.declared.entry.Entry.{Entry as StreamEntry}
 use Rattle.stream_meaning.specs.declared.entry.Entry.TheVariants.{Tick, Item as In}
 use Rattle.stream_meaning.specs.History.{History, since, ◌▸◌, begun, moment_of}
 use Rattle.stream_meaning.specs.Outputs.{outputs_at, outputs_of}
-use Rattle.stream_meaning.specs.Arrivals.{Arrival, CoreState, Elapsed, Post, arrived, entered, expired_copies, fed_back, notices_among, state_from as core_state_from, streamed, swept, with_reap}
+use Rattle.stream_meaning.specs.Arrivals.{Arrival, CoreState, Elapsed, Post, arrived, entered, expired_copies, fed_back}
+use Rattle.stream_meaning.specs.Arrivals.{notices_among, state_from as core_state_from, streamed, swept, with_reap}
 use Rattle.stream_meaning.proofs.ArrivalMoments.{arrivals_in_order}
 
 -- ---- longer histories

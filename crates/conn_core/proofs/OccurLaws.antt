@@ -1,5 +1,6 @@
 -- What the occurrence of a turn comes to.
-use Rattle.std.proofs.Common.{◌≡◌, ◌≢◌, ℕ, Bool, true, false, cond, ◌||◌, List, [], ◌∷◌, get_or, set, Result, Ok, Err, refl, ap, sym, ◌∙◌, subst, append-nil}
+use Rattle.std.proofs.Common.{◌≡◌, ◌≢◌, ℕ, Bool, true, false, cond, ◌||◌, List, [], ◌∷◌, get_or, set, Result, Ok, Err}
+use Rattle.std.proofs.Common.{refl, ap, sym, ◌∙◌, subst, append-nil}
 use Rattle.std.specs.Prelude.{IsErr, Option, Some, None, OnOk}
 use Rattle.ev_types.specs.declared.event.Event.{Event}
 use Rattle.hub_link.specs.event_core.declared.arrivals.Core.{Core}
@@ -8,9 +9,12 @@ use Rattle.framing.specs.Frames.{length_at, partial}
 use Rattle.hub_link.specs.hub_meaning.Legal.{AreSettled, IsLegalFrom, VerdictsIf, VerdictsIn, VerdictsOn}
 use Rattle.hub_link.specs.hub_meaning.declared.stage.Stage.{Stage}
 use Rattle.hub_link.specs.hub_meaning.declared.stage.Stage.TheVariants.{Open, ReadClosed, Closing, Closed}
-use Rattle.hub_link.specs.hub_meaning.Links.{Link, changed, find_link, is_connected, is_open, is_open_stage, is_read_closed_stage, with_stage}
+use Rattle.hub_link.specs.hub_meaning.Links.{Link, changed, find_link, is_connected, is_open, is_open_stage}
+use Rattle.hub_link.specs.hub_meaning.Links.{is_read_closed_stage, with_stage}
 use Rattle.hub_link.specs.hub_meaning.Replies.{reply_to_oversized}
-use Rattle.hub_link.specs.hub_meaning.Runs.{RunState, Talk, all_answered, answered, cut_off, is_oversized, messages_in, occurred, plain, read_by, read_from, state_from, talk_of, with_links, with_reply, with_talk}
+use Rattle.hub_link.specs.hub_meaning.Runs.{RunState, Talk, all_answered, answered, cut_off, is_oversized, messages_in}
+use Rattle.hub_link.specs.hub_meaning.Runs.{occurred, plain, read_by, read_from, state_from, talk_of, with_links}
+use Rattle.hub_link.specs.hub_meaning.Runs.{with_reply, with_talk}
 use Rattle.hub_link.specs.hub_meaning.Verdicts.{Message, PatternsReport, Refusal}
 use Rattle.hub_link.proofs.HubMeaningLinkLaws.{all_found, found_number}
 use Rattle.hub_link.specs.declared.link.HubLink.{HubLink}
@@ -24,7 +28,8 @@ use Rattle.hub_link.proofs.MsgRepliesAnswerLaws.{heard_nothing}
 use Rattle.hub_link.proofs.MsgRepliesVerdictLaws.{no_verdicts}
 use Rattle.ports.specs.declared.entry.Entry.{Entry}
 use Rattle.ports.specs.declared.links.What.{What}
-use Rattle.ports.specs.declared.links.What.TheVariants.{Idle, Opened, Read, Ended, Broken, Room, Stopped, Failed, Memory as NoMemory}
+use Rattle.ports.specs.declared.links.What.TheVariants.{Idle, Opened, Read, Ended, Broken, Room, Stopped, Failed}
+use Rattle.ports.specs.declared.links.What.TheVariants.{Memory as NoMemory}
 use Rattle.conn_core.specs.Hub.{RepresentsState}
 use Rattle.conn_core.specs.Occurring.{Done, Occurs, OccursFrom}
 use Rattle.conn_core.specs.Reaching.{Changes, Ends, Focus, Settles, links_after}

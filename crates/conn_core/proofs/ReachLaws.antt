@@ -1,5 +1,6 @@
 -- What the calls of a turn come to.
-use Rattle.std.proofs.Common.{◌≡◌, ◌≢◌, ℕ, suc, ◌<◌, ◌≤◌, Bool, true, false, cond, ◌&&◌, ◌||◌, List, [], ◌∷◌, ◌++◌, length, map, get_or, set, Result, Ok, Err, refl, ap, sym, ◌∙◌, subst, arith, append-nil}
+use Rattle.std.proofs.Common.{◌≡◌, ◌≢◌, ℕ, suc, ◌<◌, ◌≤◌, Bool, true, false, cond, ◌&&◌, ◌||◌, List, [], ◌∷◌, ◌++◌}
+use Rattle.std.proofs.Common.{length, map, get_or, set, Result, Ok, Err, refl, ap, sym, ◌∙◌, subst, arith, append-nil}
 use Rattle.std.specs.Prelude.{IsErr, OnOk, Some, nat_lt}
 use Rattle.std.specs.List.{AllByRecursion, remove}
 use Rattle.std.proofs.lemmas.Bool.{and_parts, eqb-true, le-ltb, lt-ltb, ltb-true}
@@ -7,7 +8,10 @@ use Rattle.std.proofs.lemmas.List.Folds.{list_all-append}
 use Rattle.hub_link.specs.hub_meaning.Legal.{AreSettled, IsLegalFrom, IsSettled, IsSettledAs, MayClose}
 use Rattle.hub_link.specs.hub_meaning.declared.stage.Stage.{Stage}
 use Rattle.hub_link.specs.hub_meaning.declared.stage.Stage.TheVariants.{Open, ReadClosed, Closing, Closed}
-use Rattle.hub_link.specs.hub_meaning.Links.{Link, broken, changed, closed, connected, connected_limit, ended, find_link, has_number, is_above, is_connected, is_open, is_open_stage, is_read_closed_stage, new_link, opened, sent, unblocked, want_of, wants_of, with_stage}
+use Rattle.hub_link.specs.hub_meaning.Links.{Link, broken, changed, closed, connected, connected_limit, ended}
+use Rattle.hub_link.specs.hub_meaning.Links.{find_link, has_number, is_above, is_connected, is_open, is_open_stage}
+use Rattle.hub_link.specs.hub_meaning.Links.{is_read_closed_stage, new_link, opened, sent, unblocked, want_of, wants_of}
+use Rattle.hub_link.specs.hub_meaning.Links.{with_stage}
 use Rattle.hub_link.specs.hub_meaning.Runs.{RunState, Step, plain, state_from, with_links}
 use Rattle.hub_link.proofs.HubMeaningLinkLaws.{rising_changed, rising_opened}
 use Rattle.hub_link.proofs.HubMeaningRunLaws.{legal_append, state_append}
@@ -24,7 +28,8 @@ use Rattle.ports.specs.declared.links.Want.{Want}
 use Rattle.conn_core.specs.Keeping.{AreBeside, Keeps}
 use Rattle.conn_core.specs.Reaching.{AddsLink, Changes, Finishes, Focus, Settles}
 use Rattle.conn_core.proofs.FocusLaws.{focus_changed, focus_find, focus_found, focus_kept, focus_removed}
-use Rattle.conn_core.proofs.Splits.{AreOther, beside_append, beside_length, changed_at, connected_append, found_at, settled_append, wants_append}
+use Rattle.conn_core.proofs.Splits.{AreOther, beside_append, beside_length, changed_at, connected_append, found_at}
+use Rattle.conn_core.proofs.Splits.{settled_append, wants_append}
 
 pub plain_append : (first second : List Entry) → plain (first ++ second) ≡ plain first ++ plain second
 plain_append [] second = refl

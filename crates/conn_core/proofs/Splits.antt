@@ -1,5 +1,6 @@
 -- A list of links, cut at one of them.
-use Rattle.std.proofs.Common.{◌≡◌, ◌≢◌, ℕ, zero, suc, ◌<◌, Bool, true, false, cond, ◌&&◌, List, [], ◌∷◌, ◌++◌, length, map, take, drop, get_or, refl, ap, sym, ◌∙◌, subst, arith}
+use Rattle.std.proofs.Common.{◌≡◌, ◌≢◌, ℕ, zero, suc, ◌<◌, Bool, true, false, cond, ◌&&◌, List, [], ◌∷◌, ◌++◌, length}
+use Rattle.std.proofs.Common.{map, take, drop, get_or, refl, ap, sym, ◌∙◌, subst, arith}
 use Rattle.std.specs.Prelude.{Some, nat_lt}
 use Rattle.std.specs.List.{AllByRecursion}
 use Rattle.std.proofs.lemmas.Bool.{eq-eqb, ne_eqb}
@@ -7,7 +8,8 @@ use Rattle.std.proofs.lemmas.List.{map-append}
 use Rattle.std.proofs.lemmas.List.Elements.{filter-append}
 use Rattle.hub_link.specs.hub_meaning.Laws.{AreAbove, AreRising}
 use Rattle.hub_link.specs.hub_meaning.Legal.{AreSettled}
-use Rattle.hub_link.specs.hub_meaning.Links.{Link, changed, connected, find_link, is_above, is_connected, want_of, wants_of}
+use Rattle.hub_link.specs.hub_meaning.Links.{Link, changed, connected, find_link, is_above, is_connected, want_of}
+use Rattle.hub_link.specs.hub_meaning.Links.{wants_of}
 use Rattle.hub_link.specs.declared.link.HubLink.{HubLink}
 use Rattle.hub_link.specs.HubLink.{RepresentsLink}
 use Rattle.conn_core.specs.Keeping.{AreBeside}

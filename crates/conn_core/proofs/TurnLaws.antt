@@ -1,5 +1,6 @@
 -- How a turn is put together from its seconds, its occurrence and its lines.
-use Rattle.std.proofs.Common.{◌≡◌, ◌≢◌, ℕ, ◌+◌, ◌-◌, arith, Bool, true, false, cond, List, [], ◌∷◌, ◌++◌, replicate, Result, Ok, Err, refl, ap, sym, ◌∙◌, subst, append_assoc}
+use Rattle.std.proofs.Common.{◌≡◌, ◌≢◌, ℕ, ◌+◌, ◌-◌, arith, Bool, true, false, cond, List, [], ◌∷◌, ◌++◌, replicate}
+use Rattle.std.proofs.Common.{Result, Ok, Err, refl, ap, sym, ◌∙◌, subst, append_assoc}
 use Rattle.std.specs.Prelude.{IsErr, Option, Some, None, OnErr, OnOk}
 use Rattle.ev_types.specs.declared.item.Notice.{Notice}
 use Rattle.hub_link.specs.event_core.declared.arrivals.Core.{Core}
@@ -7,7 +8,8 @@ use Rattle.hub_link.specs.event_core.Core.{CoreConfig, Heard, Represents, forks_
 use Rattle.ev_types.specs.Clock.{next_moment}
 use Rattle.hub_link.specs.hub_meaning.Legal.{AreSettled, IsLegal, IsLegalFrom, VerdictsIf, VerdictsIn, VerdictsOn}
 use Rattle.hub_link.specs.hub_meaning.Links.{Link, find_link, is_open}
-use Rattle.hub_link.specs.hub_meaning.Runs.{RunState, Step, after_step, first_state, new_frames, notices_after, occurred, passed, plain, state_after, state_from, talk_of}
+use Rattle.hub_link.specs.hub_meaning.Runs.{RunState, Step, after_step, first_state, new_frames, notices_after}
+use Rattle.hub_link.specs.hub_meaning.Runs.{occurred, passed, plain, state_after, state_from, talk_of}
 use Rattle.ports.specs.Playing.{is_turn_answer}
 use Rattle.hub_link.specs.hub_meaning.Verdicts.{PatternsReport, Refusal}
 use Rattle.hub_link.proofs.HubMeaningRunLaws.{legal_append, state_append}
@@ -20,7 +22,8 @@ use Rattle.notice_sink.specs.Lines.{lines_of}
 use Rattle.ports.specs.declared.entry.Entry.{Entry}
 use Rattle.ports.specs.declared.links.Turn.{Turn}
 use Rattle.ports.specs.declared.links.What.{What}
-use Rattle.ports.specs.declared.links.What.TheVariants.{Idle, Opened, Read, Ended, Broken, Room, Stopped, Failed, Memory as NoMemory}
+use Rattle.ports.specs.declared.links.What.TheVariants.{Idle, Opened, Read, Ended, Broken, Room, Stopped, Failed}
+use Rattle.ports.specs.declared.links.What.TheVariants.{Memory as NoMemory}
 use Rattle.ports.specs.Writing.{GotPrefix, SinkReport}
 use Rattle.stream_meaning.specs.Arrivals.{Arrival, Elapsed}
 use Rattle.conn_core.specs.Hub.{Follows, RepresentsState, wants_in}

@@ -12,7 +12,8 @@ use Rattle.ports.specs.declared.links.What.TheVariants.{Opened}
 
 -- each of these links was opened and not closed since
 abbrev pub AreUnclosed : Option (List Entry) → List Want → Type 0
-AreUnclosed log wants = ForSome log (λ entries. (i : ℕ) → i < length wants → IsTrue (is_unclosed (number_at wants i) entries))
+AreUnclosed log wants =
+    ForSome log (λ entries. (i : ℕ) → i < length wants → IsTrue (is_unclosed (number_at wants i) entries))
 
 -- the last call was `next`, and it answered this turn
 pub record EndsWith (turn : Turn) (entries : List Entry) : Type 0 where

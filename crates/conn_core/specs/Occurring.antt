@@ -28,9 +28,12 @@ pub record Occurs (what : What) (piece : List ℕ) (hub : Hub) (patterns pattern
   pub reported : AfterVerdicts patterns patterns' verdicts
   pub possible : VerdictsIn config what piece verdicts state
   pub legal : IsLegalFrom config (plain run) (occurred config what piece verdicts state)
-  pub done : OnOk result (Done hub config state (state_from config (plain run) (occurred config what piece verdicts state)) old new)
+  pub done :
+      OnOk result
+      (Done hub config state (state_from config (plain run) (occurred config what piece verdicts state)) old new)
 
-abbrev pub OccursFrom : What → List ℕ → Hub → Hub → PatternsReport → PatternsReport → Reported → Reported → Result (Unit {0}) Memory → List Entry → Type 0
+abbrev pub OccursFrom : What → List ℕ → Hub → Hub → PatternsReport → PatternsReport → Reported → Reported
+    → Result (Unit {0}) Memory → List Entry → Type 0
 OccursFrom what piece hub hub' patterns patterns' old new result run =
     (config : CoreConfig) (state : RunState) → RepresentsState hub config state → AreSettled state.links
     → Occurs what piece hub' patterns patterns' old new result config state run

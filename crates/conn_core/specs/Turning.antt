@@ -1,5 +1,6 @@
 -- What a turn does.
-use Rattle.std.specs.Prelude.{◌≡◌, ◌≢◌, ℕ, zero, suc, ◌+◌, ◌≤◌, List, [], ◌∷◌, ◌++◌, length, take, drop, Option, Result, Err, OnOk, OnErr}
+use Rattle.std.specs.Prelude.{◌≡◌, ◌≢◌, ℕ, zero, suc, ◌+◌, ◌≤◌, List, [], ◌∷◌, ◌++◌, length, take, drop, Option, Result}
+use Rattle.std.specs.Prelude.{Err, OnOk, OnErr}
 use Rattle.std.specs.Option.{option_map}
 use Rattle.ev_types.specs.declared.item.Notice.{Notice}
 use Rattle.hub_link.specs.event_core.Core.{CoreConfig, forks_by}
@@ -53,13 +54,16 @@ longer steps turn run = steps ++ (turn ∷ plain run)
 
 -- The turn was done, or the hub stopped in the middle of it. The verdicts on its messages are those that were reported
 -- of the patterns.
-pub record Turns (turn : Turn) (piece : List ℕ) (hub hub' : Hub) (patterns patterns' : PatternsReport) (forks forks' : ℕ)
-    (sink sink' : SinkReport) (result : Result (Unit {0}) Stop) (config : CoreConfig) (steps : List Step) (run : List Entry) : Type 0 where
+pub record Turns (turn : Turn) (piece : List ℕ) (hub hub' : Hub) (patterns patterns' : PatternsReport)
+    (forks forks' : ℕ)
+    (sink sink' : SinkReport) (result : Result (Unit {0}) Stop) (config : CoreConfig) (steps : List Step)
+    (run : List Entry) : Type 0 where
   pub verdicts : List (Option Refusal)
   pub reported : AfterVerdicts patterns patterns' verdicts
   pub legal : IsLegal config (longer steps (turn_step (wants_in hub) turn piece verdicts) run)
   pub made : List Notice
-  pub notices : notices_after config (longer steps (turn_step (wants_in hub) turn piece verdicts) run) ≡ notices_after config steps ++ made
+  pub notices : notices_after config (longer steps (turn_step (wants_in hub) turn piece verdicts) run)
+      ≡ notices_after config steps ++ made
   -- the lines of these notices were written, or a prefix of them
   pub lines : OnOk result (GotLines sink made sink')
   pub prefix : OnErr result (GotPrefix sink.text (lines_of made) sink'.text)
@@ -68,11 +72,15 @@ pub record Turns (turn : Turn) (piece : List ℕ) (hub hub' : Hub) (patterns pat
   -- the sink failed only where there was a line to be written
   pub some : result ≡ Err SinkFault → made ≢ []
   pub follows : OnOk result (Follows hub' config (longer steps (turn_step (wants_in hub) turn piece verdicts) run))
-  pub counted : OnOk result (forks + forks_by config (state_after config (longer steps (turn_step (wants_in hub) turn piece verdicts) run)).arrivals
+  pub counted :
+      OnOk result
+      (forks + forks_by config
+      (state_after config (longer steps (turn_step (wants_in hub) turn piece verdicts) run)).arrivals
       ≡ forks' + forks_by config (state_after config steps).arrivals)
 
 -- it does so after any steps that the hub follows
-abbrev pub TurnsFrom : Turn → List ℕ → Hub → Hub → PatternsReport → PatternsReport → ℕ → ℕ → SinkReport → SinkReport → Result (Unit {0}) Stop → List Entry → Type 0
+abbrev pub TurnsFrom : Turn → List ℕ → Hub → Hub → PatternsReport → PatternsReport → ℕ → ℕ → SinkReport → SinkReport
+    → Result (Unit {0}) Stop → List Entry → Type 0
 TurnsFrom turn piece hub hub' patterns patterns' forks forks' sink sink' result run =
     (config : CoreConfig) (steps : List Step) → Follows hub config steps
     → Turns turn piece hub hub' patterns patterns' forks forks' sink sink' result config steps run

@@ -62,8 +62,8 @@ impl Hub {
     }
 
     /// One turn: the seconds up to its moment pass, and then comes what occurred on a link, with the bytes of a read in
-    /// `piece`. That link is sent what is unsent, and it is closed if it is over. At the end the notices of the turn are
-    /// written as lines, in order, each in one put.
+    /// `piece`. That link is sent what is unsent, and it is closed if it is over. At the end the notices of the turn
+    /// are written as lines, in order, each in one put.
     pub fn turn<L: Links, O: Sink, P: Patterns, G: Ledger>(
         &mut self,
         alloc: Global,
@@ -185,7 +185,8 @@ fn pass<G: Ledger>(
     Ok(())
 }
 
-/// The moment of a turn that reads the clock at `secs`. The clock never goes back, and goes on by an hour a turn at most.
+/// The moment of a turn that reads the clock at `secs`. The clock never goes back, and goes on by an hour a turn at
+/// most.
 fn next_moment(now: u64, secs: u64) -> u64
     requires { now ≤ 2 ^ 40 }
     ensures moment { result ≡ next_moment now secs }

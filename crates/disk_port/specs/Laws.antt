@@ -9,6 +9,8 @@ ReadsAreLeft = (past : Past) → IsPossible past → Leaves past (text_of past)
 
 -- a write that succeeded, one that failed, and a sync leave a past possible
 pub record CallsArePossible : Type 0 where
-  pub write : (past : Past) (place : ℕ) (bytes : List ℕ) → IsPossible past → place ≤ length (text_of past) → IsPossible (written place bytes past)
-  pub failed_write : (old new : Option Past) (place count : ℕ) → ForSome old IsPossible → IsUndoneOrBegun place count old new → ForSome new IsPossible
+  pub write : (past : Past) (place : ℕ) (bytes : List ℕ) → IsPossible past → place ≤ length (text_of past)
+      → IsPossible (written place bytes past)
+  pub failed_write : (old new : Option Past) (place count : ℕ) → ForSome old IsPossible
+      → IsUndoneOrBegun place count old new → ForSome new IsPossible
   pub sync : (past : Past) → IsPossible past → IsPossible (synced past)

@@ -60,7 +60,8 @@ pub record LeavesOnly (old new : Past) (P : List ℕ → Type 0) : Type 0 where
 -- A write that failed was not begun, or it was begun: in its range, and past the old end, are then any bytes.
 abbrev pub IsUndoneOrBegun : ℕ → ℕ → Option Past → Option Past → Type 0
 IsUndoneOrBegun place count old new = (new ≡ old)
-    ⊎ ((text : List ℕ) × ForSome old (λ past. Torn place count (text_of past) text) × (new ≡ option_map (λ past. wrote past place count text) old))
+    ⊎ ((text : List ℕ) × ForSome old (λ past. Torn place count (text_of past) text)
+    × (new ≡ option_map (λ past. wrote past place count text) old))
 
 -- Of a file that rests, a crash since the old past leaves what a write of that range may leave.
 abbrev pub TearsOnly : ℕ → ℕ → Past → Option Past → Type 0

@@ -1,5 +1,6 @@
 -- One more key to keep adds its attribute, where none of that key was kept.
-use Rattle.std.proofs.Common.{◌≡◌, ℕ, Bool, true, false, not, ◌&&◌, ◌||◌, cond, List, [], ◌∷◌, ◌++◌, Option, Some, None, is_some, refl, sym, ap, ◌∙◌}
+use Rattle.std.proofs.Common.{◌≡◌, ℕ, Bool, true, false, not, ◌&&◌, ◌||◌, cond, List, [], ◌∷◌, ◌++◌, Option, Some, None}
+use Rattle.std.proofs.Common.{is_some, refl, sym, ap, ◌∙◌}
 use Rattle.std.specs.Prelude.{option_map, option_to_list}
 use Rattle.std.specs.List.{filter, filter_map, cons_option}
 use Rattle.std.specs.Str.{bytes_eq}
@@ -12,7 +13,8 @@ use Rattle.ev_types.specs.declared.event.Attr.{Attr}
 use Rattle.ev_types.specs.declared.settings.KeepKey.{KeepKey}
 use Rattle.ev_types.specs.Field.{attribute_text}
 use Rattle.ev_types.specs.Set.{has_text}
-use Rattle.ev_types.specs.Rebirth.{each_once, kept_attribute, kept_attributes, attribute_key, has_key, with_kept, with_key}
+use Rattle.ev_types.specs.Rebirth.{each_once, kept_attribute, kept_attributes, attribute_key, has_key, with_kept}
+use Rattle.ev_types.specs.Rebirth.{with_key}
 
 abbrev without : List ℕ → List (List ℕ) → List (List ℕ)
 without text = filter (λ other. not (bytes_eq other text))

@@ -1,5 +1,5 @@
--- The clock of a server, and of a client: whole seconds since 1970, which never go back, are never after 2^40, and go on by
--- at most an hour a turn.
+-- The clock of a server, and of a client: whole seconds since 1970, which never go back, are never after 2^40, and go
+-- on by at most an hour a turn.
 use Rattle.std.specs.Prelude.{ℕ, ◌+◌, ◌^◌, min, max}
 
 abbrev pub latest_moment : ℕ

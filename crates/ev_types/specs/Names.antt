@@ -3,7 +3,8 @@ use Rattle.std.specs.Prelude.{ℕ, Bool, ◌||◌, if◌then◌else◌, List, Op
 use Rattle.std.specs.Option.{option_or}
 use Rattle.std.specs.Str.{bytes_eq}
 use Rattle.ev_types.specs.declared.field.Field.{Field}
-use Rattle.ev_types.specs.declared.field.Field.TheVariants.{Host, Service, State, Description, Time, Ttl, Metric, Attribute}
+use Rattle.ev_types.specs.declared.field.Field.TheVariants.{Host, Service, State, Description, Time, Ttl, Metric}
+use Rattle.ev_types.specs.declared.field.Field.TheVariants.{Attribute}
 
 abbrev pub field_name : Field → List ℕ
 field_name Host = codes "host"
@@ -31,7 +32,9 @@ protocol_field name =
 
 -- these names of the protocol mean no field
 abbrev pub is_hidden : List ℕ → Bool
-is_hidden name = bytes_eq name (codes "metric_f") || bytes_eq name (codes "metric_d") || bytes_eq name (codes "time_micros") || bytes_eq name (codes "tags")
+is_hidden name =
+    bytes_eq name (codes "metric_f") || bytes_eq name (codes "metric_d") || bytes_eq name (codes "time_micros")
+    || bytes_eq name (codes "tags")
 
 -- the field that a name means
 unfoldable pub named_field : List ℕ → Option Field

@@ -1,11 +1,13 @@
 -- What is left of an event that has expired.
-use Rattle.std.specs.Prelude.{ℕ, pos, codes, Bool, true, false, not, if◌then◌else◌, List, [], ◌∷◌, Option, Some, None, ◌++◌, option_map, option_to_list, filter, filter_map}
+use Rattle.std.specs.Prelude.{ℕ, pos, codes, Bool, true, false, not, if◌then◌else◌, List, [], ◌∷◌, Option, Some, None}
+use Rattle.std.specs.Prelude.{◌++◌, option_map, option_to_list, filter, filter_map}
 use Rattle.std.specs.List.{list_any}
 use Rattle.std.specs.Str.{bytes_eq}
 use Rattle.ev_types.specs.declared.event.Event.{Event}
 use Rattle.ev_types.specs.declared.event.Attr.{Attr}
 use Rattle.ev_types.specs.declared.field.Field.{Field}
-use Rattle.ev_types.specs.declared.field.Field.TheVariants.{Host, Service, State, Description, Time, Ttl, Metric, Attribute}
+use Rattle.ev_types.specs.declared.field.Field.TheVariants.{Host, Service, State, Description, Time, Ttl, Metric}
+use Rattle.ev_types.specs.declared.field.Field.TheVariants.{Attribute}
 use Rattle.ev_types.specs.declared.settings.KeepKey.{KeepKey}
 use Rattle.ev_types.specs.declared.settings.KeepKey.TheVariants.{Field as field, Tags as tags}
 use Rattle.ev_types.specs.Field.{attribute_text}
@@ -43,7 +45,8 @@ each_once (text ∷ texts) = text ∷ filter (λ other. not (bytes_eq other text
 
 -- the attribute that holds what the event has under the key
 abbrev pub kept_attribute : Event → List ℕ → Option Attr
-kept_attribute event key = option_map (λ text. record { key = key; value = Some text }) (attribute_text key event.attributes)
+kept_attribute event key =
+    option_map (λ text. record { key = key; value = Some text }) (attribute_text key event.attributes)
 
 -- the kept attributes that have a value, each once, in the order in which they are named
 abbrev pub kept_attributes : List KeepKey → Event → List Attr

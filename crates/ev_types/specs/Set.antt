@@ -1,11 +1,13 @@
 -- What an event becomes when a field of it is set, or a tag is added.
-use Rattle.std.specs.Prelude.{ℕ, ℤ, pos, nat_abs, int_le, Bool, true, false, not, ◌&&◌, if◌then◌else◌, List, [], ◌∷◌, ◌++◌, Option, Some, None, unwrap_or, option_map, filter}
+use Rattle.std.specs.Prelude.{ℕ, ℤ, pos, nat_abs, int_le, Bool, true, false, not, ◌&&◌, if◌then◌else◌, List, [], ◌∷◌}
+use Rattle.std.specs.Prelude.{◌++◌, Option, Some, None, unwrap_or, option_map, filter}
 use Rattle.std.specs.List.{list_all, list_any}
 use Rattle.std.specs.Str.{bytes_eq}
 use Rattle.ev_types.specs.declared.event.Event.{Event}
 use Rattle.ev_types.specs.declared.event.Attr.{Attr}
 use Rattle.ev_types.specs.declared.field.Field.{Field}
-use Rattle.ev_types.specs.declared.field.Field.TheVariants.{Host, Service, State, Description, Time, Ttl, Metric, Attribute}
+use Rattle.ev_types.specs.declared.field.Field.TheVariants.{Host, Service, State, Description, Time, Ttl, Metric}
+use Rattle.ev_types.specs.declared.field.Field.TheVariants.{Attribute}
 use Rattle.ev_types.specs.declared.change.TheConstants.{MAX_TTL}
 use Rattle.ev_types.specs.declared.settings.Set.{Set}
 use Rattle.ev_types.specs.declared.value.Value.{Value}
@@ -86,7 +88,8 @@ with_fitting event Description value = record event { description = text_of valu
 with_fitting event Time value = record event { time = unwrap_or (number_of value) event.time; time_micros = None }
 with_fitting event Ttl value = record event { ttl = option_map nat_abs (number_of value) }
 with_fitting event Metric value = record event { metric = number_of value; raw_d = None; raw_f = None }
-with_fitting event (Attribute key) value = record event { attributes = other_attributes key event.attributes ++ attribute_of key (text_of value) }
+with_fitting event (Attribute key) value =
+    record event { attributes = other_attributes key event.attributes ++ attribute_of key (text_of value) }
 
 -- the event with the value in the field; a value that does not fit leaves it as it is
 abbrev pub with_set : Event → Field → Value → Event

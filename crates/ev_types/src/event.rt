@@ -67,8 +67,8 @@ impl Event {
         }
     }
 
-    /// Makes it an event that holds nothing but its time, in seconds since 1970. Each of its lists of tags and attributes
-    /// keeps its memory if that is for at most 16 items.
+    /// Makes it an event that holds nothing but its time, in seconds since 1970. Each of its lists of tags and
+    /// attributes keeps its memory if that is for at most 16 items.
     pub fn clear(&mut self, alloc: Global, time: i64)
         ensures { self.new ≡ event_at time }
     {

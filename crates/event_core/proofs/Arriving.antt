@@ -1,5 +1,6 @@
 -- One more event and one more second, and the moments at which streams are then.
-use Rattle.std.proofs.Common.{◌≡◌, ℕ, zero, suc, ◌+◌, ◌-◌, ◌≤◌, List, [], ◌∷◌, ◌++◌, map, filter, replicate, Option, refl, sym, ap, subst, ◌∙◌, arith}
+use Rattle.std.proofs.Common.{◌≡◌, ℕ, zero, suc, ◌+◌, ◌-◌, ◌≤◌, List, [], ◌∷◌, ◌++◌, map, filter, replicate, Option}
+use Rattle.std.proofs.Common.{refl, sym, ap, subst, ◌∙◌, arith}
 use Rattle.std.proofs.lemmas.List.{map-append, replicate_more}
 use Rattle.ev_types.specs.declared.event.Event.{Event}
 use Rattle.ev_types.specs.declared.item.Item.TheVariants.{One}
@@ -12,7 +13,8 @@ use Rattle.index_log.specs.Live.{live_events}
 use Rattle.stream_plan.specs.Tree.{StreamTrees}
 use Rattle.stream_meaning.specs.History.{begun, moment_of}
 use Rattle.stream_meaning.specs.declared.entry.Entry.TheVariants.{Tick, Item as In}
-use Rattle.stream_meaning.specs.Arrivals.{Arrival, Elapsed, CoreState, entered, streamed, expired_copies, with_reap, fed_back, swept, arrived, state_from}
+use Rattle.stream_meaning.specs.Arrivals.{Arrival, Elapsed, CoreState, entered, streamed, expired_copies, with_reap}
+use Rattle.stream_meaning.specs.Arrivals.{fed_back, swept, arrived, state_from}
 use Rattle.stream_meaning.proofs.ArrivalMoments.{from-append, streamed-moments, swept-moments}
 use Rattle.event_core.specs.declared.streams.IndexedStreams.{IndexedStreams}
 use Rattle.event_core.specs.Counts.{forks_in}

@@ -1,5 +1,7 @@
 -- How many entries are visited on the way of streams with an index from one state to another.
-use Rattle.std.proofs.Common.{◌≡◌, ℕ, zero, suc, ◌+◌, ◌*◌, ◌-◌, ◌%◌, ◌==◌, ◌≤◌, Bool, true, false, if◌then◌else◌, List, [], ◌∷◌, ◌++◌, map, filter, length, replicate, Option, None, Some, refl, sym, ap, subst, ◌∙◌, append_assoc, arith}
+use Rattle.std.proofs.Common.{◌≡◌, ℕ, zero, suc, ◌+◌, ◌*◌, ◌-◌, ◌%◌, ◌==◌, ◌≤◌, Bool, true, false, if◌then◌else◌, List}
+use Rattle.std.proofs.Common.{[], ◌∷◌, ◌++◌, map, filter, length, replicate, Option, None, Some, refl, sym, ap, subst}
+use Rattle.std.proofs.Common.{◌∙◌, append_assoc, arith}
 use Rattle.std.proofs.lemmas.List.{append-nil, map-append}
 use Rattle.ev_types.specs.declared.event.Event.{Event}
 use Rattle.ev_types.specs.declared.item.Item.TheVariants.{One}
@@ -15,7 +17,8 @@ use Rattle.stream_meaning.specs.History.{◌▸◌, begun, moment_of}
 use Rattle.stream_meaning.specs.declared.entry.Entry.{Entry}
 use Rattle.stream_meaning.specs.declared.entry.Entry.TheVariants.{Tick, Item as In}
 use Rattle.stream_meaning.specs.Outputs.{plan_effects, outputs_at, due_among}
-use Rattle.stream_meaning.specs.Arrivals.{Arrival, Elapsed, Post, CoreState, writes_among, entered, streamed, expired_copies, with_reap, fed_back, swept, arrived, state_from}
+use Rattle.stream_meaning.specs.Arrivals.{Arrival, Elapsed, Post, CoreState, writes_among, entered, streamed}
+use Rattle.stream_meaning.specs.Arrivals.{expired_copies, with_reap, fed_back, swept, arrived, state_from}
 use Rattle.event_core.specs.Counts.{expired_in, reaped_after, visits_to}
 use Rattle.event_core.specs.Core.{CoreConfig, state_by, VisitedFor}
 use Rattle.event_core.specs.Streams.{Visited}

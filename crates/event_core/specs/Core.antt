@@ -34,23 +34,27 @@ pub record Represents (core : Core) (arrivals : List Arrival) : Type 0 where
   pub now : now_of core ≡ moment_of (state_by (config_of core) arrivals).history
 
 -- after the first arrivals came more, and of those just the notices were appended, and the forks counted
-pub record Heard (config : CoreConfig) (first more : List Arrival) (old : List Notice) (forks_before : ℕ) (new : List Notice) (forks_after : ℕ) : Type 0 where
+pub record Heard (config : CoreConfig) (first more : List Arrival) (old : List Notice) (forks_before : ℕ)
+    (new : List Notice) (forks_after : ℕ) : Type 0 where
   pub made : List Notice
   pub reported : new ≡ old ++ made
   pub notices : notices_by config (first ++ more) ≡ notices_by config first ++ made
   pub forks : forks_before + forks_by config (first ++ more) ≡ forks_after + forks_by config first
 
--- how many entries are visited over the arrivals, at most: one for each fork that is due, and two for each event that is
--- reaped
+-- how many entries are visited over the arrivals, at most: one for each fork that is due, and two for each event that
+-- is reaped
 abbrev pub visits_by : CoreConfig → List Arrival → ℕ
 visits_by config arrivals = visits_to config.plan (state_by config arrivals)
 
 -- after the first arrivals came more, and no more entries were visited than those need
 abbrev pub VisitedFor : CoreConfig → List Arrival → List Arrival → ℕ → ℕ → Type 0
-VisitedFor config first more entries_before entries_after = entries_after + visits_by config first ≤ entries_before + visits_by config (first ++ more)
+VisitedFor config first more entries_before entries_after =
+    entries_after + visits_by config first ≤ entries_before + visits_by config (first ++ more)
 
--- The core receives more arrivals: what it represents then, what notices it gave and what was counted. Or memory ran out.
-pub record Receives {G : Type 0} (more : List Arrival) (core core' : Core) (old new : List Notice) (before after : StepCount G) (result : Result (Unit {0}) Memory) : Type 0 where
+-- The core receives more arrivals: what it represents then, what notices it gave and what was counted. Or memory ran
+-- out.
+pub record Receives {G : Type 0} (more : List Arrival) (core core' : Core) (old new : List Notice)
+    (before after : StepCount G) (result : Result (Unit {0}) Memory) : Type 0 where
   pub config : config_of core' ≡ config_of core
   pub represents : OnOk result ((arrivals : List Arrival) → Represents core arrivals
       → Represents core' (arrivals ++ more))

@@ -19,7 +19,8 @@ pub record Holds (streams : IndexedStreams) (state : CoreState) : Type 0 where
 
 -- the state of the streams was `before` and is `after` now, and the notices of the entries between were appended and
 -- their forks counted
-pub record Moved (plan : StreamTrees) (streams : IndexedStreams) (before after : CoreState) (old : List Notice) (forks_before : ℕ) (new : List Notice) (forks_after : ℕ) : Type 0 where
+pub record Moved (plan : StreamTrees) (streams : IndexedStreams) (before after : CoreState) (old : List Notice)
+    (forks_before : ℕ) (new : List Notice) (forks_after : ℕ) : Type 0 where
   pub holds : Holds streams after
   pub made : List Notice
   pub reported : new ≡ old ++ made
@@ -28,4 +29,5 @@ pub record Moved (plan : StreamTrees) (streams : IndexedStreams) (before after :
 
 -- no more entries were visited than those on the way from one state to the other
 abbrev pub Visited : StreamTrees → CoreState → CoreState → ℕ → ℕ → Type 0
-Visited plan before after entries_before entries_after = entries_after + visits_to plan before ≤ entries_before + visits_to plan after
+Visited plan before after entries_before entries_after =
+    entries_after + visits_to plan before ≤ entries_before + visits_to plan after

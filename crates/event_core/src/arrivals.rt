@@ -15,9 +15,9 @@ use std::alloc::Global;
 use step_count::{Ledger, Steps};
 use stream_plan::ReadyPlan;
 
-/// The streams of a plan, the index that they write to, and a clock of seconds. Every `interval` seconds the events that
-/// have expired are removed from the index, and a copy of each comes to the streams. After `Memory` of a call that may
-/// change it a core is poisoned, and each later call that can answer `Memory` does.
+/// The streams of a plan, the index that they write to, and a clock of seconds. Every `interval` seconds the events
+/// that have expired are removed from the index, and a copy of each comes to the streams. After `Memory` of a call that
+/// may change it a core is poisoned, and each later call that can answer `Memory` does.
 #[derive(Drop)]
 pub struct Core {
     streams: IndexedStreams,
@@ -26,8 +26,8 @@ pub struct Core {
 }
 
 impl Core {
-    /// A core to which nothing has arrived, at the moment `start`, in seconds since 1970, at most 2^40. The seconds from
-    /// one look for expired events to the next are from 1 to 604,800; without an expiry none is looked for.
+    /// A core to which nothing has arrived, at the moment `start`, in seconds since 1970, at most 2^40. The seconds
+    /// from one look for expired events to the next are from 1 to 604,800; without an expiry none is looked for.
     pub fn fresh(
         alloc: Global,
         plan: ReadyPlan,
@@ -68,10 +68,10 @@ impl Core {
         self.streams.live()
     }
 
-    /// Seconds pass, one after another, until it is the moment `to`, at most 3,600 seconds from now and at most 2^40. At
-    /// each of them the streams get a tick; then, where it is time to look, the live events that have expired leave the
-    /// index, and come to the streams again, in the order of the index. The notices that the streams give are appended to
-    /// `out`. After `Memory` `out` begins with what it had.
+    /// Seconds pass, one after another, until it is the moment `to`, at most 3,600 seconds from now and at most 2^40.
+    /// At each of them the streams get a tick; then, where it is time to look, the live events that have expired leave
+    /// the index, and come to the streams again, in the order of the index. The notices that the streams give are
+    /// appended to `out`. After `Memory` `out` begins with what it had.
     pub fn advance<G: Ledger>(
         &mut self,
         alloc: Global,
@@ -96,8 +96,8 @@ impl Core {
         Ok(())
     }
 
-    /// An event comes to the streams. It is moved out of `event`, and what is left there is not specified. The notices that
-    /// the streams give are appended to `out`. After `Memory` `out` begins with what it had.
+    /// An event comes to the streams. It is moved out of `event`, and what is left there is not specified. The notices
+    /// that the streams give are appended to `out`. After `Memory` `out` begins with what it had.
     pub fn post_from<G: Ledger>(
         &mut self,
         alloc: Global,
@@ -119,8 +119,8 @@ impl Core {
         Ok(())
     }
 
-    /// Appends copies of the live events that meet the predicate, in the order of the index: by host and then by service,
-    /// absent before present. After `Memory` `out` begins with what it had.
+    /// Appends copies of the live events that meet the predicate, in the order of the index: by host and then by
+    /// service, absent before present. After `Memory` `out` begins with what it had.
     pub fn search<G: Ledger>(
         &mut self,
         alloc: Global,
@@ -155,8 +155,8 @@ impl Core {
         Ok(())
     }
 
-    /// Appends the live events that meet the predicate, where they lie, in the order of [`Core::search`]. After `Memory`
-    /// the core is as it was, and `found` begins with what it had.
+    /// Appends the live events that meet the predicate, where they lie, in the order of [`Core::search`]. After
+    /// `Memory` the core is as it was, and `found` begins with what it had.
     pub fn find<'a, G: Ledger>(
         &'a self,
         alloc: Global,
@@ -184,8 +184,8 @@ impl Core {
         self.streams.find(alloc, pred, found, steps)
     }
 
-    /// Appends the first `limit` live events that meet the predicate, where they lie, in the order of [`Core::search`]. It
-    /// stops at the last of them. After `Memory` the core is as it was, and `found` begins with what it had.
+    /// Appends the first `limit` live events that meet the predicate, where they lie, in the order of [`Core::search`].
+    /// It stops at the last of them. After `Memory` the core is as it was, and `found` begins with what it had.
     pub fn find_first<'a, G: Ledger>(
         &'a self,
         alloc: Global,
@@ -214,8 +214,8 @@ impl Core {
         self.streams.find_first(alloc, pred, limit, found, steps)
     }
 
-    /// Lists the keys of the index in order, where a search for the predicate has to look at all of them. The list is kept
-    /// until a key is added or removed; without it each search walks the keys. The core stays as it is.
+    /// Lists the keys of the index in order, where a search for the predicate has to look at all of them. The list is
+    /// kept until a key is added or removed; without it each search walks the keys. The core stays as it is.
     pub fn prepare(&mut self, alloc: Global, pred: &Pred) -> Result<(), Memory>
         ensures same { self.new ≡ self.old }
         ensures poisoned { IsTrue (is_poisoned self.old) → IsErr result }
@@ -226,9 +226,9 @@ impl Core {
         self.streams.prepare(alloc, pred)
     }
 
-    /// How many bytes a reply has with the live events that meet the predicate, those that [`Core::find`] lends. What is
-    /// learned of an event is kept until another one takes its place. After `Memory` the core is as it was; that is also
-    /// answered where the bytes are 2^64 or more, which is more than a `usize` can count.
+    /// How many bytes a reply has with the live events that meet the predicate, those that [`Core::find`] lends. What
+    /// is learned of an event is kept until another one takes its place. After `Memory` the core is as it was; that is
+    /// also answered where the bytes are 2^64 or more, which is more than a `usize` can count.
     pub fn found_len<G: Ledger>(
         &mut self,
         alloc: Global,

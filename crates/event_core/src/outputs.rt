@@ -10,8 +10,8 @@ use std::alloc::Global;
 use std::mem;
 
 /// Handles the outputs in order: a write enters the index, and a notice is appended to `out`. None is left in the list,
-/// which keeps its memory where it had one output at most and that was no notice. After `Memory` `out` begins with what it
-/// had.
+/// which keeps its memory where it had one output at most and that was no notice. After `Memory` `out` begins with what
+/// it had.
 pub(crate) fn handle(
     alloc: Global,
     outputs: &mut Outputs,

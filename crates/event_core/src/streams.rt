@@ -176,7 +176,8 @@ impl IndexedStreams {
         Ok(())
     }
 
-    /// Looks for expired events where the clock says so at the moment `now`: every `interval` seconds from its start on.
+    /// Looks for expired events where the clock says so at the moment `now`: every `interval` seconds from its start
+    /// on.
     fn sweep<G: Ledger>(
         &mut self,
         alloc: Global,

@@ -7,7 +7,8 @@ use Rattle.command_io.specs.Endings.{IsComplete, IsReadOnce, IsRefusal, status_o
 use Rattle.command_io.specs.Files.{IsFileFault, ReadMore, bad_read, good_read, reads_of_fault}
 use Rattle.command_io.specs.Fetches.{ending_of_file}
 use Rattle.command_io.specs.declared.ending.Ending.{Ending}
-use Rattle.command_io.specs.declared.ending.Ending.TheVariants.{Finished, ConfigRefused, Unread, OverLimit, BytesLeft, WriteFailed, LinksFailed, ScriptRefused, OutOfMemory}
+use Rattle.command_io.specs.declared.ending.Ending.TheVariants.{Finished, ConfigRefused, Unread, OverLimit, BytesLeft}
+use Rattle.command_io.specs.declared.ending.Ending.TheVariants.{WriteFailed, LinksFailed, ScriptRefused, OutOfMemory}
 use Rattle.command_io.specs.declared.limits.TheConstants.{FILE_LIMIT}
 use Rattle.command_io.specs.declared.read.FileFault.{FileFault}
 use Rattle.command_io.specs.declared.read.FileFault.TheVariants as file

@@ -3,7 +3,8 @@ use Rattle.std.specs.Prelude.{◌≡◌, ℕ, ◌+◌, ◌≤◌, List, [], ◌�
 use Rattle.command_io.specs.Endings.{HasNoConfig, IsReadOnce, ReadsFiles}
 use Rattle.command_io.specs.Files.{ForHeld, ReadMore, good_read}
 use Rattle.command_io.specs.declared.ending.Ending.{Ending}
-use Rattle.command_io.specs.declared.ending.Ending.TheVariants.{Finished, Unread, OverLimit, BytesLeft, WriteFailed, OutOfMemory}
+use Rattle.command_io.specs.declared.ending.Ending.TheVariants.{Finished, Unread, OverLimit, BytesLeft, WriteFailed}
+use Rattle.command_io.specs.declared.ending.Ending.TheVariants.{OutOfMemory}
 use Rattle.command_io.specs.declared.limits.TheConstants.{FILE_LIMIT}
 use Rattle.ports.specs.Counts.{Rose, RoseBy}
 use Rattle.ports.specs.Reading.{Content, IsOverLimit, StoreReport}
@@ -34,14 +35,15 @@ abbrev pub OtherReads : List ℕ → Option (List StoreRead) → Option (List St
 OtherReads name old new ending = ReadsFiles (name ∷ []) (IsReadOnce ending) old new ending
 
 -- the same of a read that may go on
-abbrev pub ReadsOther : {T : Type 0} → List ℕ → Option (List StoreRead) → Option (List StoreRead) → Result T Ending → Type 0
+abbrev pub ReadsOther : {T : Type 0} → List ℕ → Option (List StoreRead) → Option (List StoreRead) → Result T Ending
+    → Type 0
 ReadsOther name old new (Ok read) = ReadMore (good_read name ∷ []) old new
 ReadsOther name old new (Err ending) = OtherReads name old new ending
 
 -- ---- both files
 
--- Where the configuration was refused it alone was read, and `Unasked`, which is that no pattern was asked for, holds where
--- there is none.
+-- Where the configuration was refused it alone was read, and `Unasked`, which is that no pattern was asked for, holds
+-- where there is none.
 abbrev pub StopsAtConfig : List ℕ → Option (List StoreRead) → Option (List StoreRead) → Type 0 → Ending → Type 0
 StopsAtConfig config old new Unasked ending =
     ReadsFiles (config ∷ []) (IsReadOnce ending) old new ending × (HasNoConfig ending → Unasked)

@@ -13,7 +13,8 @@ abbrev pub most_turns : ℕ
 most_turns = 2 ^ 64 - 1
 
 -- the calls are answered as the script says, and come to this result
-pub record RunsScript (setup : Setup) (script : Script) (old new : RunReport) (result : Result Hub RunFault) (run : List Entry) : Type 0 where
+pub record RunsScript (setup : Setup) (script : Script) (old new : RunReport) (result : Result Hub RunFault)
+    (run : List Entry) : Type 0 where
   pub scripted : IsScriptedRun script run
   pub ran : RunsTo setup most_turns old new result run
 

@@ -1,10 +1,12 @@
 -- What a fold makes of the events so far and one more.
-use Rattle.std.proofs.Common.{◌≡◌, ℕ, ◌+◌, ◌<◌, Bool, true, false, cond, List, [], ◌∷◌, ◌++◌, length, take, get_or, refl, sym, ap, ◌∙◌, pos, ℤ, ◌+ℤ◌, arith}
+use Rattle.std.proofs.Common.{◌≡◌, ℕ, ◌+◌, ◌<◌, Bool, true, false, cond, List, [], ◌∷◌, ◌++◌, length, take, get_or}
+use Rattle.std.proofs.Common.{refl, sym, ap, ◌∙◌, pos, ℤ, ◌+ℤ◌, arith}
 use Rattle.std.specs.Prelude.{Option, Some, None, is_some, unwrap_or, int_lt, if◌then◌else◌}
 use Rattle.std.proofs.lemmas.List.{take_more, append-nil}
 use Rattle.std.proofs.lemmas.Int.{ints}
 use Rattle.ev_types.specs.declared.event.Event.{Event}
-use Rattle.stream_meaning.specs.Images.{measured, metric_of, sum_of_metrics, least_of, greatest_of, least_event, greatest_event}
+use Rattle.stream_meaning.specs.Images.{measured, metric_of, sum_of_metrics, least_of, greatest_of, least_event}
+use Rattle.stream_meaning.specs.Images.{greatest_event}
 use Rattle.flow_streams.specs.Fold.{lesser_measured, lesser_of, greater_measured, greater_of}
 
 -- an event without a metric adds nothing

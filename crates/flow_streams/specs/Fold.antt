@@ -18,7 +18,8 @@ lesser_of least event = if is_some event.metric then lesser_measured least event
 -- the greater of two events that have a metric, the first where they are equal
 abbrev pub greater_measured : Option Event → Event → Option Event
 greater_measured None event = Some event
-greater_measured (Some greatest) event = Some (if int_lt (metric_of greatest) (metric_of event) then event else greatest)
+greater_measured (Some greatest) event =
+    Some (if int_lt (metric_of greatest) (metric_of event) then event else greatest)
 
 abbrev pub greater_of : Option Event → Event → Option Event
 greater_of greatest event = if is_some event.metric then greater_measured greatest event else greatest

@@ -1,5 +1,6 @@
 -- A register without forks, and one to which a fork is added.
-use Rattle.std.proofs.Common.{◌≡◌, ℕ, ◌+◌, ◌<◌, ◌≤◌, true, false, cond, eqb, List, [], ◌∷◌, ◌++◌, length, length-append, replicate, slice_get, Option, None, Some, arith, refl, sym, ◌∙◌, ap, subst, inl, inr}
+use Rattle.std.proofs.Common.{◌≡◌, ℕ, ◌+◌, ◌<◌, ◌≤◌, true, false, cond, eqb, List, [], ◌∷◌, ◌++◌, length, length-append}
+use Rattle.std.proofs.Common.{replicate, slice_get, Option, None, Some, arith, refl, sym, ◌∙◌, ap, subst, inl, inr}
 use Rattle.std.specs.List.{IsDistinct}
 use Rattle.std.specs.List.Sorted.{IsStrictlySortedBy}
 use Rattle.fork_by.specs.declared.slots.Change.{Change}
@@ -8,15 +9,18 @@ use Rattle.std.specs.Option.{option_map}
 use Rattle.ev_types.specs.declared.value.Value.{Value}
 use Rattle.ev_types.specs.Key.{same_key}
 use Rattle.linked_slots.specs.IdLists.{list_at, times, times_in, append_to, last_of}
-use Rattle.linked_slots.proofs.ListLaws.{bool_cases, eqb-same, eqb-true, eqb-false, eqb-apart, times_in-push, times-append, at-append_same, length-append_to, all_listed}
+use Rattle.linked_slots.proofs.ListLaws.{bool_cases, eqb-same, eqb-true, eqb-false, eqb-apart, times_in-push}
+use Rattle.linked_slots.proofs.ListLaws.{times-append, at-append_same, length-append_to, all_listed}
 use Rattle.tick_schedule.specs.Queue.{moment_at}
 use Rattle.fork_by.specs.declared.slots.Slot.{Slot}
 use Rattle.fork_by.specs.Labels.{Label}
-use Rattle.fork_by.specs.Register.{AreKept, MomentsRise, key_in, label_of, label_with, labels_of, latest_of, number_at, numbers_after}
+use Rattle.fork_by.specs.Register.{AreKept, MomentsRise, key_in, label_of, label_with, labels_of, latest_of, number_at}
+use Rattle.fork_by.specs.Register.{numbers_after}
 use Rattle.fork_by.specs.Slots.{slot_at, SetsSlot, index_in, place_in, order_in, moment_in, held, slot_with}
 use Rattle.fork_by.proofs.KeptLaws.{entry_at, not_held, number_within, numbered, place_held}
 use Rattle.fork_by.proofs.SlotLaws.{none_at}
-use Rattle.fork_by.proofs.ListLaws.{all-push, all_times, pairs-push, pairs-agree, map-agree, map-push, map-length, get-end, get-push, get-before}
+use Rattle.fork_by.proofs.ListLaws.{all-push, all_times, pairs-push, pairs-agree, map-agree, map-push, map-length}
+use Rattle.fork_by.proofs.ListLaws.{get-end, get-push, get-before}
 use Rattle.fork_by.proofs.MomentLaws.{has_list, in_ids, late_enough}
 use Rattle.fork_by.proofs.ChangedSlotLaws.{keyed_with, label-same, label_from, no_moment}
 

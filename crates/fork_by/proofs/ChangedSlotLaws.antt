@@ -1,5 +1,6 @@
 -- A slot with another moment or index, and the label of its number.
-use Rattle.std.proofs.Common.{◌≡◌, ℕ, ◌<◌, Bool, true, false, cond, eqb, List, Option, None, Some, IsSome, arith, refl, sym, ◌∙◌, ap}
+use Rattle.std.proofs.Common.{◌≡◌, ℕ, ◌<◌, Bool, true, false, cond, eqb, List, Option, None, Some, IsSome, arith, refl}
+use Rattle.std.proofs.Common.{sym, ◌∙◌, ap}
 use Rattle.ev_types.specs.declared.value.Value.{Value}
 use Rattle.linked_slots.proofs.ListLaws.{eqb-same, eqb-true}
 use Rattle.tick_schedule.specs.Queue.{moment_at}

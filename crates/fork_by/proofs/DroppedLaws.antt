@@ -1,17 +1,21 @@
 -- A fork is dropped.
-use Rattle.std.proofs.Common.{◌≡◌, ◌≢◌, ℕ, ◌+◌, ◌<◌, ◌≤◌, Bool, true, false, not, cond, eqb, List, map, filter, length, slice_get, Option, None, Some, IsSome, arith, refl, sym, ◌∙◌, ap, subst, inl, inr}
+use Rattle.std.proofs.Common.{◌≡◌, ◌≢◌, ℕ, ◌+◌, ◌<◌, ◌≤◌, Bool, true, false, not, cond, eqb, List, map, filter, length}
+use Rattle.std.proofs.Common.{slice_get, Option, None, Some, IsSome, arith, refl, sym, ◌∙◌, ap, subst, inl, inr}
 use Rattle.std.specs.Option.{option_map}
 use Rattle.ev_types.specs.declared.value.Value.{Value}
 use Rattle.linked_slots.specs.IdLists.{list_at, times, times_in, without}
-use Rattle.linked_slots.proofs.ListLaws.{bool_cases, eqb-same, eqb-true, eqb-false, eqb-apart, times_in-remove, times-without, at-without, length-without, all_listed}
+use Rattle.linked_slots.proofs.ListLaws.{bool_cases, eqb-same, eqb-true, eqb-false, eqb-apart, times_in-remove}
+use Rattle.linked_slots.proofs.ListLaws.{times-without, at-without, length-without, all_listed}
 use Rattle.tick_schedule.specs.Queue.{moment_at, IsRising, Sets}
 use Rattle.fork_by.specs.declared.slots.Slot.{Slot}
 use Rattle.fork_by.specs.Labels.{Label, moved_to, dropped}
-use Rattle.fork_by.specs.Register.{AreKept, TakesOut, MomentsRise, is_number, key_in, label_of, label_with, labels_of, number_at, removed}
+use Rattle.fork_by.specs.Register.{AreKept, TakesOut, MomentsRise, is_number, key_in, label_of, label_with, labels_of}
+use Rattle.fork_by.specs.Register.{number_at, removed}
 use Rattle.fork_by.specs.Slots.{slot_at, SetsSlot, index_in, place_in, order_in, moment_in, held, slot_with, with_index}
 use Rattle.fork_by.proofs.KeptLaws.{held_some, in_removed, length-removed, numbered, once, place_held, slot_held}
 use Rattle.fork_by.proofs.ListLaws.{all_times, pairs-filter, pairs-agree, map-agree, map-twice, map-length, filter-map}
-use Rattle.fork_by.proofs.ChangedSlotLaws.{held-moved, is-number, label-same, moment-moved, number-is, order-moved, place-sits, sits, sits-place}
+use Rattle.fork_by.proofs.ChangedSlotLaws.{held-moved, is-number, label-same, moment-moved, number-is, order-moved}
+use Rattle.fork_by.proofs.ChangedSlotLaws.{place-sits, sits, sits-place}
 
 module _ (entries : List (List Value × ℕ)) (slots : List (Option Slot)) (lists : List (List ℕ)) (due : List (ℕ × ℕ))
     (next : ℕ) (numbers : List ℕ)

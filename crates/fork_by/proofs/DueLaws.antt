@@ -1,5 +1,6 @@
 -- The due moments of forks.
-use Rattle.std.proofs.Common.{◌≡◌, ◌≢◌, ℕ, suc, ◌<◌, ◌≤◌, Bool, true, false, not, cond, ◌||◌, eqb, nat_le, List, [], ◌∷◌, map, filter, Option, None, Some, IsSome, arith, refl, sym, ◌∙◌, ap, subst, inl, inr}
+use Rattle.std.proofs.Common.{◌≡◌, ◌≢◌, ℕ, suc, ◌<◌, ◌≤◌, Bool, true, false, not, cond, ◌||◌, eqb, nat_le, List, []}
+use Rattle.std.proofs.Common.{◌∷◌, map, filter, Option, None, Some, IsSome, arith, refl, sym, ◌∙◌, ap, subst, inl, inr}
 use Rattle.std.specs.List.{All, AllByRecursion, Contains, list_any, filter_map, cons_option}
 use Rattle.std.specs.Map.{values_of}
 use Rattle.std.specs.Option.{IfSome}
@@ -14,11 +15,13 @@ use Rattle.tick_schedule.specs.Queue.{moment_at, IsRising, IsLeast, Sets, due_id
 use Rattle.tick_schedule.proofs.QueueLaws.{at-same, due-is_by, found, is_by}
 use Rattle.tick_schedule.proofs.ScheduleLaws.{rising_some}
 use Rattle.fork_by.specs.declared.slots.Slot.{Slot}
-use Rattle.fork_by.specs.Labels.{Label, dues_cleared, dues_set, due_moments, due_numbers, is_due_by, with_due, without_due}
+use Rattle.fork_by.specs.Labels.{Label, dues_cleared, dues_set, due_moments, due_numbers, is_due_by, with_due}
+use Rattle.fork_by.specs.Labels.{without_due}
 use Rattle.fork_by.specs.Order.{put_all}
 use Rattle.fork_by.specs.Register.{AreKept, label_of, labels_of}
 use Rattle.fork_by.proofs.LabelLaws.{due_by_is, later_at}
-use Rattle.fork_by.proofs.ListLaws.{filter-agree, filter-map, map-agree, map-same, map-twice, times-head, times-rest, times-tail}
+use Rattle.fork_by.proofs.ListLaws.{filter-agree, filter-map, map-agree, map-same, map-twice, times-head, times-rest}
+use Rattle.fork_by.proofs.ListLaws.{times-tail}
 use Rattle.fork_by.proofs.OrderLaws.{put-in_order}
 
 no_value : {A : Type 0} (o : Option A) → o ≡ None → IsSome o → ⊥

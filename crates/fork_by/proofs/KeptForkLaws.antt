@@ -1,5 +1,7 @@
 -- What is true of the forks of a table, seen as a list.
-use Rattle.std.proofs.Common.{◌≡◌, ◌≢◌, ℕ, ◌+◌, ◌<◌, ◌≤◌, ◌⊎◌, Bool, true, false, cond, eqb, List, [], ◌∷◌, ◌++◌, map, filter, length, length-append, get_or, set, slice_get, unwrap_or, Option, None, Some, IsSome, IfSome, arith, refl, sym, ◌∙◌, ap, subst, inl, inr}
+use Rattle.std.proofs.Common.{◌≡◌, ◌≢◌, ℕ, ◌+◌, ◌<◌, ◌≤◌, ◌⊎◌, Bool, true, false, cond, eqb, List, [], ◌∷◌, ◌++◌, map}
+use Rattle.std.proofs.Common.{filter, length, length-append, get_or, set, slice_get, unwrap_or, Option, None, Some}
+use Rattle.std.proofs.Common.{IsSome, IfSome, arith, refl, sym, ◌∙◌, ap, subst, inl, inr}
 use Rattle.std.specs.List.{All, AllByRecursion, IsDistinct, filter_map, cons_option}
 use Rattle.std.specs.Map.{lookup}
 use Rattle.std.specs.Option.{option_map}
@@ -11,10 +13,13 @@ use Rattle.ev_types.specs.declared.value.Value.{Value}
 use Rattle.ev_types.specs.Key.{same_key}
 use Rattle.ev_types.proofs.Values.{same_key_decides}
 use Rattle.linked_slots.proofs.ListLaws.{bool_cases, eqb-same, eqb-true, eqb-apart}
-use Rattle.fork_by.specs.Labels.{Adds, Label, IsLatest, IsLive, Touches, due_moments, due_numbers, dues_cleared, dues_set, index_at, is_due_by, label_at, last_moment_at, number_of, with_due, with_moment, without_due}
+use Rattle.fork_by.specs.Labels.{Adds, Label, IsLatest, IsLive, Touches, due_moments, due_numbers, dues_cleared}
+use Rattle.fork_by.specs.Labels.{dues_set, index_at, is_due_by, label_at, last_moment_at, number_of, with_due}
+use Rattle.fork_by.specs.Labels.{with_moment, without_due}
 use Rattle.fork_by.specs.Laws.{FoundFork}
 use Rattle.fork_by.specs.declared.table.ForkTable.{ForkTable}
-use Rattle.fork_by.specs.Table.{AreApart, HasFork, IsTable, KeptFork, due_kept, fork_labels, fork_replaced, fork_with, kept_at, kept_dues, kept_forks, kept_number, labelled, place_of, with_fork}
+use Rattle.fork_by.specs.Table.{AreApart, HasFork, IsTable, KeptFork, due_kept, fork_labels, fork_replaced, fork_with}
+use Rattle.fork_by.specs.Table.{kept_at, kept_dues, kept_forks, kept_number, labelled, place_of, with_fork}
 use Rattle.fork_by.proofs.TableLaws.{found_label, is_within, label_from, number_found}
 use Rattle.fork_by.proofs.ListLaws.{all-filter, all-more}
 

@@ -1,6 +1,8 @@
 -- The laws of tables of forks, for proofs of other crates.
-use Rattle.fork_by.specs.Laws.{ForksAreApart, KeysHaveForks, ForksAreReached, NumbersReachForks, LatestIsOfForks, WrittenIsTable, WrittenHasForks, WrittenIsReplaced}
-use Rattle.fork_by.proofs.KeptForkLaws.{kept-apart, found-key, latest-kept, kept-all-have, has-kept, written-kept, written-table, written-has}
+use Rattle.fork_by.specs.Laws.{ForksAreApart, KeysHaveForks, ForksAreReached, NumbersReachForks, LatestIsOfForks}
+use Rattle.fork_by.specs.Laws.{WrittenIsTable, WrittenHasForks, WrittenIsReplaced}
+use Rattle.fork_by.proofs.KeptForkLaws.{kept-apart, found-key, latest-kept, kept-all-have, has-kept, written-kept}
+use Rattle.fork_by.proofs.KeptForkLaws.{written-table, written-has}
 
 -- the forks of a table
 pub forks_apart : {F : Type 0} → ForksAreApart F

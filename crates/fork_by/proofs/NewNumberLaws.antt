@@ -1,5 +1,6 @@
 -- A number that no list has, and a key that no entry has.
-use Rattle.std.proofs.Common.{◌≡◌, ℕ, suc, ◌+◌, ◌<◌, true, false, not, cond, eqb, List, [], ◌∷◌, ◌++◌, length, None, Some, arith, refl, sym, ◌∙◌, ap, inl, inr}
+use Rattle.std.proofs.Common.{◌≡◌, ℕ, suc, ◌+◌, ◌<◌, true, false, not, cond, eqb, List, [], ◌∷◌, ◌++◌, length, None}
+use Rattle.std.proofs.Common.{Some, arith, refl, sym, ◌∙◌, ap, inl, inr}
 use Rattle.indexmap.specs.IndexMap.{insert_entry}
 use Rattle.std.specs.Map.{lookup}
 use Rattle.ev_types.specs.declared.value.Value.{Value}

@@ -1,5 +1,7 @@
 -- Laws of tables of forks, by their labels.
-use Rattle.std.proofs.Common.{◌≡◌, ℕ, suc, zero, ◌+◌, ◌-◌, ◌<◌, ◌≤◌, Bool, true, false, not, cond, eqb, nat_le, List, [], ◌∷◌, ◌++◌, map, filter, length, slice_get, Option, None, Some, IsSome, arith, refl, sym, ◌∙◌, ap, subst, inl, inr}
+use Rattle.std.proofs.Common.{◌≡◌, ℕ, suc, zero, ◌+◌, ◌-◌, ◌<◌, ◌≤◌, Bool, true, false, not, cond, eqb, nat_le, List}
+use Rattle.std.proofs.Common.{[], ◌∷◌, ◌++◌, map, filter, length, slice_get, Option, None, Some, IsSome, arith, refl}
+use Rattle.std.proofs.Common.{sym, ◌∙◌, ap, subst, inl, inr}
 use Rattle.std.specs.List.{All, AllByRecursion, IsDistinct, filter_map, cons_option}
 use Rattle.std.specs.Option.{option_map}
 use Rattle.std.specs.Vec.{with_item}
@@ -7,9 +9,11 @@ use Rattle.std.proofs.lemmas.Bool.Decides.{nat_tests}
 use Rattle.std.proofs.lemmas.List.Elements.{recursion_from_All, filter_map-append}
 use Rattle.ev_types.specs.declared.value.Value.{Value}
 use Rattle.linked_slots.proofs.ListLaws.{bool_cases, eqb-same, eqb-true, eqb-false, eqb-apart}
-use Rattle.fork_by.specs.Labels.{Label, AreSound, Adds, Drops, IsLatest, Touches, label_at, dues_cleared, dues_set, is_due_by, moved_to, touched, with_due, with_moment, without_due}
+use Rattle.fork_by.specs.Labels.{Label, AreSound, Adds, Drops, IsLatest, Touches, label_at, dues_cleared, dues_set}
+use Rattle.fork_by.specs.Labels.{is_due_by, moved_to, touched, with_due, with_moment, without_due}
 use Rattle.fork_by.specs.declared.table.ForkTable.{ForkTable}
-use Rattle.fork_by.specs.Table.{KeptFork, TakesFork, fork_cleared, fork_dated, fork_touched, fork_with, labelled, later_than}
+use Rattle.fork_by.specs.Table.{KeptFork, TakesFork, fork_cleared, fork_dated, fork_touched, fork_with, labelled}
+use Rattle.fork_by.specs.Table.{later_than}
 use Rattle.fork_by.proofs.ListLaws.{all-more, filter-length, get-end, get-push, map-length}
 
 abbrev pub label_from : List Value → ℕ → ℕ → ℕ → Label

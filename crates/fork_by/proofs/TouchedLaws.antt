@@ -1,8 +1,11 @@
 -- A fork gets an item.
-use Rattle.std.proofs.Common.{◌≡◌, ℕ, ◌+◌, ◌<◌, ◌≤◌, true, false, not, cond, eqb, List, [], ◌∷◌, ◌++◌, length, Option, arith, refl, sym, ◌∙◌, ap, subst, inl, inr}
+use Rattle.std.proofs.Common.{◌≡◌, ℕ, ◌+◌, ◌<◌, ◌≤◌, true, false, not, cond, eqb, List, [], ◌∷◌, ◌++◌, length, Option}
+use Rattle.std.proofs.Common.{arith, refl, sym, ◌∙◌, ap, subst, inl, inr}
 use Rattle.ev_types.specs.declared.value.Value.{Value}
 use Rattle.linked_slots.specs.IdLists.{list_at, times, times_in, without, append_to, last_of}
-use Rattle.linked_slots.proofs.ListLaws.{bool_cases, eqb-same, eqb-true, eqb-false, eqb-apart, times-append, times-without, at-append_same, at-without, length-append_to, length-without, all_listed}
+use Rattle.linked_slots.proofs.ListLaws.{bool_cases, eqb-same, eqb-true, eqb-false, eqb-apart, times-append}
+use Rattle.linked_slots.proofs.ListLaws.{times-without, at-append_same, at-without, length-append_to, length-without}
+use Rattle.linked_slots.proofs.ListLaws.{all_listed}
 use Rattle.fork_by.specs.declared.slots.Slot.{Slot}
 use Rattle.fork_by.specs.Labels.{with_moment, touched}
 use Rattle.fork_by.specs.Register.{AreKept, MomentsRise, label_of, label_with, labels_of, latest_of, removed}

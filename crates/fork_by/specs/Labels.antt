@@ -1,13 +1,14 @@
 -- What a table of forks knows of them beside the forks themselves, in the order in which they were added.
-use Rattle.std.specs.Prelude.{Box, ◌≡◌, ℕ, ◌-◌, ◌<◌, ◌≤◌, Bool, false, not, eqb, nat_le, List, [], ◌∷◌, ◌++◌, map, filter, find, length, Option, None, Some, IsSome, if◌then◌else◌, filter_map}
+use Rattle.std.specs.Prelude.{Box, ◌≡◌, ℕ, ◌-◌, ◌<◌, ◌≤◌, Bool, false, not, eqb, nat_le, List, [], ◌∷◌, ◌++◌, map}
+use Rattle.std.specs.Prelude.{filter, find, length, Option, None, Some, IsSome, if◌then◌else◌, filter_map}
 use Rattle.std.specs.List.{All, IsDistinct}
 use Rattle.std.specs.Map.{lookup}
 use Rattle.std.specs.Option.{option_map}
 use Rattle.ev_types.specs.declared.value.Value.{Value}
 use Rattle.ev_types.specs.Key.{same_key}
 
--- of a fork: its key, its number, where it is among the forks as they are kept, the moment of its last item, and the moment
--- at which it is due, if it is
+-- of a fork: its key, its number, where it is among the forks as they are kept, the moment of its last item, and the
+-- moment at which it is due, if it is
 pub record Label : Type 0 where
   pub key : List Value
   pub number : ℕ
@@ -80,7 +81,8 @@ moved_to index last label = if eqb label.index last then record label { index = 
 
 -- the labels without that of the number, whose fork was at the index; the last fork has come there
 abbrev pub dropped : ℕ → ℕ → List Label → List Label
-dropped number index labels = map (moved_to index (length labels - 1)) (filter (λ label. not (eqb label.number number)) labels)
+dropped number index labels =
+    map (moved_to index (length labels - 1)) (filter (λ label. not (eqb label.number number)) labels)
 
 -- the moment is at least that of each label
 abbrev pub IsLatest : ℕ → List Label → Type 0

@@ -3,7 +3,8 @@ use Rattle.std.specs.Prelude.{◌≡◌, ℕ, ◌≤◌, List, map, Some, IsSome
 use Rattle.std.specs.List.{AllByRecursion}
 use Rattle.ev_types.specs.declared.value.Value.{Value}
 use Rattle.fork_by.specs.Labels.{IsLatest}
-use Rattle.fork_by.specs.Table.{AreApart, HasFork, IsTable, KeptFork, fork_labels, fork_replaced, kept_at, kept_forks, kept_number, with_fork}
+use Rattle.fork_by.specs.Table.{AreApart, HasFork, IsTable, KeptFork, fork_labels, fork_replaced, kept_at, kept_forks}
+use Rattle.fork_by.specs.Table.{kept_number, with_fork}
 use Rattle.fork_by.specs.declared.table.ForkTable.{ForkTable}
 
 -- one of the forks is of the key and has the number

@@ -1,6 +1,7 @@
--- How the labels of a table's forks are kept: the number of each key, a slot for each number, the numbers in the order of
--- their moments, the moments at which forks are due, and what happened to the numbers.
-use Rattle.std.specs.Prelude.{◌≡◌, ℕ, ◌<◌, ◌≤◌, ◌+◌, Bool, false, not, eqb, nat_le, List, [], ◌∷◌, ◌++◌, map, filter, length, slice_get, Option, None, Some, IsSome, if◌then◌else◌}
+-- How the labels of a table's forks are kept: the number of each key, a slot for each number, the numbers in the order
+-- of their moments, the moments at which forks are due, and what happened to the numbers.
+use Rattle.std.specs.Prelude.{◌≡◌, ℕ, ◌<◌, ◌≤◌, ◌+◌, Bool, false, not, eqb, nat_le, List, [], ◌∷◌, ◌++◌, map, filter}
+use Rattle.std.specs.Prelude.{length, slice_get, Option, None, Some, IsSome, if◌then◌else◌}
 use Rattle.std.specs.List.{AllByRecursion, IsDistinct}
 use Rattle.std.specs.Map.{keys_of}
 use Rattle.std.specs.Option.{option_map}
@@ -69,14 +70,16 @@ idle_among upto slots (Some number) = if nat_le (moment_in (slot_at number slots
 
 -- the numbers are in the order of their moments
 abbrev pub MomentsRise : List (Option Slot) → List ℕ → Type 0
-MomentsRise slots numbers = Pairwise (λ one later. moment_in (slot_at one slots) ≤ moment_in (slot_at later slots)) numbers
+MomentsRise slots numbers =
+    Pairwise (λ one later. moment_in (slot_at one slots) ≤ moment_in (slot_at later slots)) numbers
 
 -- the slot of a number has the index of its key
 pub record AreTied (entries : List (List Value × ℕ)) (slots : List (Option Slot)) : Type 0 where
   pub placed : (number index : ℕ) → place_in (slot_at number slots) ≡ Some index → number_at index entries ≡ Some number
   pub owned : (number index : ℕ) → number_at index entries ≡ Some number → place_in (slot_at number slots) ≡ Some index
 
-pub record AreKept (entries : List (List Value × ℕ)) (slots : List (Option Slot)) (lists : List (List ℕ)) (due : List (ℕ × ℕ)) (next : ℕ) (numbers : List ℕ) : Type 0 where
+pub record AreKept (entries : List (List Value × ℕ)) (slots : List (Option Slot)) (lists : List (List ℕ))
+    (due : List (ℕ × ℕ)) (next : ℕ) (numbers : List ℕ) : Type 0 where
   pub one_list : length lists ≡ 1
   pub listed : (number : ℕ) → times number lists ≡ times_in number numbers
   pub live : (number : ℕ) → times_in number numbers ≡ held (slot_at number slots)
@@ -90,8 +93,15 @@ pub record AreKept (entries : List (List Value × ℕ)) (slots : List (Option Sl
   pub due_rises : IsRising due
 
 -- the key at the index is gone, the last one is there in its place, and the number of that one has the index
-pub record TakesOut (entries entries' : List (List Value × ℕ)) (slots slots' : List (Option Slot)) (index : ℕ) : Type 0 where
+pub record TakesOut (entries entries' : List (List Value × ℕ)) (slots slots' : List (Option Slot))
+    (index : ℕ) : Type 0 where
   pub keys : IsDistinct same_key (keys_of entries')
   pub count : length entries' + 1 ≡ length entries
-  pub entry : (i : ℕ) → slice_get entries' i ≡ (if eqb i (length entries') then None else if eqb i index then slice_get entries (length entries') else slice_get entries i)
-  pub moved : (number : ℕ) → slot_at number slots' ≡ (if is_number number (number_at index entries') then with_index index (slot_at number slots) else slot_at number slots)
+  pub entry : (i : ℕ)
+      → slice_get entries' i
+      ≡ (if eqb i (length entries') then None else if eqb i index then slice_get entries (length entries')
+      else slice_get entries i)
+  pub moved : (number : ℕ)
+      → slot_at number slots'
+      ≡ (if is_number number (number_at index entries') then with_index index (slot_at number slots)
+      else slot_at number slots)

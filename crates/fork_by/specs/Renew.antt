@@ -13,15 +13,19 @@ use Rattle.fork_by.specs.Slots.{slot_at, held, moment_in, order_in, place_in, wi
 -- the slot of a number, once the numbers have the orders from `order` on
 abbrev pub renewed : ℕ → ℕ → List ℕ → Option Slot → Option Slot
 renewed q order [] slot = slot
-renewed q order (number ∷ numbers) slot = renewed q (suc order) numbers (if eqb q number then with_order order slot else slot)
+renewed q order (number ∷ numbers) slot =
+    renewed q (suc order) numbers (if eqb q number then with_order order slot else slot)
 
 -- these are the numbers of the keys, by their orders, which are less than `next`
-pub record AreOrdered (slots : List (Option Slot)) (entries : List (List Value × ℕ)) (next : ℕ) (numbers : List ℕ) : Type 0 where
+pub record AreOrdered (slots : List (Option Slot)) (entries : List (List Value × ℕ)) (next : ℕ)
+    (numbers : List ℕ) : Type 0 where
   pub live : (number : ℕ) → times_in number numbers ≡ held (slot_at number slots)
   pub rise : OrdersRise slots numbers
   pub below : AllByRecursion (λ number. order_in (slot_at number slots) < next) numbers
-  pub have_keys : (number : ℕ) → 0 < times_in number numbers → list_any (is_at (nat_cmp number)) (values_of entries) ≡ true
-  pub of_keys : (number : ℕ) → list_any (is_at (nat_cmp number)) (values_of entries) ≡ true → 0 < times_in number numbers
+  pub have_keys : (number : ℕ) → 0 < times_in number numbers
+      → list_any (is_at (nat_cmp number)) (values_of entries) ≡ true
+  pub of_keys : (number : ℕ) → list_any (is_at (nat_cmp number)) (values_of entries) ≡ true
+      → 0 < times_in number numbers
 
 -- the slots have other orders, by which the numbers are as they were, and which are less than `next`
 pub record Renews (old new : List (Option Slot)) (next : ℕ) (numbers : List ℕ) : Type 0 where

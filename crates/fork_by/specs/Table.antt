@@ -1,6 +1,7 @@
--- A table of forks by key, as contracts see it: a list of forks in the order in which they were added, each with its key, its
--- number, the moment of its last item, and the moment at which it is due, if it is.
-use Rattle.std.specs.Prelude.{◌≡◌, ℕ, ◌+◌, ◌<◌, eqb, not, nat_le, List, map, filter, filter_map, find, length, slice_get, unwrap_or, Option, None, if◌then◌else◌}
+-- A table of forks by key, as contracts see it: a list of forks in the order in which they were added, each with its
+-- key, its number, the moment of its last item, and the moment at which it is due, if it is.
+use Rattle.std.specs.Prelude.{◌≡◌, ℕ, ◌+◌, ◌<◌, eqb, not, nat_le, List, map, filter, filter_map, find, length}
+use Rattle.std.specs.Prelude.{slice_get, unwrap_or, Option, None, if◌then◌else◌}
 use Rattle.std.specs.Borrow.{Lends, MutBor, Fml, RattleType}
 use Rattle.std.specs.List.{IsDistinct}
 use Rattle.std.specs.Map.{lookup}
@@ -25,7 +26,8 @@ module _ {F : Type 0} where
   fork_labels table = table.labels
 
   abbrev pub labelled : Label → F → KeptFork F
-  labelled label fork = record { key = label.key; number = label.number; fork = fork; moment = label.moment; due = label.due }
+  labelled label fork =
+      record { key = label.key; number = label.number; fork = fork; moment = label.moment; due = label.due }
 
   -- the fork that has the label, with it
   abbrev pub fork_with : List F → Label → Option (KeptFork F)
@@ -91,7 +93,10 @@ module _ {F : Type 0} where
   -- the fork at the index is gone, if there is one, and the last one is there in its place
   pub record TakesFork (forks forks' : List F) (index : ℕ) : Type 0 where
     pub count : index < length forks → length forks' + 1 ≡ length forks
-    pub entry : index < length forks → (i : ℕ) → slice_get forks' i ≡ (if eqb i (length forks') then None else if eqb i index then slice_get forks (length forks') else slice_get forks i)
+    pub entry : index < length forks → (i : ℕ)
+        → slice_get forks' i
+        ≡ (if eqb i (length forks') then None else if eqb i index then slice_get forks (length forks')
+        else slice_get forks i)
 
   -- the forks whose last items came after the moment
   abbrev pub later_than : ℕ → List (KeptFork F) → List (KeptFork F)

@@ -76,8 +76,8 @@ impl Labels {
         }
     }
 
-    /// Adds the label of a fork, and gives its number. If `now` is before the moment of another fork, no clause says which
-    /// moment is kept.
+    /// Adds the label of a fork, and gives its number. If `now` is before the moment of another fork, no clause says
+    /// which moment is kept.
     #[tactic(auto, using(crate::proofs::LabelLaws::sound_nothing))]
     pub(crate) fn add(&mut self, alloc: Global, key: Key, now: u64) -> Result<usize, Memory>
         requires { number_of key self.old ≡ None }
@@ -94,8 +94,8 @@ impl Labels {
         Ok(number)
     }
 
-    /// Sets the moment of the last item of the fork. If `now` is before the moment of another fork, no clause says which
-    /// moment is kept.
+    /// Sets the moment of the last item of the fork. If `now` is before the moment of another fork, no clause says
+    /// which moment is kept.
     #[tactic(auto, using(crate::proofs::LabelLaws::sound_nothing))]
     pub(crate) fn touch(&mut self, number: usize, now: u64)
         requires { IsLive number self.old }
@@ -107,8 +107,8 @@ impl Labels {
         }
     }
 
-    /// Removes the label of a fork whose moment is at or before `upto`, if there is one, and gives where the fork is. The
-    /// last fork is to come there.
+    /// Removes the label of a fork whose moment is at or before `upto`, if there is one, and gives where the fork is.
+    /// The last fork is to come there.
     #[tactic(auto, using(crate::proofs::LabelLaws::sound_nothing))]
     pub(crate) fn take_idle(&mut self, upto: u64) -> Option<usize>
         ensures none { IfNone result (self.new ≡ self.old) }
@@ -142,8 +142,8 @@ impl Labels {
         register.set_due(alloc, number, due)
     }
 
-    /// Appends the numbers of the forks that are due at or before the moment `now`, in the order of the labels, and clears
-    /// their due moments. It counts one entry for each.
+    /// Appends the numbers of the forks that are due at or before the moment `now`, in the order of the labels, and
+    /// clears their due moments. It counts one entry for each.
     #[tactic(auto, using(crate::proofs::LabelLaws::sound_nothing))]
     pub(crate) fn due_forks<G: Ledger>(
         &mut self,

@@ -99,8 +99,8 @@ impl Register {
         slot_of(&self.slots, number).is_some()
     }
 
-    /// Adds the label of a fork, and gives its number. If `now` is before the moment of another fork, the latest one is kept,
-    /// so that the numbers stay in the order of their moments.
+    /// Adds the label of a fork, and gives its number. If `now` is before the moment of another fork, the latest one is
+    /// kept, so that the numbers stay in the order of their moments.
     pub(crate) fn add(&mut self, alloc: Global, key: Key, now: u64) -> Result<usize, Memory>
         requires { number_of key self.old ≡ None }
         ensures ok { IfOk result (λ number. Adds self.old self.new key number now) }
@@ -132,8 +132,8 @@ impl Register {
         Ok(number)
     }
 
-    /// Sets the moment of the last item of the fork. If `now` is before the moment of another fork, the latest one is kept,
-    /// so that the numbers stay in the order of their moments.
+    /// Sets the moment of the last item of the fork. If `now` is before the moment of another fork, the latest one is
+    /// kept, so that the numbers stay in the order of their moments.
     pub(crate) fn touch(&mut self, number: usize, now: u64)
         requires { IsLive number self.old }
         ensures touched { Touches self.old self.new number now }
@@ -144,8 +144,8 @@ impl Register {
         self.moments.move_back(0, number);
     }
 
-    /// Removes the label of a fork whose moment is at or before `upto`, if there is one, and gives where the fork is. The
-    /// last fork is to come there.
+    /// Removes the label of a fork whose moment is at or before `upto`, if there is one, and gives where the fork is.
+    /// The last fork is to come there.
     pub(crate) fn take_idle(&mut self, upto: u64) -> Option<usize>
         ensures none { IfNone result (self.new ≡ self.old) }
         ensures later { IfNone result (All (λ label. upto < label.moment) self.old) }
@@ -192,8 +192,8 @@ impl Register {
         Ok(())
     }
 
-    /// Appends the numbers of the forks that are due at or before the moment `now`, in the order of the labels, and clears
-    /// their due moments. It counts one entry for each.
+    /// Appends the numbers of the forks that are due at or before the moment `now`, in the order of the labels, and
+    /// clears their due moments. It counts one entry for each.
     pub(crate) fn due_forks<G: Ledger>(
         &mut self,
         alloc: Global,

@@ -13,8 +13,8 @@ use std::alloc::Global;
 use step_count::{Ledger, Steps};
 
 /// Forks by key, in the order in which they were added, of which those are dropped whose last item is old. A fork has a
-/// number, by which it is entered, the moment of its last item in seconds since 1970, and a due moment or none. The number
-/// of a fork that was dropped may be given to another one.
+/// number, by which it is entered, the moment of its last item in seconds since 1970, and a due moment or none. The
+/// number of a fork that was dropped may be given to another one.
 #[derive(Drop)]
 pub struct ForkTable<F> {
     labels: Labels,
@@ -67,8 +67,8 @@ impl<F: Drop> ForkTable<F> {
         self.labels.moment(number)
     }
 
-    /// Adds a fork of a key that is not there, whose last item came at the moment `now`, without a due moment, and gives its
-    /// number. If `now` is before the moment of another fork, no clause says which moment is kept.
+    /// Adds a fork of a key that is not there, whose last item came at the moment `now`, without a due moment, and
+    /// gives its number. If `now` is before the moment of another fork, no clause says which moment is kept.
     pub fn add(&mut self, alloc: Global, key: Key, fork: F, now: u64) -> Result<usize, Memory>
         requires { number_of key (fork_labels self.old) ≡ None }
         ensures vacant { IfOk result (λ number. label_at number (fork_labels self.old) ≡ None) }
@@ -91,8 +91,8 @@ impl<F: Drop> ForkTable<F> {
         Ok(number)
     }
 
-    /// Sets the moment of the last item of the fork. If `now` is before the moment of another fork, no clause says which
-    /// moment is kept.
+    /// Sets the moment of the last item of the fork. If `now` is before the moment of another fork, no clause says
+    /// which moment is kept.
     pub fn touch(&mut self, number: usize, now: u64)
         requires { IsLive number (fork_labels self.old) }
         ensures touched { IsLatest now (fork_labels self.old) →
@@ -145,8 +145,8 @@ impl<F: Drop> ForkTable<F> {
         Ok(())
     }
 
-    /// Appends the numbers of the forks that are due at or before the moment `now`, in the order in which these were added,
-    /// and clears their due moments. It counts one entry for each.
+    /// Appends the numbers of the forks that are due at or before the moment `now`, in the order in which these were
+    /// added, and clears their due moments. It counts one entry for each.
     pub fn due_forks<G: Ledger>(
         &mut self,
         alloc: Global,

@@ -1,7 +1,8 @@
 -- What a link holds before and after a call, over plain values.
 use Rattle.std.proofs.Common.{◌≡◌, ℕ, Bool, true, false, List, refl, arith}
 use Rattle.framing.specs.Frames.{HasFrame, IsOversized, length_at, first_body, after_frame}
-use Rattle.framing.proofs.FrameLaws.{frames_at_frame, partial_at_frame, frames_at_none, partial_at_none, after_frame_length, first_body_length, oversized_has_none}
+use Rattle.framing.proofs.FrameLaws.{frames_at_frame, partial_at_frame, frames_at_none, partial_at_none}
+use Rattle.framing.proofs.FrameLaws.{after_frame_length, first_body_length, oversized_has_none}
 use Rattle.frame_link.specs.Held.{Held, HandsOut, Waits, Stops}
 
 pub link_waits : (old : Held) → (HasFrame old.bytes → ⊥) → (IsOversized old.bytes → ⊥) → Waits old old

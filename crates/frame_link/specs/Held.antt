@@ -1,7 +1,8 @@
 use Rattle.std.specs.Prelude.{◌≡◌, ℕ, ◌+◌, Bool, true, false, if◌then◌else◌, List, [], ◌∷◌, ◌++◌, length}
 use Rattle.framing.specs.Frames.{HasFrame, IsOversized, frames_of, partial, length_at, first_body, Represents}
 use Rattle.frame_link.specs.declared.buffer.FirstFrame.{FirstFrame}
-use Rattle.frame_link.specs.declared.buffer.FirstFrame.TheVariants.{Whole as first_whole, NotYet as first_not_yet, TooLong as first_too_long}
+use Rattle.frame_link.specs.declared.buffer.FirstFrame.TheVariants.{Whole as first_whole, NotYet as first_not_yet}
+use Rattle.frame_link.specs.declared.buffer.FirstFrame.TheVariants.{TooLong as first_too_long}
 use Rattle.frame_link.specs.declared.link.Taken.{Taken}
 use Rattle.frame_link.specs.declared.link.Taken.TheVariants.{Whole, NotYet, TooLong, Memory}
 

@@ -112,8 +112,8 @@ impl FrameBuffer {
     }
 }
 
-/// Lends the body of the first frame of the bytes, if that frame is whole. A frame is a length of four big-endian bytes,
-/// at most [`BODY_LIMIT`], and then that many bytes of body. It takes no memory.
+/// Lends the body of the first frame of the bytes, if that frame is whole. A frame is a length of four big-endian
+/// bytes, at most [`BODY_LIMIT`], and then that many bytes of body. It takes no memory.
 pub fn first_frame(bytes: &[u8]) -> FirstFrame<'_>
     ensures { Lends bytes.now result }
 {

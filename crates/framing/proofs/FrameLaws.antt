@@ -1,13 +1,18 @@
 -- The frames of a stream that comes in pieces, over plain lists.
-use Rattle.std.proofs.Common.{◌≡◌, ℕ, zero, suc, ◌+◌, ◌<◌, ◌≤◌, Bool, true, false, ◌⊎◌, inl, inr, List, [], ◌∷◌, ◌++◌, length, take, drop, refl, sym, ◌∙◌, ap, append_assoc, length-append, length-drop, length-take, arith}
+use Rattle.std.proofs.Common.{◌≡◌, ℕ, zero, suc, ◌+◌, ◌<◌, ◌≤◌, Bool, true, false, ◌⊎◌, inl, inr, List, [], ◌∷◌, ◌++◌}
+use Rattle.std.proofs.Common.{length, take, drop, refl, sym, ◌∙◌, ap, append_assoc, length-append, length-drop}
+use Rattle.std.proofs.Common.{length-take, arith}
 use Rattle.std.proofs.lemmas.Bool.{false≢true}
 use Rattle.std.proofs.lemmas.Bool.Decides.{nat_tests}
-use Rattle.std.proofs.lemmas.List.{take-append-le, drop-append-le, length-take-le, take-append-drop, drop-drop, get_or-take, take_at, drop_at, get_or-drop, get_or_past}
+use Rattle.std.proofs.lemmas.List.{take-append-le, drop-append-le, length-take-le, take-append-drop, drop-drop}
+use Rattle.std.proofs.lemmas.List.{get_or-take, take_at, drop_at, get_or-drop, get_or_past}
 use Rattle.std.proofs.lemmas.Nat.{be_bytes_4, from_be_bytes-to_be_bytes_4}
 use Rattle.std.specs.Int.{w32, to_be_bytes, from_be_bytes}
 use Rattle.std.specs.List.{flat_map}
 use Rattle.framing.specs.declared.TheConstants.{BODY_LIMIT}
-use Rattle.framing.specs.Frames.{length_at, HasFrame, IsOversized, first_body, after_frame, has_frame, frames_within, after_within, frames_of, partial, Represents, frame, AreWithinLimit, Splits, AreBytes, FramesAreFound, FramesAreOne}
+use Rattle.framing.specs.Frames.{length_at, HasFrame, IsOversized, first_body, after_frame, has_frame, frames_within}
+use Rattle.framing.specs.Frames.{after_within, frames_of, partial, Represents, frame, AreWithinLimit, Splits, AreBytes}
+use Rattle.framing.specs.Frames.{FramesAreFound, FramesAreOne}
 
 -- the test tells whether there is a frame
 

@@ -1,9 +1,12 @@
 -- The frames of a text are read again as the events of its lines.
-use Rattle.std.proofs.Common.{◌≡◌, ℕ, ℤ, zero, suc, ◌+◌, ◌-◌, ◌/◌, ◌%◌, ◌<◌, ◌≤◌, ◌^◌, Bool, true, false, not, cond, nat_lt, List, [], ◌∷◌, ◌++◌, length, map, take, drop, get_or, Option, Some, None, refl, sym, ◌∙◌, ap, subst, arith, append_assoc, length-append, length-drop, inl, inr}
+use Rattle.std.proofs.Common.{◌≡◌, ℕ, ℤ, zero, suc, ◌+◌, ◌-◌, ◌/◌, ◌%◌, ◌<◌, ◌≤◌, ◌^◌, Bool, true, false, not, cond}
+use Rattle.std.proofs.Common.{nat_lt, List, [], ◌∷◌, ◌++◌, length, map, take, drop, get_or, Option, Some, None, refl}
+use Rattle.std.proofs.Common.{sym, ◌∙◌, ap, subst, arith, append_assoc, length-append, length-drop, inl, inr}
 use Rattle.std.proofs.lemmas.Bool.{and_parts, cases_lt, ltb-true, not-false}
 use Rattle.std.proofs.lemmas.List.Splits.{join_with_byte-slice_split}
 use Rattle.std.proofs.lemmas.List.Sums.{prefix_len-le-length}
-use Rattle.std.proofs.lemmas.Str.{IsCharBoundary-after_ascii, IsCharBoundary-before_ascii, IsUtf8-append, IsUtf8-drop, IsUtf8-from_ascii, IsUtf8-from_is_utf8, IsUtf8-nil, IsUtf8-take}
+use Rattle.std.proofs.lemmas.Str.{IsCharBoundary-after_ascii, IsCharBoundary-before_ascii, IsUtf8-append, IsUtf8-drop}
+use Rattle.std.proofs.lemmas.Str.{IsUtf8-from_ascii, IsUtf8-from_is_utf8, IsUtf8-nil, IsUtf8-take}
 use Rattle.std.proofs.lemmas.Str.Ascii.{IsAscii-cons, IsAscii-nil}
 use Rattle.std.specs.Int.{w64, cast_unsigned}
 use Rattle.std.specs.List.{AllByRecursion, cons_option, filter_map, flat_map, join_with_byte, position_or_len, remove}
@@ -23,8 +26,10 @@ use Rattle.riemann_msg.specs.Value.{message_of}
 use Rattle.riemann_msg.proofs.Lengths.{text_length}
 use Rattle.riemann_msg.proofs.ReadAgain.{message_back}
 use Rattle.graphite_lines.specs.declared.fault.LineWhy.TheVariants.{Words, Path, Value, Time}
-use Rattle.graphite_lines.specs.Frames.{AreReadBack, FramesAreReadBack, accepted, accepted_in, frames_with, message_with}
-use Rattle.graphite_lines.specs.Lines.{event_of, has_more_parts, host_in, line_says, lines_of, metric_event, other_parts, part_of, parts_of, said_by, service_in, unless, word_at}
+use Rattle.graphite_lines.specs.Frames.{AreReadBack, FramesAreReadBack, accepted, accepted_in, frames_with}
+use Rattle.graphite_lines.specs.Frames.{message_with}
+use Rattle.graphite_lines.specs.Lines.{event_of, has_more_parts, host_in, line_says, lines_of, metric_event}
+use Rattle.graphite_lines.specs.Lines.{other_parts, part_of, parts_of, said_by, service_in, unless, word_at}
 use Rattle.graphite_lines.specs.Words.{is_path, is_time, is_value, is_whole, time_of, value_of, words_of}
 use Rattle.graphite_lines.proofs.Finds.{split_nowhere}
 use Rattle.graphite_lines.proofs.NumberLaws.{fits_decides}

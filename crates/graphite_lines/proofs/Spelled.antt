@@ -1,11 +1,13 @@
 -- How the event of a line is spelled.
-use Rattle.std.proofs.Common.{◌≡◌, ℕ, ℤ, ◌+◌, List, ◌++◌, length, length-append, Option, sym, ap, ◌∙◌, append_assoc, append-nil, arith}
+use Rattle.std.proofs.Common.{◌≡◌, ℕ, ℤ, ◌+◌, List, ◌++◌, length, length-append, Option, sym, ap, ◌∙◌, append_assoc}
+use Rattle.std.proofs.Common.{append-nil, arith}
 use Rattle.std.specs.Int.{w32, w64, cast_unsigned, to_be_bytes}
 use Rattle.ev_types.specs.declared.event.Event.{Event}
 use Rattle.framing.specs.Frames.{frame}
 use Rattle.pb_wire.specs.Varint.{varint}
 use Rattle.pb_wire.specs.Spelling.{Varint, Bytes, bytes_head, field_spelling}
-use Rattle.riemann_msg.specs.Spelling.{event_content, event_values, int64, name_values, number_values, optional, sint64, spelled, spelling, zigzag}
+use Rattle.riemann_msg.specs.Spelling.{event_content, event_values, int64, name_values, number_values, optional, sint64}
+use Rattle.riemann_msg.specs.Spelling.{spelled, spelling, zigzag}
 use Rattle.riemann_msg.proofs.Spelled.{embedded, event_spelled, grown4, message_spelled, names_spelled, numbers_spelled}
 use Rattle.riemann_msg.proofs.Lengths.{small_head, varint_length}
 use Rattle.graphite_lines.specs.Frames.{message_with}

@@ -1,5 +1,6 @@
 -- The lines of a text, taken one after the other.
-use Rattle.std.proofs.Common.{◌≡◌, ℕ, ◌+◌, ◌<◌, ◌≤◌, List, [], ◌∷◌, ◌++◌, length, Option, refl, sym, ◌∙◌, ap, arith, append_assoc, append-nil}
+use Rattle.std.proofs.Common.{◌≡◌, ℕ, ◌+◌, ◌<◌, ◌≤◌, List, [], ◌∷◌, ◌++◌, length, Option, refl, sym, ◌∙◌, ap, arith}
+use Rattle.std.proofs.Common.{append_assoc, append-nil}
 use Rattle.std.proofs.lemmas.Grind.{flat_map-append}
 use Rattle.std.proofs.lemmas.List.Elements.{filter_map-append}
 use Rattle.std.specs.List.{enumerate_from}
@@ -8,7 +9,8 @@ use Rattle.framing.specs.Frames.{frame}
 use Rattle.list_laws.specs.Prefix.{IsPrefix}
 use Rattle.riemann_msg.specs.Spelling.{spelling}
 use Rattle.graphite_lines.specs.declared.bad.BadLine.{BadLine}
-use Rattle.graphite_lines.specs.Frames.{accepted, accepted_in, frames_in, frames_with, message_with, refused_from, refused_in, refused_lines}
+use Rattle.graphite_lines.specs.Frames.{accepted, accepted_in, frames_in, frames_with, message_with, refused_from}
+use Rattle.graphite_lines.specs.Frames.{refused_in, refused_lines}
 use Rattle.graphite_lines.specs.Lines.{line_says, lines_of}
 
 accepted_more : (host_part : Option ℕ) (line : List ℕ) (lines : List (List ℕ))

@@ -1,5 +1,6 @@
 -- What small lines and texts say.
-use Rattle.std.specs.Prelude.{◌≡◌, ℕ, ◌++◌, ◌-◌, ◌^◌, codes, true, false, List, [], ◌∷◌, Option, Some, None, Result, Ok, Err, pos, negsuc}
+use Rattle.std.specs.Prelude.{◌≡◌, ℕ, ◌++◌, ◌-◌, ◌^◌, codes, true, false, List, [], ◌∷◌, Option, Some, None, Result, Ok}
+use Rattle.std.specs.Prelude.{Err, pos, negsuc}
 use Rattle.ev_types.specs.declared.event.Event.{Event}
 use Rattle.graphite_lines.specs.declared.bad.BadLine.{BadLine}
 use Rattle.graphite_lines.specs.declared.fault.LineWhy.{LineWhy}

@@ -1,5 +1,6 @@
 -- The lines of a text, and what each says.
-use Rattle.std.specs.Prelude.{ℕ, ◌-◌, ◌==◌, nat_lt, Bool, not, List, [], ◌∷◌, length, take, if◌then◌else◌, slice_index, slice_index_or, Option, Some, None, Result, Ok, Err, ℤ}
+use Rattle.std.specs.Prelude.{ℕ, ◌-◌, ◌==◌, nat_lt, Bool, not, List, [], ◌∷◌, length, take, if◌then◌else◌, slice_index}
+use Rattle.std.specs.Prelude.{slice_index_or, Option, Some, None, Result, Ok, Err, ℤ}
 use Rattle.std.specs.List.{find, join_with_byte, remove, slice_split}
 use Rattle.ev_types.specs.Set.{event_at}
 use Rattle.ev_types.specs.declared.event.Event.{Event}
@@ -67,13 +68,15 @@ first_cause words = find (is_cause words) (Words ∷ Path ∷ Value ∷ Time ∷
 
 -- an event that holds nothing else
 abbrev pub metric_event : ℤ → List ℕ → Option (List ℕ) → ℤ → Event
-metric_event time service host metric = record (event_at time) { service = Some service; host = host; metric = Some metric }
+metric_event time service host metric =
+    record (event_at time) { service = Some service; host = host; metric = Some metric }
 
 -- the event that three words without a cause say
 abbrev pub event_of : Option ℕ → List (List ℕ) → Event
 event_of host_part words =
     let path = word_at words 0 in
-    metric_event (time_of (word_at words 2)) (service_in host_part path) (host_in host_part path) (value_of (word_at words 1))
+    metric_event (time_of (word_at words 2)) (service_in host_part path) (host_in host_part path)
+    (value_of (word_at words 1))
 
 abbrev pub unless : Option LineWhy → Event → Result (Option Event) LineWhy
 unless (Some why) event = Err why

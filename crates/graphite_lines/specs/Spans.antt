@@ -4,7 +4,8 @@ use Rattle.std.specs.Option.{option_copied}
 use Rattle.graphite_lines.specs.declared.path.Placed.{Placed}
 use Rattle.graphite_lines.specs.Lines.{host_in, other_parts, part_of, parts_of, service_in}
 
--- the part of this number, from 1, is between these places, with a dot after it, and before it where it is not the first
+-- the part of this number, from 1, is between these places, with a dot after it, and before it where it is not the
+-- first
 pub record IsSpan (path : List ℕ) (number start end : ℕ) : Type 0 where
   pub more : number < length (parts_of path)
   pub ordered : start ≤ end

@@ -1,5 +1,6 @@
 -- The words of a line, and which of them are paths, values and times.
-use Rattle.std.specs.Prelude.{ℕ, ◌^◌, ◌==◌, nat_le, nat_lt, Bool, true, false, not, ◌&&◌, ◌||◌, List, [], ◌∷◌, length, drop, filter, if◌then◌else◌, ℤ, pos, negsuc}
+use Rattle.std.specs.Prelude.{ℕ, ◌^◌, ◌==◌, nat_le, nat_lt, Bool, true, false, not, ◌&&◌, ◌||◌, List, [], ◌∷◌, length}
+use Rattle.std.specs.Prelude.{drop, filter, if◌then◌else◌, ℤ, pos, negsuc}
 use Rattle.std.specs.List.{after_first, before_first, list_all, list_any, slice_split}
 use Rattle.std.specs.Str.{all_ascii_digits, is_utf8}
 use Rattle.std.specs.Str.Parse.{digits_value, signed_digits_value, starts_with_minus}
@@ -52,7 +53,8 @@ are_zeros word = nat_le 1 (length word) && nat_le (length word) 20 && list_all (
 
 -- a whole number; after it may come a point and zeros
 unfoldable pub is_value : List ℕ → Bool
-is_value word = is_whole (before_first is_point word) && (not (list_any is_point word) || are_zeros (after_first is_point word))
+is_value word =
+    is_whole (before_first is_point word) && (not (list_any is_point word) || are_zeros (after_first is_point word))
 
 -- the number before the point
 abbrev pub value_of : List ℕ → ℤ

@@ -1,5 +1,6 @@
 -- How messages are answered one after another, and what the link is then.
-use Rattle.std.proofs.Common.{◌≡◌, ℕ, ◌+◌, ◌-◌, ◌≤◌, List, [], ◌∷◌, ◌++◌, length, map, drop, refl, ap, sym, ◌∙◌, subst, arith, append-nil, append_assoc, length-append, length-drop}
+use Rattle.std.proofs.Common.{◌≡◌, ℕ, ◌+◌, ◌-◌, ◌≤◌, List, [], ◌∷◌, ◌++◌, length, map, drop, refl, ap, sym, ◌∙◌, subst}
+use Rattle.std.proofs.Common.{arith, append-nil, append_assoc, length-append, length-drop}
 use Rattle.std.specs.Prelude.{IfSome, Option, Some, None, Result, Ok, Err}
 use Rattle.std.proofs.lemmas.List.{drop-append-le, drop-drop, map-append}
 use Rattle.msg_replies.specs.event_core.declared.arrivals.Core.{Core}
@@ -13,7 +14,8 @@ use Rattle.msg_replies.specs.hub_meaning.Links.{Link, unsent}
 use Rattle.msg_replies.specs.hub_meaning.Messages.{posts_of}
 use Rattle.msg_replies.specs.hub_meaning.Replies.{reply_to}
 use Rattle.msg_replies.specs.hub_meaning.Runs.{Talk, all_answered, answered, with_reply}
-use Rattle.msg_replies.specs.hub_meaning.Verdicts.{AfterVerdicts, IsOfRule, IsPossible, Message, PatternsReport, Refusal, built_rule, judged}
+use Rattle.msg_replies.specs.hub_meaning.Verdicts.{AfterVerdicts, IsOfRule, IsPossible, Message, PatternsReport}
+use Rattle.msg_replies.specs.hub_meaning.Verdicts.{Refusal, built_rule, judged}
 use Rattle.msg_replies.specs.Answering.{AnswersMessage, Replies}
 use Rattle.msg_replies.specs.Arriving.{Arrives, Reported}
 use Rattle.msg_replies.proofs.AnswerLaws.{arrives_nothing, arrives_then}

@@ -1,5 +1,6 @@
 -- How a link that a piece comes on follows what it represents.
-use Rattle.std.proofs.Common.{◌≡◌, ℕ, ◌≤◌, ◌==◌, ◌↔◌, Bool, true, false, cond, ◌&&◌, ◌||◌, List, [], ◌∷◌, ◌++◌, length, refl, ap, sym, ◌∙◌, subst, arith, append-nil}
+use Rattle.std.proofs.Common.{◌≡◌, ℕ, ◌≤◌, ◌==◌, ◌↔◌, Bool, true, false, cond, ◌&&◌, ◌||◌, List, [], ◌∷◌, ◌++◌, length}
+use Rattle.std.proofs.Common.{refl, ap, sym, ◌∙◌, subst, arith, append-nil}
 use Rattle.std.specs.Prelude.{IsTrue, Option, Result, Ok, Err, OnOk, nat_le, nat_lt}
 use Rattle.std.proofs.lemmas.Bool.{and_parts, eqb-true, leb-true, ltb-true}
 use Rattle.std.proofs.lemmas.Bool.Decides.{nat_tests}
@@ -11,11 +12,14 @@ use Rattle.framing.proofs.FrameLaws.{oversized_has_none, partial_append, partial
 use Rattle.list_laws.specs.declared.memory.Memory.{Memory}
 use Rattle.ports.specs.declared.links.Want.{Want}
 use Rattle.msg_replies.specs.hub_meaning.Legal.{ArePossible, AreVerdicts, MayClose, MayCloseAs, VerdictsIf}
-use Rattle.msg_replies.specs.hub_meaning.Links.{Link, broken, connected, connected_limit, ended, is_connected, is_open, is_open_stage, is_read_closed_stage, new_link, unblocked, unsent, want_of, with_stage}
+use Rattle.msg_replies.specs.hub_meaning.Links.{Link, broken, connected, connected_limit, ended, is_connected, is_open}
+use Rattle.msg_replies.specs.hub_meaning.Links.{is_open_stage, is_read_closed_stage, new_link, unblocked, unsent}
+use Rattle.msg_replies.specs.hub_meaning.Links.{want_of, with_stage}
 use Rattle.msg_replies.specs.hub_meaning.declared.stage.Stage.{Stage}
 use Rattle.msg_replies.specs.hub_meaning.declared.stage.Stage.TheVariants.{Open, ReadClosed, Closing, Closed}
 use Rattle.msg_replies.specs.hub_meaning.Replies.{reply_to_oversized}
-use Rattle.msg_replies.specs.hub_meaning.Runs.{RunState, Talk, all_answered, answered, cut_off, is_oversized, messages_in, new_frames, talk_of, with_reply}
+use Rattle.msg_replies.specs.hub_meaning.Runs.{RunState, Talk, all_answered, answered, cut_off, is_oversized}
+use Rattle.msg_replies.specs.hub_meaning.Runs.{messages_in, new_frames, talk_of, with_reply}
 use Rattle.msg_replies.specs.hub_meaning.Verdicts.{Message, PatternsReport, Refusal, judged}
 use Rattle.msg_replies.proofs.HubMeaningRunLaws.{new_frames_rest}
 use Rattle.msg_replies.specs.Arriving.{Reported}

@@ -1,5 +1,6 @@
 -- How the frames of a piece are answered in two parts.
-use Rattle.std.proofs.Common.{◌≡◌, ℕ, ◌≤◌, ◌||◌, Bool, List, [], ◌∷◌, ◌++◌, length, map, take, drop, refl, ap, sym, ◌∙◌, subst, arith, append_assoc, length-append}
+use Rattle.std.proofs.Common.{◌≡◌, ℕ, ◌≤◌, ◌||◌, Bool, List, [], ◌∷◌, ◌++◌, length, map, take, drop, refl, ap, sym, ◌∙◌}
+use Rattle.std.proofs.Common.{subst, arith, append_assoc, length-append}
 use Rattle.std.specs.Prelude.{Option, None, Result, Ok, Err, option_map, option_to_list}
 use Rattle.std.specs.List.{list_any}
 use Rattle.std.proofs.lemmas.List.{take-append-drop}
@@ -12,7 +13,8 @@ use Rattle.stream_meaning.specs.Arrivals.{Arrival}
 use Rattle.msg_replies.specs.hub_meaning.Legal.{ArePossible}
 use Rattle.msg_replies.specs.hub_meaning.Links.{unsent}
 use Rattle.msg_replies.specs.hub_meaning.Runs.{Talk, all_answered}
-use Rattle.msg_replies.specs.hub_meaning.Verdicts.{AfterVerdicts, Message, PatternsReport, Refusal, is_refused, judged, refused_text, texts_refused}
+use Rattle.msg_replies.specs.hub_meaning.Verdicts.{AfterVerdicts, Message, PatternsReport, Refusal, is_refused, judged}
+use Rattle.msg_replies.specs.hub_meaning.Verdicts.{refused_text, texts_refused}
 use Rattle.msg_replies.specs.Arriving.{Arrives, Reported}
 use Rattle.msg_replies.proofs.AnswerLaws.{arrives_then, on_ok}
 use Rattle.msg_replies.proofs.VerdictLaws.{verdicts_then}

@@ -1,5 +1,7 @@
 -- What sends to one link do to the state of a run.
-use Rattle.std.proofs.Common.{◌≡◌, ℕ, zero, suc, ◌+◌, ◌-◌, ◌<◌, ◌≤◌, ◌==◌, Bool, true, false, cond, not, ◌&&◌, ◌||◌, List, [], ◌∷◌, ◌++◌, length, take, drop, refl, ap, sym, ◌∙◌, subst, arith, length-append, length-drop, length-take}
+use Rattle.std.proofs.Common.{◌≡◌, ℕ, zero, suc, ◌+◌, ◌-◌, ◌<◌, ◌≤◌, ◌==◌, Bool, true, false, cond, not, ◌&&◌, ◌||◌}
+use Rattle.std.proofs.Common.{List, [], ◌∷◌, ◌++◌, length, take, drop, refl, ap, sym, ◌∙◌, subst, arith, length-append}
+use Rattle.std.proofs.Common.{length-drop, length-take}
 use Rattle.std.specs.Prelude.{Some, nat_lt}
 use Rattle.std.proofs.lemmas.Bool.{eqb-true, eq-eqb, lt-ltb, ltb-true, and_parts}
 use Rattle.std.proofs.lemmas.List.{drop-drop, length-take-le, take-take}
@@ -10,7 +12,8 @@ use Rattle.ports.specs.declared.links.SendAnswer.{SendAnswer}
 use Rattle.ports.specs.declared.links.SendAnswer.TheVariants.{Took, Later, Failed, Memory}
 use Rattle.ports.specs.Links.{send_entries, IsWithin}
 use Rattle.msg_replies.specs.hub_meaning.Legal.{IsLegalFrom, IsSettledAs, MayCloseAs, MaySend}
-use Rattle.msg_replies.specs.hub_meaning.Links.{Link, changed, find_link, has_number, is_open_stage, is_read_closed_stage, sent, unsent, with_stage}
+use Rattle.msg_replies.specs.hub_meaning.Links.{Link, changed, find_link, has_number, is_open_stage}
+use Rattle.msg_replies.specs.hub_meaning.Links.{is_read_closed_stage, sent, unsent, with_stage}
 use Rattle.msg_replies.specs.hub_meaning.declared.stage.Stage.{Stage}
 use Rattle.msg_replies.specs.hub_meaning.declared.stage.Stage.TheVariants.{Open, ReadClosed, Closing, Closed}
 use Rattle.msg_replies.specs.hub_meaning.Runs.{RunState, Step, plain, state_from, with_links}

@@ -32,11 +32,13 @@ read_talk talk = record talk { link = cut_off talk.link }
 -- only of an open link the piece is read
 abbrev pub talk_after : CoreConfig → List ℕ → List (Option Refusal) → RunState → Link → Talk
 talk_after config piece verdicts state meant =
-    if is_open meant then read_talk (all_answered config state.now (messages_in piece verdicts meant) (talk_of piece state meant))
+    if is_open meant
+    then read_talk (all_answered config state.now (messages_in piece verdicts meant) (talk_of piece state meant))
     else record { arrivals = state.arrivals; link = meant }
 
 -- the events of the messages arrived, and the link has their replies
-pub record Hears (piece : List ℕ) (verdicts : List (Option Refusal)) (core core' : Core) (link' : HubLink) (old new : Reported) (state : RunState) (meant : Link) : Type 0 where
+pub record Hears (piece : List ℕ) (verdicts : List (Option Refusal)) (core core' : Core) (link' : HubLink)
+    (old new : Reported) (state : RunState) (meant : Link) : Type 0 where
   pub more : List Arrival
   pub arrivals : (talk_after (config_of core) piece verdicts state meant).arrivals ≡ state.arrivals ++ more
   pub arrives : Arrives core core' state.arrivals more old new
@@ -44,7 +46,8 @@ pub record Hears (piece : List ℕ) (verdicts : List (Option Refusal)) (core cor
   pub link : RepresentsLink link' (talk_after (config_of core) piece verdicts state meant).link
 
 -- The piece was heard, or memory ran out; the verdicts on its messages are those that were reported of the patterns.
-pub record HearsPiece (piece : List ℕ) (link link' : HubLink) (core core' : Core) (patterns patterns' : PatternsReport) (old new : Reported)
+pub record HearsPiece (piece : List ℕ) (link link' : HubLink) (core core' : Core) (patterns patterns' : PatternsReport)
+    (old new : Reported)
     (result : Result (Unit {0}) Memory) : Type 0 where
   pub verdicts : List (Option Refusal)
   pub reported : AfterVerdicts patterns patterns' verdicts

@@ -1,5 +1,6 @@
 -- What sends to one link do.
-use Rattle.std.specs.Prelude.{◌≡◌, ℕ, Bool, true, false, not, ◌==◌, ◌&&◌, ◌||◌, if◌then◌else◌, nat_lt, List, [], ◌∷◌, length, Some}
+use Rattle.std.specs.Prelude.{◌≡◌, ℕ, Bool, true, false, not, ◌==◌, ◌&&◌, ◌||◌, if◌then◌else◌, nat_lt, List, [], ◌∷◌}
+use Rattle.std.specs.Prelude.{length, Some}
 use Rattle.msg_replies.specs.event_core.Core.{CoreConfig}
 use Rattle.ports.specs.declared.entry.Entry.{Entry}
 use Rattle.ports.specs.declared.entry.Entry.TheVariants.{Listen, Next, Send, Close}
@@ -35,7 +36,8 @@ AreSendsTo number (Close other ∷ entries) = ⊥
 -- In every state that has the link, these calls may come, one after another, and they change that link alone.
 pub record Sends (link link' : HubLink) (run : List Entry) : Type 0 where
   pub only : AreSendsTo (number_of link) run
-  pub legal : (config : CoreConfig) (state : RunState) (meant : Link) → IsOf link state meant → IsLegalFrom config (plain run) state
+  pub legal : (config : CoreConfig) (state : RunState) (meant : Link) → IsOf link state meant
+      → IsLegalFrom config (plain run) state
   pub leads : (config : CoreConfig) (state : RunState) (meant : Link) → IsOf link state meant
       → state_from config (plain run) state ≡ with_links (changed (number_of link) (after_sends run) state.links) state
   pub represents : (meant : Link) → RepresentsLink link meant → RepresentsLink link' (after_sends run meant)
@@ -46,7 +48,8 @@ IsSent link = (meant : Link) → RepresentsLink link meant → (MayClose meant �
 
 -- the link may be sent to, and has bytes to send
 abbrev pub can_send : HubLink → Bool
-can_send link = (is_open_stage link.stage || is_read_closed_stage link.stage) && (not link.blocked && nat_lt 0 (length link.unsent))
+can_send link =
+    (is_open_stage link.stage || is_read_closed_stage link.stage) && (not link.blocked && nat_lt 0 (length link.unsent))
 
 -- the bytes that there are to send
 abbrev pub sendable : HubLink → ℕ

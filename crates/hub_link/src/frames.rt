@@ -11,8 +11,8 @@ use riemann_msg::SpentEvents;
 use std::alloc::Global;
 use step_count::{Ledger, Steps};
 
-/// Answers the messages of the whole frames that the bytes begin with, in order. The answer is how many bytes these frames
-/// have. The messages are read into the memory of `spent`.
+/// Answers the messages of the whole frames that the bytes begin with, in order. The answer is how many bytes these
+/// frames have. The messages are read into the memory of `spent`.
 pub(crate) fn answer_frames<P: Patterns, G: Ledger>(
     alloc: Global,
     bytes: &[u8],

@@ -58,9 +58,10 @@ impl HubLink {
         self.number
     }
 
-    /// Reads a piece that came, if the link is open: the events of each whole frame are posted and its reply is appended,
-    /// in order. A length over the limit is answered too, and then no more is read. Each message is read into the memory of
-    /// `spent`, and leaves its own events there, if they are at most 128. After `Memory` nothing is known of the link.
+    /// Reads a piece that came, if the link is open: the events of each whole frame are posted and its reply is
+    /// appended, in order. A length over the limit is answered too, and then no more is read. Each message is read into
+    /// the memory of `spent`, and leaves its own events there, if they are at most 128. After `Memory` nothing is known
+    /// of the link.
     pub fn hear<P: Patterns, G: Ledger>(
         &mut self,
         alloc: Global,
@@ -130,9 +131,9 @@ impl HubLink {
         self.input.push(alloc, &piece[taken..])
     }
 
-    /// The same where there are bytes before it: what completes their frame is put after them, and the frames of the rest
-    /// are answered where they lie. If fewer than the four bytes of a length were held, the whole piece is put after them,
-    /// unless the length that it completes is 0.
+    /// The same where there are bytes before it: what completes their frame is put after them, and the frames of the
+    /// rest are answered where they lie. If fewer than the four bytes of a length were held, the whole piece is put
+    /// after them, unless the length that it completes is 0.
     fn read_after<P: Patterns, G: Ledger>(
         &mut self,
         alloc: Global,

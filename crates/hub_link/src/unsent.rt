@@ -68,8 +68,8 @@ impl Unsent {
         }
     }
 
-    /// Posts the events of a message, and appends the reply to it. The message is read into the memory of `spent`. After
-    /// `Memory` nothing is known of the replies.
+    /// Posts the events of a message, and appends the reply to it. The message is read into the memory of `spent`.
+    /// After `Memory` nothing is known of the replies.
     pub(crate) fn append_reply<P: Patterns, G: Ledger>(
         &mut self,
         alloc: Global,
@@ -122,8 +122,8 @@ impl Unsent {
         self.give_back(alloc);
     }
 
-    /// Gives the memory of the bytes that were taken back, if they are all of `first`, or at least 64 KB and an eighth of
-    /// the others of `first`. These are copied then. If there is no memory for that, it stays as it is.
+    /// Gives the memory of the bytes that were taken back, if they are all of `first`, or at least 64 KB and an eighth
+    /// of the others of `first`. These are copied then. If there is no memory for that, it stays as it is.
     fn give_back(&mut self, alloc: Global)
         ensures { self.new ≡ self.old }
     {

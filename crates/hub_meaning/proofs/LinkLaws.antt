@@ -1,9 +1,11 @@
 -- Links by their numbers: how one is found, and what changing one keeps.
-use Rattle.std.proofs.Common.{◌≡◌, ℕ, ◌<◌, Bool, true, false, cond, List, [], ◌∷◌, ◌++◌, refl, ap, sym, ◌∙◌, subst, arith}
+use Rattle.std.proofs.Common.{◌≡◌, ℕ, ◌<◌, Bool, true, false, cond, List, [], ◌∷◌, ◌++◌, refl, ap, sym, ◌∙◌, subst}
+use Rattle.std.proofs.Common.{arith}
 use Rattle.std.specs.Prelude.{Some, nat_lt}
 use Rattle.std.specs.List.{AllByRecursion, list_all}
 use Rattle.std.proofs.lemmas.Bool.{eqb-true, eq-eqb, ltb-true, and_parts}
-use Rattle.hub_meaning.specs.Links.{Link, ReadClosed, Closing, changed, broken, ended, find_link, has_number, is_above, is_connected, is_open, new_link, opened, unblocked, with_stage}
+use Rattle.hub_meaning.specs.Links.{Link, ReadClosed, Closing, changed, broken, ended, find_link, has_number, is_above}
+use Rattle.hub_meaning.specs.Links.{is_connected, is_open, new_link, opened, unblocked, with_stage}
 use Rattle.hub_meaning.specs.Laws.{AreAbove, AreRising}
 
 -- ---- what holds of each link

@@ -1,5 +1,6 @@
 -- A link was sent a prefix of its replies.
-use Rattle.std.proofs.Common.{◌≡◌, ℕ, Bool, true, false, cond, List, [], ◌∷◌, ◌++◌, length, take, drop, refl, ap, sym, ◌∙◌, append_assoc}
+use Rattle.std.proofs.Common.{◌≡◌, ℕ, Bool, true, false, cond, List, [], ◌∷◌, ◌++◌, length, take, drop, refl, ap, sym}
+use Rattle.std.proofs.Common.{◌∙◌, append_assoc}
 use Rattle.std.specs.Prelude.{Option, Some, None}
 use Rattle.std.specs.List.{AllByRecursion}
 use Rattle.std.proofs.lemmas.List.{drop_at, take-append-drop}
@@ -13,14 +14,18 @@ use Rattle.ports.specs.declared.links.Turn.{Turn}
 use Rattle.ports.specs.declared.links.What.{What}
 use Rattle.ports.specs.declared.links.What.TheVariants as what
 use Rattle.ev_types.specs.Clock.{next_moment}
-use Rattle.hub_meaning.specs.Links.{Link, ReadClosed, Closing, closed, broken, ended, find_link, is_above, is_connected, is_open, new_link, opened, sent, unblocked, unsent, with_stage}
+use Rattle.hub_meaning.specs.Links.{Link, ReadClosed, Closing, closed, broken, ended, find_link, is_above, is_connected}
+use Rattle.hub_meaning.specs.Links.{is_open, new_link, opened, sent, unblocked, unsent, with_stage}
 use Rattle.hub_meaning.specs.Replies.{reply_to_oversized}
-use Rattle.hub_meaning.specs.Runs.{RunState, Step, Talk, after_entry, after_step, all_answered, answered, cut_off, first_state, is_oversized, messages_in, occurred, passed, read_by, read_from, state_from, talk_of, turned, with_reply, with_talk}
+use Rattle.hub_meaning.specs.Runs.{RunState, Step, Talk, after_entry, after_step, all_answered, answered, cut_off}
+use Rattle.hub_meaning.specs.Runs.{first_state, is_oversized, messages_in, occurred, passed, read_by, read_from}
+use Rattle.hub_meaning.specs.Runs.{state_from, talk_of, turned, with_reply, with_talk}
 use Rattle.ports.specs.Playing.{is_turn_answer}
 use Rattle.hub_meaning.specs.Verdicts.{Message, Refusal}
 use Rattle.hub_meaning.specs.Legal.{IsLegalFrom, MayCome, MaySend}
 use Rattle.hub_meaning.specs.Laws.{AreRising, NumbersRise, PrefixesAreSent, SentPrefix}
-use Rattle.hub_meaning.proofs.LinkLaws.{all_append, all_changed, all_found, all_replaced, rising_changed, rising_opened, ended_number, broken_number, unblocked_number}
+use Rattle.hub_meaning.proofs.LinkLaws.{all_append, all_changed, all_found, all_replaced, rising_changed, rising_opened}
+use Rattle.hub_meaning.proofs.LinkLaws.{ended_number, broken_number, unblocked_number}
 
 -- ---- one link
 

@@ -15,7 +15,8 @@ StepsComeInOrder = (config : CoreConfig) (first more : List Step) (state : RunSt
 
 abbrev pub LegalInOrder : Type 0
 LegalInOrder = (config : CoreConfig) (first more : List Step) (state : RunState) →
-    IsLegalFrom config first state → IsLegalFrom config more (state_from config first state) → IsLegalFrom config (first ++ more) state
+    IsLegalFrom config first state → IsLegalFrom config more (state_from config first state)
+    → IsLegalFrom config (first ++ more) state
 
 -- how a link's bytes are cut decides only with which piece a message is whole
 abbrev pub MessagesComeWhole : Type 0
@@ -29,7 +30,9 @@ abbrev pub SentPrefix : Link → Type 0
 SentPrefix link = IsPrefix link.taken link.replies
 
 abbrev pub PrefixesAreSent : Type 0
-PrefixesAreSent = (config : CoreConfig) (steps : List Step) → IsLegal config steps → AllByRecursion SentPrefix (state_after config steps).links
+PrefixesAreSent =
+    (config : CoreConfig) (steps : List Step) → IsLegal config steps
+    → AllByRecursion SentPrefix (state_after config steps).links
 
 -- the numbers of links rise
 abbrev pub AreAbove : ℕ → List Link → Type 0

@@ -6,10 +6,13 @@ use Rattle.ports.specs.declared.entry.Entry.TheVariants.{Listen, Next, Send, Clo
 use Rattle.ports.specs.declared.links.Turn.{Turn}
 use Rattle.ports.specs.declared.links.Want.{Want}
 use Rattle.ports.specs.declared.links.What.{What}
-use Rattle.ports.specs.declared.links.What.TheVariants.{Idle, Opened, Read, Ended, Broken, Room, Stopped, Failed, Memory}
+use Rattle.ports.specs.declared.links.What.TheVariants.{Idle, Opened, Read, Ended, Broken, Room, Stopped, Failed}
+use Rattle.ports.specs.declared.links.What.TheVariants.{Memory}
 use Rattle.ev_types.specs.Clock.{next_moment}
-use Rattle.hub_meaning.specs.Links.{Link, Stage, Open, ReadClosed, Closing, Closed, find_link, is_connected, is_open, unsent, wants_of}
-use Rattle.hub_meaning.specs.Runs.{RunState, Step, Talk, after_step, answered, first_state, messages_in, new_frames, passed, talk_of}
+use Rattle.hub_meaning.specs.Links.{Link, Stage, Open, ReadClosed, Closing, Closed, find_link, is_connected, is_open}
+use Rattle.hub_meaning.specs.Links.{unsent, wants_of}
+use Rattle.hub_meaning.specs.Runs.{RunState, Step, Talk, after_step, answered, first_state, messages_in, new_frames}
+use Rattle.hub_meaning.specs.Runs.{passed, talk_of}
 use Rattle.hub_meaning.specs.Verdicts.{IsPossible, Message, Refusal}
 
 -- ---- when a turn may be asked for
@@ -34,10 +37,12 @@ AreSettled (link ∷ links) = IsSettled link × AreSettled links
 abbrev pub ArePossible : CoreConfig → ℕ → List Message → Talk → Type 0
 ArePossible config now [] talk = Unit {0}
 ArePossible config now (message ∷ messages) talk =
-    IsPossible now (length (unsent talk.link)) message × ArePossible config now messages (answered config now message talk)
+    IsPossible now (length (unsent talk.link)) message
+    × ArePossible config now messages (answered config now message talk)
 
 -- there are at most as many verdicts as messages; a message without one had no pattern refused
-pub record AreVerdicts (config : CoreConfig) (piece : List ℕ) (verdicts : List (Option Refusal)) (state : RunState) (link : Link) : Type 0 where
+pub record AreVerdicts (config : CoreConfig) (piece : List ℕ) (verdicts : List (Option Refusal)) (state : RunState)
+    (link : Link) : Type 0 where
   pub few : length verdicts ≤ length (new_frames link.came piece)
   pub possible : ArePossible config state.now (messages_in piece verdicts link) (talk_of piece state link)
 
@@ -53,7 +58,8 @@ VerdictsOn config piece verdicts state (Some link) = VerdictsIf (is_open link) c
 abbrev pub VerdictsIn : CoreConfig → What → List ℕ → List (Option Refusal) → RunState → Type 0
 VerdictsIn config Idle piece verdicts state = verdicts ≡ []
 VerdictsIn config (Opened number) piece verdicts state = verdicts ≡ []
-VerdictsIn config (Read number count) piece verdicts state = VerdictsOn config piece verdicts state (find_link number state.links)
+VerdictsIn config (Read number count) piece verdicts state =
+    VerdictsOn config piece verdicts state (find_link number state.links)
 VerdictsIn config (Ended number) piece verdicts state = verdicts ≡ []
 VerdictsIn config (Broken number) piece verdicts state = verdicts ≡ []
 VerdictsIn config (Room number) piece verdicts state = verdicts ≡ []
@@ -86,7 +92,8 @@ OnLink number links P = (link : Link) × (find_link number links ≡ Some link) 
 -- ---- a run
 
 -- a turn is asked for with the wants of all connected links
-pub record MayAsk (config : CoreConfig) (wants : List Want) (turn : Turn) (piece : List ℕ) (beside : List (Option Refusal)) (state : RunState) : Type 0 where
+pub record MayAsk (config : CoreConfig) (wants : List Want) (turn : Turn) (piece : List ℕ)
+    (beside : List (Option Refusal)) (state : RunState) : Type 0 where
   pub wanted : wants ≡ wants_of state.links
   pub settled : AreSettled state.links
   pub verdicts : VerdictsIn config turn.what piece beside (passed (next_moment state.now turn.secs) state)
@@ -100,7 +107,8 @@ MayCome config (Close number) verdicts state = (verdicts ≡ []) × OnLink numbe
 
 abbrev pub IsLegalFrom : CoreConfig → List Step → RunState → Type 0
 IsLegalFrom config [] state = Unit {0}
-IsLegalFrom config (step ∷ steps) state = MayCome config step.entry step.verdicts state × IsLegalFrom config steps (after_step config step state)
+IsLegalFrom config (step ∷ steps) state =
+    MayCome config step.entry step.verdicts state × IsLegalFrom config steps (after_step config step state)
 
 -- each call is one that may come then
 abbrev pub IsLegal : CoreConfig → List Step → Type 0

@@ -1,5 +1,6 @@
 -- The state of a link and its changes: the bytes that were read from it, its replies, and what was taken of them.
-use Rattle.std.specs.Prelude.{ℕ, ◌==◌, nat_lt, Bool, true, false, ◌&&◌, ◌||◌, if◌then◌else◌, List, [], ◌∷◌, ◌++◌, length, map, take, drop, filter, Option, Some, None}
+use Rattle.std.specs.Prelude.{ℕ, ◌==◌, nat_lt, Bool, true, false, ◌&&◌, ◌||◌, if◌then◌else◌, List, [], ◌∷◌, ◌++◌}
+use Rattle.std.specs.Prelude.{length, map, take, drop, filter, Option, Some, None}
 use Rattle.std.specs.List.{list_all}
 use Rattle.framing.specs.declared.TheConstants.{BODY_LIMIT}
 use Rattle.ports.specs.declared.links.SendAnswer.{SendAnswer}

@@ -1,5 +1,6 @@
 -- The reply to each message. A reply is a message too, in a frame of its own.
-use Rattle.std.specs.Prelude.{ℕ, true, false, nat_le, if◌then◌else◌, List, [], ◌++◌, filter, length, codes, Option, Some, None, Result, Ok, Err}
+use Rattle.std.specs.Prelude.{ℕ, true, false, nat_le, if◌then◌else◌, List, [], ◌++◌, filter, length, codes, Option}
+use Rattle.std.specs.Prelude.{Some, None, Result, Ok, Err}
 use Rattle.std.specs.Fmt.{decimal}
 use Rattle.ev_types.specs.declared.event.Event.{Event}
 use Rattle.framing.specs.declared.TheConstants.{BODY_LIMIT}
@@ -14,7 +15,8 @@ use Rattle.pred_eval.specs.Tree.{Tree}
 use Rattle.pred_eval.specs.Truth.{holds}
 use Rattle.query_lang.specs.declared.read.TheConstants.{MAX_BYTES}
 use Rattle.query_lang.specs.declared.fault.QueryFault.{QueryFault}
-use Rattle.query_lang.specs.declared.fault.QueryFault.TheVariants.{TooLong, Refused as QueryRefused, TooDeep, Memory as NoMemory}
+use Rattle.query_lang.specs.declared.fault.QueryFault.TheVariants.{TooLong, Refused as QueryRefused, TooDeep}
+use Rattle.query_lang.specs.declared.fault.QueryFault.TheVariants.{Memory as NoMemory}
 use Rattle.query_lang.specs.Answer.{query_of}
 use Rattle.hub_meaning.specs.Messages.{query_text, reading_of}
 use Rattle.hub_meaning.specs.Verdicts.{Message, Refusal, is_busy}

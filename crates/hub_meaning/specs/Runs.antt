@@ -1,6 +1,7 @@
 -- What a run comes to: the calls of the links, in order, with their answers. Each turn is one reading of the clock and
 -- one occurrence on one link.
-use Rattle.std.specs.Prelude.{ℕ, ◌-◌, if◌then◌else◌, List, [], ◌∷◌, ◌++◌, length, map, drop, replicate, Option, Some, None, nat_lt, ◌&&◌, nat_le, Bool, true, false}
+use Rattle.std.specs.Prelude.{ℕ, ◌-◌, if◌then◌else◌, List, [], ◌∷◌, ◌++◌, length, map, drop, replicate, Option, Some}
+use Rattle.std.specs.Prelude.{None, nat_lt, ◌&&◌, nat_le, Bool, true, false}
 use Rattle.ev_types.specs.declared.item.Notice.{Notice}
 use Rattle.framing.specs.declared.TheConstants.{BODY_LIMIT}
 use Rattle.framing.specs.Frames.{frames_of, partial, length_at}
@@ -9,10 +10,12 @@ use Rattle.ports.specs.declared.entry.Entry.TheVariants.{Listen, Next, Send, Clo
 use Rattle.ports.specs.declared.links.Turn.{Turn}
 use Rattle.ports.specs.Playing.{is_turn_answer}
 use Rattle.ports.specs.declared.links.What.{What}
-use Rattle.ports.specs.declared.links.What.TheVariants.{Idle, Opened, Read, Ended, Broken, Room, Stopped, Failed, Memory}
+use Rattle.ports.specs.declared.links.What.TheVariants.{Idle, Opened, Read, Ended, Broken, Room, Stopped, Failed}
+use Rattle.ports.specs.declared.links.What.TheVariants.{Memory}
 use Rattle.stream_meaning.specs.Arrivals.{Arrival, Elapsed, CoreConfig, state_by, notices_by}
 use Rattle.ev_types.specs.Clock.{next_moment}
-use Rattle.hub_meaning.specs.Links.{Link, ReadClosed, changed, closed, broken, ended, find_link, is_open, opened, sent, unblocked, unsent, with_stage}
+use Rattle.hub_meaning.specs.Links.{Link, ReadClosed, changed, closed, broken, ended, find_link, is_open, opened, sent}
+use Rattle.hub_meaning.specs.Links.{unblocked, unsent, with_stage}
 use Rattle.hub_meaning.specs.Messages.{posts_of}
 use Rattle.hub_meaning.specs.Replies.{reply_to, reply_to_oversized}
 use Rattle.hub_meaning.specs.Verdicts.{Message, Refusal, judged}
@@ -73,7 +76,8 @@ is_oversized bytes = nat_le 4 (length bytes) && nat_lt BODY_LIMIT (length_at byt
 -- after a length over the limit, which is answered too, no more is read
 abbrev pub cut_off : Link → Link
 cut_off link =
-    if is_oversized (partial link.came) then with_stage ReadClosed (with_reply (reply_to_oversized (length_at (partial link.came))) link)
+    if is_oversized (partial link.came)
+    then with_stage ReadClosed (with_reply (reply_to_oversized (length_at (partial link.came))) link)
     else link
 
 abbrev pub with_piece : List ℕ → Link → Link
@@ -95,7 +99,8 @@ with_talk state talk = record {
 
 abbrev pub read_from : CoreConfig → List ℕ → List (Option Refusal) → RunState → Link → RunState
 read_from config piece verdicts state link =
-    if is_open link then with_talk state (all_answered config state.now (messages_in piece verdicts link) (talk_of piece state link))
+    if is_open link
+    then with_talk state (all_answered config state.now (messages_in piece verdicts link) (talk_of piece state link))
     else state
 
 -- the piece is read where its link is open
@@ -115,7 +120,8 @@ with_links links state = record state { links = links }
 abbrev pub occurred : CoreConfig → What → List ℕ → List (Option Refusal) → RunState → RunState
 occurred config Idle piece verdicts state = state
 occurred config (Opened number) piece verdicts state = with_links (opened number state.links) state
-occurred config (Read number count) piece verdicts state = read_by config piece verdicts state (find_link number state.links)
+occurred config (Read number count) piece verdicts state =
+    read_by config piece verdicts state (find_link number state.links)
 occurred config (Ended number) piece verdicts state = with_links (changed number ended state.links) state
 occurred config (Broken number) piece verdicts state = with_links (changed number broken state.links) state
 occurred config (Room number) piece verdicts state = with_links (changed number unblocked state.links) state
@@ -126,12 +132,14 @@ occurred config Memory piece verdicts state = state
 -- a turn: its reading of the clock, and then its occurrence
 abbrev pub turned : CoreConfig → Turn → List ℕ → List (Option Refusal) → RunState → RunState
 turned config turn piece verdicts state =
-    if is_turn_answer turn.what then occurred config turn.what piece verdicts (passed (next_moment state.now turn.secs) state) else state
+    if is_turn_answer turn.what
+    then occurred config turn.what piece verdicts (passed (next_moment state.now turn.secs) state) else state
 
 abbrev pub after_entry : CoreConfig → Entry → List (Option Refusal) → RunState → RunState
 after_entry config (Listen address answer) verdicts state = state
 after_entry config (Next wants turn piece) verdicts state = turned config turn piece verdicts state
-after_entry config (Send number bytes answer) verdicts state = with_links (changed number (sent bytes answer) state.links) state
+after_entry config (Send number bytes answer) verdicts state =
+    with_links (changed number (sent bytes answer) state.links) state
 after_entry config (Close number) verdicts state = with_links (changed number closed state.links) state
 
 abbrev pub after_step : CoreConfig → Step → RunState → RunState

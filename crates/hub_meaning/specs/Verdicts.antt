@@ -1,6 +1,7 @@
 -- What is reported of the patterns of queries. Which patterns can be built is not known here, so a run has a list of
 -- verdicts beside it, in the order of the messages. A message without a verdict had no pattern refused.
-use Rattle.std.specs.Prelude.{◌≡◌, ℕ, ◌≤◌, Bool, false, IsTrue, IfSome, is_some, nat_le, if◌then◌else◌, List, [], ◌∷◌, ◌++◌, Option, Some, None, slice_get, option_map, option_to_list}
+use Rattle.std.specs.Prelude.{◌≡◌, ℕ, ◌≤◌, Bool, false, IsTrue, IfSome, is_some, nat_le, if◌then◌else◌, List, [], ◌∷◌}
+use Rattle.std.specs.Prelude.{◌++◌, Option, Some, None, slice_get, option_map, option_to_list}
 use Rattle.std.specs.List.{flat_map, list_any}
 use Rattle.framing.specs.declared.TheConstants.{BODY_LIMIT}
 use Rattle.list_laws.specs.Counts.{Rose}
@@ -35,7 +36,8 @@ built_rule now unsent body = if is_busy unsent then None else rule_of now body
 
 -- the rule that is asked has such a pattern
 abbrev pub IsOfRule : Option Tree → Refusal → Type 0
-IsOfRule asked refusal = (rule : Tree) × (asked ≡ Some rule) × (slice_get (searches rule) refusal.number ≡ Some refusal.text)
+IsOfRule asked refusal =
+    (rule : Tree) × (asked ≡ Some rule) × (slice_get (searches rule) refusal.number ≡ Some refusal.text)
 
 -- a refusal is of a pattern of the rule that is asked
 abbrev pub IsPossible : ℕ → ℕ → Message → Type 0

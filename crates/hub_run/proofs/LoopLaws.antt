@@ -1,5 +1,6 @@
 -- How a run goes on, turn after turn, and how it ends.
-use Rattle.std.proofs.Common.{◌≡◌, ◌≢◌, ℕ, Bool, true, false, ◌+◌, ◌<◌, inl, inr, List, [], ◌∷◌, ◌++◌, length, Ok, Err, refl, ap, sym, ◌∙◌, subst, arith, append-nil, length-append, ◌↔◌}
+use Rattle.std.proofs.Common.{◌≡◌, ◌≢◌, ℕ, Bool, true, false, ◌+◌, ◌<◌, inl, inr, List, [], ◌∷◌, ◌++◌, length, Ok, Err}
+use Rattle.std.proofs.Common.{refl, ap, sym, ◌∙◌, subst, arith, append-nil, length-append, ◌↔◌}
 use Rattle.std.specs.Prelude.{nat_lt, IsTrue}
 use Rattle.std.proofs.lemmas.Bool.{false≢true}
 use Rattle.std.specs.List.{AllByRecursion}
@@ -14,14 +15,16 @@ use Rattle.ports.specs.Calls.{LinksReport}
 use Rattle.ports.specs.declared.entry.Entry.{Entry}
 use Rattle.ports.specs.declared.links.Turn.{Turn}
 use Rattle.ports.specs.declared.links.What.TheVariants.{Stopped}
-use Rattle.hub_run.specs.Quiet.{AllQuietly, CutQuietly, DoesQuietly, GoneQuietly, LostQuietly, PutsLater, StopsQuietly, TakesAllQuietly, TakesQuietly, TurnsQuietly, mute}
+use Rattle.hub_run.specs.Quiet.{AllQuietly, CutQuietly, DoesQuietly, GoneQuietly, LostQuietly, PutsLater, StopsQuietly}
+use Rattle.hub_run.specs.Quiet.{TakesAllQuietly, TakesQuietly, TurnsQuietly, mute}
 use Rattle.hub_run.specs.Runs.{AddsRun, NotBegun, RunReport, TakesTurns}
 use Rattle.hub_run.specs.Taken.{GoesOn, MayGoOn, TakenTurn, entries_of, entries_of_turn, steps_of}
 use Rattle.hub_run.specs.Taking.{HasNoTurn}
 use Rattle.hub_run.specs.declared.fault.RunFault.{RunFault}
 use Rattle.hub_run.specs.declared.fault.RunFault.TheVariants.{Links, Sink, Memory}
 use Rattle.hub_run.proofs.AddsLaws.{adds_nothing, adds_then, adds_weaken}
-use Rattle.hub_run.proofs.TakenLaws.{all_more, entries_more, follows_more, steps_more, stops_more, taken_turn, takes_more, takes_nothing}
+use Rattle.hub_run.proofs.TakenLaws.{all_more, entries_more, follows_more, steps_more, stops_more, taken_turn}
+use Rattle.hub_run.proofs.TakenLaws.{takes_more, takes_nothing}
 use Rattle.hub_run.proofs.QuietLaws.{puts_nothing, puts_step, puts_cut}
 
 -- ---- turns, none of them the last

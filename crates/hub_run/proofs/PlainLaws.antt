@@ -7,8 +7,10 @@ use Rattle.ev_types.specs.declared.item.Notice.{Notice}
 use Rattle.notice_sink.specs.Lines.{lines_of}
 use Rattle.ports.specs.Writing.{Got}
 use Rattle.ports.specs.declared.entry.Entry.{Entry}
-use Rattle.hub_run.specs.Quiet.{FinishesQuietly, LosesQuietly, OutQuietly, PutsLater, PutsPart, RunsQuietly, ShortQuietly, mute}
-use Rattle.hub_run.specs.Runs.{Finishes, LosesLinks, RunReport, RunsOut, RunsTo, StopsIn, StopsShort, TakesTurns, config_at}
+use Rattle.hub_run.specs.Quiet.{FinishesQuietly, LosesQuietly, OutQuietly, PutsLater, PutsPart, RunsQuietly}
+use Rattle.hub_run.specs.Quiet.{ShortQuietly, mute}
+use Rattle.hub_run.specs.Runs.{Finishes, LosesLinks, RunReport, RunsOut, RunsTo, StopsIn, StopsShort, TakesTurns}
+use Rattle.hub_run.specs.Runs.{config_at}
 use Rattle.hub_run.specs.Taken.{TakenTurn}
 use Rattle.hub_run.specs.declared.fault.RunFault.{RunFault}
 use Rattle.hub_run.specs.declared.fault.RunFault.TheVariants.{Links, Sink, Memory}

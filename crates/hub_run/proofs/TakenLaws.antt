@@ -1,5 +1,6 @@
 -- What one more turn adds to those that were taken.
-use Rattle.std.proofs.Common.{◌≡◌, ℕ, zero, suc, ◌+◌, true, List, [], ◌∷◌, ◌++◌, length, take, Ok, Err, refl, ap, sym, ◌∙◌, subst, arith, append-nil, length-append}
+use Rattle.std.proofs.Common.{◌≡◌, ℕ, zero, suc, ◌+◌, true, List, [], ◌∷◌, ◌++◌, length, take, Ok, Err, refl, ap, sym}
+use Rattle.std.proofs.Common.{◌∙◌, subst, arith, append-nil, length-append}
 use Rattle.std.specs.Prelude.{Option, Some, None, option_map}
 use Rattle.std.specs.List.{AllByRecursion}
 use Rattle.std.proofs.lemmas.Grind.{flat_map-append}
@@ -29,7 +30,8 @@ use Rattle.key_laws.proofs.PartLaws.{keys_have_notices, notices_of_one}
 use Rattle.stream_meaning.specs.Arrivals.{Arrival}
 use Rattle.hub_run.specs.Apart.{KeysHaveTheirOwn}
 use Rattle.hub_run.specs.Runs.{RunReport, StopsIn, TakesTurns}
-use Rattle.hub_run.specs.Taken.{IsOneTurn, TakenTurn, entries_of, entries_of_turn, steps_of, steps_of_turn, verdicts_of, verdicts_of_turn}
+use Rattle.hub_run.specs.Taken.{IsOneTurn, TakenTurn, entries_of, entries_of_turn, steps_of, steps_of_turn, verdicts_of}
+use Rattle.hub_run.specs.Taken.{verdicts_of_turn}
 
 -- ---- lists
 

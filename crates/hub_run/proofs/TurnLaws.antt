@@ -7,7 +7,8 @@ use Rattle.ports.specs.declared.entry.Entry.TheVariants.{Next}
 use Rattle.ports.specs.declared.links.Turn.{Turn}
 use Rattle.ports.specs.declared.links.Want.{Want}
 use Rattle.ports.specs.declared.links.What.{What}
-use Rattle.ports.specs.declared.links.What.TheVariants.{Idle, Opened, Read, Ended, Broken, Room, Stopped, Failed, Memory as NoMemory}
+use Rattle.ports.specs.declared.links.What.TheVariants.{Idle, Opened, Read, Ended, Broken, Room, Stopped, Failed}
+use Rattle.ports.specs.declared.links.What.TheVariants.{Memory as NoMemory}
 use Rattle.ports.specs.Calls.{LinksReport}
 use Rattle.ports.proofs.CallLemmas.{calls_then}
 use Rattle.ports.specs.Links.{HasNextCause, entries_of_turn, grown, next_entries, piece_of}

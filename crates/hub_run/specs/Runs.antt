@@ -50,8 +50,8 @@ config_at setup secs = record { plan = setup.plan; expiry = setup.expiry; start 
 
 -- ---- turns
 
--- Whole turns. Each call may come when it comes; at the end of each turn all links are settled; the lines of all notices
--- were written, and the forks counted that were entered.
+-- Whole turns. Each call may come when it comes; at the end of each turn all links are settled; the lines of all
+-- notices were written, and the forks counted that were entered.
 pub record TakesTurns (config : CoreConfig) (old new : RunReport) (turns : List TakenTurn) : Type 0 where
   pub legal : IsLegal config (steps_of turns)
   pub settled : AreSettled (state_after config (steps_of turns)).links
@@ -59,12 +59,14 @@ pub record TakesTurns (config : CoreConfig) (old new : RunReport) (turns : List 
   pub verdicts : AfterVerdicts old.patterns new.patterns (verdicts_of turns)
   pub lines : GotLines old.sink (notices_after config (steps_of turns)) new.sink
   -- of the same notices, those of each host are its own
-  pub apart : KeysHaveTheirOwn config (state_after config (steps_of turns)).arrivals (notices_after config (steps_of turns))
+  pub apart : KeysHaveTheirOwn config (state_after config (steps_of turns)).arrivals
+      (notices_after config (steps_of turns))
   pub forks : new.forks ≡ old.forks + forks_by config (state_after config (steps_of turns)).arrivals
 
--- Whole turns, and then one that was not finished for this fault. The lines of the whole turns were written, and a prefix
--- of those of the last. The sink failed only where the last had one.
-pub record StopsIn (config : CoreConfig) (fault : RunFault) (old new : RunReport) (turns : List TakenTurn) (last : TakenTurn) : Type 0 where
+-- Whole turns, and then one that was not finished for this fault. The lines of the whole turns were written, and a
+-- prefix of those of the last. The sink failed only where the last had one.
+pub record StopsIn (config : CoreConfig) (fault : RunFault) (old new : RunReport) (turns : List TakenTurn)
+    (last : TakenTurn) : Type 0 where
   pub legal : IsLegal config (steps_of (turns ++ last ∷ []))
   pub settled : AreSettled (state_after config (steps_of turns)).links
   pub each : AllByRecursion IsOneTurn (turns ++ last ∷ [])
@@ -72,8 +74,10 @@ pub record StopsIn (config : CoreConfig) (fault : RunFault) (old new : RunReport
   pub made : List Notice
   pub notices : notices_after config (steps_of (turns ++ last ∷ [])) ≡ notices_after config (steps_of turns) ++ made
   pub count : ℕ
-  pub lines : Got old.sink.text (lines_of (notices_after config (steps_of turns)) ++ take count (lines_of made)) new.sink.text
-  pub apart : KeysHaveTheirOwn config (state_after config (steps_of (turns ++ last ∷ []))).arrivals (notices_after config (steps_of turns) ++ made)
+  pub lines : Got old.sink.text (lines_of (notices_after config (steps_of turns)) ++ take count (lines_of made))
+      new.sink.text
+  pub apart : KeysHaveTheirOwn config (state_after config (steps_of (turns ++ last ∷ []))).arrivals
+      (notices_after config (steps_of turns) ++ made)
   pub some : fault ≡ Sink → made ≢ []
 
 -- ---- how a run ends
@@ -108,7 +112,8 @@ pub record LosesLinks (setup : Setup) (limit : ℕ) (old new : RunReport) (run :
   pub failed : turn.what ≡ Failed
 
 -- a turn was not finished for this fault
-pub record StopsShort (setup : Setup) (limit : ℕ) (fault : RunFault) (old new : RunReport) (run : List Entry) : Type 0 where
+pub record StopsShort (setup : Setup) (limit : ℕ) (fault : RunFault) (old new : RunReport)
+    (run : List Entry) : Type 0 where
   pub secs : ℕ
   pub turns : List TakenTurn
   pub last : TakenTurn
@@ -133,4 +138,5 @@ abbrev pub RunsTo : Setup → ℕ → RunReport → RunReport → Result Hub Run
 RunsTo setup limit old new (Ok hub) run = Finishes setup limit old new hub run
 RunsTo setup limit old new (Err Links) run = CannotListen setup old new run ⊎ LosesLinks setup limit old new run
 RunsTo setup limit old new (Err Sink) run = StopsShort setup limit Sink old new run
-RunsTo setup limit old new (Err Memory) run = NotBegun old new run ⊎ (RunsOut setup limit old new run ⊎ StopsShort setup limit Memory old new run)
+RunsTo setup limit old new (Err Memory) run =
+    NotBegun old new run ⊎ (RunsOut setup limit old new run ⊎ StopsShort setup limit Memory old new run)

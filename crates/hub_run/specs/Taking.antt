@@ -48,7 +48,8 @@ AsksFor wants buf (Err Memory) run = run ≡ []
 -- ---- one turn
 
 -- the turn came, and the hub did it, or stopped in the middle of it
-pub record DoesTurn (hub hub' : Hub) (old new : RunReport) (result : Result (Unit {0}) Stop) (turn : Turn) (run : List Entry) : Type 0 where
+pub record DoesTurn (hub hub' : Hub) (old new : RunReport) (result : Result (Unit {0}) Stop) (turn : Turn)
+    (run : List Entry) : Type 0 where
   pub piece : List ℕ
   pub calls : List Entry
   pub are : run ≡ Next (wants_in hub) turn piece ∷ calls
@@ -73,7 +74,8 @@ TakesTurn hub hub' old new (Err Memory) run = NotBegun old new run ⊎ StopsAt h
 
 -- ---- turn after turn, from a hub on which nothing has come
 
-pub record AllTaken (config : CoreConfig) (limit : ℕ) (old new : RunReport) (hub : Hub) (run : List Entry) : Type 0 where
+pub record AllTaken (config : CoreConfig) (limit : ℕ) (old new : RunReport) (hub : Hub)
+    (run : List Entry) : Type 0 where
   pub turns : List TakenTurn
   pub are : run ≡ entries_of turns
   pub takes : TakesTurns config old new turns
@@ -90,7 +92,8 @@ pub record LinksLost (config : CoreConfig) (limit : ℕ) (old new : RunReport) (
   pub wanted : wants ≡ wants_of (state_after config (steps_of turns)).links
   pub failed : turn.what ≡ Failed
 
-pub record CutShort (config : CoreConfig) (limit : ℕ) (fault : RunFault) (old new : RunReport) (run : List Entry) : Type 0 where
+pub record CutShort (config : CoreConfig) (limit : ℕ) (fault : RunFault) (old new : RunReport)
+    (run : List Entry) : Type 0 where
   pub turns : List TakenTurn
   pub last : TakenTurn
   pub are : run ≡ entries_of (turns ++ last ∷ [])

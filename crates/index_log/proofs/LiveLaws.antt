@@ -5,7 +5,8 @@ use Rattle.std.specs.List.{AllByRecursion, filter, list_any}
 use Rattle.ev_types.specs.Expiry.{is_expired, is_late}
 use Rattle.index_log.specs.IndexKey.{index_key_cmp}
 use Rattle.ev_types.specs.declared.event.Event.{Event}
-use Rattle.index_log.specs.Live.{Logged, Write, Reap, ends, ends_key, is_live, kept, placed, placed_onto, live_events, written, reaped}
+use Rattle.index_log.specs.Live.{Logged, Write, Reap, ends, ends_key, is_live, kept, placed, placed_onto, live_events}
+use Rattle.index_log.specs.Live.{written, reaped}
 use Rattle.index_log.proofs.IndexKeys.{filter-placed_onto}
 
 placed_onto-append : (sorted es bs : List Event)

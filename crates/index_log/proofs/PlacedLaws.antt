@@ -4,7 +4,8 @@ use Rattle.std.specs.Ordering.{is_lt}
 use Rattle.std.specs.List.{AllByRecursion}
 use Rattle.std.specs.List.Sorted.{IsPermutation}
 use Rattle.std.proofs.lemmas.List.{append-nil}
-use Rattle.std.proofs.lemmas.List.Sorted.{IsPermutation-refl, IsPermutation-sym, IsPermutation-cons, IsPermutation-middle, IsPermutation-append_right, IsPermutation-trans}
+use Rattle.std.proofs.lemmas.List.Sorted.{IsPermutation-refl, IsPermutation-sym, IsPermutation-cons}
+use Rattle.std.proofs.lemmas.List.Sorted.{IsPermutation-middle, IsPermutation-append_right, IsPermutation-trans}
 use Rattle.ev_types.specs.declared.event.Event.{Event}
 use Rattle.index_log.specs.IndexKey.{index_key_cmp, same_index_key}
 use Rattle.index_log.specs.Live.{IndexLog, kept, placed, placed_onto, live_events}

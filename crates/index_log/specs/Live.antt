@@ -35,7 +35,8 @@ kept (Reap t ∷ later) = kept later
 -- an event put in before the first event that comes after it in key order
 abbrev pub placed : Event → List Event → List Event
 placed event [] = event ∷ []
-placed event (first ∷ events) = if is_lt (index_key_cmp event first) then event ∷ (first ∷ events) else first ∷ placed event events
+placed event (first ∷ events) =
+    if is_lt (index_key_cmp event first) then event ∷ (first ∷ events) else first ∷ placed event events
 
 -- events put in one after another
 abbrev pub placed_onto : List Event → List Event → List Event
@@ -59,14 +60,16 @@ abbrev pub reaped : ℕ → List Event → List Event
 reaped t = filter (λ event. not (is_late t event))
 
 abbrev pub WritesAreLive : Type 0
-WritesAreLive = (log : IndexLog) (event : Event) → live_events (log ++ Write event ∷ []) ≡ written event (live_events log)
+WritesAreLive =
+    (log : IndexLog) (event : Event) → live_events (log ++ Write event ∷ []) ≡ written event (live_events log)
 
 abbrev pub ReapsAreLive : Type 0
 ReapsAreLive = (log : IndexLog) (t : ℕ) → live_events (log ++ Reap t ∷ []) ≡ reaped t (live_events log)
 
 -- no live event ends its key, so a reap ends exactly what is expired at its moment
 abbrev pub ReapsEndExpired : Type 0
-ReapsEndExpired = (log : IndexLog) (t : ℕ) → live_events (log ++ Reap t ∷ []) ≡ filter (λ event. not (is_expired t event)) (live_events log)
+ReapsEndExpired = (log : IndexLog) (t : ℕ)
+    → live_events (log ++ Reap t ∷ []) ≡ filter (λ event. not (is_expired t event)) (live_events log)
 
 -- the live events are in key order, and each key has one
 abbrev pub LiveEventsRise : Type 0

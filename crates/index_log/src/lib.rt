@@ -23,8 +23,8 @@ pub fn live_events_are_kept()
     ensures { LiveEventsAreKept }
 {}
 
-/// The live events that hold some values in host and service, or in one of them, are the live events of a log without the
-/// writes of other events.
+/// The live events that hold some values in host and service, or in one of them, are the live events of a log without
+/// the writes of other events.
 pub fn keys_have_their_logs()
     ensures { KeysHaveTheirLogs }
 {}

@@ -2,12 +2,15 @@
 use Rattle.list_laws.specs.Prefix.{IsPrefix}
 use Rattle.std.proofs.Common.{◌≡◌, ℕ, List, ◌++◌, Result, Ok, Err, OnErr, ap, ◌∙◌, append_assoc}
 
-pub three_more : (out a b c first second third : List ℕ) → first ≡ out ++ a → second ≡ first ++ b → third ≡ second ++ c → third ≡ out ++ (a ++ (b ++ c))
+pub three_more : (out a b c first second third : List ℕ) → first ≡ out ++ a → second ≡ first ++ b → third ≡ second ++ c
+    → third ≡ out ++ (a ++ (b ++ c))
 three_more out a b c first second third e f g =
-    g ∙ ap (λ (t : List ℕ). t ++ c) (f ∙ ap (λ (t : List ℕ). t ++ b) e) ∙ append_assoc (out ++ a) b c ∙ append_assoc out a (b ++ c)
+    g ∙ ap (λ (t : List ℕ). t ++ c) (f ∙ ap (λ (t : List ℕ). t ++ b) e) ∙ append_assoc (out ++ a) b c
+    ∙ append_assoc out a (b ++ c)
 
 -- a record is its front and its event
-pub front_then : (out a b c e front whole : List ℕ) → front ≡ out ++ (a ++ (b ++ c)) → whole ≡ front ++ e → whole ≡ out ++ (a ++ (b ++ (c ++ e)))
+pub front_then : (out a b c e front whole : List ℕ) → front ≡ out ++ (a ++ (b ++ c)) → whole ≡ front ++ e
+    → whole ≡ out ++ (a ++ (b ++ (c ++ e)))
 front_then out a b c e front whole f w =
     w ∙ ap (λ (t : List ℕ). t ++ e) f ∙ append_assoc out (a ++ (b ++ c)) e
     ∙ ap (λ (t : List ℕ). out ++ t) (append_assoc a (b ++ c) e ∙ ap (λ (t : List ℕ). a ++ t) (append_assoc b c e))

@@ -2,7 +2,8 @@
 use Rattle.std.specs.Prelude.{◌≡◌, ◌⊎◌, ℕ, ◌≤◌, Bool, not, List, ◌++◌, length, Result, Ok, Err}
 use Rattle.journal_format.specs.Limits.{config_limit}
 use Rattle.journal_format.specs.Spelling.{Spells}
-use Rattle.journal_format.specs.Journals.{BeginsWithNoLength, BeginsWithNone, EndsInConfig, HoldsAt, IsFront, Journal, MisfitsAt, head_bytes, is_blank}
+use Rattle.journal_format.specs.Journals.{BeginsWithNoLength, BeginsWithNone, EndsInConfig, HoldsAt, IsFront, Journal}
+use Rattle.journal_format.specs.Journals.{MisfitsAt, head_bytes, is_blank}
 use Rattle.journal_format.specs.declared.finder.Found.{Found}
 use Rattle.journal_format.specs.declared.finder.NoJournal.{NoJournal}
 use Rattle.journal_format.specs.declared.finder.NoJournal.TheVariants as none

@@ -36,7 +36,8 @@ pub record BeginsWith (first : Bool) (entry : TurnRecord) (bytes more : List ℕ
 -- the bytes are these records, each after an open gate
 abbrev pub AreRecords : Bool → List TurnRecord → List ℕ → Type 0
 AreRecords first [] bytes = bytes ≡ []
-AreRecords first (entry ∷ entries) bytes = (more : List ℕ) × BeginsWith first entry bytes more × AreRecords false entries more
+AreRecords first (entry ∷ entries) bytes =
+    (more : List ℕ) × BeginsWith first entry bytes more × AreRecords false entries more
 
 -- what follows the first gate: four bytes with the length of the configuration, and the configuration
 abbrev pub head_bytes : List ℕ → List ℕ
@@ -65,7 +66,8 @@ Holds journal file = (place : ℕ) × HoldsAt journal place file
 
 -- no record that may come there is at the start of the bytes
 abbrev pub BeginsWithNone : Bool → List ℕ → Type 0
-BeginsWithNone first bytes = (entry : TurnRecord) (text more : List ℕ) → Spells first entry text → bytes ≡ text ++ more → ⊥
+BeginsWithNone first bytes =
+    (entry : TurnRecord) (text more : List ℕ) → Spells first entry text → bytes ≡ text ++ more → ⊥
 
 -- the bytes do not begin with the length of a configuration
 abbrev pub BeginsWithNoLength : List ℕ → Type 0
@@ -94,8 +96,10 @@ pub record EndsInRecord (bytes : List ℕ) (place : ℕ) : Type 0 where
 -- The bytes are no journal. At this place begins the first gate, length, configuration or record that does not fit.
 pub data MisfitsAt (bytes : List ℕ) (place : ℕ) : Type 0 where
   no_open_gate : place ≡ 0 → ((gate : ℕ) (more : List ℕ) → 0 < gate → bytes ≡ gate ∷ more → ⊥) → MisfitsAt bytes place
-  no_length : (gate : ℕ) (rest : List ℕ) → place ≡ 1 → 0 < gate → bytes ≡ gate ∷ rest → BeginsWithNoLength rest → MisfitsAt bytes place
-  no_config : (gate : ℕ) (rest : List ℕ) → place ≡ 5 → 0 < gate → bytes ≡ gate ∷ rest → EndsInConfig rest → MisfitsAt bytes place
+  no_length : (gate : ℕ) (rest : List ℕ) → place ≡ 1 → 0 < gate → bytes ≡ gate ∷ rest → BeginsWithNoLength rest
+      → MisfitsAt bytes place
+  no_config : (gate : ℕ) (rest : List ℕ) → place ≡ 5 → 0 < gate → bytes ≡ gate ∷ rest → EndsInConfig rest
+      → MisfitsAt bytes place
   no_gate : (journal : Journal) → place ≡ length bytes → IsFront journal bytes → MisfitsAt bytes place
   no_record : EndsInRecord bytes place → MisfitsAt bytes place
 

@@ -1,5 +1,6 @@
 -- Reading a record from left to right.
-use Rattle.std.specs.Prelude.{◌≡◌, ℕ, zero, suc, ◌==◌, nat_lt, nat_le, if◌then◌else◌, List, [], ◌∷◌, length, take, drop, Option, Some, None, Result, Ok, Err, option_and_then}
+use Rattle.std.specs.Prelude.{◌≡◌, ℕ, zero, suc, ◌==◌, nat_lt, nat_le, if◌then◌else◌, List, [], ◌∷◌, length, take, drop}
+use Rattle.std.specs.Prelude.{Option, Some, None, Result, Ok, Err, option_and_then}
 use Rattle.std.specs.Int.{Width, w16, w32, w64, byte_len, from_be_bytes}
 use Rattle.journal_format.specs.Limits.{piece_limit, summary_limit}
 use Rattle.journal_format.specs.Spelling.{are_distinct}
@@ -7,7 +8,8 @@ use Rattle.journal_format.specs.declared.turn_record.SendEnd.{SendEnd}
 use Rattle.journal_format.specs.declared.turn_record.SendEnd.TheVariants as send
 use Rattle.journal_format.specs.declared.turn_record.Summary.{Summary}
 use Rattle.journal_format.specs.declared.turn_record.TurnEvent.{TurnEvent}
-use Rattle.journal_format.specs.declared.turn_record.TurnEvent.TheVariants.{Listen, Idle, Opened, Read, Ended, Broken, Room}
+use Rattle.journal_format.specs.declared.turn_record.TurnEvent.TheVariants.{Listen, Idle, Opened, Read, Ended, Broken}
+use Rattle.journal_format.specs.declared.turn_record.TurnEvent.TheVariants.{Room}
 use Rattle.journal_format.specs.declared.turn_record.TurnRecord.{TurnRecord}
 use Rattle.journal_format.specs.declared.unread.Unread.{Unread}
 use Rattle.journal_format.specs.declared.unread.Unread.TheVariants.{Memory, Refused}

@@ -1,5 +1,6 @@
 -- What a record says, and the one way in which it is spelled. Numbers are big-endian.
-use Rattle.std.specs.Prelude.{◌≡◌, ℕ, ◌^◌, ◌<◌, ◌≤◌, ◌==◌, Bool, true, false, if◌then◌else◌, List, [], ◌∷◌, ◌++◌, length}
+use Rattle.std.specs.Prelude.{◌≡◌, ℕ, ◌^◌, ◌<◌, ◌≤◌, ◌==◌, Bool, true, false, if◌then◌else◌, List, [], ◌∷◌, ◌++◌}
+use Rattle.std.specs.Prelude.{length}
 use Rattle.std.specs.List.{AllByRecursion, flat_map, list_any}
 use Rattle.std.specs.Int.{w16, w32, w64, to_be_bytes}
 use Rattle.journal_format.specs.Limits.{piece_limit, summary_limit}
@@ -7,7 +8,8 @@ use Rattle.journal_format.specs.declared.turn_record.SendEnd.{SendEnd}
 use Rattle.journal_format.specs.declared.turn_record.SendEnd.TheVariants.{Took, Later, Failed}
 use Rattle.journal_format.specs.declared.turn_record.Summary.{Summary}
 use Rattle.journal_format.specs.declared.turn_record.TurnEvent.{TurnEvent}
-use Rattle.journal_format.specs.declared.turn_record.TurnEvent.TheVariants.{Listen, Idle, Opened, Read, Ended, Broken, Room}
+use Rattle.journal_format.specs.declared.turn_record.TurnEvent.TheVariants.{Listen, Idle, Opened, Read, Ended, Broken}
+use Rattle.journal_format.specs.declared.turn_record.TurnEvent.TheVariants.{Room}
 use Rattle.journal_format.specs.declared.turn_record.TurnRecord.{TurnRecord}
 
 abbrev pub end_byte : SendEnd → ℕ
@@ -30,11 +32,13 @@ event_bytes (Room link) = 6 ∷ to_be_bytes w64 link
 
 -- what is before the event in a record
 abbrev pub front_bytes : List Summary → ℕ → List ℕ
-front_bytes summaries secs = to_be_bytes w16 (length summaries) ++ (flat_map summary_bytes summaries ++ to_be_bytes w64 secs)
+front_bytes summaries secs =
+    to_be_bytes w16 (length summaries) ++ (flat_map summary_bytes summaries ++ to_be_bytes w64 secs)
 
 abbrev pub record_bytes : TurnRecord → List ℕ
 record_bytes entry =
-    to_be_bytes w16 (length entry.summaries) ++ (flat_map summary_bytes entry.summaries ++ (to_be_bytes w64 entry.secs ++ event_bytes entry.event))
+    to_be_bytes w16 (length entry.summaries)
+    ++ (flat_map summary_bytes entry.summaries ++ (to_be_bytes w64 entry.secs ++ event_bytes entry.event))
 
 -- whether one of the summaries is of this link
 abbrev pub has_link : ℕ → List Summary → Bool

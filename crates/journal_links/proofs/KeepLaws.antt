@@ -1,5 +1,6 @@
 -- What a crash leaves of the turns that were handed out, for the other calls and at the start.
-use Rattle.std.proofs.Common.{◌≡◌, inl, inr, ℕ, ◌<◌, Bool, true, false, not, List, [], ◌∷◌, ◌++◌, ◌&&◌, drop, length, refl, ap, sym, ◌∙◌, subst, append_assoc, arith}
+use Rattle.std.proofs.Common.{◌≡◌, inl, inr, ℕ, ◌<◌, Bool, true, false, not, List, [], ◌∷◌, ◌++◌, ◌&&◌, drop, length}
+use Rattle.std.proofs.Common.{refl, ap, sym, ◌∙◌, subst, append_assoc, arith}
 use Rattle.std.specs.List.{list_all}
 use Rattle.std.proofs.lemmas.List.{map-append}
 use Rattle.disk_port.specs.Past.{synced}
@@ -8,8 +9,11 @@ use Rattle.journal_format.specs.Spelling.{is_listen}
 use Rattle.journal_format.specs.declared.turn_record.TurnEvent.{TurnEvent}
 use Rattle.journal_format.specs.declared.turn_record.TurnEvent.TheVariants as event
 use Rattle.journal_format.specs.declared.turn_record.TurnRecord.{TurnRecord}
-use Rattle.journal_links.specs.Steps.{Progress, close_again, close_passed, listen_again, listen_first, listen_unasked, send_again, send_memory, send_passed}
-use Rattle.journal_links.specs.Turns.{AreTurns, BegunKeepsTurns, BeginsWithListen, CloseKeepsTurns, KeepsTurns, ListenKeepsTurns, PlainTurn, ResumedKeepsTurns, SendKeepsTurns, StaysJournal, handed, is_turn, plain, turns_in}
+use Rattle.journal_links.specs.Steps.{Progress, close_again, close_passed, listen_again, listen_first, listen_unasked}
+use Rattle.journal_links.specs.Steps.{send_again, send_memory, send_passed}
+use Rattle.journal_links.specs.Turns.{AreTurns, BegunKeepsTurns, BeginsWithListen, CloseKeepsTurns, KeepsTurns}
+use Rattle.journal_links.specs.Turns.{ListenKeepsTurns, PlainTurn, ResumedKeepsTurns, SendKeepsTurns, StaysJournal}
+use Rattle.journal_links.specs.Turns.{handed, is_turn, plain, turns_in}
 use Rattle.journal_links.proofs.TurnLaws.{added, none_left, plain_is, quiet, still, turns_of}
 use Rattle.ports.specs.Links.{listen_entries, send_entries}
 use Rattle.ports.specs.declared.entry.Entry.{Entry}

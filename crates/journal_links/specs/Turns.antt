@@ -1,5 +1,6 @@
 -- The turns that a run handed out, and those that its journal has.
-use Rattle.std.specs.Prelude.{◌≡◌, ℕ, ◌≤◌, Bool, true, false, not, if◌then◌else◌, List, [], ◌∷◌, ◌++◌, drop, length, map, Some}
+use Rattle.std.specs.Prelude.{◌≡◌, ℕ, ◌≤◌, Bool, true, false, not, if◌then◌else◌, List, [], ◌∷◌, ◌++◌, drop, length}
+use Rattle.std.specs.Prelude.{map, Some}
 use Rattle.std.specs.List.{list_all}
 use Rattle.disk_port.specs.Past.{LeavesOnly, Past, synced}
 use Rattle.journal_format.specs.Journals.{Holds, Journal}

@@ -2,8 +2,8 @@
 
 ghost use Rattle.journal_links.specs.Turns.{BegunKeepsTurns, CloseKeepsTurns, ListenKeepsTurns, NextKeepsTurns, ResumedKeepsTurns, SendKeepsTurns};
 
-/// A crash at any moment of a call leaves a journal that begins with the turns that were handed out before it. Once a call
-/// has handed out a turn, every crash leaves one that has it too.
+/// A crash at any moment of a call leaves a journal that begins with the turns that were handed out before it. Once a
+/// call has handed out a turn, every crash leaves one that has it too.
 pub fn turns_are_kept()
     ensures listen { ListenKeepsTurns }
     ensures next { NextKeepsTurns }

@@ -23,9 +23,9 @@ use replayed_links::OpenLinks;
 use std::alloc::Global;
 use turn_replay::Replay;
 
-/// The links of a server that keeps a journal. First they give the turns that the journal had, and then those of the links
-/// that are lent, each of which is recorded before it is handed out. Contracts see what calls were made of links and disk,
-/// and how far the journal was given again.
+/// The links of a server that keeps a journal. First they give the turns that the journal had, and then those of the
+/// links that are lent, each of which is recorded before it is handed out. Contracts see what calls were made of links
+/// and disk, and how far the journal was given again.
 #[derive(Drop)]
 pub struct JournalLinks<'a, L: Links, D: Disk> {
     /// The links that are lent, and the journal in which their turns are recorded.

@@ -39,11 +39,13 @@ pub record IsRecordedIn (journal : Journal) (start : Past) (calls : List Entry) 
 
 -- so it is of the journal that ends there in the disk's file, where the disk reports it
 abbrev pub RecordsIn : Found → DiskReport → DiskReport → List Entry → Type 0
-RecordsIn found disk disk' calls = (journal : Journal) (start : Past) → disk.past ≡ Some start → Stands start found.gate found.has_record journal
+RecordsIn found disk disk' calls =
+    (journal : Journal) (start : Past) → disk.past ≡ Some start → Stands start found.gate found.has_record journal
     → ∥ ((now : Past) × (disk'.past ≡ Some now) × IsRecordedIn journal start calls now) ∥₁
 
 -- A server was run over links that record.
-pub record RunsRecorded (setup : Setup) (limit : ℕ) (found : Found) (links links' : LinksReport) (disk disk' : DiskReport) (old new : RunReport) (result : Result Hub JournalRunFault) : Type 0 where
+pub record RunsRecorded (setup : Setup) (limit : ℕ) (found : Found) (links links' : LinksReport)
+    (disk disk' : DiskReport) (old new : RunReport) (result : Result Hub JournalRunFault) : Type 0 where
   -- the calls of the links that record, with each turn that was handed out
   pub calls : List Entry
   pub runs : RunsTo setup limit old new (run_result result) calls

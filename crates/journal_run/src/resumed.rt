@@ -36,9 +36,9 @@ use step_count::{Ledger, Steps};
 use turn_journal::JournalFile;
 use turn_replay::{Replay, TurnRecords};
 
-/// Runs a server over the turns of the journal in the disk's file, which has these records and ends there, and then over
-/// those of the links, which are recorded in it. The lines of the journal's turns before its last are not put. It gives the
-/// hub as it is after the last turn.
+/// Runs a server over the turns of the journal in the disk's file, which has these records and ends there, and then
+/// over those of the links, which are recorded in it. The lines of the journal's turns before its last are not put. It
+/// gives the hub as it is after the last turn.
 pub fn run_resumed<L: Links, D: Disk, O: Sink, P: Patterns, G: Ledger>(
     alloc: Global,
     setup: Setup,
@@ -137,7 +137,8 @@ fn run_in<L: Links, D: Disk, O: Sink, P: Patterns, G: Ledger>(
     ran
 }
 
-/// How many turns of a journal put no lines: all but the last. The first record is that of a `listen`, which is no turn.
+/// How many turns of a journal put no lines: all but the last. The first record is that of a `listen`, which is no
+/// turn.
 fn quiet_turns(records: usize) -> u64
     ensures { result ≡ records - 2 }
 {

@@ -1,12 +1,14 @@
 -- The run on the arrivals of one key is the part of the whole run that is of the key.
-use Rattle.std.proofs.Common.{◌≡◌, ℕ, ◌-◌, ◌%◌, ◌==◌, Bool, true, false, ◌&&◌, cond, List, [], ◌∷◌, ◌++◌, map, Option, Some, None, refl, sym, ap, ◌∙◌}
+use Rattle.std.proofs.Common.{◌≡◌, ℕ, ◌-◌, ◌%◌, ◌==◌, Bool, true, false, ◌&&◌, cond, List, [], ◌∷◌, ◌++◌, map, Option}
+use Rattle.std.proofs.Common.{Some, None, refl, sym, ap, ◌∙◌}
 use mathlib.Core.Bool.{true≢false}
 use Rattle.std.specs.List.{AllByRecursion, filter, list_all}
 use Rattle.std.proofs.lemmas.List.{append-nil}
 use Rattle.std.proofs.lemmas.List.Elements.{filter-append}
 use Rattle.ev_types.specs.declared.event.Event.{Event}
 use Rattle.ev_types.specs.declared.field.Field.{Field}
-use Rattle.ev_types.specs.declared.field.Field.TheVariants.{Host, Service, State, Description, Time, Ttl, Metric, Attribute}
+use Rattle.ev_types.specs.declared.field.Field.TheVariants.{Host, Service, State, Description, Time, Ttl, Metric}
+use Rattle.ev_types.specs.declared.field.Field.TheVariants.{Attribute}
 use Rattle.ev_types.specs.declared.item.Item.TheVariants.{One, Many}
 use Rattle.ev_types.specs.declared.item.Output.{Output}
 use Rattle.ev_types.specs.declared.item.Output.TheVariants.{Notice as notice, Write as write}
@@ -24,7 +26,9 @@ use Rattle.stream_plan.specs.Tree.{StreamTrees}
 use Rattle.stream_meaning.specs.declared.entry.Entry.TheVariants.{Tick, Item as In}
 use Rattle.stream_meaning.specs.History.{History, since, ◌▸◌, begun, moment_of}
 use Rattle.stream_meaning.specs.Outputs.{outputs_at, outputs_of}
-use Rattle.stream_meaning.specs.Arrivals.{Arrival, Elapsed, Post, CoreState, writes_among, notices_among, entered, streamed, expired_copies, with_reap, fed_back, swept, state_from, state_after, notices_of}
+use Rattle.stream_meaning.specs.Arrivals.{Arrival, Elapsed, Post, CoreState, writes_among, notices_among, entered}
+use Rattle.stream_meaning.specs.Arrivals.{streamed, expired_copies, with_reap, fed_back, swept, state_from, state_after}
+use Rattle.stream_meaning.specs.Arrivals.{notices_of}
 use Rattle.stream_meaning.specs.Keys.{notice_has, output_has}
 use Rattle.stream_meaning.specs.KeyLaws.{outputs_for, HasOneKey}
 use Rattle.stream_meaning.specs.Laws.{of_key}
@@ -33,7 +37,8 @@ use Rattle.key_laws.specs.Apart.{keeps_field, expiry_keeps, plan_apart, keys_apa
 use Rattle.key_laws.proofs.KeyMoments.{key_moments}
 use Rattle.key_laws.proofs.PlainLaws.{plan_gives_one, plan_splits}
 use Rattle.key_laws.proofs.SplitLaws.{Splits, GivesOne}
-use Rattle.key_laws.specs.Laws.{arrivals_of, KeysHaveTheirNotices, IsOfOneKey, NoticesAreOfOneKey, KeysHaveTheirLiveEvents}
+use Rattle.key_laws.specs.Laws.{arrivals_of, KeysHaveTheirNotices, IsOfOneKey, NoticesAreOfOneKey}
+use Rattle.key_laws.specs.Laws.{KeysHaveTheirLiveEvents}
 
 -- ---- notices and writes of a key
 

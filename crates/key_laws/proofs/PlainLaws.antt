@@ -1,5 +1,6 @@
 -- What streams that keep nothing do for a key, and plans of such streams and of `by`.
-use Rattle.std.proofs.Common.{◌≡◌, ℕ, Bool, true, false, ◌&&◌, ◌||◌, cond, ◌⊎◌, inl, inr, List, [], ◌∷◌, ◌++◌, refl, sym, ap, ◌∙◌, subst}
+use Rattle.std.proofs.Common.{◌≡◌, ℕ, Bool, true, false, ◌&&◌, ◌||◌, cond, ◌⊎◌, inl, inr, List, [], ◌∷◌, ◌++◌, refl}
+use Rattle.std.proofs.Common.{sym, ap, ◌∙◌, subst}
 use mathlib.Core.Bool.{true≢false}
 use Rattle.std.specs.List.{AllByRecursion, filter, flat_map}
 use Rattle.std.proofs.lemmas.List.{append-nil}
@@ -14,12 +15,14 @@ use Rattle.ev_types.specs.Key.{same_key, event_key}
 use Rattle.ev_types.specs.Set.{with_tag}
 use Rattle.index_log.specs.OfKey.{are_index_fields, event_has}
 use Rattle.index_log.proofs.OfKeyLaws.{both_true}
-use Rattle.stream_plan.specs.Tree.{KindTree, Index, Notice, Sdo, Where, With, Default, Tag, By, StreamTree, StreamTrees, stream, none, also}
+use Rattle.stream_plan.specs.Tree.{KindTree, Index, Notice, Sdo, Where, With, Default, Tag, By, StreamTree, StreamTrees}
+use Rattle.stream_plan.specs.Tree.{stream, none, also}
 use Rattle.stream_meaning.specs.declared.entry.Entry.TheVariants.{Tick, Item as In}
 use Rattle.stream_meaning.specs.declared.entry.Entry.{Entry}
 use Rattle.stream_meaning.specs.History.{History, since, ◌▸◌, moment_of}
 use Rattle.stream_meaning.specs.Images.{with_sets, with_defaults, with_tags}
-use Rattle.stream_meaning.specs.Emission.{Branch, Children, Otherwise, Fork, Emission, emissions, to, image_of, passed, routed}
+use Rattle.stream_meaning.specs.Emission.{Branch, Children, Otherwise, Fork, Emission, emissions, to, image_of, passed}
+use Rattle.stream_meaning.specs.Emission.{routed}
 use Rattle.stream_meaning.specs.Branches.{same_branch, after_emissions, child_history, branches}
 use Rattle.stream_meaning.specs.Outputs.{outputs_at}
 use Rattle.stream_meaning.specs.Keys.{output_has, kind_keeps, plan_keeps}

@@ -1,5 +1,5 @@
--- Configurations whose keys are apart: what comes of one key changes nothing for another. A key is what some fields hold,
--- each of them the host or the service.
+-- Configurations whose keys are apart: what comes of one key changes nothing for another. A key is what some fields
+-- hold, each of them the host or the service.
 use Rattle.std.specs.Prelude.{Bool, true, false, ◌&&◌, ◌||◌, List, Option, Some, None}
 use Rattle.std.specs.List.{list_all, list_any}
 use Rattle.ev_types.specs.declared.field.Field.{Field}
@@ -7,7 +7,8 @@ use Rattle.ev_types.specs.declared.settings.Expiry.{Expiry}
 use Rattle.ev_types.specs.declared.settings.KeepKey.{KeepKey}
 use Rattle.ev_types.specs.Rebirth.{names}
 use Rattle.index_log.specs.OfKey.{are_index_fields}
-use Rattle.stream_plan.specs.Tree.{KindTree, Index, Notice, Sdo, Where, With, Default, Tag, By, StreamTree, StreamTrees, stream, none, also}
+use Rattle.stream_plan.specs.Tree.{KindTree, Index, Notice, Sdo, Where, With, Default, Tag, By, StreamTree, StreamTrees}
+use Rattle.stream_plan.specs.Tree.{stream, none, also}
 use Rattle.stream_meaning.specs.Keys.{same_index_field, kind_keeps, plan_keeps}
 
 -- the field is among what expired events keep

@@ -41,11 +41,13 @@ changing = above (Changed State (Some Nil))
 
 pub record TestExamples : Type 0 where
   pub by_host : keys_apart (Host ∷ []) (by_on (Host ∷ []) throttled) (every 10) ≡ true
-  pub by_both : keys_apart (Host ∷ Service ∷ []) (by_on (Host ∷ Service ∷ []) (alone (changing indexed))) (every 10) ≡ true
+  pub by_both : keys_apart (Host ∷ Service ∷ []) (by_on (Host ∷ Service ∷ []) (alone (changing indexed))) (every 10)
+      ≡ true
   pub host_by_both : keys_apart (Host ∷ []) (by_on (Service ∷ Host ∷ []) throttled) (every 10) ≡ true
   pub both_by_host : keys_apart (Host ∷ Service ∷ []) (by_on (Host ∷ []) throttled) (every 10) ≡ false
   pub without_by : keys_apart (Host ∷ []) indexed (every 10) ≡ true
-  pub below_another : keys_apart (Host ∷ []) (also (above Index none) (alone (above Sdo (by_on (Host ∷ []) throttled)))) (every 10) ≡ true
+  pub below_another : keys_apart (Host ∷ []) (also (above Index none) (alone (above Sdo (by_on (Host ∷ []) throttled))))
+      (every 10) ≡ true
   pub sets_another : keys_apart (Host ∷ []) (by_on (Host ∷ []) setting_state) (every 10) ≡ true
   pub by_state : keys_apart (Host ∷ []) (by_on (State ∷ []) throttled) (every 10) ≡ false
   pub of_state : keys_apart (State ∷ []) (by_on (State ∷ []) throttled) (every 10) ≡ false
@@ -57,7 +59,8 @@ pub record TestExamples : Type 0 where
   pub kept_beside : keys_apart (Host ∷ []) (also (above (By (Host ∷ []) None) throttled) throttled) (every 10) ≡ false
 
 -- how many notices have the host, and how many there are over the arrivals of the host alone
-pub record Counts (plan : StreamTrees) (expiry : Option Expiry) (start : ℕ) (arrivals : List Arrival) (host : Value) (among own : ℕ) : Type 0 where
+pub record Counts (plan : StreamTrees) (expiry : Option Expiry) (start : ℕ) (arrivals : List Arrival) (host : Value)
+    (among own : ℕ) : Type 0 where
   pub all : length (filter (notice_has (Host ∷ []) (host ∷ [])) (notices_of plan expiry start arrivals)) ≡ among
   pub alone : length (notices_of plan expiry start (arrivals_of (Host ∷ []) (host ∷ []) arrivals)) ≡ own
 
@@ -71,4 +74,6 @@ ForgottenHostMixes = Counts (by_on (Host ∷ []) indexed) forgetting_host 100 (P
 
 -- an event of host "a" keeps one of host "b" from passing a stream beside the `by`
 abbrev pub SharedStreamMixes : Type 0
-SharedStreamMixes = Counts (also (above (By (Host ∷ []) None) throttled) throttled) (every 10) 100 (Post (a 100) ∷ Post (b 100) ∷ []) (Text (codes "b")) 1 2
+SharedStreamMixes =
+    Counts (also (above (By (Host ∷ []) None) throttled) throttled) (every 10) 100 (Post (a 100) ∷ Post (b 100) ∷ [])
+    (Text (codes "b")) 1 2

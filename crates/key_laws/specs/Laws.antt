@@ -21,9 +21,12 @@ arrivals_of fields key (Post event ∷ more) =
 
 -- the notices of a key are the notices over the arrivals of the key alone
 abbrev pub KeysHaveTheirNotices : Type 0
-KeysHaveTheirNotices = (fields : List Field) (plan : StreamTrees) (expiry : Option Expiry) (start : ℕ) (arrivals : List Arrival) (key : List Value) →
+KeysHaveTheirNotices =
+    (fields : List Field) (plan : StreamTrees) (expiry : Option Expiry) (start : ℕ) (arrivals : List Arrival)
+    (key : List Value) →
     IsTrue (keys_apart fields plan expiry) →
-    filter (notice_has fields key) (notices_of plan expiry start arrivals) ≡ notices_of plan expiry start (arrivals_of fields key arrivals)
+    filter (notice_has fields key) (notices_of plan expiry start arrivals)
+    ≡ notices_of plan expiry start (arrivals_of fields key arrivals)
 
 -- the notice has a key, and no other
 pub record IsOfOneKey (fields : List Field) (given : Notice) : Type 0 where
@@ -32,12 +35,15 @@ pub record IsOfOneKey (fields : List Field) (given : Notice) : Type 0 where
   pub only : (other : List Value) → IsTrue (notice_has fields other given) → other ≡ key
 
 abbrev pub NoticesAreOfOneKey : Type 0
-NoticesAreOfOneKey = (fields : List Field) (plan : StreamTrees) (expiry : Option Expiry) (start : ℕ) (arrivals : List Arrival) →
+NoticesAreOfOneKey =
+    (fields : List Field) (plan : StreamTrees) (expiry : Option Expiry) (start : ℕ) (arrivals : List Arrival) →
     IsTrue (keys_apart fields plan expiry) → AllByRecursion (IsOfOneKey fields) (notices_of plan expiry start arrivals)
 
 -- what the index holds of a key is what it holds after the arrivals of the key alone
 abbrev pub KeysHaveTheirLiveEvents : Type 0
-KeysHaveTheirLiveEvents = (fields : List Field) (plan : StreamTrees) (expiry : Option Expiry) (start : ℕ) (arrivals : List Arrival) (key : List Value) →
+KeysHaveTheirLiveEvents =
+    (fields : List Field) (plan : StreamTrees) (expiry : Option Expiry) (start : ℕ) (arrivals : List Arrival)
+    (key : List Value) →
     IsTrue (keys_apart fields plan expiry) →
     filter (event_has fields key) (live_events (state_after plan expiry start arrivals).log)
     ≡ live_events (state_after plan expiry start (arrivals_of fields key arrivals)).log

@@ -12,9 +12,9 @@ ghost use Rattle.key_laws.specs.Apart.{has_all, keeps_field, keeps_nothing, keys
 use ev_types::{Expiry, Field, KeepKey, Set};
 use stream_plan::{Kind, Plan, Stream};
 
-/// Whether what is noticed of each key of the fields depends on what comes of this key alone. The fields are the host, the
-/// service or both. No stream of the plan sets one of them, each stream that keeps something is below a `by` that has all
-/// of them, and events that expire keep them.
+/// Whether what is noticed of each key of the fields depends on what comes of this key alone. The fields are the host,
+/// the service or both. No stream of the plan sets one of them, each stream that keeps something is below a `by` that
+/// has all of them, and events that expire keep them.
 pub fn keys_are_apart(fields: &[Field], plan: &Plan, expiry: &Option<Expiry>) -> bool
     ensures { result ≡ keys_apart fields.now (plan_tree plan.now) expiry.now }
 {

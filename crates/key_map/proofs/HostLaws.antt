@@ -1,5 +1,6 @@
 -- Every host that is kept has a service, and so a key.
-use Rattle.std.proofs.Common.{◌≡◌, ◌≢◌, ℕ, Bool, true, false, cond, List, [], ◌∷◌, Option, None, Some, IsSome, Result, Ok, Err, OnOk, OnErr, refl, sym, ap, ◌∙◌, subst}
+use Rattle.std.proofs.Common.{◌≡◌, ◌≢◌, ℕ, Bool, true, false, cond, List, [], ◌∷◌, Option, None, Some, IsSome, Result}
+use Rattle.std.proofs.Common.{Ok, Err, OnOk, OnErr, refl, sym, ap, ◌∙◌, subst}
 use mathlib.Core.Bool.{true≢false}
 use Rattle.std.specs.List.{Contains}
 use Rattle.std.specs.List.Sorted.{IsStrictlySortedBy}
@@ -10,7 +11,8 @@ use Rattle.std.proofs.lemmas.Cmp.{eq_by_cmp_equiv, nat_list_cmp_total, tied_itse
 use Rattle.std.proofs.lemmas.Map.Views.{Contains-keys_from_lookup, IsSome-lookup_from_Contains}
 use Rattle.index_log.specs.IndexKey.{text_cmp}
 use Rattle.key_map.specs.Keys.{number_at}
-use Rattle.key_map.specs.Sections.{Services, service_at, SetsService, services_at, service_in, HaveServices, OthersHaveServices, numbers_of}
+use Rattle.key_map.specs.Sections.{Services, service_at, SetsService, services_at, service_in, HaveServices}
+use Rattle.key_map.specs.Sections.{OthersHaveServices, numbers_of}
 use Rattle.key_map.proofs.ServiceLaws.{bytes_cmp, text_total}
 use Rattle.key_map.proofs.SectionLaws.{at-host, host-is, SetsHost}
 

@@ -1,5 +1,6 @@
 -- What a look-up finds among the numbers of all hosts.
-use Rattle.std.proofs.Common.{◌≡◌, ℕ, Bool, true, false, ◌&&◌, cond, List, [], ◌∷◌, ◌++◌, Option, None, Some, refl, sym, ap, ◌∙◌}
+use Rattle.std.proofs.Common.{◌≡◌, ℕ, Bool, true, false, ◌&&◌, cond, List, [], ◌∷◌, ◌++◌, Option, None, Some, refl, sym}
+use Rattle.std.proofs.Common.{ap, ◌∙◌}
 use mathlib.Core.Bool.{true≢false}
 use Rattle.std.specs.declared.cmp.Ordering.{Ordering}
 use Rattle.std.specs.declared.cmp.Ordering.TheVariants.{Less, Equal, Greater}
@@ -12,7 +13,8 @@ use Rattle.std.proofs.lemmas.Cmp.{nat_list_cmp_total}
 use Rattle.index_log.specs.IndexKey.{text_cmp}
 use Rattle.key_map.specs.Keys.{IndexKey, key_cmp, Numbers, number_at, Sets, of_host}
 use Rattle.std.proofs.lemmas.Map.Lookups.{exact_bytes}
-use Rattle.key_map.specs.Sections.{Services, service_at, SetsService, services_at, service_in, host_at, SetsIn, SameIn, with_host, by_key, numbers_of}
+use Rattle.key_map.specs.Sections.{Services, service_at, SetsService, services_at, service_in, host_at, SetsIn, SameIn}
+use Rattle.key_map.specs.Sections.{with_host, by_key, numbers_of}
 use Rattle.key_map.proofs.ServiceLaws.{bytes_cmp, present-cmp}
 
 then-same : (o p : Ordering) → is_eq o ≡ true → is_eq (ordering_then o p) ≡ is_eq p

@@ -29,7 +29,8 @@ IsRising numbers = IsStrictlySortedBy key_cmp (keys_of numbers)
 
 -- the key has this number or none now, and every other key has what it had
 abbrev pub Sets : Numbers → Numbers → IndexKey → Option ℕ → Type 0
-Sets old new key number = (other : IndexKey) → number_at other new ≡ (if is_at (key_cmp key) other then number else number_at other old)
+Sets old new key number =
+    (other : IndexKey) → number_at other new ≡ (if is_at (key_cmp key) other then number else number_at other old)
 
 -- the keys of the host, with their numbers
 abbrev pub of_host : Option (List ℕ) → Numbers → Numbers
@@ -39,6 +40,8 @@ of_host host numbers = filter (λ entry. is_at (text_cmp host) (entry.0).0) numb
 pub record CountsHosts (count : ℕ) (numbers : Numbers) : Type 0 where
   pub hosts : List (List ℕ)
   pub rising : IsStrictlySortedBy (slice_cmp nat_cmp) hosts
-  pub have_keys : (host : List ℕ) → Contains hosts host → (service : Option (List ℕ)) × IsSome (number_at (Some host, service) numbers)
-  pub all : (host : List ℕ) (service : Option (List ℕ)) → IsSome (number_at (Some host, service) numbers) → Contains hosts host
+  pub have_keys : (host : List ℕ) → Contains hosts host
+      → (service : Option (List ℕ)) × IsSome (number_at (Some host, service) numbers)
+  pub all : (host : List ℕ) (service : Option (List ℕ)) → IsSome (number_at (Some host, service) numbers)
+      → Contains hosts host
   pub counted : count ≡ length hosts

@@ -40,7 +40,8 @@ numbers_of without hosts = with_host None without ++ by_key hosts
 
 -- the service has this number or none now, and every other service has what it had
 abbrev pub SetsService : Services → Services → Option (List ℕ) → Option ℕ → Type 0
-SetsService old new service number = (other : Option (List ℕ)) → service_at other new ≡ (if is_at (text_cmp service) other then number else service_at other old)
+SetsService old new service number = (other : Option (List ℕ))
+    → service_at other new ≡ (if is_at (text_cmp service) other then number else service_at other old)
 
 -- the services of the host, if it is there
 abbrev pub services_at : List ℕ → List (List ℕ × Services) → Option Services
@@ -57,7 +58,8 @@ host_at host service hosts = service_in service (services_at host hosts)
 -- the host's service has this number or none now, and every other service of every host has what it had
 abbrev pub SetsIn : List (List ℕ × Services) → List (List ℕ × Services) → List ℕ → Option (List ℕ) → Option ℕ → Type 0
 SetsIn old new host service number = (other : List ℕ) (q : Option (List ℕ)) →
-    host_at other q new ≡ (if is_at (slice_cmp nat_cmp host) other && is_at (text_cmp service) q then number else host_at other q old)
+    host_at other q new
+    ≡ (if is_at (slice_cmp nat_cmp host) other && is_at (text_cmp service) q then number else host_at other q old)
 
 -- every service of every host has what it had
 abbrev pub SameIn : List (List ℕ × Services) → List (List ℕ × Services) → Type 0
@@ -74,7 +76,8 @@ HaveServices hosts = (host : List ℕ) → services_at host hosts ≢ Some []
 
 -- every host but the given one has a service
 abbrev pub OthersHaveServices : List ℕ → List (List ℕ × Services) → Type 0
-OthersHaveServices host hosts = (other : List ℕ) → is_at (slice_cmp nat_cmp host) other ≡ false → services_at other hosts ≢ Some []
+OthersHaveServices host hosts =
+    (other : List ℕ) → is_at (slice_cmp nat_cmp host) other ≡ false → services_at other hosts ≢ Some []
 
 pub record AreSections (without : Services) (hosts : List (List ℕ × Services)) : Type 0 where
   pub first : ServicesRise without

@@ -1,5 +1,6 @@
 -- What is kept of links, as contracts see it.
-use Rattle.std.specs.Prelude.{◌≡◌, ◌≢◌, ℕ, ◌<◌, nat_lt, Bool, true, false, List, length, slice_index_or, Option, Some, None}
+use Rattle.std.specs.Prelude.{◌≡◌, ◌≢◌, ℕ, ◌<◌, nat_lt, Bool, true, false, List, length, slice_index_or, Option, Some}
+use Rattle.std.specs.Prelude.{None}
 use Rattle.ports.specs.declared.links.Want.{Want}
 
 -- what is wanted of each link, and its value, at the same places, and the greatest number so far
@@ -10,7 +11,8 @@ pub record Kept (T : Type 0) : Type 0 where
 
 -- the number of the link at this place
 abbrev pub number_at : List Want → ℕ → ℕ
-number_at wants place = let want = slice_index_or wants place (record { link = 0; read = false; room = false }) in want.link
+number_at wants place =
+    let want = slice_index_or wants place (record { link = 0; read = false; room = false }) in want.link
 
 -- the numbers rise
 abbrev pub AreRising : List Want → Type 0

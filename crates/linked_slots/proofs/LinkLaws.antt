@@ -1,16 +1,20 @@
 -- What the changes of the nodes do to the lists.
-use Rattle.std.proofs.Common.{◌≡◌, ◌≢◌, ℕ, suc, zero, ◌<◌, Bool, true, false, cond, eqb, List, [], ◌∷◌, ◌++◌, length, replicate, Option, None, Some, IsSome, arith, rules, refl, sym, ◌∙◌, ap, subst, inl, inr}
+use Rattle.std.proofs.Common.{◌≡◌, ◌≢◌, ℕ, suc, zero, ◌<◌, Bool, true, false, cond, eqb, List, [], ◌∷◌, ◌++◌, length}
+use Rattle.std.proofs.Common.{replicate, Option, None, Some, IsSome, arith, rules, refl, sym, ◌∙◌, ap, subst, inl, inr}
 use Rattle.std.proofs.Common.{get_or}
 use Rattle.std.proofs.lemmas.Grind.{get_or_default_zero}
 use Rattle.std.proofs.lemmas.List.{get_or_append_left}
 use Rattle.slab.specs.Slab.{Slab, Updates}
 use Rattle.linked_slots.specs.Table.{value_at, IsLive}
-use Rattle.linked_slots.specs.IdLists.{list_at, times_in, times, IsListed, without, append_to, first_of, last_of, following}
-use Rattle.linked_slots.specs.Nodes.{next_of, previous_of, kind_of, next_at, previous_at, kind_at, id_of, AreMutual, Leads, head_at, AreRings, IsLinked, changed, lists_after, Cuts, Ties, Adds}
+use Rattle.linked_slots.specs.IdLists.{list_at, times_in, times, IsListed, without, append_to, first_of, last_of}
+use Rattle.linked_slots.specs.IdLists.{following}
+use Rattle.linked_slots.specs.Nodes.{next_of, previous_of, kind_of, next_at, previous_at, kind_at, id_of, AreMutual}
+use Rattle.linked_slots.specs.Nodes.{Leads, head_at, AreRings, IsLinked, changed, lists_after, Cuts, Ties, Adds}
 use Rattle.linked_slots.specs.declared.nodes.Node.{Node}
 use Rattle.linked_slots.specs.declared.nodes.Change.{Change}
 use Rattle.linked_slots.specs.declared.nodes.Change.TheVariants.{Append, Remove}
-use Rattle.linked_slots.proofs.ListLaws.{bool_cases, eqb-same, eqb-true, eqb-false, eqb-apart, times-without, at-empty, times-empty, length-empty, length-without, listed_at, all_listed}
+use Rattle.linked_slots.proofs.ListLaws.{bool_cases, eqb-same, eqb-true, eqb-false, eqb-apart, times-without, at-empty}
+use Rattle.linked_slots.proofs.ListLaws.{times-empty, length-empty, length-without, listed_at, all_listed}
 use Rattle.linked_slots.proofs.RingLaws.{rings-cut, rings-tied, leads-first, leads-last, leads-following}
 
 -- ---- one change more

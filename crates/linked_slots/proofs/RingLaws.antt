@@ -1,9 +1,13 @@
 -- Laws of rings of nodes.
-use Rattle.std.proofs.Common.{◌≡◌, ◌≢◌, ℕ, ◌+◌, ◌<◌, Bool, true, false, cond, eqb, List, [], ◌∷◌, ◌++◌, length, Option, Some, arith, refl, sym, ◌∙◌, ap, subst, inl, inr}
+use Rattle.std.proofs.Common.{◌≡◌, ◌≢◌, ℕ, ◌+◌, ◌<◌, Bool, true, false, cond, eqb, List, [], ◌∷◌, ◌++◌, length, Option}
+use Rattle.std.proofs.Common.{Some, arith, refl, sym, ◌∙◌, ap, subst, inl, inr}
 use Rattle.std.specs.List.{AllByRecursion}
-use Rattle.linked_slots.specs.IdLists.{list_at, times_in, times, IsListed, without, append_to, first_of, last_from, last_of, following}
+use Rattle.linked_slots.specs.IdLists.{list_at, times_in, times, IsListed, without, append_to, first_of, last_from}
+use Rattle.linked_slots.specs.IdLists.{last_of, following}
 use Rattle.linked_slots.specs.Nodes.{id_of, Leads, head_at, AreRings}
-use Rattle.linked_slots.proofs.ListLaws.{bool_cases, eqb-same, eqb-true, eqb-false, eqb-apart, remove_in, times-without, times-append, listed_at, at-without, at-append_same, at-append_other, length-without, length-append_to, all_listed}
+use Rattle.linked_slots.proofs.ListLaws.{bool_cases, eqb-same, eqb-true, eqb-false, eqb-apart, remove_in, times-without}
+use Rattle.linked_slots.proofs.ListLaws.{times-append, listed_at, at-without, at-append_same, at-append_other}
+use Rattle.linked_slots.proofs.ListLaws.{length-without, length-append_to, all_listed}
 
 -- ---- an id is cut out
 module _ (f g f' : ℕ → ℕ) (id : ℕ) (back : (q : ℕ) → g (f q) ≡ q) (forth : (q : ℕ) → f (g q) ≡ q)

@@ -1,5 +1,6 @@
 -- Lists of ids, as contracts see them.
-use Rattle.std.specs.Prelude.{ℕ, zero, suc, ◌+◌, ◌<◌, ◌≤◌, not, eqb, List, [], ◌∷◌, ◌++◌, map, filter, slice_index_or, Option, None, Some, if◌then◌else◌}
+use Rattle.std.specs.Prelude.{ℕ, zero, suc, ◌+◌, ◌<◌, ◌≤◌, not, eqb, List, [], ◌∷◌, ◌++◌, map, filter, slice_index_or}
+use Rattle.std.specs.Prelude.{Option, None, Some, if◌then◌else◌}
 
 -- the lists, and how many more ids they take without memory
 pub record IdLists : Type 0 where

@@ -7,4 +7,5 @@ use Rattle.linked_slots.specs.contracts.table.StepTable.{the_row}
 -- the table ends with the last value written through the reference at the number
 abbrev pub LendsValue : (T : RattleType) → MutBor (Table T.Denot) → ℕ → MutBor T.Denot → Fml
 LendsValue T table number lent =
-    Lends (the_row T) T table lent (λ value. record table.now { values = slice_set table.now.values number (Some value) })
+    Lends (the_row T) T table lent
+    (λ value. record table.now { values = slice_set table.now.values number (Some value) })

@@ -1,5 +1,6 @@
 -- How lists of ids are kept: nodes that are linked in rings, one ring for each list.
-use Rattle.std.specs.Prelude.{◌≡◌, ℕ, ◌+◌, ◌<◌, ◌≤◌, Bool, true, false, eqb, List, [], ◌∷◌, length, slice_index_or, Option, None, Some, if◌then◌else◌, replicate}
+use Rattle.std.specs.Prelude.{◌≡◌, ℕ, ◌+◌, ◌<◌, ◌≤◌, Bool, true, false, eqb, List, [], ◌∷◌, length, slice_index_or}
+use Rattle.std.specs.Prelude.{Option, None, Some, if◌then◌else◌, replicate}
 use Rattle.slab.specs.Slab.{Slab, slab_len}
 use Rattle.linked_slots.specs.Table.{value_at}
 use Rattle.linked_slots.specs.IdLists.{list_at, IsListed, AreApart, without, append_to}
@@ -51,10 +52,12 @@ abbrev pub head_at : List ℕ → ℕ → ℕ
 head_at heads number = slice_index_or heads number 0
 
 -- each list is the ring of its head
-pub record AreRings (lists : List (List ℕ)) (next previous : ℕ → ℕ) (kind : ℕ → Option Bool) (heads : List ℕ) : Type 0 where
+pub record AreRings (lists : List (List ℕ)) (next previous : ℕ → ℕ) (kind : ℕ → Option Bool)
+    (heads : List ℕ) : Type 0 where
   pub mutual_links : AreMutual next previous
   pub count : length heads ≡ length lists
-  pub rings : (number : ℕ) → number < length lists → Leads next (head_at heads number) (list_at lists number) (head_at heads number)
+  pub rings : (number : ℕ) → number < length lists
+      → Leads next (head_at heads number) (list_at lists number) (head_at heads number)
   pub are_heads : (number : ℕ) → number < length lists → kind (head_at heads number) ≡ Some true
   pub heads_differ : (number other : ℕ) → number < length lists → other < length lists
       → head_at heads number ≡ head_at heads other → number ≡ other
@@ -100,9 +103,11 @@ pub record SetsPrevious (old new : Slab Node) (at previous : ℕ) : Type 0 where
 -- the id's neighbours are linked to each other now, and the id to itself
 pub record Cuts (old new : Slab Node) (id : ℕ) : Type 0 where
   pub next_is : (key : ℕ) → next_at new.slots key
-      ≡ (if eqb key id then id else if eqb key (previous_at old.slots id) then next_at old.slots id else next_at old.slots key)
+      ≡ (if eqb key id then id else if eqb key (previous_at old.slots id) then next_at old.slots id
+      else next_at old.slots key)
   pub previous_is : (key : ℕ) → previous_at new.slots key
-      ≡ (if eqb key id then id else if eqb key (next_at old.slots id) then previous_at old.slots id else previous_at old.slots key)
+      ≡ (if eqb key id then id else if eqb key (next_at old.slots id) then previous_at old.slots id
+      else previous_at old.slots key)
   pub rest : KeepsNodes old new
 
 -- the id is between the slot number `after` and the one that was previous to it

@@ -9,8 +9,8 @@ use slab::Slab;
 use std::alloc::Global;
 use std::marker::Model;
 
-/// Lists of ids, by number from 0. An id is in one list, once. After [`Lists::reserve`] the calls take constant time and
-/// no memory.
+/// Lists of ids, by number from 0. An id is in one list, once. After [`Lists::reserve`] the calls take constant time
+/// and no memory.
 #[derive(Drop)]
 pub struct Lists {
     // Each list is a ring of nodes: its head, and then its ids in order. An id is the slot number of its node.

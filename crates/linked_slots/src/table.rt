@@ -8,8 +8,8 @@ use std::alloc::Global;
 use std::marker::Model;
 use step_count::{Ledger, Steps};
 
-/// Values under numbers that the table picks. The number of a removed value is used again: numbers are below the count of
-/// the values that fit, and more fit only once that many are there.
+/// Values under numbers that the table picks. The number of a removed value is used again: numbers are below the count
+/// of the values that fit, and more fit only once that many are there.
 #[derive(Drop)]
 pub struct StepTable<T> {
     values: Slab<T>,
@@ -39,8 +39,8 @@ impl<T: Drop> StepTable<T> {
         }
     }
 
-    /// Adds the value under a number that has none. It takes memory only where as many values are there as fit, so after
-    /// a removal it takes none.
+    /// Adds the value under a number that has none. It takes memory only where as many values are there as fit, so
+    /// after a removal it takes none.
     pub fn add(&mut self, _alloc: Global, value: T) -> Result<usize, Memory>
         ensures vacant { IfOk result (λ number. value_at self.old.values number ≡ None) }
         ensures added { IfOk result (λ number.

@@ -10,7 +10,8 @@ module _ {F T : Type 0} (calls : Shared F (Bor T × Unit {0}) Bool) (test : F) w
 
   -- of each of the items it answers what p says
   abbrev pub AnswersBy : (T → Bool) → List T → Type 0
-  AnswersBy p items = (item : Bor T) (answer : Bool) → Contains items item.now → calls.post test (item, tt) answer → answer ≡ p item.now
+  AnswersBy p items =
+      (item : Bor T) (answer : Bool) → Contains items item.now → calls.post test (item, tt) answer → answer ≡ p item.now
 
   -- it answers by some function, of which more than that many of the items pass
   pub record KeepsMoreThan (count : ℕ) (items : List T) : Type 0 where

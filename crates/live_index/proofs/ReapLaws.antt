@@ -1,5 +1,6 @@
 -- What is left where the events that are due are taken out.
-use Rattle.std.proofs.Common.{◌≡◌, ℕ, suc, ◌≤◌, ◌^◌, Bool, true, false, not, ◌||◌, cond, eqb, nat_le, List, [], ◌∷◌, map, filter, length, Option, None, Some, refl, sym, ap, ◌∙◌, subst}
+use Rattle.std.proofs.Common.{◌≡◌, ℕ, suc, ◌≤◌, ◌^◌, Bool, true, false, not, ◌||◌, cond, eqb, nat_le, List, [], ◌∷◌}
+use Rattle.std.proofs.Common.{map, filter, length, Option, None, Some, refl, sym, ap, ◌∙◌, subst}
 use mathlib.Core.Bool.{true≢false}
 use Rattle.std.specs.Option.{option_map, IsSome}
 use Rattle.std.specs.Ordering.{nat_cmp}
@@ -20,9 +21,11 @@ use Rattle.tick_schedule.specs.Queue.{moment_at, due_ids, due_later}
 use Rattle.tick_schedule.proofs.QueueLaws as laws
 use Rattle.tick_schedule.proofs.QueueLaws.{at-eqb, at-same, due-is_by}
 use Rattle.tick_schedule.proofs.ScheduleLaws.{rising_some}
-use Rattle.live_index.specs.Slots.{key_of, also, events_in, slot_at, event_of, is_by, is_late_in, is_among, has_number, IsLinked, IsTimed, IsTaking}
+use Rattle.live_index.specs.Slots.{key_of, also, events_in, slot_at, event_of, is_by, is_late_in, is_among, has_number}
+use Rattle.live_index.specs.Slots.{IsLinked, IsTimed, IsTaking}
 use Rattle.live_index.proofs.LinkLaws.{key_total}
-use Rattle.live_index.proofs.RowLaws.{find_key, keyed, HasKey, all_found, same_events, find-events, events-rise, rising-keyed}
+use Rattle.live_index.proofs.RowLaws.{find_key, keyed, HasKey, all_found, same_events, find-events, events-rise}
+use Rattle.live_index.proofs.RowLaws.{rising-keyed}
 
 -- ---- which numbers are due
 

@@ -1,5 +1,6 @@
 -- What a change keeps of the numbers and the events under them.
-use Rattle.std.proofs.Common.{◌≡◌, ℕ, ◌↔◌, IsTrue, Bool, true, false, cond, eqb, List, [], Option, None, Some, IfSome, refl, sym, ap, ◌∙◌}
+use Rattle.std.proofs.Common.{◌≡◌, ℕ, ◌↔◌, IsTrue, Bool, true, false, cond, eqb, List, [], Option, None, Some, IfSome}
+use Rattle.std.proofs.Common.{refl, sym, ap, ◌∙◌}
 use Rattle.std.specs.List.Sorted.{IsStrictlySortedBy}
 use Rattle.std.specs.Map.{values_of}
 use Rattle.std.specs.Option.{option_map, IsSome}
@@ -9,7 +10,9 @@ use Rattle.ev_types.specs.Expiry.{ends_key}
 use Rattle.key_map.specs.Keys.{IndexKey, Numbers, number_at, IsRising, Sets}
 use Rattle.linked_slots.specs.Table.{value_at, IsLive, Changes}
 use Rattle.live_index.specs.Slots.{key_of, slot_at, event_of, events_in, events_unless, IsLinked, Puts}
-use Rattle.live_index.proofs.LinkLaws.{key_total, exact-key, same, same-is, same-self, in_slot, end-found, end-placed, end-puts, put-found, put-placed, put-puts, replace-found, replace-placed, replace-puts}
+use Rattle.live_index.proofs.LinkLaws.{key_total, exact-key, same, same-is, same-self, in_slot, end-found, end-placed}
+use Rattle.live_index.proofs.LinkLaws.{end-puts, put-found, put-placed, put-puts, replace-found, replace-placed}
+use Rattle.live_index.proofs.LinkLaws.{replace-puts}
 use Rattle.live_index.proofs.PairLaws.{same_pairs}
 
 slot-is : (table : List (Option Event)) (r : Option ℕ) → slot_at table r ≡ in_slot (value_at table) r

@@ -1,6 +1,7 @@
 -- How an index keeps its events: the numbers of their keys in order, the events under these numbers, and the moments at
 -- which they expire.
-use Rattle.std.specs.Prelude.{◌≡◌, ℕ, ◌≤◌, ◌^◌, Bool, false, nat_le, eqb, List, [], ◌∷◌, map, length, Option, None, Some, if◌then◌else◌}
+use Rattle.std.specs.Prelude.{◌≡◌, ℕ, ◌≤◌, ◌^◌, Bool, false, nat_le, eqb, List, [], ◌∷◌, map, length, Option, None}
+use Rattle.std.specs.Prelude.{Some, if◌then◌else◌}
 use Rattle.std.specs.Option.{option_map}
 use Rattle.std.specs.Map.{values_of, lookup}
 use Rattle.std.specs.List.{All, list_any}
@@ -44,8 +45,10 @@ event_of key numbers table = slot_at table (number_at key numbers)
 -- each number of a key has an event of that key, each event has the number of its key, and none ends its key
 pub record IsLinked (numbers : Numbers) (table : List (Option Event)) : Type 0 where
   pub rising : IsRising numbers
-  pub found : (key : IndexKey) (number : ℕ) → number_at key numbers ≡ Some number → option_map key_of (value_at table number) ≡ Some key
-  pub placed : (number : ℕ) (event : Event) → value_at table number ≡ Some event → number_at (key_of event) numbers ≡ Some number
+  pub found : (key : IndexKey) (number : ℕ) → number_at key numbers ≡ Some number
+      → option_map key_of (value_at table number) ≡ Some key
+  pub placed : (number : ℕ) (event : Event) → value_at table number ≡ Some event
+      → number_at (key_of event) numbers ≡ Some number
   pub current : (number : ℕ) (event : Event) → value_at table number ≡ Some event → ends_key event ≡ false
 
 -- the moment has come, where there is one
@@ -59,7 +62,8 @@ is_late_in now (Some event) = is_late now event
 
 -- at each moment exactly the events that are late are due
 abbrev pub IsTimed : List (Option Event) → List (ℕ × ℕ) → Type 0
-IsTimed table due = (number now : ℕ) → now ≤ 2 ^ 40 → is_by now (moment_at number due) ≡ is_late_in now (value_at table number)
+IsTimed table due =
+    (number now : ℕ) → now ≤ 2 ^ 40 → is_by now (moment_at number due) ≡ is_late_in now (value_at table number)
 
 pub record IsStored (numbers : Numbers) (table : List (Option Event)) (due : List (ℕ × ℕ)) (count : ℕ) : Type 0 where
   pub linked : IsLinked numbers table
@@ -69,7 +73,8 @@ pub record IsStored (numbers : Numbers) (table : List (Option Event)) (due : Lis
 
 -- the key has this event or none now, and every other key has what it had
 abbrev pub Puts : IndexKey → Option Event → Numbers → List (Option Event) → Numbers → List (Option Event) → Type 0
-Puts key slot numbers table numbers' table' = (other : IndexKey) → event_of other numbers' table' ≡ (if is_at (key_cmp key) other then slot else event_of other numbers table)
+Puts key slot numbers table numbers' table' = (other : IndexKey)
+    → event_of other numbers' table' ≡ (if is_at (key_cmp key) other then slot else event_of other numbers table)
 
 -- what a write leaves at the key of its event
 abbrev pub slot_of : Event → Option Event
@@ -93,7 +98,9 @@ has_number (Some number) numbers = is_among number numbers
 
 -- each key whose number is one of these has no event now, and every other key has what it had
 abbrev pub Keeps : List ℕ → Numbers → List (Option Event) → Numbers → List (Option Event) → Type 0
-Keeps gone numbers table numbers' table' = (key : IndexKey) → event_of key numbers' table' ≡ (if has_number (number_at key numbers) gone then None else event_of key numbers table)
+Keeps gone numbers table numbers' table' = (key : IndexKey)
+    → event_of key numbers' table'
+    ≡ (if has_number (number_at key numbers) gone then None else event_of key numbers table)
 
 -- the events of the keys whose numbers are these, in key order
 pub record Takes (gone : List ℕ) (numbers : Numbers) (table : List (Option Event)) (events : List Event) : Type 0 where
@@ -102,7 +109,8 @@ pub record Takes (gone : List ℕ) (numbers : Numbers) (table : List (Option Eve
       ≡ (if has_number (number_at key numbers) gone then event_of key numbers table else None)
 
 -- the events under the numbers that are gone were taken out of the numbers and the table, in key order
-pub record IsTaking (gone : List ℕ) (numbers : Numbers) (table : List (Option Event)) (numbers' : Numbers) (table' : List (Option Event)) (events : List Event) : Type 0 where
+pub record IsTaking (gone : List ℕ) (numbers : Numbers) (table : List (Option Event)) (numbers' : Numbers)
+    (table' : List (Option Event)) (events : List Event) : Type 0 where
   pub origin : IsLinked numbers table
   pub linked : IsLinked numbers' table'
   pub slots : (number : ℕ) → value_at table' number ≡ (if is_among number gone then None else value_at table number)

@@ -39,8 +39,8 @@ impl Hints {
         }
     }
 
-    /// Doubles the slots where there are fewer than `count`. A hash's slot is then its old one, or that plus the old length,
-    /// so both halves get a copy of the old slots. If memory runs out, nothing changes.
+    /// Doubles the slots where there are fewer than `count`. A hash's slot is then its old one, or that plus the old
+    /// length, so both halves get a copy of the old slots. If memory runs out, nothing changes.
     pub(crate) fn reserve(&mut self, alloc: Global, count: usize) {
         if count <= self.pairs.len() {
             return;

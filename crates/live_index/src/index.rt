@@ -104,9 +104,9 @@ impl LiveIndex {
         Ok(())
     }
 
-    /// Appends copies of the live events that meet the predicate, in the order of the index. Where the predicate asks for
-    /// a host it looks at the events of that host alone. It counts an entry for each event that it looks at. After `Memory`
-    /// the index is as it was, and `out` begins with what it had.
+    /// Appends copies of the live events that meet the predicate, in the order of the index. Where the predicate asks
+    /// for a host it looks at the events of that host alone. It counts an entry for each event that it looks at. After
+    /// `Memory` the index is as it was, and `out` begins with what it had.
     pub fn search<G: Ledger>(
         &mut self,
         alloc: Global,
@@ -134,8 +134,9 @@ impl LiveIndex {
         Ok(())
     }
 
-    /// Appends the live events that meet the predicate, where they lie, in the order of the index. It looks at the events
-    /// that [`LiveIndex::search`] looks at, and counts as many entries. After `Memory` `found` begins with what it had.
+    /// Appends the live events that meet the predicate, where they lie, in the order of the index. It looks at the
+    /// events that [`LiveIndex::search`] looks at, and counts as many entries. After `Memory` `found` begins with what
+    /// it had.
     pub fn find<'a, G: Ledger>(
         &'a self,
         alloc: Global,
@@ -164,9 +165,9 @@ impl LiveIndex {
         Ok(())
     }
 
-    /// Appends the first `limit` live events that meet the predicate, where they lie, in the order of the index. It stops at
-    /// the last of them, and counts no more entries than [`LiveIndex::find`]. After `Memory` `found` begins with what it
-    /// had.
+    /// Appends the first `limit` live events that meet the predicate, where they lie, in the order of the index. It
+    /// stops at the last of them, and counts no more entries than [`LiveIndex::find`]. After `Memory` `found` begins
+    /// with what it had.
     pub fn find_first<'a, G: Ledger>(
         &'a self,
         alloc: Global,
@@ -193,8 +194,8 @@ impl LiveIndex {
         self.slots.find_first(alloc, pred, limit, found, steps)
     }
 
-    /// Lists the keys in order, where a search for the predicate has to look at all of them. The list is kept until a key
-    /// is added or removed; without it each search walks the keys. The index stays as it is.
+    /// Lists the keys in order, where a search for the predicate has to look at all of them. The list is kept until a
+    /// key is added or removed; without it each search walks the keys. The index stays as it is.
     pub fn prepare(&mut self, alloc: Global, pred: &Pred) -> Result<(), Memory>
         ensures same { self.new ≡ self.old }
         ensures poisoned { IsTrue self.old.poisoned → IsErr result }
@@ -205,9 +206,9 @@ impl LiveIndex {
         self.slots.prepare(alloc, pred)
     }
 
-    /// How many bytes a reply has with the live events that meet the predicate, as those that [`LiveIndex::find`] lends. It
-    /// looks at as many events, and counts as many entries. What it learns of each event is kept until that changes.
-    /// `Memory`: also where the bytes are more than a `usize` can count.
+    /// How many bytes a reply has with the live events that meet the predicate, as those that [`LiveIndex::find`]
+    /// lends. It looks at as many events, and counts as many entries. What it learns of each event is kept until that
+    /// changes. `Memory`: also where the bytes are more than a `usize` can count.
     pub fn found_len<G: Ledger>(
         &mut self,
         alloc: Global,
@@ -233,8 +234,8 @@ impl LiveIndex {
         self.slots.found_len(alloc, pred, steps)
     }
 
-    /// The live event of this host and this service, each of which may be absent. It counts an entry where there is one.
-    /// It takes no memory, and the index stays as it is. A poisoned one has no events.
+    /// The live event of this host and this service, each of which may be absent. It counts an entry where there is
+    /// one. It takes no memory, and the index stays as it is. A poisoned one has no events.
     pub fn get<G: Ledger>(
         &mut self,
         host: Option<&Text>,

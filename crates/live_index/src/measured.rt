@@ -12,8 +12,8 @@ pub(crate) const EMPTY_REPLY: usize = 2;
 /// An event, and how many bytes it adds to a reply, once that was asked for.
 #[derive(Drop)]
 pub(crate) struct MeasuredEvent {
-    // It is forgotten when the event changes, and not kept where it is 2^32 or more. It comes first, so that it is in one
-    // cache line with what says that the slot is used.
+    // It is forgotten when the event changes, and not kept where it is 2^32 or more. It comes first, so that it is in
+    // one cache line with what says that the slot is used.
     len: Option<u32>,
     event: Event,
 }

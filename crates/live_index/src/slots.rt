@@ -49,8 +49,8 @@ impl Slots {
         }
     }
 
-    /// Moves the event into the slots, in place of the one of its host and service. An event whose state is "expired" is
-    /// not moved, and only ends that one.
+    /// Moves the event into the slots, in place of the one of its host and service. An event whose state is "expired"
+    /// is not moved, and only ends that one.
     pub(crate) fn write(&mut self, alloc: Global, event: &mut Event) -> Result<(), Memory>
         requires { IsStored self.old.numbers self.old.events.values self.old.due self.old.count }
         ensures stored { OnOk result
@@ -223,8 +223,8 @@ impl Slots {
         self.count
     }
 
-    /// Removes the events that are expired at the moment `now`, at most 2^40, and appends them to `out` in order. It counts
-    /// an entry for each.
+    /// Removes the events that are expired at the moment `now`, at most 2^40, and appends them to `out` in order. It
+    /// counts an entry for each.
     pub(crate) fn take_expired<G: Ledger>(
         &mut self,
         alloc: Global,
@@ -282,8 +282,8 @@ impl Slots {
         copy_all(alloc, found.as_slice(), out)
     }
 
-    /// Appends the events that meet the predicate, where they lie, in order. It counts an entry for each event of the host
-    /// that the predicate asks for, or for each event where it asks for none.
+    /// Appends the events that meet the predicate, where they lie, in order. It counts an entry for each event of the
+    /// host that the predicate asks for, or for each event where it asks for none.
     pub(crate) fn find<'a, G: Ledger>(
         &'a self,
         alloc: Global,
@@ -318,8 +318,8 @@ impl Slots {
         )
     }
 
-    /// Appends the first `limit` events that meet the predicate, where they lie, in order. It counts no more entries than
-    /// [`Slots::find`].
+    /// Appends the first `limit` events that meet the predicate, where they lie, in order. It counts no more entries
+    /// than [`Slots::find`].
     pub(crate) fn find_first<'a, G: Ledger>(
         &'a self,
         alloc: Global,
@@ -455,8 +455,8 @@ impl Slots {
     }
 }
 
-/// Appends the first `limit` events with these numbers that meet the predicate, where they lie. It counts an entry for each
-/// number up to that of the last of them.
+/// Appends the first `limit` events with these numbers that meet the predicate, where they lie. It counts an entry for
+/// each number up to that of the last of them.
 fn find_at<'a, G: Ledger>(
     alloc: Global,
     events: &'a StepTable<MeasuredEvent>,
@@ -628,8 +628,8 @@ fn set_due(
     }
 }
 
-/// The moment from which on the event is late. One after the last moment of the clock is left out, so that the event stays
-/// until another one takes its place, and one before 1970 is 0.
+/// The moment from which on the event is late. One after the last moment of the clock is left out, so that the event
+/// stays until another one takes its place, and one before 1970 is 0.
 fn due_moment(event: &Event) -> Option<u64>
     ensures { (now : ℕ) → now ≤ 2 ^ 40 → is_by now result ≡ is_late now event.now }
 {

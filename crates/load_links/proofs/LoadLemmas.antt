@@ -1,5 +1,7 @@
 -- How long the messages of a load are, and how its turns are put together.
-use Rattle.std.proofs.Common.{◌≡◌, ℕ, zero, suc, ◌+◌, ◌-◌, ◌/◌, ◌%◌, ◌<◌, ◌≤◌, ◌==◌, true, false, cond, List, [], ◌∷◌, ◌++◌, length, Some, pos, refl, sym, ◌∙◌, ap, arith, length-append, append_assoc, append-nil, lit<}
+use Rattle.std.proofs.Common.{◌≡◌, ℕ, zero, suc, ◌+◌, ◌-◌, ◌/◌, ◌%◌, ◌<◌, ◌≤◌, ◌==◌, true, false, cond, List, [], ◌∷◌}
+use Rattle.std.proofs.Common.{◌++◌, length, Some, pos, refl, sym, ◌∙◌, ap, arith, length-append, append_assoc}
+use Rattle.std.proofs.Common.{append-nil, lit<}
 use Rattle.std.specs.Prelude.{codes, nat_lt}
 use Rattle.std.specs.Fmt.{decimal}
 use Rattle.std.specs.Int.{w32, w64, cast_unsigned, to_be_bytes}
@@ -9,9 +11,11 @@ use Rattle.framing.proofs.FrameLaws.{after_frame_length, frames_at_frame, length
 use Rattle.pb_wire.specs.Spelling.{Bytes, field_spelling}
 use Rattle.pb_wire.specs.Varint.{varint, spelled_within}
 use Rattle.ports.specs.declared.script.Step.{Step}
-use Rattle.riemann_msg.specs.Spelling.{optional, spelled, spelling, event_values, message_values, name_values, number_values, query_values, zigzag}
+use Rattle.riemann_msg.specs.Spelling.{optional, spelled, spelling, event_values, message_values, name_values}
+use Rattle.riemann_msg.specs.Spelling.{number_values, query_values, zigzag}
 use Rattle.riemann_msg.proofs.Lengths.{event_length, message_length, metric_length, names_length, text_length}
-use Rattle.load_links.specs.Load.{event_msg, event_step, event_steps, load_event, number_after, number_at, query_msg, state_of}
+use Rattle.load_links.specs.Load.{event_msg, event_step, event_steps, load_event, number_after, number_at, query_msg}
+use Rattle.load_links.specs.Load.{state_of}
 
 within_few : (n value : ℕ) → length (spelled_within n value) ≤ n + 1
 unfolding spelled_within

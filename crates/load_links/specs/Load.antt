@@ -1,5 +1,6 @@
 -- The turns of a generated load.
-use Rattle.std.specs.Prelude.{ℕ, zero, suc, ◌+◌, ◌*◌, ◌/◌, ◌%◌, ◌^◌, ◌==◌, if◌then◌else◌, List, [], ◌∷◌, ◌++◌, Some, None, pos, codes}
+use Rattle.std.specs.Prelude.{ℕ, zero, suc, ◌+◌, ◌*◌, ◌/◌, ◌%◌, ◌^◌, ◌==◌, if◌then◌else◌, List, [], ◌∷◌, ◌++◌, Some}
+use Rattle.std.specs.Prelude.{None, pos, codes}
 use Rattle.std.specs.Fmt.{decimal}
 use Rattle.ev_types.specs.declared.event.Event.{Event}
 use Rattle.framing.specs.Frames.{frame}

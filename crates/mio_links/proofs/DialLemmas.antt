@@ -1,7 +1,8 @@
 -- What is known of a turn of the one link of a client.
 use Rattle.std.proofs.Common.{◌≡◌}
 use Rattle.ports.specs.declared.links.What.{What}
-use Rattle.ports.specs.declared.links.What.TheVariants.{Idle, Opened, Read, Ended, Broken, Room, Stopped, Failed, Memory}
+use Rattle.ports.specs.declared.links.What.TheVariants.{Idle, Opened, Read, Ended, Broken, Room, Stopped, Failed}
+use Rattle.ports.specs.declared.links.What.TheVariants.{Memory}
 use Rattle.mio_links.specs.Turns.{IsOn, OfLink}
 
 pub some_on_zero : (what : What) → IsOn 0 what → OfLink what (λ link. link ≡ 0)

@@ -3,7 +3,8 @@ use Rattle.std.proofs.Common.{◌≡◌, ◌≢◌, ℕ, true, Option, Some, Non
 use Rattle.std.specs.Prelude.{IfSome}
 use Rattle.ports.specs.Links.{HasNextCause}
 use Rattle.ports.specs.declared.links.What.{What}
-use Rattle.ports.specs.declared.links.What.TheVariants.{Idle, Opened, Read, Ended, Broken, Room, Stopped, Failed, Memory}
+use Rattle.ports.specs.declared.links.What.TheVariants.{Idle, Opened, Read, Ended, Broken, Room, Stopped, Failed}
+use Rattle.ports.specs.declared.links.What.TheVariants.{Memory}
 use Rattle.mio_links.specs.Sockets.{has_link}
 use Rattle.mio_links.specs.Turns.{IsGiven, IsOn, OfLink, OpensAt}
 use Rattle.mio_links.specs.declared.sockets.Sockets.{Sockets}

@@ -14,8 +14,8 @@ pub enum Refusal {
     Listener,
 }
 
-/// What a failure of accept with this number of the system says (Linux, accept(2)). Only a failure of the listener is one
-/// that all links have.
+/// What a failure of accept with this number of the system says (Linux, accept(2)). Only a failure of the listener is
+/// one that all links have.
 pub fn refusal_of(code: u32) -> Refusal
     ensures { result ≡ refusal_in refusals code }
 {

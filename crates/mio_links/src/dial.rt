@@ -108,7 +108,8 @@ impl Dial {
         client.turn(LINK, &want_of(wants, LINK), buf)
     }
 
-    /// Asks the system what is ready, and keeps it. The answer is whether the connection is there now for the first time.
+    /// Asks the system what is ready, and keeps it. The answer is whether the connection is there now for the first
+    /// time.
     fn ask<R: Net>(&mut self, rt: &R, events: &mut Events) -> Result<bool, LinksFault> {
         self.poll
             .poll(events, Some(Duration::from_millis(LONGEST_WAIT)))?;

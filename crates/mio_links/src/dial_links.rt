@@ -18,8 +18,8 @@ use std::time::Clock;
 const EVENTS_AT_ONCE: usize = 16;
 
 /// The link of a client to a server over TCP, and the system's clock. It does not report its calls. `listen` begins to
-/// connect to the address. Once it is connected, a turn is that link 0 opened. No turn is [`What::Stopped`]. If no address of
-/// a host can be connected to, a call of `listen` or `next` fails.
+/// connect to the address. Once it is connected, a turn is that link 0 opened. No turn is [`What::Stopped`]. If no
+/// address of a host can be connected to, a call of `listen` or `next` fails.
 #[derive(Drop)]
 pub struct DialLinks<'a, R: Net + Clock> {
     rt: &'a R,

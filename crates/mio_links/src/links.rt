@@ -193,8 +193,8 @@ fn opened_after(opened: u64, next: u64, what: What) -> u64
     }
 }
 
-/// How many milliseconds the next turn waits for something to happen, at most. A server that is far from the clock is not
-/// kept waiting.
+/// How many milliseconds the next turn waits for something to happen, at most. A server that is far from the clock is
+/// not kept waiting.
 fn longest_wait(readings: &Readings) -> u64
     ensures { result ≡ (if nat_lt (readings.now.reached + seconds_per_turn_limit)
         readings.now.last then 0 else 100) }

@@ -9,8 +9,8 @@ use ev_types::SECONDS_PER_TURN;
 pub struct Readings {
     /// The last reading.
     pub last: u64,
-    /// The moment that a server can have reached with the turns so far. In each it comes nearer to the reading by at most
-    /// an hour, and it never goes back.
+    /// The moment that a server can have reached with the turns so far. In each it comes nearer to the reading by at
+    /// most an hour, and it never goes back.
     pub reached: u64,
 }
 
@@ -36,7 +36,8 @@ impl Readings {
         self.reached = self.reached.max(secs.min(soonest));
     }
 
-    /// Whether the clock is more than an hour ahead of the moment that was reached, so that the next turn is not to wait.
+    /// Whether the clock is more than an hour ahead of the moment that was reached, so that the next turn is not to
+    /// wait.
     pub fn are_ahead(&self) -> bool
         ensures { IsTrue result ↔ (self.now.reached + seconds_per_turn_limit < self.now.last) }
     {

@@ -134,8 +134,8 @@ impl Sockets {
         Ok(())
     }
 
-    /// Looks once more at each link that is held back. The link is queued if what it has to give is wanted now, and else
-    /// it is held back again.
+    /// Looks once more at each link that is held back. The link is queued if what it has to give is wanted now, and
+    /// else it is held back again.
     fn release(&mut self, wants: &Wants) -> Result<(), LinksFault> {
         for _ in 0..self.queue.held_back() {
             let Some(link) = self.queue.take_held_back() else {

@@ -1,5 +1,6 @@
 -- How a message is answered, put together from its steps.
-use Rattle.std.proofs.Common.{◌≡◌, ◌≢◌, ℕ, ◌+◌, ◌<◌, Bool, true, false, cond, List, [], ◌∷◌, ◌++◌, drop, get_or, length, map, set, take, refl, ap, sym, ◌∙◌, subst, arith, append-nil, append_assoc}
+use Rattle.std.proofs.Common.{◌≡◌, ◌≢◌, ℕ, ◌+◌, ◌<◌, Bool, true, false, cond, List, [], ◌∷◌, ◌++◌, drop, get_or, length}
+use Rattle.std.proofs.Common.{map, set, take, refl, ap, sym, ◌∙◌, subst, arith, append-nil, append_assoc}
 use Rattle.std.proofs.lemmas.List.{drop-set, drop-set-lt, map-append, set-get_or, take_more}
 use Rattle.std.specs.Prelude.{Option, Some, None, Result, Ok, Err, OnOk, OnErr, option_and_then}
 use Rattle.ev_types.specs.declared.event.Event.{Event}
@@ -10,7 +11,8 @@ use Rattle.index_log.specs.Live.{IndexLog}
 use Rattle.list_laws.specs.declared.memory.Memory.{Memory}
 use Rattle.pred_eval.specs.Tree.{Tree}
 use Rattle.query_lang.specs.declared.fault.QueryFault.{QueryFault}
-use Rattle.query_lang.specs.declared.fault.QueryFault.TheVariants.{TooLong, Refused as QueryRefused, TooDeep, Memory as NoMemory}
+use Rattle.query_lang.specs.declared.fault.QueryFault.TheVariants.{TooLong, Refused as QueryRefused, TooDeep}
+use Rattle.query_lang.specs.declared.fault.QueryFault.TheVariants.{Memory as NoMemory}
 use Rattle.query_lang.specs.Answer.{query_of}
 use Rattle.query_lang.specs.Queries.{Agrees}
 use Rattle.riemann_msg.specs.declared.fault.MsgWhy.{MsgWhy}
@@ -20,7 +22,8 @@ use Rattle.riemann_msg.specs.Value.{message_of}
 use Rattle.step_count.specs.Count.{StepCount}
 use Rattle.stream_meaning.specs.Arrivals.{Arrival, Post}
 use Rattle.hub_meaning.specs.Messages.{posts_of, reading_of, rule_of, rule_of_query, rule_read}
-use Rattle.hub_meaning.specs.Replies.{answer_to_query, answer_to_text, framed, message_refusal, query_refusal, refused, reply_to}
+use Rattle.hub_meaning.specs.Replies.{answer_to_query, answer_to_text, framed, message_refusal, query_refusal, refused}
+use Rattle.hub_meaning.specs.Replies.{reply_to}
 use Rattle.hub_meaning.specs.Verdicts.{PatternsReport, Refusal, built_rule, is_busy}
 use Rattle.msg_replies.specs.Arriving.{Arrives, Reported, reported}
 use Rattle.msg_replies.specs.Answering.{AfterVerdict, AnswersMessage, AnswersQuery, asked_of}

@@ -1,5 +1,6 @@
 -- A reply with found events is written whole, or refused where it would be too long.
-use Rattle.std.proofs.Common.{◌≡◌, ℕ, zero, suc, ◌<◌, ◌≤◌, true, false, List, [], ◌∷◌, ◌++◌, length, take, refl, sym, ap, ◌∙◌, subst, arith}
+use Rattle.std.proofs.Common.{◌≡◌, ℕ, zero, suc, ◌<◌, ◌≤◌, true, false, List, [], ◌∷◌, ◌++◌, length, take, refl, sym}
+use Rattle.std.proofs.Common.{ap, ◌∙◌, subst, arith}
 use denote.Ref.{Bor}
 use Rattle.std.specs.Prelude.{nat_le, Result, OnOk}
 use Rattle.std.proofs.lemmas.Bool.Decides.{nat_tests}
@@ -29,7 +30,8 @@ Measures size core rule = (arrivals : List Arrival) → Represents core arrivals
 -- the reply is appended, if it has this many bytes
 abbrev pub Writes : ℕ → List ℕ → List ℕ → Core → Tree → Type 0
 Writes size replies replies' core rule = (arrivals : List Arrival) → Represents core arrivals
-    → size ≡ length (spelling (found_by rule core arrivals)) → replies' ≡ replies ++ framed (found_by rule core arrivals)
+    → size ≡ length (spelling (found_by rule core arrivals))
+    → replies' ≡ replies ++ framed (found_by rule core arrivals)
 
 -- the reply is appended, or that it is too long
 abbrev pub Limits : List ℕ → List ℕ → Core → Tree → Type 0

@@ -1,5 +1,6 @@
 -- How long replies are, and the reasons in them.
-use Rattle.std.proofs.Common.{◌≡◌, ℕ, zero, suc, ◌+◌, ◌/◌, ◌%◌, ◌^◌, ◌<◌, ◌≤◌, true, false, cond, List, [], ◌∷◌, length, refl, arith, length-append, lit<}
+use Rattle.std.proofs.Common.{◌≡◌, ℕ, zero, suc, ◌+◌, ◌/◌, ◌%◌, ◌^◌, ◌<◌, ◌≤◌, true, false, cond, List, [], ◌∷◌, length}
+use Rattle.std.proofs.Common.{refl, arith, length-append, lit<}
 use Rattle.std.specs.Prelude.{nat_lt}
 use Rattle.std.specs.Fmt.{decimal}
 use Rattle.std.proofs.lemmas.Bool.Decides.{nat_tests}
@@ -9,13 +10,15 @@ use Rattle.pb_wire.specs.Spelling.{field_spelling}
 use Rattle.pb_wire.specs.Varint.{varint, spelled_within}
 use Rattle.query_lang.specs.declared.read.TheConstants.{MAX_BYTES}
 use Rattle.query_lang.specs.declared.fault.QueryFault.{QueryFault}
-use Rattle.query_lang.specs.declared.fault.QueryFault.TheVariants.{TooLong, Refused as QueryRefused, TooDeep, Memory as NoMemory}
+use Rattle.query_lang.specs.declared.fault.QueryFault.TheVariants.{TooLong, Refused as QueryRefused, TooDeep}
+use Rattle.query_lang.specs.declared.fault.QueryFault.TheVariants.{Memory as NoMemory}
 use Rattle.riemann_msg.specs.declared.fault.MsgWhy.{MsgWhy}
 use Rattle.riemann_msg.specs.declared.fault.MsgWhy.TheVariants.{Short, Varint, Tag, Wire, Utf8, Key, Ttl}
 use Rattle.riemann_msg.specs.declared.msg.Msg.{Msg}
 use Rattle.riemann_msg.specs.Spelling.{spelling, message_values}
 use Rattle.riemann_msg.specs.Fault.{why_name}
-use Rattle.hub_meaning.specs.Replies.{accepted, busy, framed, limited, message_refusal, over_limit, oversized, pattern_refusal, query_refusal, refused}
+use Rattle.hub_meaning.specs.Replies.{accepted, busy, framed, limited, message_refusal, over_limit, oversized}
+use Rattle.hub_meaning.specs.Replies.{pattern_refusal, query_refusal, refused}
 
 pub accepted_frame : framed accepted ≡ 0 ∷ 0 ∷ 0 ∷ 2 ∷ 16 ∷ 1 ∷ []
 unfolding framed spelling message_values field_spelling varint spelled_within

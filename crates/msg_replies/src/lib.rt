@@ -1,5 +1,5 @@
-//! Messages that come to a server, and what they are answered: their events are posted to the core, and their queries are
-//! answered from its index.
+//! Messages that come to a server, and what they are answered: their events are posted to the core, and their queries
+//! are answered from its index.
 #![tactic(auto)]
 
 mod queries;

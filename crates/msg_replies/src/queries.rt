@@ -25,8 +25,8 @@ use step_count::{Ledger, Steps};
 /// The length of a reply with at most so many events is summed over them. It takes half a microsecond for each.
 const FEW: usize = 4_096;
 
-/// Appends the reply to the query of a message that was accepted. `unsent` is how many bytes of earlier replies were not
-/// taken.
+/// Appends the reply to the query of a message that was accepted. `unsent` is how many bytes of earlier replies were
+/// not taken.
 pub(crate) fn answer_query<P: Patterns, G: Ledger>(
     alloc: Global,
     query: &Option<QueryPart>,
@@ -168,8 +168,8 @@ fn put_few<G: Ledger>(
     Ok(true)
 }
 
-/// Appends a reply with these events, written from where they lie, or that it would be too long. The length is known before
-/// a byte is written.
+/// Appends a reply with these events, written from where they lie, or that it would be too long. The length is known
+/// before a byte is written.
 #[tactic(auto, using(crate::proofs::Lengths::limited_within, crate::proofs::Lengths::limited_over))]
 fn put_limited(alloc: Global, events: &[&Event], replies: &mut Blob) -> Result<(), Memory>
     ensures { OnOk result (replies.new

@@ -18,9 +18,9 @@ use std::alloc::{AllocError, Global};
 use std::mem;
 use step_count::{Ledger, Steps};
 
-/// Posts the events of a message, and appends the reply to it. `unsent` is how many bytes of earlier replies to its link
-/// were not taken. The message is read into the memory of `spent`. Afterwards its own events are there, if it was accepted
-/// and they are at most 128, and else none.
+/// Posts the events of a message, and appends the reply to it. `unsent` is how many bytes of earlier replies to its
+/// link were not taken. The message is read into the memory of `spent`. Afterwards its own events are there, if it was
+/// accepted and they are at most 128, and else none.
 pub fn answer<P: Patterns, G: Ledger>(
     alloc: Global,
     body: &[u8],

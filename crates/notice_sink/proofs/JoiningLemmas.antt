@@ -1,5 +1,6 @@
 -- How parts are joined with single spaces between them.
-use Rattle.std.proofs.Common.{◌≡◌, ℕ, ◌+◌, ◌<◌, List, [], ◌∷◌, ◌++◌, length, map, take, get_or, codes, decimal, refl, sym, ◌∙◌, ap, append_assoc, append-nil, length-append, arith}
+use Rattle.std.proofs.Common.{◌≡◌, ℕ, ◌+◌, ◌<◌, List, [], ◌∷◌, ◌++◌, length, map, take, get_or, codes, decimal, refl}
+use Rattle.std.proofs.Common.{sym, ◌∙◌, ap, append_assoc, append-nil, length-append, arith}
 use Rattle.std.specs.List.{flat_map, join_with_byte}
 use Rattle.std.proofs.lemmas.List.{take_more}
 use Rattle.std.proofs.lemmas.List.Concat.{flat_map-append}
@@ -8,7 +9,8 @@ use Rattle.ev_types.specs.declared.event.Attr.{Attr}
 use Rattle.ev_types.specs.declared.event.Event.{Event}
 use Rattle.ev_types.specs.declared.item.Notice.{Notice}
 use Rattle.notice_sink.specs.Joining.{ended, led}
-use Rattle.notice_sink.specs.Lines.{attribute_text, event_text, first_parts, item_text, last_parts, notice_line, tags_part, time_text}
+use Rattle.notice_sink.specs.Lines.{attribute_text, event_text, first_parts, item_text, last_parts, notice_line}
+use Rattle.notice_sink.specs.Lines.{tags_part, time_text}
 use Rattle.notice_sink.specs.Quoting.{quoted}
 
 join_led : (first : List ℕ) (rest : List (List ℕ)) → join_with_byte 32 (first ∷ rest) ≡ first ++ led rest

@@ -1,13 +1,16 @@
 -- Attributes are read as what they spell.
-use Rattle.std.proofs.Common.{◌≡◌, ℕ, ◌^◌, ◌<◌, List, [], ◌∷◌, ◌++◌, length, Option, Some, refl, ap, subst, ◌∙◌, length-append, arith}
+use Rattle.std.proofs.Common.{◌≡◌, ℕ, ◌^◌, ◌<◌, List, [], ◌∷◌, ◌++◌, length, Option, Some, refl, ap, subst, ◌∙◌}
+use Rattle.std.proofs.Common.{length-append, arith}
 use Rattle.std.specs.Str.{IsUtf8}
 use Rattle.ev_types.specs.declared.event.Attr.{Attr}
 use Rattle.pb_wire.specs.Varint.{varint}
 use Rattle.riemann_msg.specs.ReadBack.{IsWellFormedAttribute}
-use Rattle.packed_event.specs.Reading.{◌>>=◌, at_end, attribute_in, attribute_part, bytes_part, optional, required, text_part}
+use Rattle.packed_event.specs.Reading.{◌>>=◌, at_end, attribute_in, attribute_part, bytes_part, optional, required}
+use Rattle.packed_event.specs.Reading.{text_part}
 use Rattle.packed_event.proofs.Bodies.{bytes_sound, bytes_whole, counted_text, text_is_part}
 use Rattle.packed_event.proofs.Parts.{IsBytes, IsBytes-front, IsBytes-rest, IsPart, bind_some, some_is, read_as}
-use Rattle.packed_event.proofs.Stages.{at_end_sound, optional_sound, optional_text, optional_whole, required_sound, required_whole}
+use Rattle.packed_event.proofs.Stages.{at_end_sound, optional_sound, optional_text, optional_whole, required_sound}
+use Rattle.packed_event.proofs.Stages.{required_whole}
 
 abbrev attribute_of : List ℕ → Option (List ℕ) → Attr
 attribute_of key value = record { key = key; value = value }

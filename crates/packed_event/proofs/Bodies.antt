@@ -1,5 +1,7 @@
 -- The bodies of fields are read as what they spell.
-use Rattle.std.proofs.Common.{◌≡◌, ℕ, ◌+◌, ◌*◌, ◌/◌, ◌%◌, ◌^◌, ◌<◌, ◌≤◌, true, false, cond, eqb, leb, ltb, List, ◌++◌, length, take, drop, Some, None, ℤ, pos, negsuc, refl, sym, ap, subst, ◌∙◌, append_assoc, length-append, arith, inl, inr}
+use Rattle.std.proofs.Common.{◌≡◌, ℕ, ◌+◌, ◌*◌, ◌/◌, ◌%◌, ◌^◌, ◌<◌, ◌≤◌, true, false, cond, eqb, leb, ltb, List, ◌++◌}
+use Rattle.std.proofs.Common.{length, take, drop, Some, None, ℤ, pos, negsuc, refl, sym, ap, subst, ◌∙◌, append_assoc}
+use Rattle.std.proofs.Common.{length-append, arith, inl, inr}
 use Rattle.std.specs.Prelude.{FitsSigned}
 use Rattle.std.specs.Int.{Width, w32, w64, byte_len, cast_signed, cast_unsigned, from_le_bytes, to_le_bytes}
 use Rattle.std.specs.Ordering.{int_eq}
@@ -16,7 +18,8 @@ use Rattle.riemann_msg.specs.Spelling.{zigzag}
 use Rattle.riemann_msg.specs.Ttl.{IsSpellableTtl, bits_of, seconds_of}
 use Rattle.riemann_msg.specs.Value.{second_of, unzigzag}
 use Rattle.riemann_msg.proofs.TtlBits.{bits_of_small, bits_of_spells, seconds_from_ttl, ttl_from_seconds}
-use Rattle.packed_event.specs.Reading.{◌>>=◌, bytes_part, int64_part, micros_part, number_part, sint64_part, text_part, ttl_part, varint_part}
+use Rattle.packed_event.specs.Reading.{◌>>=◌, bytes_part, int64_part, micros_part, number_part, sint64_part, text_part}
+use Rattle.packed_event.specs.Reading.{ttl_part, varint_part}
 use Rattle.packed_event.proofs.Parts.{IsBytes, IsBytes-take, IsPart, bind_some, passed, not_refused, some_is, read_as}
 use Rattle.packed_event.proofs.Varints.{varint_is_part}
 

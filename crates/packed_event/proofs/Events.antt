@@ -1,5 +1,6 @@
 -- An event is read as what it spells, with the places of its parts.
-use Rattle.std.proofs.Common.{◌≡◌, ℕ, ◌^◌, ◌<◌, List, [], ◌∷◌, ◌++◌, length, Option, Some, ℤ, refl, ap, subst, ◌∙◌, length-append, arith}
+use Rattle.std.proofs.Common.{◌≡◌, ℕ, ◌^◌, ◌<◌, List, [], ◌∷◌, ◌++◌, length, Option, Some, ℤ, refl, ap, subst, ◌∙◌}
+use Rattle.std.proofs.Common.{length-append, arith}
 use Rattle.std.specs.Prelude.{FitsSigned, IfSome}
 use Rattle.std.specs.Int.{w32, w64, to_le_bytes}
 use Rattle.std.specs.Option.{option_map}
@@ -10,13 +11,18 @@ use Rattle.ev_types.specs.declared.event.Event.{Event}
 use Rattle.riemann_msg.specs.ReadBack.{IsWellFormedAttribute, IsWellFormedEvent}
 use Rattle.riemann_msg.specs.Ttl.{IsSpellableTtl}
 use Rattle.packed_event.specs.Packed.{LiesIn, text_at}
-use Rattle.packed_event.specs.Reading.{◌>>=◌, NamesRead, NumbersRead, at_end, attribute_part, event_read, int64_part, micros_part, names_part, number_part, numbers_part, optional, packed_in, places_read, repeated, required, sint64_part, span_before, text_part, ttl_part}
+use Rattle.packed_event.specs.Reading.{◌>>=◌, NamesRead, NumbersRead, at_end, attribute_part, event_read, int64_part}
+use Rattle.packed_event.specs.Reading.{micros_part, names_part, number_part, numbers_part, optional, packed_in}
+use Rattle.packed_event.specs.Reading.{places_read, repeated, required, sint64_part, span_before, text_part, ttl_part}
 use Rattle.packed_event.specs.declared.places.Places.{Places}
 use Rattle.packed_event.proofs.Attributes.{attribute_body, attribute_is_part}
-use Rattle.packed_event.proofs.Bodies.{IsIn, counted_text, int64_is_part, int64_text, micros_is_part, number_is_part, sint64_is_part, sint64_text, text_is_part, ttl_is_part, ttl_text, wide32, wide64}
+use Rattle.packed_event.proofs.Bodies.{IsIn, counted_text, int64_is_part, int64_text, micros_is_part, number_is_part}
+use Rattle.packed_event.proofs.Bodies.{sint64_is_part, sint64_text, text_is_part, ttl_is_part, ttl_text, wide32, wide64}
 use Rattle.packed_event.proofs.Parts.{IsBytes, IsBytes-rest, bind_some, some_is, read_as}
 use Rattle.packed_event.proofs.Spans.{Ends, ends_then, optional_text_is, optional_within}
-use Rattle.packed_event.proofs.Stages.{Follows, at_end_sound, optional_follows, optional_sound, optional_text, optional_whole, repeated_follows, repeated_sound, repeated_text, repeated_whole, required_sound, required_whole}
+use Rattle.packed_event.proofs.Stages.{Follows, at_end_sound, optional_follows, optional_sound, optional_text}
+use Rattle.packed_event.proofs.Stages.{optional_whole, repeated_follows, repeated_sound, repeated_text, repeated_whole}
+use Rattle.packed_event.proofs.Stages.{required_sound, required_whole}
 use Rattle.packed_event.proofs.Texts.{event_text, names_text, numbers_text}
 
 abbrev MaybeText : Type 0

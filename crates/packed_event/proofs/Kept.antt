@@ -1,5 +1,6 @@
 -- Bytes that are kept are those of one event, and where they lie in a reply.
-use Rattle.std.proofs.Common.{◌≡◌, ℕ, ◌+◌, ◌^◌, ◌<◌, List, [], ◌∷◌, ◌++◌, drop, length, Some, None, pos, refl, sym, ap, ◌∙◌, length-append, arith}
+use Rattle.std.proofs.Common.{◌≡◌, ℕ, ◌+◌, ◌^◌, ◌<◌, List, [], ◌∷◌, ◌++◌, drop, length, Some, None, pos, refl, sym, ap}
+use Rattle.std.proofs.Common.{◌∙◌, length-append, arith}
 use Rattle.std.proofs.lemmas.List.{append-nil}
 use Rattle.ev_types.specs.declared.event.Event.{Event}
 use Rattle.pb_wire.specs.Spelling.{Bytes, Varint, field_spelling}

@@ -1,11 +1,13 @@
 -- An event that is written is read again, since the message of it alone is.
-use Rattle.std.proofs.Common.{◌≡◌, ℕ, ◌+◌, ◌*◌, ◌^◌, ◌<◌, List, [], ◌∷◌, ◌++◌, length, map, Option, Some, None, pos, refl, sym, ap, subst, ◌∙◌, length-append, arith}
+use Rattle.std.proofs.Common.{◌≡◌, ℕ, ◌+◌, ◌*◌, ◌^◌, ◌<◌, List, [], ◌∷◌, ◌++◌, length, map, Option, Some, None, pos}
+use Rattle.std.proofs.Common.{refl, sym, ap, subst, ◌∙◌, length-append, arith}
 use Rattle.std.proofs.lemmas.List.{append-nil}
 use Rattle.std.specs.Option.{option_map, option_or}
 use Rattle.std.specs.Prelude.{slice_range}
 use Rattle.ev_types.specs.declared.event.Event.{Event}
 use Rattle.pb_wire.specs.declared.reader.Body.{Body}
-use Rattle.pb_wire.specs.declared.reader.Body.TheVariants.{Varint as body_varint, Eight as body_eight, Bytes as body_bytes, Four as body_four}
+use Rattle.pb_wire.specs.declared.reader.Body.TheVariants.{Varint as body_varint, Eight as body_eight}
+use Rattle.pb_wire.specs.declared.reader.Body.TheVariants.{Bytes as body_bytes, Four as body_four}
 use Rattle.pb_wire.specs.Fields.{FieldAt, fields_of}
 use Rattle.pb_wire.specs.ReadBack.{FieldValue, IsField, values_of}
 use Rattle.pb_wire.specs.Spelling.{Bytes, content_in, field_spelling}

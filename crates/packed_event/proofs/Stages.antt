@@ -1,10 +1,12 @@
 -- Fields that are there, that may be absent, and that are there any number of times.
-use Rattle.std.proofs.Common.{◌≡◌, ℕ, zero, suc, ◌^◌, ◌<◌, ◌≤◌, eqb, List, [], ◌∷◌, ◌++◌, length, Option, Some, None, refl, sym, ap, subst, ◌∙◌, append_assoc, length-append, arith, inl, inr}
+use Rattle.std.proofs.Common.{◌≡◌, ℕ, zero, suc, ◌^◌, ◌<◌, ◌≤◌, eqb, List, [], ◌∷◌, ◌++◌, length, Option, Some, None}
+use Rattle.std.proofs.Common.{refl, sym, ap, subst, ◌∙◌, append_assoc, length-append, arith, inl, inr}
 use Rattle.std.specs.Prelude.{IfSome}
 use Rattle.std.specs.List.{AllByRecursion}
 use Rattle.std.proofs.lemmas.Bool.{eqb-true, eq-eqb, ne_eqb}
 use Rattle.packed_event.specs.Reading.{◌>>=◌, at_end, optional, repeated, repeated_within, required}
-use Rattle.packed_event.proofs.Parts.{IsBytes, IsBytes-tail, IsBytes-rest, IsPart, bind_some, chosen, done, passed, some_is}
+use Rattle.packed_event.proofs.Parts.{IsBytes, IsBytes-tail, IsBytes-rest, IsPart, bind_some, chosen, done, passed}
+use Rattle.packed_event.proofs.Parts.{some_is}
 
 abbrev pub optional_text : {A : Type 0} → ℕ → (A → List ℕ) → Option A → List ℕ
 optional_text tag text None = []

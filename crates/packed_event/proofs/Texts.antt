@@ -1,5 +1,6 @@
 -- The bytes of an event, with each tag beside what follows it, are those that are written for it.
-use Rattle.std.proofs.Common.{◌≡◌, ℕ, ◌+◌, ◌*◌, ◌<◌, List, [], ◌∷◌, ◌++◌, Option, Some, None, ℤ, refl, sym, ap, ◌∙◌, append_assoc, arith}
+use Rattle.std.proofs.Common.{◌≡◌, ℕ, ◌+◌, ◌*◌, ◌<◌, List, [], ◌∷◌, ◌++◌, Option, Some, None, ℤ, refl, sym, ap, ◌∙◌}
+use Rattle.std.proofs.Common.{append_assoc, arith}
 use Rattle.std.specs.Int.{w32, w64, to_le_bytes}
 use Rattle.std.proofs.lemmas.Bool.{lt-ltb}
 use Rattle.std.proofs.lemmas.List.{append-nil}
@@ -7,7 +8,8 @@ use Rattle.ev_types.specs.declared.event.Attr.{Attr}
 use Rattle.ev_types.specs.declared.event.Event.{Event}
 use Rattle.pb_wire.specs.Spelling.{Content, Varint, Eight, Bytes, Four, field_spelling}
 use Rattle.pb_wire.specs.Varint.{spelled_within, varint}
-use Rattle.riemann_msg.specs.Spelling.{attribute_content, attribute_values, event_values, int64, name_values, number_values, optional, repeated, sint64, spelled}
+use Rattle.riemann_msg.specs.Spelling.{attribute_content, attribute_values, event_values, int64, name_values}
+use Rattle.riemann_msg.specs.Spelling.{number_values, optional, repeated, sint64, spelled}
 use Rattle.riemann_msg.specs.Ttl.{bits_of}
 use Rattle.riemann_msg.proofs.Spelled.{attribute_spelled, event_spelled, names_spelled, numbers_spelled}
 use Rattle.packed_event.proofs.Attributes.{attribute_body, attribute_text}

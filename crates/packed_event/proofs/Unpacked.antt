@@ -5,7 +5,8 @@ use Rattle.ev_types.specs.declared.event.Attr.{Attr}
 use Rattle.ev_types.specs.declared.event.Event.{Event}
 use Rattle.riemann_msg.specs.ReadBack.{IsWellFormedEvent}
 use Rattle.packed_event.specs.Kept.{bytes_of}
-use Rattle.packed_event.specs.Reading.{NamesRead, NumbersRead, attribute_part, event_read, int64_part, names_part, numbers_part, optional, packed_in, repeated, required, text_part, ttl_part}
+use Rattle.packed_event.specs.Reading.{NamesRead, NumbersRead, attribute_part, event_read, int64_part, names_part}
+use Rattle.packed_event.specs.Reading.{numbers_part, optional, packed_in, repeated, required, text_part, ttl_part}
 use Rattle.packed_event.specs.Unpacking.{with_names, with_numbers}
 use Rattle.packed_event.specs.declared.places.Places.{Places}
 use Rattle.packed_event.proofs.Events.{packed_whole}

@@ -1,5 +1,5 @@
-//! Reading a packed event into one that owns its parts. The bytes are known to be those of an event: for other bytes the
-//! contracts of the functions here say nothing.
+//! Reading a packed event into one that owns its parts. The bytes are known to be those of an event: for other bytes
+//! the contracts of the functions here say nothing.
 
 ghost use Rattle.std.specs.Prelude.{◌≡◌, ℕ, ℤ, ◌++◌, List, Option, pos, IfOk, OnOk, Some};
 ghost use Rattle.ev_types.specs.Set.{event_at};

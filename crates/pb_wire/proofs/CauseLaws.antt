@@ -1,20 +1,27 @@
 -- A field is refused for the cause that the bytes have, and for no other.
-use Rattle.std.proofs.Common.{◌≡◌, ◌≢◌, ℕ, zero, suc, ◌+◌, ◌-◌, ◌/◌, ◌%◌, ◌^◌, ◌<◌, ◌≤◌, Bool, true, false, cond, eqb, ltb, leb, ◌&&◌, ◌⊎◌, inl, inr, List, [], ◌∷◌, ◌++◌, length, take, drop, Result, Ok, Err, refl, sym, ap, subst, ◌∙◌, arith, length-append, length-drop}
-use Rattle.std.proofs.lemmas.Bool.{cases_lt, lt-ltb, le-ltb, lt-leb, le-leb, ltb-true, leb-true, leb-false, eqb-true, eq-eqb, and_parts}
+use Rattle.std.proofs.Common.{◌≡◌, ◌≢◌, ℕ, zero, suc, ◌+◌, ◌-◌, ◌/◌, ◌%◌, ◌^◌, ◌<◌, ◌≤◌, Bool, true, false, cond, eqb}
+use Rattle.std.proofs.Common.{ltb, leb, ◌&&◌, ◌⊎◌, inl, inr, List, [], ◌∷◌, ◌++◌, length, take, drop, Result, Ok, Err}
+use Rattle.std.proofs.Common.{refl, sym, ap, subst, ◌∙◌, arith, length-append, length-drop}
+use Rattle.std.proofs.lemmas.Bool.{cases_lt, lt-ltb, le-ltb, lt-leb, le-leb, ltb-true, leb-true, leb-false, eqb-true}
+use Rattle.std.proofs.lemmas.Bool.{eq-eqb, and_parts}
 use Rattle.std.proofs.lemmas.List.{drop_at, drop-drop, take-append-drop}
 use Rattle.std.specs.List.{AllByRecursion, slice_range}
 use Rattle.std.specs.Int.{w32, w64, from_le_bytes}
 use Rattle.pb_wire.specs.declared.reader.Body.{Body}
-use Rattle.pb_wire.specs.declared.reader.Body.TheVariants.{Varint as body_varint, Eight as body_eight, Bytes as body_bytes, Four as body_four}
+use Rattle.pb_wire.specs.declared.reader.Body.TheVariants.{Varint as body_varint, Eight as body_eight}
+use Rattle.pb_wire.specs.declared.reader.Body.TheVariants.{Bytes as body_bytes, Four as body_four}
 use Rattle.pb_wire.specs.declared.reader.WireWhy.{WireWhy}
 use Rattle.pb_wire.specs.declared.reader.WireWhy.TheVariants.{Short, Varint, Tag, Wire}
 use Rattle.pb_wire.specs.Varint.{low_bits, high_bytes, varint_at}
-use Rattle.pb_wire.specs.Fields.{◌>>=◌, varint_from, tag_from, bytes_from, varint_body, eight_body, bytes_body, four_body, body_from, field_from}
+use Rattle.pb_wire.specs.Fields.{◌>>=◌, varint_from, tag_from, bytes_from, varint_body, eight_body, bytes_body}
+use Rattle.pb_wire.specs.Fields.{four_body, body_from, field_from}
 use Rattle.pb_wire.specs.Spelling.{content_in}
-use Rattle.pb_wire.specs.Cause.{IsHigh, EndsInVarint, IsLongVarint, BeginsWith, IsTag, IsTagCause, HasVarint, EndsInBody, IsBodyCause, IsCause, BeginsWithField}
+use Rattle.pb_wire.specs.Cause.{IsHigh, EndsInVarint, IsLongVarint, BeginsWith, IsTag, IsTagCause, HasVarint}
+use Rattle.pb_wire.specs.Cause.{EndsInBody, IsBodyCause, IsCause, BeginsWithField}
 use Rattle.pb_wire.proofs.VarintLaws.{varint_again}
 use Rattle.pb_wire.proofs.Places.{At, at_between}
-use Rattle.pb_wire.proofs.FieldLaws.{cases_read, bind_ok, guard_ok, ok_wire, varint_from_found, field_again, field_found}
+use Rattle.pb_wire.proofs.FieldLaws.{cases_read, bind_ok, guard_ok, ok_wire, varint_from_found, field_again}
+use Rattle.pb_wire.proofs.FieldLaws.{field_found}
 
 abbrev refusal : (A : Type 0) → WireWhy → Result A WireWhy
 refusal A why = Err why

@@ -1,15 +1,20 @@
 -- A field is read as what its spelling spells, and what is read is spelled.
-use Rattle.std.proofs.Common.{◌≡◌, ℕ, ◌+◌, ◌-◌, ◌*◌, ◌/◌, ◌%◌, ◌^◌, ◌<◌, ◌≤◌, Bool, true, false, cond, eqb, ltb, leb, ◌&&◌, ◌⊎◌, inl, inr, List, [], ◌∷◌, ◌++◌, length, take, drop, Result, Ok, Err, refl, sym, ap, subst, ◌∙◌, arith, length-append, length-drop}
+use Rattle.std.proofs.Common.{◌≡◌, ℕ, ◌+◌, ◌-◌, ◌*◌, ◌/◌, ◌%◌, ◌^◌, ◌<◌, ◌≤◌, Bool, true, false, cond, eqb, ltb, leb}
+use Rattle.std.proofs.Common.{◌&&◌, ◌⊎◌, inl, inr, List, [], ◌∷◌, ◌++◌, length, take, drop, Result, Ok, Err, refl, sym}
+use Rattle.std.proofs.Common.{ap, subst, ◌∙◌, arith, length-append, length-drop}
 use Rattle.std.proofs.lemmas.Bool.{lt-ltb, le-leb, ltb-true, leb-true, eqb-true, and_parts}
 use Rattle.std.specs.List.{slice_range}
 use Rattle.std.specs.Int.{w32, w64, from_le_bytes}
 use Rattle.pb_wire.specs.declared.reader.Body.{Body}
-use Rattle.pb_wire.specs.declared.reader.Body.TheVariants.{Varint as body_varint, Eight as body_eight, Bytes as body_bytes, Four as body_four}
+use Rattle.pb_wire.specs.declared.reader.Body.TheVariants.{Varint as body_varint, Eight as body_eight}
+use Rattle.pb_wire.specs.declared.reader.Body.TheVariants.{Bytes as body_bytes, Four as body_four}
 use Rattle.pb_wire.specs.declared.reader.WireWhy.{WireWhy}
 use Rattle.pb_wire.specs.declared.reader.WireWhy.TheVariants.{Short, Tag, Wire}
 use Rattle.pb_wire.specs.Varint.{IsVarint, varint_at}
-use Rattle.pb_wire.specs.Fields.{FieldAt, ◌>>=◌, varint_from, tag_from, bytes_from, varint_body, eight_body, bytes_body, four_body, body_from, field_from}
-use Rattle.pb_wire.specs.Spelling.{Content, Varint, Eight, Bytes, Four, content_in, wire_type, tag_of, IsBody, IsSpelling}
+use Rattle.pb_wire.specs.Fields.{FieldAt, ◌>>=◌, varint_from, tag_from, bytes_from, varint_body, eight_body, bytes_body}
+use Rattle.pb_wire.specs.Fields.{four_body, body_from, field_from}
+use Rattle.pb_wire.specs.Spelling.{Content, Varint, Eight, Bytes, Four, content_in, wire_type, tag_of, IsBody}
+use Rattle.pb_wire.specs.Spelling.{IsSpelling}
 use Rattle.pb_wire.specs.InRow.{EndsAt, IsFieldAt}
 use Rattle.pb_wire.specs.ReadBack.{body_before}
 use Rattle.pb_wire.proofs.VarintLaws.{varint_again, varint_found}

@@ -1,12 +1,15 @@
 -- What is written is read again.
-use Rattle.std.proofs.Common.{◌≡◌, ℕ, ◌+◌, ◌-◌, List, [], ◌∷◌, ◌++◌, length, map, refl, sym, ap, subst, ◌∙◌, arith, append_assoc, length-append}
+use Rattle.std.proofs.Common.{◌≡◌, ℕ, ◌+◌, ◌-◌, List, [], ◌∷◌, ◌++◌, length, map, refl, sym, ap, subst, ◌∙◌, arith}
+use Rattle.std.proofs.Common.{append_assoc, length-append}
 use Rattle.std.proofs.lemmas.List.{append-nil, drop_at}
 use Rattle.std.specs.List.{AllByRecursion, flat_map, slice_range}
 use Rattle.pb_wire.specs.declared.reader.Body.{Body}
 use Rattle.pb_wire.specs.declared.reader.WireWhy.TheVariants.{Short}
-use Rattle.pb_wire.specs.Fields.{FieldAt, next_at, fields_from, fields_end, fields_of, fields_fault, fault_in, fault_from}
+use Rattle.pb_wire.specs.Fields.{FieldAt, next_at, fields_from, fields_end, fields_of, fields_fault, fault_in}
+use Rattle.pb_wire.specs.Fields.{fault_from}
 use Rattle.pb_wire.specs.Spelling.{Content, Varint, Eight, Bytes, Four, content_in, IsSpelling}
-use Rattle.pb_wire.specs.ReadBack.{FieldValue, values_of, IsField, value_spelling, body_before, FieldIsReadBack, FieldsAreReadBack}
+use Rattle.pb_wire.specs.ReadBack.{FieldValue, values_of, IsField, value_spelling, body_before, FieldIsReadBack}
+use Rattle.pb_wire.specs.ReadBack.{FieldsAreReadBack}
 use Rattle.pb_wire.proofs.Places.{At, at_slice, at_next}
 use Rattle.pb_wire.proofs.FieldLaws.{field_again}
 use Rattle.pb_wire.proofs.RowLaws.{nothing_past, next_at_field, next_place_field, from_field, from_none, end_of_all}

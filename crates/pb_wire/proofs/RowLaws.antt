@@ -1,16 +1,20 @@
 -- The fields from a place on, one step further, and where they end.
-use Rattle.std.proofs.Common.{◌≡◌, ℕ, zero, suc, ◌+◌, ◌<◌, ◌≤◌, true, false, leb, inl, inr, List, [], ◌∷◌, ◌++◌, length, Ok, Err, refl, sym, ap, subst, ◌∙◌, arith}
+use Rattle.std.proofs.Common.{◌≡◌, ℕ, zero, suc, ◌+◌, ◌<◌, ◌≤◌, true, false, leb, inl, inr, List, [], ◌∷◌, ◌++◌, length}
+use Rattle.std.proofs.Common.{Ok, Err, refl, sym, ap, subst, ◌∙◌, arith}
 use Rattle.std.specs.Prelude.{drop, IfSome, MatchOption}
 use Rattle.std.proofs.lemmas.Bool.{le-leb, lt-leb, cases_lt}
 use Rattle.std.proofs.lemmas.List.{drop_all}
 use Rattle.pb_wire.specs.declared.reader.Body.{Body}
-use Rattle.pb_wire.specs.declared.reader.Body.TheVariants.{Varint as body_varint, Eight as body_eight, Bytes as body_bytes, Four as body_four}
+use Rattle.pb_wire.specs.declared.reader.Body.TheVariants.{Varint as body_varint, Eight as body_eight}
+use Rattle.pb_wire.specs.declared.reader.Body.TheVariants.{Bytes as body_bytes, Four as body_four}
 use Rattle.pb_wire.specs.declared.reader.Next.{Next}
 use Rattle.pb_wire.specs.declared.reader.Next.TheVariants.{End, Field, Refused}
 use Rattle.pb_wire.specs.declared.reader.WireWhy.{WireWhy}
 use Rattle.pb_wire.specs.declared.reader.WireWhy.TheVariants.{Short}
 use Rattle.pb_wire.specs.Varint.{varint_at}
-use Rattle.pb_wire.specs.Fields.{FieldAt, varint_from, tag_from, field_from, next_at, next_place, fields_within, end_within, fields_from, fields_end, fault_in, fault_from, fields_of, fields_fault, Cursor, LiesWithin, Advances}
+use Rattle.pb_wire.specs.Fields.{FieldAt, varint_from, tag_from, field_from, next_at, next_place, fields_within}
+use Rattle.pb_wire.specs.Fields.{end_within, fields_from, fields_end, fault_in, fault_from, fields_of, fields_fault}
+use Rattle.pb_wire.specs.Fields.{Cursor, LiesWithin, Advances}
 use Rattle.pb_wire.specs.Cause.{IsCause}
 use Rattle.pb_wire.specs.InRow.{EndsAt, IsFieldAt, AreInRow}
 use Rattle.pb_wire.proofs.FieldLaws.{cases_read, field_found, field_at_is_read}

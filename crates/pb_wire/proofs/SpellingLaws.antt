@@ -1,10 +1,12 @@
 -- What is written is a spelling, and the shortest.
-use Rattle.std.proofs.Common.{◌≡◌, ℕ, zero, suc, ◌+◌, ◌*◌, ◌/◌, ◌%◌, ◌^◌, ◌<◌, ◌≤◌, inl, inr, List, [], ◌∷◌, length, refl, sym, ap, arith, length-append}
+use Rattle.std.proofs.Common.{◌≡◌, ℕ, zero, suc, ◌+◌, ◌*◌, ◌/◌, ◌%◌, ◌^◌, ◌<◌, ◌≤◌, inl, inr, List, [], ◌∷◌, length}
+use Rattle.std.proofs.Common.{refl, sym, ap, arith, length-append}
 use Rattle.std.proofs.Math.Nat.{pow-succ'}
 use Rattle.std.proofs.lemmas.Bool.{cases_lt, lt-ltb, le-ltb}
 use Rattle.std.proofs.lemmas.Nat.{from_le_bytes-to_le_bytes_4, from_le_bytes-to_le_bytes_8}
 use Rattle.pb_wire.specs.Varint.{low_bits, IsLastAlone, IsVarint, spelled_within, varint}
-use Rattle.pb_wire.specs.Spelling.{Content, Varint, Eight, Bytes, Four, tag_of, IsBody, IsSpelling, body_spelling, field_spelling}
+use Rattle.pb_wire.specs.Spelling.{Content, Varint, Eight, Bytes, Four, tag_of, IsBody, IsSpelling, body_spelling}
+use Rattle.pb_wire.specs.Spelling.{field_spelling}
 use Rattle.pb_wire.specs.ReadBack.{FieldValue, Fits, IsField, value_spelling}
 use Rattle.pb_wire.proofs.VarintLaws.{cons_alone}
 use Rattle.pb_wire.proofs.LoopLaws.{low_below}

@@ -1,7 +1,9 @@
 -- The fields that bytes spell, read forward. A field is a tag, which is a varint of 8 times the field's number and
 -- the type of its body, and the body: a varint (type 0), eight bytes (1), a length as a varint and that many bytes
 -- (2), or four bytes (5). Eight and four bytes are little-endian.
-use Rattle.std.specs.Prelude.{◌≡◌, ℕ, zero, suc, ◌+◌, ◌/◌, ◌%◌, ◌^◌, ◌<◌, ◌≤◌, ◌==◌, ◌&&◌, nat_lt, nat_le, if◌then◌else◌, List, [], ◌∷◌, length, drop, slice_range, Option, Some, None, Result, Ok, Err}
+use Rattle.std.specs.Prelude.{◌≡◌, ℕ, zero, suc, ◌+◌, ◌/◌, ◌%◌, ◌^◌, ◌<◌, ◌≤◌, ◌==◌, ◌&&◌, nat_lt, nat_le}
+use Rattle.std.specs.Prelude.{if◌then◌else◌, List, [], ◌∷◌, length, drop, slice_range, Option, Some, None, Result, Ok}
+use Rattle.std.specs.Prelude.{Err}
 use Rattle.std.specs.Int.{w32, w64, from_le_bytes}
 use Rattle.pb_wire.specs.declared.reader.Body.{Body}
 use Rattle.pb_wire.specs.declared.reader.Body.TheVariants.{Varint, Eight, Bytes, Four}
@@ -36,7 +38,8 @@ tag_from bytes place = do
 
 unfoldable pub bytes_from : ℕ → List ℕ → ℕ → Result (List ℕ × ℕ) WireWhy
 bytes_from size bytes place =
-    if nat_le (place + size) (length bytes) then Ok (slice_range bytes place (place + size), place + size) else Err Short
+    if nat_le (place + size) (length bytes) then Ok (slice_range bytes place (place + size), place + size)
+    else Err Short
 
 abbrev pub varint_body : List ℕ → ℕ → Result (Body × ℕ) WireWhy
 varint_body bytes place = do
@@ -158,5 +161,6 @@ pub record Stays (old : Cursor) (fault : Option (ℕ × WireWhy)) (new : Cursor)
 abbrev pub Advances : Cursor → Next → Cursor → Type 0
 Advances old End new = Stays old None new × (old.place ≡ length old.bytes)
 Advances old (Field number body place) new = Passes old (record { number = number; body = body; place = place }) new
-Advances old (Refused place why) new = Stays old (Some (place, why)) new × (place ≡ old.place) × (place < length old.bytes)
+Advances old (Refused place why) new =
+    Stays old (Some (place, why)) new × (place ≡ old.place) × (place < length old.bytes)
     × IsCause (drop place old.bytes) why

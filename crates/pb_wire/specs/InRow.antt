@@ -22,7 +22,8 @@ pub record IsFieldAt (bytes : List ℕ) (field : FieldAt) (after : ℕ) : Type 0
 -- the bytes have the fields one after the other, the first at a place, and `last` is just past the last one
 abbrev pub AreInRow : List ℕ → ℕ → List FieldAt → ℕ → Type 0
 AreInRow bytes place [] last = place ≡ last
-AreInRow bytes place (field ∷ fields) last = (field.place ≡ place) × (after : ℕ) × IsFieldAt bytes field after × AreInRow bytes after fields last
+AreInRow bytes place (field ∷ fields) last =
+    (field.place ≡ place) × (after : ℕ) × IsFieldAt bytes field after × AreInRow bytes after fields last
 
 abbrev pub FieldsAreInRow : Type 0
 FieldsAreInRow = (bytes : List ℕ) → AreInRow bytes 0 (fields_of bytes) (fields_end bytes 0)

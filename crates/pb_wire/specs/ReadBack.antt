@@ -2,7 +2,8 @@
 use Rattle.std.specs.Prelude.{◌≡◌, ℕ, ◌+◌, ◌-◌, ◌^◌, ◌<◌, ◌≤◌, List, ◌++◌, length, map, None}
 use Rattle.std.specs.List.{AllByRecursion, flat_map}
 use Rattle.pb_wire.specs.declared.reader.Body.{Body}
-use Rattle.pb_wire.specs.declared.reader.Body.TheVariants.{Varint as body_varint, Eight as body_eight, Bytes as body_bytes, Four as body_four}
+use Rattle.pb_wire.specs.declared.reader.Body.TheVariants.{Varint as body_varint, Eight as body_eight}
+use Rattle.pb_wire.specs.declared.reader.Body.TheVariants.{Bytes as body_bytes, Four as body_four}
 use Rattle.pb_wire.specs.declared.reader.Next.TheVariants.{Field}
 use Rattle.pb_wire.specs.Fields.{next_at, next_place, fields_of, fields_fault}
 use Rattle.pb_wire.specs.Spelling.{Content, Varint, Eight, Bytes, Four, content_in, field_spelling, IsSpelling}
@@ -14,7 +15,8 @@ pub record FieldValue : Type 0 where
 
 -- what the fields of the bytes hold, in order
 unfoldable pub values_of : List ℕ → List FieldValue
-values_of bytes = map (λ field. record { number = field.number; content = content_in bytes field.body }) (fields_of bytes)
+values_of bytes =
+    map (λ field. record { number = field.number; content = content_in bytes field.body }) (fields_of bytes)
 
 -- what a field of its type can hold
 abbrev pub Fits : Content → Type 0

@@ -2,9 +2,11 @@
 use Rattle.std.specs.Prelude.{◌≡◌, ℕ, ◌+◌, ◌*◌, ◌^◌, ◌<◌, List, ◌++◌, length, slice_range}
 use Rattle.std.specs.Int.{w32, w64, from_le_bytes, to_le_bytes}
 use Rattle.pb_wire.specs.declared.reader.Body.{Body}
-use Rattle.pb_wire.specs.declared.reader.Body.TheVariants.{Varint as body_varint, Eight as body_eight, Bytes as body_bytes, Four as body_four}
+use Rattle.pb_wire.specs.declared.reader.Body.TheVariants.{Varint as body_varint, Eight as body_eight}
+use Rattle.pb_wire.specs.declared.reader.Body.TheVariants.{Bytes as body_bytes, Four as body_four}
 use Rattle.pb_wire.specs.declared.writer.PutBody.{PutBody}
-use Rattle.pb_wire.specs.declared.writer.PutBody.TheVariants.{Varint as put_varint, Eight as put_eight, Bytes as put_bytes, Four as put_four}
+use Rattle.pb_wire.specs.declared.writer.PutBody.TheVariants.{Varint as put_varint, Eight as put_eight}
+use Rattle.pb_wire.specs.declared.writer.PutBody.TheVariants.{Bytes as put_bytes, Four as put_four}
 use Rattle.pb_wire.specs.Varint.{IsVarint, varint}
 
 -- what a field holds, apart from its place

@@ -1,6 +1,7 @@
 -- Base-128 varints of Protocol Buffers: seven bits a byte, the lowest first, and the high bit set in each byte
 -- but the last.
-use Rattle.std.specs.Prelude.{◌≡◌, ℕ, zero, suc, ◌+◌, ◌*◌, ◌/◌, ◌%◌, ◌^◌, ◌<◌, ◌≤◌, nat_lt, nat_le, if◌then◌else◌, List, [], ◌∷◌, length, take, Result, Ok, Err}
+use Rattle.std.specs.Prelude.{◌≡◌, ℕ, zero, suc, ◌+◌, ◌*◌, ◌/◌, ◌%◌, ◌^◌, ◌<◌, ◌≤◌, nat_lt, nat_le, if◌then◌else◌, List}
+use Rattle.std.specs.Prelude.{[], ◌∷◌, length, take, Result, Ok, Err}
 use Rattle.pb_wire.specs.declared.reader.WireWhy.{WireWhy}
 use Rattle.pb_wire.specs.declared.reader.WireWhy.TheVariants.{Short, Varint}
 
@@ -36,7 +37,8 @@ varint_at bytes = let high = high_bytes bytes in
 -- the shortest spelling of a number, in at most n + 1 bytes
 unfoldable pub spelled_within : ℕ → ℕ → List ℕ
 spelled_within zero value = value ∷ []
-spelled_within (suc n) value = if nat_lt value 128 then value ∷ [] else (128 + value % 128) ∷ spelled_within n (value / 128)
+spelled_within (suc n) value =
+    if nat_lt value 128 then value ∷ [] else (128 + value % 128) ∷ spelled_within n (value / 128)
 
 -- the shortest spelling of a number below 2 ^ 64
 unfoldable pub varint : ℕ → List ℕ

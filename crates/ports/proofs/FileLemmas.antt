@@ -1,5 +1,6 @@
 -- How the first file with a name is found, file by file.
-use Rattle.std.proofs.Common.{◌≡◌, ℕ, ◌+◌, ◌<◌, List, Some, false, if◌then◌else◌, length, drop, get_or, refl, drop-cons, add-one}
+use Rattle.std.proofs.Common.{◌≡◌, ℕ, ◌+◌, ◌<◌, List, Some, false, if◌then◌else◌, length, drop, get_or, refl, drop-cons}
+use Rattle.std.proofs.Common.{add-one}
 use Rattle.std.specs.Str.{bytes_eq}
 use Rattle.std.proofs.lemmas.Slice.Eq.{bytes_eq-Decides}
 use Rattle.std.proofs.lemmas.Bool.Decides.{same_from_decides}

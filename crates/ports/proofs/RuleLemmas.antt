@@ -1,5 +1,6 @@
 -- How the lines of a script take effect, one after another.
-use Rattle.std.proofs.Common.{◌≡◌, ℕ, ◌+◌, ◌<◌, true, false, List, [], ◌∷◌, length, drop, get_or, ◌≤◌, min, suc, zero, refl, sym, ◌∙◌, ap, drop-cons, add-one, arith}
+use Rattle.std.proofs.Common.{◌≡◌, ℕ, ◌+◌, ◌<◌, true, false, List, [], ◌∷◌, length, drop, get_or, ◌≤◌, min, suc, zero}
+use Rattle.std.proofs.Common.{refl, sym, ◌∙◌, ap, drop-cons, add-one, arith}
 use Rattle.std.proofs.lemmas.List.{drop-drop}
 use Rattle.ports.specs.Playing.{Played, SendRules, first_turn, from_turn, is_turn, rules_at_turn}
 use Rattle.ports.specs.declared.script.Step.{Step}

@@ -1,9 +1,12 @@
 -- How the calls of a script go on, one after another.
-use Rattle.std.proofs.Common.{◌≡◌, ℕ, ◌≤◌, ◌==◌, Bool, true, false, cond, List, [], ◌∷◌, ◌++◌, length, drop, fold, filter, Some, refl, sym, ◌∙◌, ap, append-nil, subst, lit<, arith}
+use Rattle.std.proofs.Common.{◌≡◌, ℕ, ◌≤◌, ◌==◌, Bool, true, false, cond, List, [], ◌∷◌, ◌++◌, length, drop, fold}
+use Rattle.std.proofs.Common.{filter, Some, refl, sym, ◌∙◌, ap, append-nil, subst, lit<, arith}
 use Rattle.std.proofs.lemmas.List.Sums.{fold-append}
 use Rattle.std.proofs.lemmas.List.Elements.{filter-append}
 use Rattle.std.proofs.lemmas.List.Concat.{flat_map-append}
-use Rattle.ports.specs.Playing.{AreAnswered, IsAnswered, IsScriptedRun, Playing, SendRules, begun, bytes_taken, first_turn, is_turn_answer, Plays, played, playing, rule_after, rules_at_turn, send_answer, succeeded, taken_by, taken_by_send, with_rule}
+use Rattle.ports.specs.Playing.{AreAnswered, IsAnswered, IsScriptedRun, Playing, SendRules, begun, bytes_taken}
+use Rattle.ports.specs.Playing.{first_turn, is_turn_answer, Plays, played, playing, rule_after, rules_at_turn}
+use Rattle.ports.specs.Playing.{send_answer, succeeded, taken_by, taken_by_send, with_rule}
 use Rattle.ports.specs.ScriptLinks.{IsPlaying}
 use Rattle.ports.specs.declared.entry.Entry.{Entry}
 use Rattle.ports.specs.declared.entry.Entry.TheVariants.{Listen, Next, Send, Close}

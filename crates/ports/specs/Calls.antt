@@ -6,7 +6,8 @@ use Rattle.ports.specs.declared.entry.Entry.{Entry}
 use Rattle.ports.specs.declared.script.Script.{Script}
 
 pub record LinksReport : Type 0 where
-  -- every call so far that did not answer out of memory, in order, with its arguments and its answer, where they report it
+  -- every call so far that did not answer out of memory, in order, with its arguments and its answer, where they report
+  -- it
   pub log : Option (List Entry)
   -- the script that the links play, where they play one
   pub script : Option Script

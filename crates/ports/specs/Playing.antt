@@ -1,5 +1,6 @@
 -- What a script makes links answer.
-use Rattle.std.specs.Prelude.{◌≡◌, ℕ, ◌-◌, ◌==◌, Bool, true, false, not, if◌then◌else◌, List, [], ◌∷◌, filter, fold, take, min, length, Option, Some, None, zero, suc}
+use Rattle.std.specs.Prelude.{◌≡◌, ℕ, ◌-◌, ◌==◌, Bool, true, false, not, if◌then◌else◌, List, [], ◌∷◌, filter, fold}
+use Rattle.std.specs.Prelude.{take, min, length, Option, Some, None, zero, suc}
 use Rattle.std.specs.List.{flat_map}
 use Rattle.std.specs.Option.{ForSome, option_map}
 use Rattle.ports.specs.declared.entry.Entry.{Entry}

@@ -32,7 +32,8 @@ IsOverLimit content limit = ForSome content (λ held. (bytes : List ℕ) × (hel
 -- after.
 abbrev pub HasCause : Content → ℕ → ℕ → ℕ → ℕ → ℕ → ReadAnswer → Type 0
 HasCause content limit faults faults' taken taken' (Bytes blob) =
-    (length blob ≤ limit) × (ForSome content (λ held. held ≡ Some blob)) × (faults' ≡ faults) × (RoseBy (length blob) taken taken')
+    (length blob ≤ limit) × (ForSome content (λ held. held ≡ Some blob)) × (faults' ≡ faults)
+    × (RoseBy (length blob) taken taken')
 HasCause content limit faults faults' taken taken' Failed = Rose faults faults'
 HasCause content limit faults faults' taken taken' TooLong =
     (IsOverLimit content limit) × (RoseBy (limit + 1) taken taken') × (faults' ≡ faults)

@@ -3,14 +3,16 @@ use Rattle.std.proofs.Common.{◌≡◌, Bool, true, false, ◌&&◌, Option, So
 use Rattle.std.specs.Option.{option_or}
 use Rattle.ev_types.specs.declared.event.Event.{Event}
 use Rattle.ev_types.specs.declared.field.Field.{Field}
-use Rattle.ev_types.specs.declared.field.Field.TheVariants.{Host, Service, State, Description, Time, Ttl, Metric, Attribute}
+use Rattle.ev_types.specs.declared.field.Field.TheVariants.{Host, Service, State, Description, Time, Ttl, Metric}
+use Rattle.ev_types.specs.declared.field.Field.TheVariants.{Attribute}
 use Rattle.ev_types.specs.declared.value.Value.{Value}
 use Rattle.ev_types.specs.Field.{text_value}
 use Rattle.ev_types.specs.Value.{same_value}
 use Rattle.pred_eval.specs.declared.rule.Rule.{Rule}
 use Rattle.pred_eval.specs.declared.rule.Rule as code
 use Rattle.pred_eval.specs.Host.{NeedsHost, asked_host, equal_host, first_host, if_host}
-use Rattle.pred_eval.specs.Tree.{Tree, Trees, Always, Never, Not, All, Any, Tagged, Equal, Order, Wild, Search, none, also, tree_of, trees_in}
+use Rattle.pred_eval.specs.Tree.{Tree, Trees, Always, Never, Not, All, Any, Tagged, Equal, Order, Wild, Search, none}
+use Rattle.pred_eval.specs.Tree.{also, tree_of, trees_in}
 use Rattle.pred_eval.specs.Truth.{holds, all_hold}
 use Rattle.pred_eval.proofs.TreeLaws.{tree_of_all}
 

@@ -1,5 +1,7 @@
 -- What a built regular expression and its states find, and parts of a list of them.
-use Rattle.std.proofs.Common.{◌≡◌, ℕ, suc, ◌<◌, ◌≤◌, true, cond, List, [], ◌∷◌, ◌++◌, take, drop, length, get_or, Option, Some, None, IsSomeAnd, is_some, option_map, inl, inr, refl, sym, ap, ◌∙◌, arith, chars, length-append}
+use Rattle.std.proofs.Common.{◌≡◌, ℕ, suc, ◌<◌, ◌≤◌, true, cond, List, [], ◌∷◌, ◌++◌, take, drop, length, get_or}
+use Rattle.std.proofs.Common.{Option, Some, None, IsSomeAnd, is_some, option_map, inl, inr, refl, sym, ap, ◌∙◌, arith}
+use Rattle.std.proofs.Common.{chars, length-append}
 use Rattle.std.specs.Option.{option_or}
 use Rattle.std.proofs.lemmas.Bool.{cond-true, cond-false, cases_Bool}
 use Rattle.std.proofs.lemmas.Option.{none-some, same_Some}
@@ -8,7 +10,9 @@ use Rattle.regex_hir.specs.Find.{Match, find, first_between}
 use Rattle.regex_hir.specs.Text.{is_boundary}
 use Rattle.regex_hir.specs.Meaning.{meaning}
 use Rattle.regex_hir.specs.declared.hir.Hir.{Hir}
-use Rattle.regex_hir.proofs.FindLemmas.{match_at, IsFirst-of_first_between, first_between_of_IsFirst, first_between_none, first_between_past, first_between_unfold, first_between_cong, none_of_first_between}
+use Rattle.regex_hir.proofs.FindLemmas.{match_at, IsFirst-of_first_between, first_between_of_IsFirst}
+use Rattle.regex_hir.proofs.FindLemmas.{first_between_none, first_between_past, first_between_unfold}
+use Rattle.regex_hir.proofs.FindLemmas.{first_between_cong, none_of_first_between}
 use Rattle.regex_hir.proofs.AttemptLemmas.{attempt_none}
 use Rattle.regex_syntax.specs.Grammar.{Names, read}
 use Rattle.regex_vm.specs.Found.{first_match, span}

@@ -1,8 +1,10 @@
 -- Rules as plain trees, at the values that the code makes.
-use Rattle.std.proofs.Common.{◌≡◌, ℕ, ◌+◌, ◌<◌, List, [], ◌∷◌, ◌++◌, append_assoc, Bool, ◌&&◌, ◌||◌, take, drop, length, length-append, min, arith, get_or, subst, ◌≤◌, Vec, Global, refl, sym, ap, ap₂, ◌∙◌}
+use Rattle.std.proofs.Common.{◌≡◌, ℕ, ◌+◌, ◌<◌, List, [], ◌∷◌, ◌++◌, append_assoc, Bool, ◌&&◌, ◌||◌, take, drop, length}
+use Rattle.std.proofs.Common.{length-append, min, arith, get_or, subst, ◌≤◌, Vec, Global, refl, sym, ap, ap₂, ◌∙◌}
 use Rattle.std.proofs.lemmas.List.{take_more, drop_more}
 use mathlib.Core.Former.{Count}
-use Rattle.pred_eval.specs.declared.rule.Rule.{Rule, All', Row_of-Rule, end_of-Rule, more_of-Rule, items-the_row-Rule, items_hidden-the_row-Rule-0}
+use Rattle.pred_eval.specs.declared.rule.Rule.{Rule, All', Row_of-Rule, end_of-Rule, more_of-Rule, items-the_row-Rule}
+use Rattle.pred_eval.specs.declared.rule.Rule.{items_hidden-the_row-Rule-0}
 use Rattle.pred_eval.specs.declared.rule.Rule as code
 use Rattle.ev_types.specs.declared.event.Event.{Event}
 use Rattle.regex.specs.declared.string.regex.Regex.{Regex}

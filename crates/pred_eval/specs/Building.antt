@@ -20,9 +20,9 @@ pub record PatternsReport : Type 0 where
   -- which, where they are known
   pub refused : Option (List (List ℕ))
 
--- This error of the crate `regex` is a cause to refuse the text: the grammar does not read it, or it is nested too deep,
--- or it is a pattern, and its program is too big. Which patterns have too big a program is not said. That memory ran
--- out is no cause.
+-- This error of the crate `regex` is a cause to refuse the text: the grammar does not read it, or it is nested too
+-- deep, or it is a pattern, and its program is too big. Which patterns have too big a program is not said. That memory
+-- ran out is no cause.
 abbrev pub IsCause : List ℕ → Error → Type 0
 IsCause pattern (Syntax error) = (error.kind ≢ kind.OutOfMemory) × Refuses default_config pattern error.kind
 IsCause pattern CompiledTooBig = IsPattern default_config pattern

@@ -33,8 +33,8 @@ AreReadFrom [] (regex ∷ regexes) = ⊥
 AreReadFrom (pattern ∷ patterns) [] = ⊥
 AreReadFrom (pattern ∷ patterns) (regex ∷ regexes) = IsReadFrom pattern regex × AreReadFrom patterns regexes
 
--- The states have the matches of the tree that is read in the text. If they are set to match at the start alone, the tree
--- does.
+-- The states have the matches of the tree that is read in the text. If they are set to match at the start alone, the
+-- tree does.
 pub record HasMatchesOf (pattern : List ℕ) (states : States) : Type 0 where
   pub tree : Hir
   pub names : Names

@@ -4,7 +4,8 @@ use Rattle.std.specs.Coded.{Coded, code_by, coded_list}
 use Rattle.ev_types.specs.declared.field.Field.{Field}
 use Rattle.ev_types.specs.declared.value.Value.{Value}
 use Rattle.pred_eval.specs.declared.rule.Ordering.{Ordering}
-use Rattle.pred_eval.specs.Tree.{Tree, Trees, Always, Never, Not, All, Any, Tagged, Equal, Order, Wild, Search, none, also}
+use Rattle.pred_eval.specs.Tree.{Tree, Trees, Always, Never, Not, All, Any, Tagged, Equal, Order, Wild, Search, none}
+use Rattle.pred_eval.specs.Tree.{also}
 
 pub data Mark : Type 0 where
   always : Mark
@@ -97,9 +98,11 @@ mutual
   read_back (Wild field pattern) rest = refl
   read_back (Search field pattern) rest = refl
 
-  pub read_all_back : (rules : Trees) (rest : List Mark) → read_marks (marks_of rules rest) ≡ trees rules ∷ read_marks rest
+  pub read_all_back : (rules : Trees) (rest : List Mark)
+      → read_marks (marks_of rules rest) ≡ trees rules ∷ read_marks rest
   read_all_back none rest = refl
-  read_all_back (also rule rules) rest = ap put_first (read_back rule (marks_of rules rest)) ∙ ap (put_before rule) (read_all_back rules rest)
+  read_all_back (also rule rules) rest =
+      ap put_first (read_back rule (marks_of rules rest)) ∙ ap (put_before rule) (read_all_back rules rest)
 
 abbrev spelled : Tree → List Mark
 spelled rule = marks rule []
@@ -110,4 +113,6 @@ first_tree (trees rules ∷ parts) = Never
 first_tree [] = Never
 
 abbrev pub tree_code : Coded Mark → Coded Tree
-tree_code mark_code = code_by (List Mark) (coded_list mark_code) spelled (λ list. first_tree (read_marks list)) (λ rule. ap first_tree (read_back rule []))
+tree_code mark_code =
+    code_by (List Mark) (coded_list mark_code) spelled (λ list. first_tree (read_marks list))
+    (λ rule. ap first_tree (read_back rule []))

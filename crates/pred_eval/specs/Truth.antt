@@ -1,12 +1,14 @@
 -- Whether an event meets a rule.
-use Rattle.std.specs.Prelude.{ℕ, ℤ, Bool, true, false, not, ◌&&◌, ◌||◌, int_lt, int_le, List, [], ◌∷◌, ◌++◌, Option, Some, None}
+use Rattle.std.specs.Prelude.{ℕ, ℤ, Bool, true, false, not, ◌&&◌, ◌||◌, int_lt, int_le, List, [], ◌∷◌, ◌++◌, Option}
+use Rattle.std.specs.Prelude.{Some, None}
 use Rattle.ev_types.specs.declared.event.Event.{Event}
 use Rattle.ev_types.specs.Field.{field_value}
 use Rattle.ev_types.specs.Set.{has_text}
 use Rattle.ev_types.specs.Value.{same_value, number_of, text_of}
 use Rattle.pred_eval.specs.declared.rule.Ordering.{Ordering}
 use Rattle.pred_eval.specs.declared.rule.Ordering.TheVariants.{Less, LessEqual, Greater, GreaterEqual}
-use Rattle.pred_eval.specs.Tree.{Tree, Trees, Always, Never, Not, All, Any, Tagged, Equal, Order, Wild, Search, none, also}
+use Rattle.pred_eval.specs.Tree.{Tree, Trees, Always, Never, Not, All, Any, Tagged, Equal, Order, Wild, Search, none}
+use Rattle.pred_eval.specs.Tree.{also}
 use Rattle.pred_eval.specs.Wild.{is_wild}
 use Rattle.pred_eval.specs.Search.{finds}
 

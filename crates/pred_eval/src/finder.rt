@@ -17,8 +17,8 @@ const MOST_BYTES: usize = 65_536;
 // The product of the states and of the bytes of a text that is searched by them is at most this.
 const MOST_PAIRS: usize = 16_384;
 
-/// What finds a regular expression, as which contracts see it. The crate `regex` searches with a matcher, which is made for
-/// each search and has 22 KB that are cleared first. So a short text is searched by the states of the expression.
+/// What finds a regular expression, as which contracts see it. The crate `regex` searches with a matcher, which is made
+/// for each search and has 22 KB that are cleared first. So a short text is searched by the states of the expression.
 #[derive(Drop)]
 pub struct Finder {
     regex: Regex,

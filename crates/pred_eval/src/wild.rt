@@ -26,8 +26,8 @@ pub fn is_wild(pattern: &[u8], text: &[u8]) -> bool
     }
 }
 
-// Whether the text is any bytes followed by a text that matches the pattern. Each part that a `%` follows is taken at its
-// first place, which leaves the most for the others.
+// Whether the text is any bytes followed by a text that matches the pattern. Each part that a `%` follows is taken at
+// its first place, which leaves the most for the others.
 fn ends_wild(mut pattern: &[u8], mut text: &[u8]) -> bool
     ensures { result ≡ is_wild (percent ∷ pattern.now) text.now }
 {

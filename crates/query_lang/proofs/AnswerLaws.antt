@@ -1,5 +1,6 @@
 -- No text has two answers.
-use Rattle.std.proofs.Common.{◌≡◌, ℕ, ◌+◌, ◌<◌, ◌≤◌, List, [], ◌∷◌, ◌++◌, ◌≢◌, length, Option, Some, Result, Ok, Err, IfOk, IfErr, ⊎_elim, refl, ap, sym, ◌∙◌, subst, arith, append_assoc}
+use Rattle.std.proofs.Common.{◌≡◌, ℕ, ◌+◌, ◌<◌, ◌≤◌, List, [], ◌∷◌, ◌++◌, ◌≢◌, length, Option, Some, Result, Ok, Err}
+use Rattle.std.proofs.Common.{IfOk, IfErr, ⊎_elim, refl, ap, sym, ◌∙◌, subst, arith, append_assoc}
 use Rattle.std.proofs.lemmas.Bool.{cases_lt}
 use Rattle.pred_eval.specs.declared.rule.Rule.{Rule}
 use Rattle.pred_eval.specs.Tree.{Tree, tree_of}
@@ -10,7 +11,8 @@ use Rattle.query_lang.specs.declared.fault.QueryFault.TheVariants.{TooLong, Refu
 use Rattle.query_lang.specs.declared.token.Token.{Token}
 use Rattle.query_lang.specs.Tokens.{token_at}
 use Rattle.query_lang.specs.Grammar.{IsQuery, IsQueryPrefix}
-use Rattle.query_lang.specs.Queries.{Begins, openings, Stops, StopsAtToken, IsQueryText, IsRefusedAt, IsTooDeepAt, IsAnswer, Agrees}
+use Rattle.query_lang.specs.Queries.{Begins, openings, Stops, StopsAtToken, IsQueryText, IsRefusedAt, IsTooDeepAt}
+use Rattle.query_lang.specs.Queries.{IsAnswer, Agrees}
 use Rattle.query_lang.specs.Reading.{Parses}
 use Rattle.query_lang.proofs.ParserLaws.{one_tree, append_nil}
 use Rattle.query_lang.proofs.CountLaws.{openings_append}

@@ -1,5 +1,7 @@
 -- That each text has its answer, and how many patterns a query has.
-use Rattle.std.proofs.Common.{◌≡◌, ℕ, zero, suc, ◌+◌, ◌-◌, ◌<◌, ◌≤◌, Bool, true, false, cond, ltb, List, [], ◌∷◌, ◌++◌, length, Option, Some, None, Result, Ok, Err, refl, ap, sym, ◌∙◌, subst, arith, length-append}
+use Rattle.std.proofs.Common.{◌≡◌, ℕ, zero, suc, ◌+◌, ◌-◌, ◌<◌, ◌≤◌, Bool, true, false, cond, ltb, List, [], ◌∷◌, ◌++◌}
+use Rattle.std.proofs.Common.{length, Option, Some, None, Result, Ok, Err, refl, ap, sym, ◌∙◌, subst, arith}
+use Rattle.std.proofs.Common.{length-append}
 use Rattle.std.proofs.lemmas.Bool.Decides.{nat_tests}
 use Rattle.ev_types.specs.declared.field.Field.{Field}
 use Rattle.pred_eval.specs.Tree.{Tree, Trees, Always, Never, Not, All, Any, Tagged, none, also}
@@ -13,7 +15,9 @@ use Rattle.query_lang.specs.declared.token.Operator.TheVariants as operator
 use Rattle.query_lang.specs.declared.token.Token.{Token}
 use Rattle.query_lang.specs.declared.token.Token.TheVariants as token
 use Rattle.query_lang.specs.Answer.{ended_at, and_then, answer_within, query_of}
-use Rattle.query_lang.specs.Grammar.{test_of, any_of, all_of, listed, IsAny, IsAll, IsOne, one_alternative, more_alternatives, one_part, more_parts, negated, grouped, always, never, nothing, tagged, test}
+use Rattle.query_lang.specs.Grammar.{test_of, any_of, all_of, listed, IsAny, IsAll, IsOne, one_alternative}
+use Rattle.query_lang.specs.Grammar.{more_alternatives, one_part, more_parts, negated, grouped, always, never, nothing}
+use Rattle.query_lang.specs.Grammar.{tagged, test}
 use Rattle.query_lang.specs.Parsing.{State, start, step, finish, within_limit}
 use Rattle.query_lang.specs.Queries.{Begins, IsAnswer}
 use Rattle.query_lang.specs.Reading.{taken, with_rest, Parses}

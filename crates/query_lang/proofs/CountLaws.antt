@@ -1,5 +1,6 @@
 -- How many `(` and `not` a parser has taken.
-use Rattle.std.proofs.Common.{◌≡◌, ℕ, ◌+◌, ◌≤◌, false, cond, List, [], ◌∷◌, ◌++◌, Option, Some, None, refl, subst, arith}
+use Rattle.std.proofs.Common.{◌≡◌, ℕ, ◌+◌, ◌≤◌, false, cond, List, [], ◌∷◌, ◌++◌, Option, Some, None, refl, subst}
+use Rattle.std.proofs.Common.{arith}
 use Rattle.std.proofs.lemmas.List.Sums.{sum_by-append}
 use Rattle.std.specs.Option.{option_map}
 use Rattle.ev_types.specs.declared.field.Field.{Field}
@@ -12,7 +13,8 @@ use Rattle.query_lang.specs.declared.token.Token.{Token}
 use Rattle.query_lang.specs.declared.token.Token.TheVariants as token
 use Rattle.ev_types.specs.Names.{named_field}
 use Rattle.query_lang.specs.Grammar.{test_of, is_opening}
-use Rattle.query_lang.specs.Parsing.{Group, State, operand_step, tag_step, operator_step, joint_step, step_at, step, joined, closed}
+use Rattle.query_lang.specs.Parsing.{Group, State, operand_step, tag_step, operator_step, joint_step, step_at, step}
+use Rattle.query_lang.specs.Parsing.{joined, closed}
 use Rattle.query_lang.specs.Queries.{openings}
 
 -- no group has more of `not` waiting than there were

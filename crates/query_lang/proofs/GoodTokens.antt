@@ -1,5 +1,7 @@
 -- What is known of the tokens of a text, and of the tree that they represent.
-use Rattle.std.proofs.Common.{◌≡◌, ℕ, zero, suc, ◌+◌, ◌<◌, ◌≤◌, ◌^◌, ◌&&◌, ◌||◌, Bool, true, false, cond, eqb, ltb, leb, List, [], ◌∷◌, codes, length, take, drop, Option, Some, None, unwrap_or, ℤ, pos, neg_ℤ, refl, ap, sym, subst, arith, one-add}
+use Rattle.std.proofs.Common.{◌≡◌, ℕ, zero, suc, ◌+◌, ◌<◌, ◌≤◌, ◌^◌, ◌&&◌, ◌||◌, Bool, true, false, cond, eqb, ltb, leb}
+use Rattle.std.proofs.Common.{List, [], ◌∷◌, codes, length, take, drop, Option, Some, None, unwrap_or, ℤ, pos, neg_ℤ}
+use Rattle.std.proofs.Common.{refl, ap, sym, subst, arith, one-add}
 use Rattle.std.specs.Char.{is_ascii_digit}
 use Rattle.std.specs.List.{prefix_len}
 use Rattle.std.specs.Option.{option_map, option_and_then, option_or}
@@ -11,14 +13,19 @@ use Rattle.ev_types.specs.declared.field.Field.TheVariants as field
 use Rattle.ev_types.specs.declared.value.Value.{Value}
 use Rattle.ev_types.specs.declared.value.Value.TheVariants as value
 use Rattle.pred_eval.specs.declared.rule.Ordering.TheVariants.{Less, LessEqual, Greater, GreaterEqual}
-use Rattle.pred_eval.specs.Tree.{Tree, Trees, Always, Never, Not, All, Any, Tagged, Equal, Order, Wild, Search, none, also}
+use Rattle.pred_eval.specs.Tree.{Tree, Trees, Always, Never, Not, All, Any, Tagged, Equal, Order, Wild, Search, none}
+use Rattle.pred_eval.specs.Tree.{also}
 use Rattle.query_lang.specs.declared.token.Token.{Token}
 use Rattle.query_lang.specs.declared.token.Token.TheVariants as token
 use Rattle.query_lang.specs.declared.token.Operator.{Operator}
 use Rattle.query_lang.specs.declared.token.Operator.TheVariants as operator
-use Rattle.query_lang.specs.Tokens.{is_name_byte, is_name_start, is_number_start, past_blanks, goes_on, word_of, name_at, number_at, number_of, quoted, string_at, symbol_at, or_short, long_symbol, short_symbol, token_at}
+use Rattle.query_lang.specs.Tokens.{is_name_byte, is_name_start, is_number_start, past_blanks, goes_on, word_of}
+use Rattle.query_lang.specs.Tokens.{name_at, number_at, number_of, quoted, string_at, symbol_at, or_short, long_symbol}
+use Rattle.query_lang.specs.Tokens.{short_symbol, token_at}
 use Rattle.ev_types.specs.Names.{protocol_field, is_hidden, named_field}
-use Rattle.query_lang.specs.Grammar.{test_of, listed, any_of, all_of, IsAny, IsAll, IsOne, one_alternative, more_alternatives, one_part, more_parts, negated, grouped, always, never, nothing, tagged, test}
+use Rattle.query_lang.specs.Grammar.{test_of, listed, any_of, all_of, IsAny, IsAll, IsOne, one_alternative}
+use Rattle.query_lang.specs.Grammar.{more_alternatives, one_part, more_parts, negated, grouped, always, never, nothing}
+use Rattle.query_lang.specs.Grammar.{tagged, test}
 use Rattle.query_lang.specs.Queries.{Begins}
 use Rattle.query_lang.proofs.ScanLaws.{AllPassing, run_passes, start_is_name_byte}
 use Rattle.query_lang.proofs.ReadBackLaws.{IsName, Fits64}

@@ -1,5 +1,6 @@
 -- How the state of a parser and the grammar go together.
-use Rattle.std.proofs.Common.{◌≡◌, ℕ, suc, ◌+◌, ◌-◌, ◌<◌, List, [], ◌∷◌, ◌++◌, Option, Some, None, pos, refl, ap, sym, ◌∙◌, subst, arith, append_assoc, add-one}
+use Rattle.std.proofs.Common.{◌≡◌, ℕ, suc, ◌+◌, ◌-◌, ◌<◌, List, [], ◌∷◌, ◌++◌, Option, Some, None, pos, refl, ap, sym}
+use Rattle.std.proofs.Common.{◌∙◌, subst, arith, append_assoc, add-one}
 use Rattle.std.specs.Option.{option_map, option_and_then}
 use Rattle.ev_types.specs.declared.field.Field.{Field}
 use Rattle.ev_types.specs.declared.value.Value.TheVariants as value
@@ -11,8 +12,11 @@ use Rattle.query_lang.specs.declared.token.Operator.TheVariants as operator
 use Rattle.query_lang.specs.declared.token.Token.{Token}
 use Rattle.query_lang.specs.declared.token.Token.TheVariants as token
 use Rattle.ev_types.specs.Names.{named_field}
-use Rattle.query_lang.specs.Grammar.{test_of, any_of, all_of, IsAny, IsAll, IsOne, one_alternative, more_alternatives, one_part, more_parts, negated as negated_one, grouped, always, never, nothing, tagged, test, IsQuery, IsQueryPrefix}
-use Rattle.query_lang.specs.Parsing.{Group, State, empty_group, start, negated, with_part, tree_of_group, operand_step, tag_step, operator_step, joint_step, step, finish}
+use Rattle.query_lang.specs.Grammar.{test_of, any_of, all_of, IsAny, IsAll, IsOne, one_alternative, more_alternatives}
+use Rattle.query_lang.specs.Grammar.{one_part, more_parts, negated as negated_one, grouped, always, never, nothing}
+use Rattle.query_lang.specs.Grammar.{tagged, test, IsQuery, IsQueryPrefix}
+use Rattle.query_lang.specs.Parsing.{Group, State, empty_group, start, negated, with_part, tree_of_group, operand_step}
+use Rattle.query_lang.specs.Parsing.{tag_step, operator_step, joint_step, step, finish}
 
 pub negated_more : (n i : ℕ) (tree : Tree) → i < n → negated (n - i) tree ≡ negated (n - (i + 1)) (Not tree)
 negated_more n i tree inside =

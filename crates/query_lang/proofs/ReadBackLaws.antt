@@ -1,5 +1,7 @@
 -- What is written is read again.
-use Rattle.std.proofs.Common.{◌≡◌, ℕ, suc, ◌+◌, ◌<◌, ◌≤◌, ◌^◌, Bool, true, false, cond, eqb, ltb, leb, List, [], ◌∷◌, ◌++◌, length, take, drop, Option, Some, None, ℤ, pos, negsuc, refl, ap, sym, ◌∙◌, subst, arith, append_assoc, one-add, ⊎_elim}
+use Rattle.std.proofs.Common.{◌≡◌, ℕ, suc, ◌+◌, ◌<◌, ◌≤◌, ◌^◌, Bool, true, false, cond, eqb, ltb, leb, List, [], ◌∷◌}
+use Rattle.std.proofs.Common.{◌++◌, length, take, drop, Option, Some, None, ℤ, pos, negsuc, refl, ap, sym, ◌∙◌, subst}
+use Rattle.std.proofs.Common.{arith, append_assoc, one-add, ⊎_elim}
 use Rattle.std.specs.Char.{is_ascii_digit, digit_value}
 use Rattle.std.proofs.lemmas.Str.Parse.{digit_from_value, numerals_by_value, tells_digits, IsNumeralModel}
 use Rattle.std.proofs.lemmas.Fmt.{digits_decimal, digits_value-decimal, decimal_nonempty}
@@ -11,7 +13,9 @@ use Rattle.std.specs.Str.Parse.{AllDigits, digits_value}
 use Rattle.std.proofs.lemmas.Bool.Decides.{nat_tests, eqb_tells}
 use Rattle.query_lang.specs.declared.token.Token.{Token}
 use Rattle.query_lang.specs.declared.token.Token.TheVariants as token
-use Rattle.query_lang.specs.Tokens.{is_blank, is_name_byte, is_name_start, is_number_start, past_blanks, word_of, name_at, number_at, number_of, goes_on, unescape, with_prefix, quoted, string_at, token_at}
+use Rattle.query_lang.specs.Tokens.{is_blank, is_name_byte, is_name_start, is_number_start, past_blanks, word_of}
+use Rattle.query_lang.specs.Tokens.{name_at, number_at, number_of, goes_on, unescape, with_prefix, quoted, string_at}
+use Rattle.query_lang.specs.Tokens.{token_at}
 use Rattle.query_lang.specs.Queries.{Begins}
 use Rattle.string_literals.specs.Literals.{escape, string_literal}
 use Rattle.query_lang.proofs.ScanLaws.{AllPassing, quoted_more}

@@ -1,5 +1,6 @@
 -- What was read of a text so far.
-use Rattle.std.proofs.Common.{◌≡◌, ℕ, suc, ◌+◌, ◌-◌, ◌<◌, ◌≤◌, Bool, true, false, cond, eqb, ltb, List, [], ◌∷◌, ◌++◌, length, Option, Some, None, Result, Ok, Err, refl, ap, sym, ◌∙◌, subst, arith}
+use Rattle.std.proofs.Common.{◌≡◌, ℕ, suc, ◌+◌, ◌-◌, ◌<◌, ◌≤◌, Bool, true, false, cond, eqb, ltb, List, [], ◌∷◌, ◌++◌}
+use Rattle.std.proofs.Common.{length, Option, Some, None, Result, Ok, Err, refl, ap, sym, ◌∙◌, subst, arith}
 use Rattle.std.specs.Option.{option_and_then}
 use Rattle.std.proofs.Math.Dec.{eqb-suc-zero}
 use Rattle.std.proofs.lemmas.Bool.{eqb-false}
@@ -15,7 +16,8 @@ use Rattle.query_lang.specs.Grammar.{IsQueryPrefix, is_opening}
 use Rattle.query_lang.specs.Parsing.{State, start, step, finish, within_limit, Ends}
 use Rattle.query_lang.specs.Queries.{Begins, openings, Stops, StopsAtToken, IsRefusedAt, IsTooDeepAt}
 use Rattle.query_lang.specs.Reading.{with_rest, taken, Takes, Parses}
-use Rattle.query_lang.proofs.ParserLaws.{reached, reached_more, parsed_is_query, taken_is_front, refused_is_none, ended, unended}
+use Rattle.query_lang.proofs.ParserLaws.{reached, reached_more, parsed_is_query, taken_is_front, refused_is_none, ended}
+use Rattle.query_lang.proofs.ParserLaws.{unended}
 use Rattle.query_lang.proofs.ScanLaws.{after_shorter, blanks_shorter}
 use Rattle.query_lang.proofs.CountLaws.{Counted, step_counts, openings_more}
 

@@ -1,7 +1,8 @@
 -- Rules in a row, as trees.
 use Rattle.std.proofs.Common.{◌≡◌, ◌≢◌, List, [], ◌∷◌, length, map, Vec, Global, refl, ap, sym, ◌∙◌, subst}
 use mathlib.Core.Former.{Count}
-use Rattle.pred_eval.specs.declared.rule.Rule.{Rule, Row_of-Rule, end_of-Rule, more_of-Rule, items-the_row-Rule, items_hidden-the_row-Rule-0}
+use Rattle.pred_eval.specs.declared.rule.Rule.{Rule, Row_of-Rule, end_of-Rule, more_of-Rule, items-the_row-Rule}
+use Rattle.pred_eval.specs.declared.rule.Rule.{items_hidden-the_row-Rule-0}
 use Rattle.pred_eval.specs.declared.rule.Rule as code
 use Rattle.pred_eval.specs.Tree.{Trees, All, Any, also, tree_of, trees_of}
 use Rattle.query_lang.specs.Grammar.{listed, any_of, all_of}

@@ -1,5 +1,7 @@
 -- Reading tokens from the front of bytes.
-use Rattle.std.proofs.Common.{◌≡◌, ℕ, zero, suc, ◌+◌, ◌-◌, ◌<◌, ◌≤◌, ◌^◌, Bool, true, false, cond, eqb, leb, ltb, List, [], ◌∷◌, ◌++◌, length, get_or, take, drop, ◌&&◌, inl, inr, Option, Some, None, Result, Ok, Err, ℤ, refl, ap, sym, ◌∙◌, subst, arith, append_assoc, length-drop}
+use Rattle.std.proofs.Common.{◌≡◌, ℕ, zero, suc, ◌+◌, ◌-◌, ◌<◌, ◌≤◌, ◌^◌, Bool, true, false, cond, eqb, leb, ltb, List}
+use Rattle.std.proofs.Common.{[], ◌∷◌, ◌++◌, length, get_or, take, drop, ◌&&◌, inl, inr, Option, Some, None, Result, Ok}
+use Rattle.std.proofs.Common.{Err, ℤ, refl, ap, sym, ◌∙◌, subst, arith, append_assoc, length-drop}
 use Rattle.std.proofs.Math.Seq.{take-length}
 use Rattle.std.proofs.lemmas.Bool.{false_from_ne_true, ne_eqb}
 use Rattle.std.proofs.lemmas.Bool.Decides.{nat_tests, eqb_tells}
@@ -12,14 +14,17 @@ use Rattle.std.specs.Result.{OkIff, result_ok}
 use Rattle.std.specs.Int.{w64, IsInRange}
 use Rattle.std.proofs.lemmas.Fmt.{IsAscii-from_digits}
 use Rattle.std.specs.Str.Parse.{AllDigits, digits_value, ParsesSigned}
-use Rattle.std.proofs.lemmas.Str.Parse.{IsNumeralModel, numerals_by_value, tells_digits, parse_signed_minus, parse_signed_plain}
+use Rattle.std.proofs.lemmas.Str.Parse.{IsNumeralModel, numerals_by_value, tells_digits, parse_signed_minus}
+use Rattle.std.proofs.lemmas.Str.Parse.{parse_signed_plain}
 use Rattle.std.specs.Str.{IsUtf8, IsValidUpTo, is_utf8}
 use Rattle.ev_types.specs.declared.text.TextFault.TheVariants.{Utf8}
 use Rattle.ev_types.specs.Text.{IsNoText}
 use Rattle.query_lang.specs.declared.token.Token.{Token}
 use Rattle.query_lang.specs.declared.token.Token.TheVariants.{Number, Quoted}
 use Rattle.string_literals.specs.Literals.{escaped}
-use Rattle.query_lang.specs.Tokens.{is_blank, is_name_byte, is_name_start, is_number_start, IsLiteral, past_blanks, goes_on, number_of, quoted, unescape, with_prefix, name_at, number_at, string_at, symbol_at, or_short, long_symbol, short_symbol, token_at}
+use Rattle.query_lang.specs.Tokens.{is_blank, is_name_byte, is_name_start, is_number_start, IsLiteral, past_blanks}
+use Rattle.query_lang.specs.Tokens.{goes_on, number_of, quoted, unescape, with_prefix, name_at, number_at, string_at}
+use Rattle.query_lang.specs.Tokens.{symbol_at, or_short, long_symbol, short_symbol, token_at}
 
 -- UTF-8
 

@@ -1,5 +1,6 @@
 -- What is written of a tree: its tokens are a query for it, and they are read again.
-use Rattle.std.proofs.Common.{◌≡◌, ℕ, Bool, true, false, cond, List, [], ◌∷◌, ◌++◌, codes, Some, refl, ap, sym, ◌∙◌, subst, append_assoc}
+use Rattle.std.proofs.Common.{◌≡◌, ℕ, Bool, true, false, cond, List, [], ◌∷◌, ◌++◌, codes, Some, refl, ap, sym, ◌∙◌}
+use Rattle.std.proofs.Common.{subst, append_assoc}
 use Rattle.std.specs.Str.{is_utf8}
 use Rattle.std.specs.Fmt.{signed_decimal}
 use Rattle.ev_types.specs.declared.field.Field.{Field}
@@ -8,7 +9,8 @@ use Rattle.ev_types.specs.declared.value.Value.{Value}
 use Rattle.ev_types.specs.declared.value.Value.TheVariants as value
 use Rattle.pred_eval.specs.declared.rule.Ordering.{Ordering}
 use Rattle.pred_eval.specs.declared.rule.Ordering.TheVariants.{Less, LessEqual, Greater, GreaterEqual}
-use Rattle.pred_eval.specs.Tree.{Tree, Trees, Always, Never, Not, All, Any, Tagged, Equal, Order, Wild, Search, none, also}
+use Rattle.pred_eval.specs.Tree.{Tree, Trees, Always, Never, Not, All, Any, Tagged, Equal, Order, Wild, Search, none}
+use Rattle.pred_eval.specs.Tree.{also}
 use Rattle.query_lang.specs.declared.token.Token.{Token}
 use Rattle.query_lang.specs.declared.token.Token.TheVariants as token
 use Rattle.query_lang.specs.declared.token.Operator.{Operator}
@@ -17,10 +19,13 @@ use Rattle.query_lang.specs.declared.write.Under.{Under}
 use Rattle.query_lang.specs.declared.write.Under.TheVariants as under
 use Rattle.query_lang.specs.Tokens.{past_blanks, word_of, name_at, long_symbol, short_symbol, token_at}
 use Rattle.ev_types.specs.Names.{protocol_field, named_field, field_name}
-use Rattle.query_lang.specs.Grammar.{test_of, listed, any_of, all_of, IsAny, IsAll, IsOne, one_alternative, more_alternatives, one_part, more_parts, negated, grouped as in_group, always, never, tagged, test, IsQuery}
+use Rattle.query_lang.specs.Grammar.{test_of, listed, any_of, all_of, IsAny, IsAll, IsOne, one_alternative}
+use Rattle.query_lang.specs.Grammar.{more_alternatives, one_part, more_parts, negated, grouped as in_group, always}
+use Rattle.query_lang.specs.Grammar.{never, tagged, test, IsQuery}
 use Rattle.query_lang.specs.Queries.{Begins}
 use Rattle.string_literals.specs.Literals.{string_literal}
-use Rattle.query_lang.specs.Spelling.{value_spelling, order_symbol, groups_any, groups_all, grouped, spelling_under, joined_spelling, more_spelling, spelling}
+use Rattle.query_lang.specs.Spelling.{value_spelling, order_symbol, groups_any, groups_all, grouped, spelling_under}
+use Rattle.query_lang.specs.Spelling.{joined_spelling, more_spelling, spelling}
 use Rattle.query_lang.specs.ReadBack.{IsReadable, IsReadBack}
 use Rattle.query_lang.proofs.ReadBackLaws.{Separated, begins_blank, begins_name, begins_string, begins_number}
 use Rattle.query_lang.proofs.ParserLaws.{append_nil}

@@ -4,7 +4,8 @@ use Rattle.std.specs.Prelude.{◌≡◌, ℕ, Bool, true, false, List, [], ◌�
 use Rattle.ev_types.specs.declared.field.Field.{Field}
 use Rattle.ev_types.specs.Names.{named_field}
 use Rattle.ev_types.specs.declared.value.Value.TheVariants as value
-use Rattle.pred_eval.specs.Tree.{Tree, Trees, Always, Never, Not, All, Any, Tagged, Equal, Order, Wild, Search, none, also}
+use Rattle.pred_eval.specs.Tree.{Tree, Trees, Always, Never, Not, All, Any, Tagged, Equal, Order, Wild, Search, none}
+use Rattle.pred_eval.specs.Tree.{also}
 use Rattle.query_lang.specs.declared.token.Token.{Token}
 use Rattle.query_lang.specs.declared.token.Token.TheVariants as token
 use Rattle.query_lang.specs.declared.token.Operator.{Operator}
@@ -41,21 +42,27 @@ all_of (tree ∷ second ∷ trees) = All (listed (tree ∷ second ∷ trees))
 mutual
   -- parts that `or` joins, each of them parts that `and` joins
   pub data IsAny : List Token → List Tree → List Token → Type 0 where
-    one_alternative : {tokens rest : List Token} {parts : List Tree} → IsAll tokens parts rest → IsAny tokens (all_of parts ∷ []) rest
-    more_alternatives : {tokens after rest : List Token} {parts trees : List Tree} → IsAll tokens parts (token.Or ∷ after) → IsAny after trees rest → IsAny tokens (all_of parts ∷ trees) rest
+    one_alternative : {tokens rest : List Token} {parts : List Tree} → IsAll tokens parts rest
+        → IsAny tokens (all_of parts ∷ []) rest
+    more_alternatives : {tokens after rest : List Token} {parts trees : List Tree}
+        → IsAll tokens parts (token.Or ∷ after) → IsAny after trees rest → IsAny tokens (all_of parts ∷ trees) rest
 
   pub data IsAll : List Token → List Tree → List Token → Type 0 where
     one_part : {tokens rest : List Token} {tree : Tree} → IsOne tokens tree rest → IsAll tokens (tree ∷ []) rest
-    more_parts : {tokens after rest : List Token} {tree : Tree} {trees : List Tree} → IsOne tokens tree (token.And ∷ after) → IsAll after trees rest → IsAll tokens (tree ∷ trees) rest
+    more_parts : {tokens after rest : List Token} {tree : Tree} {trees : List Tree}
+        → IsOne tokens tree (token.And ∷ after) → IsAll after trees rest → IsAll tokens (tree ∷ trees) rest
 
   pub data IsOne : List Token → Tree → List Token → Type 0 where
-    negated : {tokens rest : List Token} {tree : Tree} → IsOne tokens tree rest → IsOne (token.Not ∷ tokens) (Not tree) rest
-    grouped : {tokens rest : List Token} {trees : List Tree} → IsAny tokens trees (token.Close ∷ rest) → IsOne (token.Open ∷ tokens) (any_of trees) rest
+    negated : {tokens rest : List Token} {tree : Tree} → IsOne tokens tree rest
+        → IsOne (token.Not ∷ tokens) (Not tree) rest
+    grouped : {tokens rest : List Token} {trees : List Tree} → IsAny tokens trees (token.Close ∷ rest)
+        → IsOne (token.Open ∷ tokens) (any_of trees) rest
     always : {rest : List Token} → IsOne (token.True ∷ rest) Always rest
     never : {rest : List Token} → IsOne (token.False ∷ rest) Never rest
     nothing : {rest : List Token} → IsOne (token.Nil ∷ rest) Never rest
     tagged : {tag : List ℕ} {rest : List Token} → IsOne (token.Tagged ∷ token.Quoted tag ∷ rest) (Tagged tag) rest
-    test : {name : List ℕ} {field : Field} {operator : Operator} {literal : Token} {tree : Tree} {rest : List Token} → named_field name ≡ Some field → test_of field operator literal ≡ Some tree
+    test : {name : List ℕ} {field : Field} {operator : Operator} {literal : Token} {tree : Tree} {rest : List Token}
+        → named_field name ≡ Some field → test_of field operator literal ≡ Some tree
         → IsOne (token.Name name ∷ token.Operator operator ∷ literal ∷ rest) tree rest
 
 -- the tokens are a whole query, which represents the tree

@@ -1,5 +1,6 @@
 -- How a parser takes token by token: what it holds of the query so far, and what it wants next.
-use Rattle.std.specs.Prelude.{◌≡◌, ℕ, zero, suc, ◌+◌, nat_lt, if◌then◌else◌, List, [], ◌∷◌, ◌++◌, map, reverse, Option, Some, None, Result, Ok, Err}
+use Rattle.std.specs.Prelude.{◌≡◌, ℕ, zero, suc, ◌+◌, nat_lt, if◌then◌else◌, List, [], ◌∷◌, ◌++◌, map, reverse, Option}
+use Rattle.std.specs.Prelude.{Some, None, Result, Ok, Err}
 use Rattle.std.specs.Option.{option_map}
 use Rattle.ev_types.specs.declared.field.Field.{Field}
 use Rattle.ev_types.specs.Names.{named_field}
@@ -17,8 +18,8 @@ use Rattle.query_lang.specs.declared.token.Token.{Token}
 use Rattle.query_lang.specs.declared.token.Token.TheVariants as token
 use Rattle.query_lang.specs.Grammar.{test_of, any_of, all_of}
 
--- the part of a query between a parenthesis and its partner, or of the whole query, as far as it was read: the alternatives before the last
--- `or`, the parts after it, and how many `not` come before the next part
+-- the part of a query between a parenthesis and its partner, or of the whole query, as far as it was read: the
+-- alternatives before the last `or`, the parts after it, and how many `not` come before the next part
 pub record Group : Type 0 where
   pub alternatives : List Tree
   pub parts : List Tree
@@ -39,10 +40,19 @@ start = record { outer = []; group = empty_group; openings = 0; wants = wants.Op
 
 -- what a parser of the code holds
 abbrev pub group_of : code_group.Group → Group
-group_of group = record { alternatives = map tree_of group.alternatives.items; parts = map tree_of group.parts.items; nots = group.nots }
+group_of group = record {
+  alternatives = map tree_of group.alternatives.items;
+  parts = map tree_of group.parts.items;
+  nots = group.nots;
+}
 
 abbrev pub state_of : code_parser.Parser → State
-state_of parser = record { outer = map group_of (reverse parser.outer.items); group = group_of parser.group; openings = parser.openings; wants = parser.wants }
+state_of parser = record {
+  outer = map group_of (reverse parser.outer.items);
+  group = group_of parser.group;
+  openings = parser.openings;
+  wants = parser.wants;
+}
 
 abbrev pub negated : ℕ → Tree → Tree
 negated zero tree = tree
@@ -50,7 +60,8 @@ negated (suc n) tree = negated n (Not tree)
 
 -- one part more
 abbrev pub with_part : Tree → Group → Group
-with_part tree group = record { alternatives = group.alternatives; parts = group.parts ++ negated group.nots tree ∷ []; nots = 0 }
+with_part tree group =
+    record { alternatives = group.alternatives; parts = group.parts ++ negated group.nots tree ∷ []; nots = 0 }
 
 -- the tree of a whole group
 abbrev pub tree_of_group : Group → Tree
@@ -60,10 +71,16 @@ abbrev pub wanting : Wants → State → State
 wanting next state = record { outer = state.outer; group = state.group; openings = state.openings; wants = next }
 
 abbrev pub joined : Tree → State → State
-joined tree state = record { outer = state.outer; group = with_part tree state.group; openings = state.openings; wants = wants.Joint }
+joined tree state =
+    record { outer = state.outer; group = with_part tree state.group; openings = state.openings; wants = wants.Joint }
 
 abbrev pub opened : State → State
-opened state = record { outer = state.group ∷ state.outer; group = empty_group; openings = state.openings + 1; wants = wants.Operand }
+opened state = record {
+  outer = state.group ∷ state.outer;
+  group = empty_group;
+  openings = state.openings + 1;
+  wants = wants.Operand;
+}
 
 abbrev pub denied : State → State
 denied state = record {
@@ -76,14 +93,25 @@ denied state = record {
 abbrev pub next_alternative : State → State
 next_alternative state = record {
   outer = state.outer;
-  group = record { alternatives = state.group.alternatives ++ all_of state.group.parts ∷ []; parts = []; nots = state.group.nots };
+  group =
+      record {
+        alternatives = state.group.alternatives ++ all_of state.group.parts ∷ [];
+        parts = [];
+        nots = state.group.nots;
+      };
   openings = state.openings;
   wants = wants.Operand;
 }
 
 abbrev pub closed : List Group → State → Option State
 closed [] state = None
-closed (group ∷ outer) state = Some (record { outer = outer; group = with_part (tree_of_group state.group) group; openings = state.openings; wants = wants.Joint })
+closed (group ∷ outer) state =
+    Some (record {
+      outer = outer;
+      group = with_part (tree_of_group state.group) group;
+      openings = state.openings;
+      wants = wants.Joint;
+    })
 
 -- an operand is wanted
 abbrev pub operand_step : State → Token → Option State

@@ -14,7 +14,8 @@ use Rattle.query_lang.specs.Grammar.{IsQuery, IsQueryPrefix, is_opening}
 -- the text begins with the tokens, and after them and the blanks there are these bytes
 abbrev pub Begins : List ℕ → List Token → List ℕ → Type 0
 Begins text [] rest = past_blanks text ≡ rest
-Begins text (token ∷ tokens) rest = (after : List ℕ) × (token_at (past_blanks text) ≡ Some (token, after)) × Begins after tokens rest
+Begins text (token ∷ tokens) rest =
+    (after : List ℕ) × (token_at (past_blanks text) ≡ Some (token, after)) × Begins after tokens rest
 
 -- how many tokens are `(` or `not`
 abbrev pub openings : List Token → ℕ
@@ -27,7 +28,8 @@ pub record IsQueryText (text : List ℕ) (tree : Tree) : Type 0 where
   pub query : IsQuery tokens tree
   pub few : openings tokens ≤ MAX_OPENINGS
 
--- no query begins with the tokens and goes on with what comes there: a token, what is not a token, or the end of the text
+-- no query begins with the tokens and goes on with what comes there: a token, what is not a token, or the end of the
+-- text
 abbrev pub StopsAtToken : List Token → Option (Token × List ℕ) → Type 0
 StopsAtToken tokens None = Unit {0}
 StopsAtToken tokens (Some found) = IsQueryPrefix (tokens ++ found.0 ∷ []) → ⊥
@@ -59,7 +61,8 @@ pub record IsTooDeepAt (text : List ℕ) (place : ℕ) : Type 0 where
   pub full : openings tokens ≡ MAX_OPENINGS
   pub deep : openings (tokens ++ token ∷ []) ≡ MAX_OPENINGS + 1
 
--- what is to be answered to a text: the tree of the query that it is, or why it is not a query. No text is answered by Memory.
+-- what is to be answered to a text: the tree of the query that it is, or why it is not a query. No text is answered by
+-- Memory.
 abbrev pub IsAnswer : List ℕ → Result Tree QueryFault → Type 0
 IsAnswer text (Ok tree) = (length text ≤ MAX_BYTES) × IsQueryText text tree
 IsAnswer text (Err (TooLong size)) = (MAX_BYTES < length text) × (size ≡ length text)

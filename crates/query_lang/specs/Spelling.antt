@@ -7,7 +7,8 @@ use Rattle.ev_types.specs.declared.value.Value.TheVariants.{Nil, Number, Text}
 use Rattle.string_literals.specs.Literals.{string_literal}
 use Rattle.pred_eval.specs.declared.rule.Ordering.{Ordering}
 use Rattle.pred_eval.specs.declared.rule.Ordering.TheVariants.{Less, LessEqual, Greater, GreaterEqual}
-use Rattle.pred_eval.specs.Tree.{Tree, Trees, Always, Never, Not, All, Any, Tagged, Equal, Order, Wild, Search, none, also}
+use Rattle.pred_eval.specs.Tree.{Tree, Trees, Always, Never, Not, All, Any, Tagged, Equal, Order, Wild, Search, none}
+use Rattle.pred_eval.specs.Tree.{also}
 use Rattle.query_lang.specs.declared.write.Under.{Under}
 use Rattle.query_lang.specs.declared.write.Under.TheVariants as under
 

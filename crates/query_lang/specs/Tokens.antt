@@ -1,5 +1,6 @@
 -- The tokens of a query, read from the start of its text on.
-use Rattle.std.specs.Prelude.{◌≡◌, ℕ, ℤ, pos, neg_ℤ, ◌+◌, ◌^◌, ◌==◌, ◌||◌, ◌&&◌, nat_lt, nat_le, Bool, true, false, if◌then◌else◌, unwrap_or, List, [], ◌∷◌, length, take, drop, Option, Some, None, codes}
+use Rattle.std.specs.Prelude.{◌≡◌, ℕ, ℤ, pos, neg_ℤ, ◌+◌, ◌^◌, ◌==◌, ◌||◌, ◌&&◌, nat_lt, nat_le, Bool, true, false}
+use Rattle.std.specs.Prelude.{if◌then◌else◌, unwrap_or, List, [], ◌∷◌, length, take, drop, Option, Some, None, codes}
 use Rattle.std.specs.Char.{is_ascii_alphabetic, is_ascii_alphanumeric, is_ascii_digit}
 use Rattle.std.specs.List.{prefix_len}
 use Rattle.std.specs.Option.{option_map, option_and_then}
@@ -8,7 +9,8 @@ use Rattle.std.specs.Str.Parse.{AllDigits, digits_value}
 use Rattle.pred_eval.specs.declared.rule.Ordering.TheVariants.{Less, LessEqual, Greater, GreaterEqual}
 use Rattle.string_literals.specs.Literals.{escaped}
 use Rattle.query_lang.specs.declared.token.Token.{Token}
-use Rattle.query_lang.specs.declared.token.Token.TheVariants.{Open, Close, And, Or, Not, True, False, Nil, Tagged, Operator, Name, Number, Quoted}
+use Rattle.query_lang.specs.declared.token.Token.TheVariants.{Open, Close, And, Or, Not, True, False, Nil, Tagged}
+use Rattle.query_lang.specs.declared.token.Token.TheVariants.{Operator, Name, Number, Quoted}
 use Rattle.query_lang.specs.declared.token.Operator.TheVariants.{Equal, Unequal, Order, Wild, Search}
 
 -- space, tab, CR and LF
@@ -45,7 +47,8 @@ word_of name =
 
 -- the longest run of name bytes
 unfoldable pub name_at : List ℕ → Token × List ℕ
-name_at bytes = let size = prefix_len is_name_byte bytes in (unwrap_or (word_of (take size bytes)) (Name (take size bytes)), drop size bytes)
+name_at bytes = let size = prefix_len is_name_byte bytes in
+    (unwrap_or (word_of (take size bytes)) (Name (take size bytes)), drop size bytes)
 
 -- a minus or a digit, and digits
 abbrev pub IsLiteral : List ℕ → Type 0
@@ -56,7 +59,9 @@ IsLiteral (b ∷ digits) = (is_number_start b ≡ true) × AllDigits 10 digits
 unfoldable pub number_of : List ℕ → Option ℤ
 number_of [] = None
 number_of (b ∷ digits) =
-    if b == 45 then (if nat_lt 0 (length digits) && nat_le (digits_value 10 digits) (2 ^ 63) then Some (neg_ℤ (pos (digits_value 10 digits))) else None)
+    if b == 45
+    then (if nat_lt 0 (length digits) && nat_le (digits_value 10 digits) (2 ^ 63)
+    then Some (neg_ℤ (pos (digits_value 10 digits))) else None)
     else (if nat_lt (digits_value 10 (b ∷ digits)) (2 ^ 63) then Some (pos (digits_value 10 (b ∷ digits))) else None)
 
 -- the first byte is a name byte
@@ -89,7 +94,8 @@ quoted (b ∷ c ∷ bytes) =
 
 -- a string after its opening quote. What it holds is UTF-8.
 unfoldable pub string_at : List ℕ → Option (Token × List ℕ)
-string_at bytes = option_and_then (λ found. if is_utf8 found.0 then Some (Quoted found.0, found.1) else None) (quoted bytes)
+string_at bytes =
+    option_and_then (λ found. if is_utf8 found.0 then Some (Quoted found.0, found.1) else None) (quoted bytes)
 
 -- the symbols of two bytes, and those of one
 unfoldable pub long_symbol : ℕ → ℕ → Option Token

@@ -18,8 +18,8 @@ use std::alloc::Global;
 /// The most bytes of a query.
 pub const MAX_BYTES: usize = 4096;
 
-/// The rule that the text states as a query, or the first place at which it is not valid. A query has at most 4,096 bytes,
-/// and at most 64 tokens that are `(` or `not`.
+/// The rule that the text states as a query, or the first place at which it is not valid. A query has at most 4,096
+/// bytes, and at most 64 tokens that are `(` or `not`.
 pub fn read_query(alloc: Global, text: &[u8]) -> Result<Rule, QueryFault>
     ensures query { IfOk result (λ rule. IsAnswer text.now (Ok (tree_of rule))) }
     ensures fault { IfErr result (λ fault. fault ≢ QueryFault.Memory →

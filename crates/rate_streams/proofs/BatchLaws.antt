@@ -1,5 +1,7 @@
 -- What a `batch` keeps at an entry.
-use Rattle.std.proofs.Common.{◌≡◌, ℕ, zero, suc, ◌+◌, ◌-◌, ◌*◌, ◌/◌, ◌%◌, ◌^◌, ◌<◌, ◌≤◌, ◌==◌, ◌⊎◌, inl, inr, nat_le, Bool, true, false, not, cond, List, [], ◌∷◌, ◌++◌, length, drop, Some, refl, sym, ap, subst, ◌∙◌, arith}
+use Rattle.std.proofs.Common.{◌≡◌, ℕ, zero, suc, ◌+◌, ◌-◌, ◌*◌, ◌/◌, ◌%◌, ◌^◌, ◌<◌, ◌≤◌, ◌==◌, ◌⊎◌, inl, inr, nat_le}
+use Rattle.std.proofs.Common.{Bool, true, false, not, cond, List, [], ◌∷◌, ◌++◌, length, drop, Some, refl, sym, ap}
+use Rattle.std.proofs.Common.{subst, ◌∙◌, arith}
 use Rattle.std.proofs.Math.Nat.{div-eq_of_lt-le, mod-lt, mod-le}
 use Rattle.std.proofs.lemmas.Nat.{div-add-mod'}
 use Rattle.std.proofs.lemmas.Bool.Decides.{nat_tests}
@@ -16,7 +18,8 @@ use Rattle.stream_meaning.proofs.MomentLaws.{eq-zero, ne-zero}
 use Rattle.rate_streams.specs.declared.batch.BatchState.{BatchState}
 use Rattle.rate_streams.specs.Batch.{batch_kind, batch_passes, is_batch_due, BatchRepresents}
 use Rattle.rate_streams.specs.Windows.{number_at, end_at}
-use Rattle.rate_streams.proofs.WindowEvents.{alone_events, number_now, now_more, tick_ways, end_bound, end_now, vector_some, by_test, due_parts, not_due}
+use Rattle.rate_streams.proofs.WindowEvents.{alone_events, number_now, now_more, tick_ways, end_bound, end_now}
+use Rattle.rate_streams.proofs.WindowEvents.{vector_some, by_test, due_parts, not_due}
 
 rest_more : (m n : ℕ) → m % n + 1 < n → (m + 1) % n ≡ m % n + 1
 rest_more m n below =

@@ -1,5 +1,6 @@
 -- What a `rollup` keeps at an entry.
-use Rattle.std.proofs.Common.{◌≡◌, ℕ, zero, suc, ◌+◌, ◌-◌, ◌^◌, ◌<◌, ◌≤◌, ◌==◌, inl, inr, nat_lt, Bool, true, false, cond, List, [], ◌∷◌, ◌++◌, length, drop, Some, refl, sym, ap, subst, ◌∙◌, arith}
+use Rattle.std.proofs.Common.{◌≡◌, ℕ, zero, suc, ◌+◌, ◌-◌, ◌^◌, ◌<◌, ◌≤◌, ◌==◌, inl, inr, nat_lt, Bool, true, false}
+use Rattle.std.proofs.Common.{cond, List, [], ◌∷◌, ◌++◌, length, drop, Some, refl, sym, ap, subst, ◌∙◌, arith}
 use Rattle.std.proofs.lemmas.Bool.{eq-eqb}
 use Rattle.std.proofs.lemmas.Bool.Decides.{nat_tests}
 use Rattle.std.proofs.lemmas.List.{length_push, length-drop, drop_all, drop-append-le, nil_from_length}
@@ -14,7 +15,8 @@ use Rattle.stream_meaning.proofs.WindowLaws.{no_later_events, next_at, rolls_int
 use Rattle.rate_streams.specs.declared.rollup.RollupState.{RollupState}
 use Rattle.rate_streams.specs.Rollup.{rollup_kind, rollup_passes, is_rollup_due, room_in, calls_now, RollupRepresents}
 use Rattle.rate_streams.specs.Windows.{number_at, end_at}
-use Rattle.rate_streams.proofs.WindowEvents.{alone_events, number_now, now_more, tick_ways, end_bound, end_now, vector_some, by_test, due_parts, not_due}
+use Rattle.rate_streams.proofs.WindowEvents.{alone_events, number_now, now_more, tick_ways, end_bound, end_now}
+use Rattle.rate_streams.proofs.WindowEvents.{vector_some, by_test, due_parts, not_due}
 
 one_if-≤ : (t : Bool) (n : ℕ) → 0 < n → one_if t ≤ n
 one_if-≤ true n positive = omega arith

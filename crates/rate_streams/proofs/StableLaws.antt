@@ -1,5 +1,6 @@
 -- What a `stable` keeps at an entry.
-use Rattle.std.proofs.Common.{◌≡◌, ℕ, ◌+◌, ◌^◌, ◌<◌, ◌≤◌, Bool, true, false, ◌&&◌, nat_lt, cond, List, [], ◌∷◌, length, Some, None, refl, sym, ap, subst, ◌∙◌, arith}
+use Rattle.std.proofs.Common.{◌≡◌, ℕ, ◌+◌, ◌^◌, ◌<◌, ◌≤◌, Bool, true, false, ◌&&◌, nat_lt, cond, List, [], ◌∷◌, length}
+use Rattle.std.proofs.Common.{Some, None, refl, sym, ap, subst, ◌∙◌, arith}
 use Rattle.ev_types.specs.declared.event.Event.{Event}
 use Rattle.ev_types.specs.declared.field.Field.{Field}
 use Rattle.ev_types.specs.declared.item.Item.TheVariants.{One, Many}

@@ -32,6 +32,7 @@ pub record BatchRepresents (state : BatchState) (h : History) : Type 0 where
   pub positive : 0 < state.count
   pub start : state.windows.start ≡ begun h
   -- the last events of the present window that are in no batch yet
-  pub waiting : state.waiting ≡ last_of (length (events_now state.windows.secs h) % state.count) (events_now state.windows.secs h)
+  pub waiting : state.waiting ≡ last_of (length (events_now state.windows.secs h) % state.count)
+      (events_now state.windows.secs h)
   -- and the number of that window
   pub window : 0 < length state.waiting → state.window ≡ window_of state.windows.secs h

@@ -1,5 +1,6 @@
 -- What a `rollup` keeps of what came.
-use Rattle.std.specs.Prelude.{◌≡◌, ℕ, ◌+◌, ◌-◌, ◌<◌, ◌≤◌, ◌==◌, Bool, false, not, ◌&&◌, nat_lt, if◌then◌else◌, List, length, drop}
+use Rattle.std.specs.Prelude.{◌≡◌, ℕ, ◌+◌, ◌-◌, ◌<◌, ◌≤◌, ◌==◌, Bool, false, not, ◌&&◌, nat_lt, if◌then◌else◌, List}
+use Rattle.std.specs.Prelude.{length, drop}
 use Rattle.ev_types.specs.declared.item.Item.{Item}
 use Rattle.stream_meaning.specs.History.{History, begun, window_of}
 use Rattle.stream_meaning.specs.Rates.{events_now, rolls_into, allowed, one_if, rollup_items}
@@ -38,6 +39,7 @@ pub record RollupRepresents (state : RollupState) (h : History) : Type 0 where
   -- what the calls of the present window leave of the count
   pub room : room_in state (window_of state.windows.secs h) ≡ state.count - calls_now state.count state.windows.secs h
   -- the events of the present window that did not pass one by one
-  pub waiting : state.waiting ≡ drop (allowed state.count state.windows.secs (window_of state.windows.secs h) h) (events_now state.windows.secs h)
+  pub waiting : state.waiting ≡ drop (allowed state.count state.windows.secs (window_of state.windows.secs h) h)
+      (events_now state.windows.secs h)
   -- and the number of that window
   pub window : 0 < length state.waiting → state.window ≡ window_of state.windows.secs h

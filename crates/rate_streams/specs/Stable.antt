@@ -1,5 +1,6 @@
 -- What a `stable` keeps of what came.
-use Rattle.std.specs.Prelude.{◌≡◌, ℕ, ◌+◌, ◌-◌, ◌<◌, Bool, false, ◌&&◌, nat_lt, nat_le, if◌then◌else◌, List, [], length, None}
+use Rattle.std.specs.Prelude.{◌≡◌, ℕ, ◌+◌, ◌-◌, ◌<◌, Bool, false, ◌&&◌, nat_lt, nat_le, if◌then◌else◌, List, [], length}
+use Rattle.std.specs.Prelude.{None}
 use Rattle.ev_types.specs.declared.item.Item.{Item}
 use Rattle.stream_meaning.specs.History.{History, moment_of}
 use Rattle.stream_meaning.specs.Runs.{last_value, run, run_began, stable_items}
@@ -29,4 +30,5 @@ pub record StableRepresents (state : StableState) (h : History) : Type 0 where
   -- the moment at which the present run began
   pub began : state.began ≡ run_began state.field h
   -- the events of the run, until it has held long enough
-  pub waiting : state.waiting ≡ (if nat_lt (moment_of h) (run_began state.field h + state.secs) then run state.field h else [])
+  pub waiting : state.waiting
+      ≡ (if nat_lt (moment_of h) (run_began state.field h + state.secs) then run state.field h else [])

@@ -25,4 +25,5 @@ pub record ThrottleRepresents (state : ThrottleState) (h : History) : Type 0 whe
   pub sound : state.poisoned ≡ false
   pub start : state.windows.start ≡ begun h
   -- in the present window, and in each later one, as many events passed as came, up to the count
-  pub passed : (window : ℕ) → window_of state.windows.secs h ≤ window → passed_in state window ≡ min (count_in state.windows.secs window h) state.count
+  pub passed : (window : ℕ) → window_of state.windows.secs h ≤ window
+      → passed_in state window ≡ min (count_in state.windows.secs window h) state.count

@@ -18,9 +18,9 @@ use ev_types::{Emissions, Event, Events, Memory};
 use std::alloc::Global;
 use std::mem;
 
-/// At most `count` vectors pass in each window of `secs` seconds: events one by one, and when the window ends the others
-/// in one vector, which is the first of the next window. The count is 1 to 1,000,000, and a window has 1 to 604,800
-/// seconds.
+/// At most `count` vectors pass in each window of `secs` seconds: events one by one, and when the window ends the
+/// others in one vector, which is the first of the next window. The count is 1 to 1,000,000, and a window has 1 to
+/// 604,800 seconds.
 #[derive(Clone, Copy)]
 pub struct RollupParams {
     pub count: u32,
@@ -60,8 +60,8 @@ impl RollupState {
         })
     }
 
-    /// The event comes at the moment `now`. Where one more vector may pass, it is appended to `out` as a vector; else it
-    /// waits.
+    /// The event comes at the moment `now`. Where one more vector may pass, it is appended to `out` as a vector; else
+    /// it waits.
     pub fn item(
         &mut self,
         alloc: Global,

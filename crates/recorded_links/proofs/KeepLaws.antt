@@ -1,5 +1,6 @@
 -- The records that are added, and what a journal gets of them.
-use Rattle.std.proofs.Common.{◌≡◌, inl, ℕ, ◌+◌, ◌*◌, ◌≤◌, Bool, true, false, not, List, [], ◌∷◌, ◌++◌, length, refl, sym, ap, subst, ◌∙◌, arith, length-append}
+use Rattle.std.proofs.Common.{◌≡◌, inl, ℕ, ◌+◌, ◌*◌, ◌≤◌, Bool, true, false, not, List, [], ◌∷◌, ◌++◌, length, refl}
+use Rattle.std.proofs.Common.{sym, ap, subst, ◌∙◌, arith, length-append}
 use Rattle.std.specs.Int.{w16, w32, w64, to_be_bytes}
 use Rattle.std.specs.List.{flat_map, list_all}
 use Rattle.std.proofs.lemmas.List.Concat.{flat_map-cons}
@@ -7,7 +8,8 @@ use Rattle.disk_port.specs.Past.{StaysPossible}
 use Rattle.disk_port.proofs.PastLaws.{begins, same_possible}
 use Rattle.journal_format.specs.Journals.{HoldsAt}
 use Rattle.journal_format.specs.Limits.{step_limit, summary_limit}
-use Rattle.journal_format.specs.Spelling.{IsEvent, IsRecord, IsWord, are_distinct, end_byte, event_bytes, is_listen, record_bytes, summary_bytes}
+use Rattle.journal_format.specs.Spelling.{IsEvent, IsRecord, IsWord, are_distinct, end_byte, event_bytes, is_listen}
+use Rattle.journal_format.specs.Spelling.{record_bytes, summary_bytes}
 use Rattle.journal_format.specs.declared.turn_record.Summary.{Summary}
 use Rattle.journal_format.specs.declared.turn_record.TurnEvent.{TurnEvent}
 use Rattle.journal_format.specs.declared.turn_record.TurnEvent.TheVariants as event
@@ -15,7 +17,8 @@ use Rattle.journal_format.specs.declared.turn_record.TurnRecord.{TurnRecord}
 use Rattle.journal_format.proofs.NumberLaws.{wide16, wide32, wide64}
 use Rattle.ports.specs.declared.links.Turn.{Turn}
 use Rattle.ports.specs.declared.links.What.{What}
-use Rattle.ports.specs.declared.links.What.TheVariants.{Idle, Opened, Read, Ended, Broken, Room, Stopped, Failed, Memory}
+use Rattle.ports.specs.declared.links.What.TheVariants.{Idle, Opened, Read, Ended, Broken, Room, Stopped, Failed}
+use Rattle.ports.specs.declared.links.What.TheVariants.{Memory}
 use Rattle.turn_journal.specs.Standing.{Adds, HoldsOrWith, IsNext, LeavesOneOrBoth, StandsWith}
 use Rattle.recorded_links.specs.Keeping.{AddsRecord, HasPiece, IsTurn, Kept, entry_of, event_of, listen_entry}
 use Rattle.recorded_links.specs.Sending.{has_words}

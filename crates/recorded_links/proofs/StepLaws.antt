@@ -1,5 +1,6 @@
 -- What one call of recorded links adds to their own log and faults, and what is known of open links after it.
-use Rattle.std.proofs.Common.{◌≡◌, ◌≢◌, ◌⊎◌, inl, inr, ℕ, ◌+◌, ◌-◌, ◌^◌, ◌≤◌, ◌==◌, Bool, true, false, cond, not, ◌||◌, List, [], ◌∷◌, ◌++◌, filter, fold, length, refl, ap, sym, ◌∙◌, subst, arith, IsTrue}
+use Rattle.std.proofs.Common.{◌≡◌, ◌≢◌, ◌⊎◌, inl, inr, ℕ, ◌+◌, ◌-◌, ◌^◌, ◌≤◌, ◌==◌, Bool, true, false, cond, not, ◌||◌}
+use Rattle.std.proofs.Common.{List, [], ◌∷◌, ◌++◌, filter, fold, length, refl, ap, sym, ◌∙◌, subst, arith, IsTrue}
 use Rattle.std.specs.Prelude.{◌&&◌, Option, Some, None, nat_le, nat_lt}
 use Rattle.std.specs.List.{list_any}
 use Rattle.std.specs.Option.{ForSome, option_map}
@@ -11,7 +12,8 @@ use Rattle.disk_port.specs.Calls.{DiskReport}
 use Rattle.ports.specs.Calls.{AddsCalls, LinksReport}
 use Rattle.ports.proofs.CallLemmas.{no_calls}
 use Rattle.ports.specs.Counts.{Rose}
-use Rattle.ports.specs.Links.{HasNextCause, grown, is_failed_turn, next_entries, send_entries, unclosed, unclosed_after, unclosed_after_turn}
+use Rattle.ports.specs.Links.{HasNextCause, grown, is_failed_turn, next_entries, send_entries, unclosed, unclosed_after}
+use Rattle.ports.specs.Links.{unclosed_after_turn}
 use Rattle.ports.specs.declared.entry.Entry.{Entry}
 use Rattle.ports.specs.declared.entry.Entry.TheVariants.{Close}
 use Rattle.ports.specs.declared.links.SendAnswer.{SendAnswer}
@@ -19,7 +21,8 @@ use Rattle.ports.specs.declared.links.SendAnswer.TheVariants as send
 use Rattle.ports.specs.declared.links.Turn.{Turn}
 use Rattle.ports.specs.declared.links.Want.{Want}
 use Rattle.ports.specs.declared.links.What.{What}
-use Rattle.ports.specs.declared.links.What.TheVariants.{Idle, Opened, Read, Ended, Broken, Room, Stopped, Failed, Memory}
+use Rattle.ports.specs.declared.links.What.TheVariants.{Idle, Opened, Read, Ended, Broken, Room, Stopped, Failed}
+use Rattle.ports.specs.declared.links.What.TheVariants.{Memory}
 use Rattle.recorded_links.specs.Keeping.{HandsOut, is_lost}
 use Rattle.recorded_links.specs.Numbers.{Knows, inner_number, inner_wants, of_link, own_number, own_turn, own_what}
 use Rattle.journal_format.specs.declared.turn_record.Summary.{Summary}

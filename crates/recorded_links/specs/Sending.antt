@@ -1,5 +1,6 @@
 -- What came of the sends since the last record, by link.
-use Rattle.std.specs.Prelude.{◌≡◌, ℕ, ◌+◌, ◌^◌, ◌<◌, ◌==◌, Bool, ◌&&◌, nat_lt, if◌then◌else◌, List, [], ◌∷◌, ◌++◌, length, position, slice_index_or, slice_set, Option, Some, None}
+use Rattle.std.specs.Prelude.{◌≡◌, ℕ, ◌+◌, ◌^◌, ◌<◌, ◌==◌, Bool, ◌&&◌, nat_lt, if◌then◌else◌, List, [], ◌∷◌, ◌++◌}
+use Rattle.std.specs.Prelude.{length, position, slice_index_or, slice_set, Option, Some, None}
 use Rattle.journal_format.specs.Limits.{summary_limit}
 use Rattle.journal_format.specs.declared.turn_record.SendEnd.{SendEnd}
 use Rattle.journal_format.specs.declared.turn_record.SendEnd.TheVariants as end

@@ -16,7 +16,8 @@ use Rattle.ports.specs.declared.links.SendAnswer.TheVariants as send
 use Rattle.ports.specs.declared.links.Turn.{Turn}
 use Rattle.ports.specs.declared.links.Want.{Want}
 use Rattle.ports.specs.declared.links.What.TheVariants.{Stopped, Memory}
-use Rattle.recorded_links.specs.Keeping.{AddsRecord, FailedIf, HandsListen, HandsOut, Kept, entry_of, is_lost, is_lost_listen, is_ready, is_recorded, kept_of, listen_entry}
+use Rattle.recorded_links.specs.Keeping.{AddsRecord, FailedIf, HandsListen, HandsOut, Kept, entry_of, is_lost}
+use Rattle.recorded_links.specs.Keeping.{is_lost_listen, is_ready, is_recorded, kept_of, listen_entry}
 use Rattle.recorded_links.specs.Numbers.{inner_number, inner_wants, own_turn}
 use Rattle.recorded_links.specs.Sending.{after_send, may_note}
 

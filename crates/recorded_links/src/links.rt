@@ -19,9 +19,9 @@ use ports::{Links, ListenAnswer, PIECE_LIMIT, SendAnswer, Turn, Wants, What};
 use std::alloc::Global;
 use turn_journal::JournalFile;
 
-/// Links that are lent, and whose answers to `listen` and `next` are recorded in a journal before they are handed out. They
-/// hold references alone, so that a caller gets back all that it lent. Contracts see what calls were made of links and
-/// journal, and whether these links may still be used.
+/// Links that are lent, and whose answers to `listen` and `next` are recorded in a journal before they are handed out.
+/// They hold references alone, so that a caller gets back all that it lent. Contracts see what calls were made of links
+/// and journal, and whether these links may still be used.
 #[derive(Drop)]
 pub struct RecordedLinks<'a, L: Links, D: Disk> {
     pub inner: &'a mut L,

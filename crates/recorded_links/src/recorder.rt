@@ -72,8 +72,8 @@ impl<'a, D: Disk> TurnRecorder<'a, D> {
         self.sends.note(link, answer);
     }
 
-    /// Offers the bytes to the inner link, or holds them back: if the link is not an inner one, or what came of the send
-    /// could not be noted.
+    /// Offers the bytes to the inner link, or holds them back: if the link is not an inner one, or what came of the
+    /// send could not be noted.
     pub(crate) fn offer<L: Links>(
         &self,
         alloc: Global,

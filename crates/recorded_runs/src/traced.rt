@@ -13,8 +13,8 @@ use recorded_links::RecordedLinks;
 use std::alloc::Global;
 use std::marker::PhantomData;
 
-/// Links that record, whose type says what became of the links and the disk that were lent to them (`K`). So a caller knows
-/// it of what a generic function gives back, too.
+/// Links that record, whose type says what became of the links and the disk that were lent to them (`K`). So a caller
+/// knows it of what a generic function gives back, too.
 #[derive(Drop)]
 pub struct TracedLinks<'a, L: Links, D: Disk, K: Loan> {
     pub links: RecordedLinks<'a, L, D>,

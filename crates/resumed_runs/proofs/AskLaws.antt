@@ -1,11 +1,14 @@
 -- Which calls are made of the inner links after one call more.
-use Rattle.std.proofs.Common.{◌≡◌, ℕ, Bool, true, false, List, [], ◌∷◌, ◌++◌, ◌<◌, length, refl, sym, ◌∙◌, ap, subst, append-nil, arith}
+use Rattle.std.proofs.Common.{◌≡◌, ℕ, Bool, true, false, List, [], ◌∷◌, ◌++◌, ◌<◌, length, refl, sym, ◌∙◌, ap, subst}
+use Rattle.std.proofs.Common.{append-nil, arith}
 use Rattle.std.proofs.Math.Logic.{∥∥₁_map}
 use Rattle.std.proofs.lemmas.Bool.{false_from_ne_true, leb-true}
 use Rattle.std.specs.Prelude.{nat_le}
 use Rattle.journal_format.specs.declared.turn_record.Summary.{Summary}
 use Rattle.journal_format.specs.declared.turn_record.TurnRecord.{TurnRecord}
-use Rattle.journal_links.specs.Steps.{CloseOf, ListenOf, NextOf, Progress, SendOf, close_again, close_passed, is_over, last_secs, listen_again, listen_first, listen_unasked, next_again, next_broken, next_inner, next_unasked, send_again, send_memory, send_passed}
+use Rattle.journal_links.specs.Steps.{CloseOf, ListenOf, NextOf, Progress, SendOf, close_again, close_passed, is_over}
+use Rattle.journal_links.specs.Steps.{last_secs, listen_again, listen_first, listen_unasked, next_again, next_broken}
+use Rattle.journal_links.specs.Steps.{next_inner, next_unasked, send_again, send_memory, send_passed}
 use Rattle.ports.specs.Calls.{AddsCalls, LinksReport}
 use Rattle.ports.specs.Links.{listen_entries, next_entries, send_entries}
 use Rattle.ports.specs.declared.entry.Entry.{Entry}
@@ -25,9 +28,12 @@ use Rattle.recorded_links.specs.Noting.{noted}
 use Rattle.recorded_runs.specs.Passing.{closed_own, stops, unasked}
 use Rattle.recorded_links.proofs.NoteLaws.{noted_more, send_noted, turn_added, turn_quiet}
 use Rattle.recorded_runs.proofs.CallLaws.{keeps_listen, keeps_next}
-use Rattle.resumed_runs.specs.Asking.{AsksFor, IsAfter, IsAgain, breaks, closes_again, closes_inner, gives_again, listens_again, none_again, none_made, one_after, one_again, passes_on, sends_again}
+use Rattle.resumed_runs.specs.Asking.{AsksFor, IsAfter, IsAgain, breaks, closes_again, closes_inner, gives_again}
+use Rattle.resumed_runs.specs.Asking.{listens_again, none_again, none_made, one_after, one_again, passes_on}
+use Rattle.resumed_runs.specs.Asking.{sends_again}
 use Rattle.resumed_runs.specs.Lending.{Asked, LentJournal}
-use Rattle.resumed_runs.proofs.StepLaws.{AsksOnce, asks_none, close_asks, listen_asks, memory_next, next_asks, send_asks, unsent_asks}
+use Rattle.resumed_runs.proofs.StepLaws.{AsksOnce, asks_none, close_asks, listen_asks, memory_next, next_asks}
+use Rattle.resumed_runs.proofs.StepLaws.{send_asks, unsent_asks}
 
 -- ---- one call more
 

@@ -6,7 +6,9 @@ use Rattle.disk_port.specs.Past.{Past, synced}
 use Rattle.journal_format.specs.declared.finder.Found.{Found}
 use Rattle.journal_format.specs.declared.turn_record.TurnRecord.{TurnRecord}
 use Rattle.journal_links.specs.Resuming.{Resumes}
-use Rattle.journal_links.specs.Steps.{CloseOf, ListenOf, NextOf, Progress, SendOf, close_again, close_passed, listen_again, listen_first, listen_unasked, next_again, next_broken, next_inner, next_unasked, send_again, send_memory, send_passed}
+use Rattle.journal_links.specs.Steps.{CloseOf, ListenOf, NextOf, Progress, SendOf, close_again, close_passed}
+use Rattle.journal_links.specs.Steps.{listen_again, listen_first, listen_unasked, next_again, next_broken, next_inner}
+use Rattle.journal_links.specs.Steps.{next_unasked, send_again, send_memory, send_passed}
 use Rattle.journal_links.specs.Turns.{AreTurns, BeginsWithListen, KeepsTurns, StaysJournal, is_done}
 use Rattle.journal_links.proofs.KeepLaws.{close_keeps, listen_keeps, resumed_keeps, send_keeps}
 use Rattle.journal_links.proofs.TurnLaws.{next_keeps}

@@ -1,9 +1,12 @@
 -- What is on the disk when the lines and the replies of a turn go out.
-use Rattle.std.proofs.Common.{◌≡◌, ℕ, zero, suc, ◌<◌, Bool, true, false, not, List, [], ◌∷◌, ◌++◌, drop, length, refl, sym, ap, subst, ◌∙◌, arith}
+use Rattle.std.proofs.Common.{◌≡◌, ℕ, zero, suc, ◌<◌, Bool, true, false, not, List, [], ◌∷◌, ◌++◌, drop, length, refl}
+use Rattle.std.proofs.Common.{sym, ap, subst, ◌∙◌, arith}
 use Rattle.std.specs.Prelude.{◌&&◌}
 use Rattle.std.proofs.lemmas.Bool.{leb-false}
 use Rattle.journal_format.specs.declared.turn_record.TurnRecord.{TurnRecord}
-use Rattle.journal_links.specs.Steps.{CloseOf, GivesAgain, ListenOf, NextOf, Progress, SendOf, broken_turn, close_again, close_passed, is_over, listen_again, listen_first, listen_unasked, next_again, next_broken, next_inner, next_unasked, send_again, send_memory, send_passed}
+use Rattle.journal_links.specs.Steps.{CloseOf, GivesAgain, ListenOf, NextOf, Progress, SendOf, broken_turn, close_again}
+use Rattle.journal_links.specs.Steps.{close_passed, is_over, listen_again, listen_first, listen_unasked, next_again}
+use Rattle.journal_links.specs.Steps.{next_broken, next_inner, next_unasked, send_again, send_memory, send_passed}
 use Rattle.journal_links.specs.Turns.{AreTurns, BeginsWithListen, KeepsTurns, handed, is_done}
 use Rattle.journal_links.proofs.GiveLaws.{failed_if, not_failed}
 use Rattle.journal_links.proofs.KeepLaws.{close_keeps, listen_keeps, resumed_keeps, send_keeps}
@@ -19,11 +22,14 @@ use Rattle.ports.specs.declared.links.SendAnswer.TheVariants as send
 use Rattle.ports.specs.declared.links.Turn.{Turn}
 use Rattle.ports.specs.declared.links.Want.{Want}
 use Rattle.ports.specs.declared.links.What.{What}
-use Rattle.ports.specs.declared.links.What.TheVariants.{Idle, Opened, Read, Ended, Broken, Room, Stopped, Failed, Memory}
+use Rattle.ports.specs.declared.links.What.TheVariants.{Idle, Opened, Read, Ended, Broken, Room, Stopped, Failed}
+use Rattle.ports.specs.declared.links.What.TheVariants.{Memory}
 use Rattle.recorded_links.specs.Keeping.{is_ready, is_recorded, kept_of}
-use Rattle.recorded_links.specs.Steps.{ListenStep, NextStep, OwnStep, Seen, listen_refused, listen_taken, next_full, next_refused, next_taken, own_full, own_refused, own_taken}
+use Rattle.recorded_links.specs.Steps.{ListenStep, NextStep, OwnStep, Seen, listen_refused, listen_taken, next_full}
+use Rattle.recorded_links.specs.Steps.{next_refused, next_taken, own_full, own_refused, own_taken}
 use Rattle.recorded_links.proofs.NoteLaws.{listen_quiet}
-use Rattle.recorded_runs.specs.Making.{AreCalls, closed, handed_out, listened, none_yet, one_more, sent, then_closed, then_sent, turned}
+use Rattle.recorded_runs.specs.Making.{AreCalls, closed, handed_out, listened, none_yet, one_more, sent, then_closed}
+use Rattle.recorded_runs.specs.Making.{then_sent, turned}
 use Rattle.resumed_runs.specs.Laws.{LastTurnIsKept}
 use Rattle.resumed_runs.specs.Making.{State, resuming, unresumed}
 use Rattle.resumed_runs.proofs.KeepLaws.{records_close, records_listen, records_next, records_send}

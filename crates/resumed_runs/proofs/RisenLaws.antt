@@ -1,6 +1,8 @@
 -- How calls of links that resume a run change the counts of faults.
 use Rattle.std.proofs.Common.{◌≡◌, ℕ, ◌≤◌, Bool, true, false, not, List, refl, ap, arith}
-use Rattle.journal_links.specs.Steps.{CloseOf, ListenOf, NextOf, Progress, SendOf, close_again, close_passed, listen_again, listen_first, listen_unasked, next_again, next_broken, next_inner, next_unasked, send_again, send_memory, send_passed}
+use Rattle.journal_links.specs.Steps.{CloseOf, ListenOf, NextOf, Progress, SendOf, close_again, close_passed}
+use Rattle.journal_links.specs.Steps.{listen_again, listen_first, listen_unasked, next_again, next_broken, next_inner}
+use Rattle.journal_links.specs.Steps.{next_unasked, send_again, send_memory, send_passed}
 use Rattle.ports.specs.Calls.{LinksReport}
 use Rattle.ports.specs.declared.links.ListenAnswer.{ListenAnswer}
 use Rattle.ports.specs.declared.links.SendAnswer.{SendAnswer}

@@ -20,9 +20,9 @@ use ports::{Links, ListenAnswer, SendAnswer, Turn, Wants, What};
 use std::alloc::Global;
 use std::marker::PhantomData;
 
-/// Links that resume a run, whose type says what became of the links and the disk that were lent to them (`K`). So a caller
-/// knows it of what a generic function gives back, too. Once a `listen` or a `next` failed or was out of memory, each later
-/// one is out of memory, and asks nothing.
+/// Links that resume a run, whose type says what became of the links and the disk that were lent to them (`K`). So a
+/// caller knows it of what a generic function gives back, too. Once a `listen` or a `next` failed or was out of memory,
+/// each later one is out of memory, and asks nothing.
 #[derive(Drop)]
 pub struct ResumedLinks<'a, L: Links, D: Disk, K: JournalLoan> {
     pub links: JournalLinks<'a, L, D>,

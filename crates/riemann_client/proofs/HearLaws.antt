@@ -1,5 +1,6 @@
 -- What a client is after what came in a turn.
-use Rattle.std.proofs.Common.{◌≡◌, ℕ, ◌+◌, ◌≤◌, ◌==◌, Bool, true, false, cond, not, ◌&&◌, ◌||◌, List, [], ◌∷◌, ◌++◌, length, map, drop, Option, Some, None, refl, ap, sym, ◌∙◌, subst, arith, length-append}
+use Rattle.std.proofs.Common.{◌≡◌, ℕ, ◌+◌, ◌≤◌, ◌==◌, Bool, true, false, cond, not, ◌&&◌, ◌||◌, List, [], ◌∷◌, ◌++◌}
+use Rattle.std.proofs.Common.{length, map, drop, Option, Some, None, refl, ap, sym, ◌∙◌, subst, arith, length-append}
 use Rattle.std.specs.Prelude.{unwrap_or}
 use Rattle.std.specs.Option.{option_or}
 use Rattle.std.proofs.lemmas.Bool.Decides.{nat_tests}
@@ -13,7 +14,10 @@ use Rattle.riemann_msg.specs.declared.msg.Msg.{Msg}
 use Rattle.riemann_client.specs.Accepting.{AcceptsAll, EndsAs, HasNoneLeft}
 use Rattle.riemann_client.specs.Client.{Represents, stream_of}
 use Rattle.ev_types.specs.Clock.{next_moment}
-use Rattle.riemann_client.specs.Exchange.{Exchange, accepted_from, begun, fault_between, first_reply_fault, heard, heard_piece, is_link, is_on, is_over, is_oversized, lost, message_in, new_replies, passed, read_from, replies_come, reply_at, requests_sent, standing, unblocked}
+use Rattle.riemann_client.specs.Exchange.{Exchange, accepted_from, begun, fault_between, first_reply_fault, heard}
+use Rattle.riemann_client.specs.Exchange.{heard_piece, is_link, is_on, is_over, is_oversized, lost, message_in}
+use Rattle.riemann_client.specs.Exchange.{new_replies, passed, read_from, replies_come, reply_at, requests_sent}
+use Rattle.riemann_client.specs.Exchange.{standing, unblocked}
 use Rattle.riemann_client.specs.Requests.{HasAnswered, IsAsSent, Requested, sent_count, taken_of}
 use Rattle.riemann_client.specs.Turning.{Hears, Occurs}
 use Rattle.riemann_client.specs.declared.client.Client.{Client}

@@ -11,7 +11,8 @@ use Rattle.ports.specs.declared.links.SendAnswer.{SendAnswer}
 use Rattle.ports.specs.declared.links.SendAnswer.TheVariants as send
 use Rattle.ports.specs.declared.links.Turn.{Turn}
 use Rattle.ports.specs.declared.links.What.{What}
-use Rattle.ports.specs.declared.links.What.TheVariants.{Idle, Opened, Read, Ended, Broken, Room, Stopped, Failed, Memory}
+use Rattle.ports.specs.declared.links.What.TheVariants.{Idle, Opened, Read, Ended, Broken, Room, Stopped, Failed}
+use Rattle.ports.specs.declared.links.What.TheVariants.{Memory}
 use Rattle.ports.specs.Links.{MayClose, grown, is_unclosed, send_entries, unclosed, unclosed_after, unclosed_after_turn}
 use Rattle.riemann_client.specs.Client.{Answered, EndsWith, IsUnclosed}
 use Rattle.riemann_client.specs.Exchange.{link_after}

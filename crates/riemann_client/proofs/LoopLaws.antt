@@ -3,7 +3,8 @@ use Rattle.ports.specs.Calls.{LinksReport}
 use Rattle.riemann_client.specs.Client.{IsUnclosed, link_of}
 use Rattle.riemann_client.specs.Sending.{KeepsReplies, MakesCalls, Sends}
 use Rattle.riemann_client.specs.declared.client.Client.{Client}
-use Rattle.riemann_client.proofs.SendLaws.{keeps_nothing, keeps_then, makes_nothing, makes_then, sends_nothing, sends_then}
+use Rattle.riemann_client.proofs.SendLaws.{keeps_nothing, keeps_then, makes_nothing, makes_then, sends_nothing}
+use Rattle.riemann_client.proofs.SendLaws.{sends_then}
 
 pub record SentSoFar (before now : LinksReport) (client client' : Client) : Type 0 where
   pub keeps : KeepsReplies client client'

@@ -1,13 +1,19 @@
 -- The requests that were sent, and those that have a reply, over plain values.
-use Rattle.std.proofs.Common.{◌≡◌, ℕ, zero, suc, get_or, ◌+◌, ◌<◌, ◌≤◌, ◌==◌, Bool, true, false, not, List, [], ◌∷◌, ◌++◌, length, take, drop, Option, Some, None, append-nil, refl, ap, sym, ◌∙◌, subst, arith, length-append}
+use Rattle.std.proofs.Common.{◌≡◌, ℕ, zero, suc, get_or, ◌+◌, ◌<◌, ◌≤◌, ◌==◌, Bool, true, false, not, List, [], ◌∷◌}
+use Rattle.std.proofs.Common.{◌++◌, length, take, drop, Option, Some, None, append-nil, refl, ap, sym, ◌∙◌, subst}
+use Rattle.std.proofs.Common.{arith, length-append}
 use Rattle.std.specs.Prelude.{MatchOption, is_none, is_some}
 use Rattle.std.specs.List.{flat_map}
 use Rattle.std.proofs.lemmas.Bool.{eq-eqb, ne_eqb}
 use Rattle.std.proofs.lemmas.List.{drop-append-le, drop-drop, drop-take, length-take-le, take-append-drop, take-take}
-use Rattle.framing.specs.Frames.{AreWithinLimit, HasFrame, Represents, after_frame, first_body, frame, frames_of, has_frame, length_at, partial}
+use Rattle.framing.specs.Frames.{AreWithinLimit, HasFrame, Represents, after_frame, first_body, frame, frames_of}
+use Rattle.framing.specs.Frames.{has_frame, length_at, partial}
 use Rattle.framing.specs.declared.TheConstants.{BODY_LIMIT}
-use Rattle.framing.proofs.FrameLaws.{after_frame_length, frames_are_one_lem, frames_at_frame, frames_at_none, has_frame_false, has_frame_true, partial_at_frame, partial_at_none, represents_first, represents_more, represents_nothing}
-use Rattle.riemann_client.specs.Requests.{AnswersIfSent, AnswersNext, HasAnswered, Requested, sent_count, taken_of, waiting}
+use Rattle.framing.proofs.FrameLaws.{after_frame_length, frames_are_one_lem, frames_at_frame, frames_at_none}
+use Rattle.framing.proofs.FrameLaws.{has_frame_false, has_frame_true, partial_at_frame, partial_at_none}
+use Rattle.framing.proofs.FrameLaws.{represents_first, represents_more, represents_nothing}
+use Rattle.riemann_client.specs.Requests.{AnswersIfSent, AnswersNext, HasAnswered, Requested, sent_count, taken_of}
+use Rattle.riemann_client.specs.Requests.{waiting}
 
 -- ---- the next request
 

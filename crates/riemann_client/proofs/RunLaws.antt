@@ -1,5 +1,7 @@
 -- What turns that went on say of the requests and the replies.
-use Rattle.std.proofs.Common.{◌≡◌, ℕ, zero, suc, ◌+◌, ◌-◌, ◌<◌, ◌≤◌, ◌⊎◌, inl, inr, Bool, true, false, cond, List, [], ◌∷◌, ◌++◌, length, map, take, drop, Option, Some, None, refl, ap, sym, ◌∙◌, subst, arith, append_assoc, append-nil, length-append, length-take}
+use Rattle.std.proofs.Common.{◌≡◌, ℕ, zero, suc, ◌+◌, ◌-◌, ◌<◌, ◌≤◌, ◌⊎◌, inl, inr, Bool, true, false, cond, List, []}
+use Rattle.std.proofs.Common.{◌∷◌, ◌++◌, length, map, take, drop, Option, Some, None, refl, ap, sym, ◌∙◌, subst, arith}
+use Rattle.std.proofs.Common.{append_assoc, append-nil, length-append, length-take}
 use Rattle.std.specs.Prelude.{nat_lt, is_some, unwrap_or}
 use Rattle.std.specs.Option.{option_map}
 use Rattle.std.proofs.lemmas.Bool.{ltb-true}
@@ -14,8 +16,11 @@ use Rattle.ports.specs.declared.links.Turn.{Turn}
 use Rattle.ports.specs.declared.links.What.{What}
 use Rattle.ports.specs.declared.links.What.TheVariants as what
 use Rattle.riemann_msg.specs.Fault.{Fault, first_fault}
-use Rattle.riemann_client.specs.Exchange.{Exchange, Reply, accepted_from, begun, fault_between, heard, heard_piece, is_on, new_replies, occurred, passed, progress_of, refused, replies_come, reply_at, reply_fault, requests_sent, sent, standing, unsent}
-use Rattle.riemann_client.specs.Run.{AreGoing, ClientTurn, IsGoing, IsPaired, LastIsSound, PairsReplies, SendsPrefix, TurnsAreSound, after_last, after_turn, body_of, exchange_after, exchange_from}
+use Rattle.riemann_client.specs.Exchange.{Exchange, Reply, accepted_from, begun, fault_between, heard, heard_piece}
+use Rattle.riemann_client.specs.Exchange.{is_on, new_replies, occurred, passed, progress_of, refused, replies_come}
+use Rattle.riemann_client.specs.Exchange.{reply_at, reply_fault, requests_sent, sent, standing, unsent}
+use Rattle.riemann_client.specs.Run.{AreGoing, ClientTurn, IsGoing, IsPaired, LastIsSound, PairsReplies, SendsPrefix}
+use Rattle.riemann_client.specs.Run.{TurnsAreSound, after_last, after_turn, body_of, exchange_after, exchange_from}
 use Rattle.riemann_client.specs.Sending.{AreSends, MaySend, after_sends}
 use Rattle.riemann_client.specs.declared.progress.Progress.{Progress}
 use Rattle.riemann_client.specs.declared.progress.Progress.TheVariants.{More, Unasked}

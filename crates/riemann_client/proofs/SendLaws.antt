@@ -1,5 +1,7 @@
 -- What sends of a client do to the exchange.
-use Rattle.std.proofs.Common.{◌≡◌, ◌≢◌, ℕ, zero, suc, ◌+◌, ◌-◌, ◌<◌, ◌≤◌, Bool, true, false, cond, not, ◌&&◌, List, [], ◌∷◌, ◌++◌, length, take, drop, Option, Some, None, refl, ap, sym, ◌∙◌, subst, arith, length-append, length-drop}
+use Rattle.std.proofs.Common.{◌≡◌, ◌≢◌, ℕ, zero, suc, ◌+◌, ◌-◌, ◌<◌, ◌≤◌, Bool, true, false, cond, not, ◌&&◌, List, []}
+use Rattle.std.proofs.Common.{◌∷◌, ◌++◌, length, take, drop, Option, Some, None, refl, ap, sym, ◌∙◌, subst, arith}
+use Rattle.std.proofs.Common.{length-append, length-drop}
 use Rattle.std.specs.Prelude.{nat_lt, is_some}
 use Rattle.std.proofs.lemmas.Bool.{and_parts, ltb-true}
 use Rattle.std.proofs.lemmas.List.{length-take-le, take_all}
@@ -12,7 +14,8 @@ use Rattle.ports.specs.declared.links.SendAnswer.{SendAnswer}
 use Rattle.ports.specs.declared.links.SendAnswer.TheVariants.{Took, Later, Failed, Memory}
 use Rattle.riemann_client.specs.Client.{Represents, stream_of}
 use Rattle.riemann_client.specs.Exchange.{Exchange, sent, unsent}
-use Rattle.riemann_client.specs.Sending.{AreSends, KeepsReplies, MakesCalls, MaySend, Notes, NotesTaken, Sends, SendsFrom, after_sends, link_to_send, sendable}
+use Rattle.riemann_client.specs.Sending.{AreSends, KeepsReplies, MakesCalls, MaySend, Notes, NotesTaken, Sends}
+use Rattle.riemann_client.specs.Sending.{SendsFrom, after_sends, link_to_send, sendable}
 use Rattle.riemann_client.specs.declared.client.Client.{Client}
 use Rattle.riemann_client.proofs.RequestLaws.{taken_more}
 

@@ -1,5 +1,6 @@
 -- How a turn ends.
-use Rattle.std.proofs.Common.{◌≡◌, ◌≢◌, ℕ, ◌<◌, inl, inr, Bool, true, false, cond, not, ◌&&◌, List, [], ◌∷◌, ◌++◌, length, drop, Option, Some, None, refl, ap, sym, ◌∙◌, subst}
+use Rattle.std.proofs.Common.{◌≡◌, ◌≢◌, ℕ, ◌<◌, inl, inr, Bool, true, false, cond, not, ◌&&◌, List, [], ◌∷◌, ◌++◌}
+use Rattle.std.proofs.Common.{length, drop, Option, Some, None, refl, ap, sym, ◌∙◌, subst}
 use Rattle.std.specs.Prelude.{nat_lt}
 use Rattle.std.proofs.lemmas.Bool.{lt-ltb}
 use Rattle.ports.specs.declared.entry.Entry.{Entry}
@@ -8,7 +9,8 @@ use Rattle.ports.specs.declared.links.Want.{Want}
 use Rattle.riemann_client.specs.Client.{Represents, link_of, stream_of}
 use Rattle.riemann_client.specs.Exchange.{Exchange, heard, progress_of, unsent, wants_on}
 use Rattle.riemann_client.specs.Sending.{IsSettled, KeepsReplies, Sends, SendsFrom, after_sends, link_to_send}
-use Rattle.riemann_client.specs.Turning.{Ends, GoesOn, GoesOnFrom, Hears, RunsOut, SettlesTo, TurnsFrom, TurnsTo, closing}
+use Rattle.riemann_client.specs.Turning.{Ends, GoesOn, GoesOnFrom, Hears, RunsOut, SettlesTo, TurnsFrom, TurnsTo}
+use Rattle.riemann_client.specs.Turning.{closing}
 use Rattle.riemann_client.specs.declared.client.Client.{Client}
 use Rattle.riemann_client.specs.declared.progress.Progress.{Progress}
 use Rattle.riemann_client.specs.declared.progress.Progress.TheVariants.{More, Whole, Unasked, Refused, Lost, Memory}

@@ -12,11 +12,13 @@ use Rattle.riemann_client.specs.declared.replies.Front.TheVariants.{NotWhole, Ac
 
 -- the reply was accepted, or nothing was for this fault
 abbrev pub AcceptsAs : ℕ → List ℕ → Requested → List Msg → List Msg → Option Progress → Type 0
-AcceptsAs now body requests' replies replies' None = (replies' ≡ replies ++ message_of now body ∷ []) × HasAnswered requests' (length replies')
+AcceptsAs now body requests' replies replies' None =
+    (replies' ≡ replies ++ message_of now body ∷ []) × HasAnswered requests' (length replies')
 AcceptsAs now body requests' replies replies' (Some fault) = replies' ≡ replies
 
 -- A reply was accepted or not, after as many replies as requests have one.
-pub record Accepts (now : ℕ) (body : List ℕ) (requests requests' : Requested) (replies replies' : List Msg) (fault : Option Progress) : Type 0 where
+pub record Accepts (now : ℕ) (body : List ℕ) (requests requests' : Requested) (replies replies' : List Msg)
+    (fault : Option Progress) : Type 0 where
   pub fault_is : fault ≡ reply_fault (sent_count requests) (length replies) body
   pub accepted : AcceptsAs now body requests' replies replies' fault
 
@@ -33,9 +35,11 @@ pub record IsEmpty (input input' : Held) (requests requests' : Requested) (repli
 
 -- the first frame's body was accepted and the frame removed, or it has this fault, or the frame is not whole yet
 abbrev pub AcceptsFront : ℕ → Held → Held → Requested → Requested → List Msg → List Msg → Front → Type 0
-AcceptsFront now input input' requests requests' replies replies' NotWhole = IsEmpty input input' requests requests' replies replies'
+AcceptsFront now input input' requests requests' replies replies' NotWhole =
+    IsEmpty input input' requests requests' replies replies'
 AcceptsFront now input input' requests requests' replies replies' Accepted =
-    HandsOut input (first_body input.bytes) input' × AcceptsNext now (first_body input.bytes) requests requests' replies replies' None
+    HandsOut input (first_body input.bytes) input'
+    × AcceptsNext now (first_body input.bytes) requests requests' replies replies' None
 AcceptsFront now input input' requests requests' replies replies' (Faulty fault) =
     HasFrame input.bytes × AcceptsNext now (first_body input.bytes) requests requests' replies replies' (Some fault)
 
@@ -51,7 +55,9 @@ EndsAs input input' requests' replies' None = HasNoneLeft input input' requests'
 EndsAs input input' requests' replies' (Some fault) = Unit {0}
 
 -- all whole frames were accepted, or those before the first fault
-pub record AcceptsAll (now : ℕ) (input input' : Held) (requests requests' : Requested) (replies replies' : List Msg) (fault : Option Progress) : Type 0 where
+pub record AcceptsAll (now : ℕ) (input input' : Held) (requests requests' : Requested) (replies replies' : List Msg)
+    (fault : Option Progress) : Type 0 where
   pub fault_is : fault ≡ first_reply_fault (sent_count requests) (length replies) (frames_of input.bytes)
-  pub replies_are : replies' ≡ replies ++ map (message_of now) (accepted_from (sent_count requests) (length replies) (frames_of input.bytes))
+  pub replies_are : replies' ≡ replies ++ map (message_of now)
+      (accepted_from (sent_count requests) (length replies) (frames_of input.bytes))
   pub ends : EndsAs input input' requests' replies' fault

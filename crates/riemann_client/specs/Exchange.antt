@@ -1,5 +1,6 @@
 -- The exchange of a client with a server: what came from the link, what was taken by it, and what the replies come to.
-use Rattle.std.specs.Prelude.{ℕ, ◌+◌, ◌==◌, nat_lt, nat_le, Bool, true, false, not, ◌&&◌, ◌||◌, if◌then◌else◌, List, [], ◌∷◌, ◌++◌, length, map, take, drop, Option, Some, None, is_some, unwrap_or}
+use Rattle.std.specs.Prelude.{ℕ, ◌+◌, ◌==◌, nat_lt, nat_le, Bool, true, false, not, ◌&&◌, ◌||◌, if◌then◌else◌, List, []}
+use Rattle.std.specs.Prelude.{◌∷◌, ◌++◌, length, map, take, drop, Option, Some, None, is_some, unwrap_or}
 use Rattle.std.specs.Option.{option_map, option_or}
 use Rattle.framing.specs.declared.TheConstants.{BODY_LIMIT}
 use Rattle.framing.specs.Frames.{frames_of, partial, length_at}
@@ -62,17 +63,20 @@ refused number fault = Refused number fault.place fault.why
 -- Why the reply of this number is not accepted, where `asked` requests were sent whole before its turn: the request of
 -- that number was not, or the reply is no message.
 abbrev pub reply_fault : ℕ → ℕ → List ℕ → Option Progress
-reply_fault asked number body = if nat_lt number asked then option_map (refused number) (first_fault body) else Some (Unasked number)
+reply_fault asked number body =
+    if nat_lt number asked then option_map (refused number) (first_fault body) else Some (Unasked number)
 
 -- the first fault of replies one after another, of which the first has this number
 abbrev pub first_reply_fault : ℕ → ℕ → List (List ℕ) → Option Progress
 first_reply_fault asked number [] = None
-first_reply_fault asked number (body ∷ bodies) = option_or (reply_fault asked number body) (first_reply_fault asked (number + 1) bodies)
+first_reply_fault asked number (body ∷ bodies) =
+    option_or (reply_fault asked number body) (first_reply_fault asked (number + 1) bodies)
 
 -- the replies before it, which are accepted
 abbrev pub accepted_from : ℕ → ℕ → List (List ℕ) → List (List ℕ)
 accepted_from asked number [] = []
-accepted_from asked number (body ∷ bodies) = if is_some (reply_fault asked number body) then [] else body ∷ accepted_from asked (number + 1) bodies
+accepted_from asked number (body ∷ bodies) =
+    if is_some (reply_fault asked number body) then [] else body ∷ accepted_from asked (number + 1) bodies
 
 -- ---- a turn
 
@@ -93,7 +97,8 @@ abbrev pub heard_piece : List ℕ → Exchange → Exchange
 heard_piece piece exchange = record exchange {
   came = exchange.came ++ piece;
   replies = exchange.replies ++ map (reply_at exchange.now)
-      (accepted_from (length (requests_sent exchange)) (length (replies_come exchange)) (new_replies exchange.came piece));
+      (accepted_from (length (requests_sent exchange)) (length (replies_come exchange))
+      (new_replies exchange.came piece));
 }
 
 -- only of the client's link
@@ -145,7 +150,8 @@ heard turn piece exchange = occurred turn.what piece (passed turn.secs exchange)
 -- the first fault of the replies that became whole in it
 abbrev pub fault_between : Exchange → Exchange → Option Progress
 fault_between before after =
-    first_reply_fault (length (requests_sent before)) (length (replies_come before)) (drop (length (replies_come before)) (replies_come after))
+    first_reply_fault (length (requests_sent before)) (length (replies_come before))
+    (drop (length (replies_come before)) (replies_come after))
 
 -- the bytes begin with a length over the limit
 unfoldable pub is_oversized : List ℕ → Bool
@@ -158,7 +164,8 @@ is_over exchange = exchange.gone || is_oversized (partial exchange.came)
 -- where each reply was accepted: `stream` is the frames of the requests, one after another
 abbrev pub standing : List ℕ → Exchange → Progress
 standing stream exchange =
-    if length (replies_come exchange) == length (frames_of stream) then Whole else (if is_over exchange then Lost else More)
+    if length (replies_come exchange) == length (frames_of stream) then Whole
+    else (if is_over exchange then Lost else More)
 
 -- A reply that is not accepted comes first, then that there are as many replies as requests, and then that no more can
 -- come.

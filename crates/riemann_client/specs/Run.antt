@@ -7,7 +7,8 @@ use Rattle.ports.specs.declared.entry.Entry.{Entry}
 use Rattle.ports.specs.declared.entry.Entry.TheVariants.{Next}
 use Rattle.ports.specs.declared.links.Turn.{Turn}
 use Rattle.ports.specs.declared.links.Want.{Want}
-use Rattle.riemann_client.specs.Exchange.{Exchange, Reply, begun, heard, progress_of, replies_come, requests_sent, wants_of}
+use Rattle.riemann_client.specs.Exchange.{Exchange, Reply, begun, heard, progress_of, replies_come, requests_sent}
+use Rattle.riemann_client.specs.Exchange.{wants_of}
 use Rattle.riemann_client.specs.Sending.{AreSends, IsSettled, after_sends}
 use Rattle.riemann_client.specs.declared.progress.Progress.TheVariants.{More}
 
@@ -36,7 +37,8 @@ exchange_from exchange turns = fold after_turn exchange turns
 abbrev pub exchange_after : ℕ → List ClientTurn → Exchange
 exchange_after start turns = exchange_from (begun start) turns
 
--- The turn was asked for with what is waited for, and after it the exchange goes on: all requests are sent that are taken.
+-- The turn was asked for with what is waited for, and after it the exchange goes on: all requests are sent that are
+-- taken.
 pub record IsGoing (stream : List ℕ) (exchange : Exchange) (taken : ClientTurn) : Type 0 where
   pub wanted : taken.wants ≡ wants_of stream exchange
   pub going : progress_of stream exchange (heard taken.turn taken.piece exchange) ≡ More
@@ -46,7 +48,8 @@ pub record IsGoing (stream : List ℕ) (exchange : Exchange) (taken : ClientTurn
 
 abbrev pub AreGoing : List ℕ → Exchange → List ClientTurn → Type 0
 AreGoing stream exchange [] = Unit {0}
-AreGoing stream exchange (taken ∷ turns) = IsGoing stream exchange taken × AreGoing stream (after_turn exchange taken) turns
+AreGoing stream exchange (taken ∷ turns) =
+    IsGoing stream exchange taken × AreGoing stream (after_turn exchange taken) turns
 
 -- ---- what holds of all such turns
 
@@ -89,5 +92,8 @@ after_last start turns last sends = after_sends sends (heard last.turn last.piec
 
 -- after turns that went on, and one more
 abbrev pub LastIsSound : Type 0
-LastIsSound = (stream : List ℕ) (start : ℕ) (turns : List ClientTurn) (last : ClientTurn) (sends : List Entry) → AreGoing stream (begun start) turns
-    → AreSends stream sends (heard last.turn last.piece (exchange_after start turns)) → IsSound stream start (turns ++ last ∷ []) (after_last start turns last sends)
+LastIsSound =
+    (stream : List ℕ) (start : ℕ) (turns : List ClientTurn) (last : ClientTurn) (sends : List Entry)
+    → AreGoing stream (begun start) turns
+    → AreSends stream sends (heard last.turn last.piece (exchange_after start turns))
+    → IsSound stream start (turns ++ last ∷ []) (after_last start turns last sends)

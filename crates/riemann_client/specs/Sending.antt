@@ -1,5 +1,6 @@
 -- What sends of a client do.
-use Rattle.std.specs.Prelude.{◌≡◌, ℕ, ◌+◌, ◌==◌, ◌<◌, true, false, not, ◌&&◌, nat_lt, if◌then◌else◌, List, [], ◌∷◌, length, take, drop, Option, Some, None, is_some}
+use Rattle.std.specs.Prelude.{◌≡◌, ℕ, ◌+◌, ◌==◌, ◌<◌, true, false, not, ◌&&◌, nat_lt, if◌then◌else◌, List, [], ◌∷◌}
+use Rattle.std.specs.Prelude.{length, take, drop, Option, Some, None, is_some}
 use Rattle.ports.specs.Calls.{AddsCalls, LinksReport}
 use Rattle.ports.specs.declared.entry.Entry.{Entry}
 use Rattle.ports.specs.declared.entry.Entry.TheVariants.{Listen, Next, Send, Close}
@@ -30,7 +31,8 @@ abbrev pub AreSends : List ℕ → List Entry → Exchange → Type 0
 AreSends stream [] exchange = Unit {0}
 AreSends stream (Listen address answer ∷ entries) exchange = ⊥
 AreSends stream (Next wants turn piece ∷ entries) exchange = ⊥
-AreSends stream (Send number bytes answer ∷ entries) exchange = MaySend stream number bytes exchange × AreSends stream entries (sent bytes answer exchange)
+AreSends stream (Send number bytes answer ∷ entries) exchange =
+    MaySend stream number bytes exchange × AreSends stream entries (sent bytes answer exchange)
 AreSends stream (Close number ∷ entries) exchange = ⊥
 
 -- the exchange after the sends among these calls
@@ -43,18 +45,21 @@ after_sends (Close number ∷ entries) exchange = after_sends entries exchange
 
 -- all requests were taken, or the link takes nothing now, or there is none yet
 abbrev pub IsSettled : List ℕ → Exchange → Type 0
-IsSettled stream exchange = 0 < length (unsent stream exchange) → (number : ℕ) → exchange.link ≡ Some number → exchange.blocked ≡ true
+IsSettled stream exchange =
+    0 < length (unsent stream exchange) → (number : ℕ) → exchange.link ≡ Some number → exchange.blocked ≡ true
 
 -- ---- what the client does
 
 -- the link, where it may be sent to and requests are unsent
 abbrev pub link_to_send : Client → Option ℕ
 link_to_send client =
-    if not client.gone && (not client.blocked && nat_lt 0 (length (drop client.requests.taken client.requests.stream))) then client.link else None
+    if not client.gone && (not client.blocked && nat_lt 0 (length (drop client.requests.taken client.requests.stream)))
+    then client.link else None
 
 -- the bytes that there are to send
 abbrev pub sendable : Client → ℕ
-sendable client = if is_some (link_to_send client) then length (drop client.requests.taken client.requests.stream) else 0
+sendable client =
+    if is_some (link_to_send client) then length (drop client.requests.taken client.requests.stream) else 0
 
 -- the client noted that this many bytes were taken
 pub record NotesTaken (count : ℕ) (client client' : Client) : Type 0 where

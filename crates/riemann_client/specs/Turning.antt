@@ -1,5 +1,6 @@
 -- What a turn of a client does.
-use Rattle.std.specs.Prelude.{◌≡◌, ◌≢◌, ℕ, ◌⊎◌, true, false, nat_lt, List, [], ◌∷◌, ◌++◌, length, map, drop, Option, Some, None}
+use Rattle.std.specs.Prelude.{◌≡◌, ◌≢◌, ℕ, ◌⊎◌, true, false, nat_lt, List, [], ◌∷◌, ◌++◌, length, map, drop, Option}
+use Rattle.std.specs.Prelude.{Some, None}
 use Rattle.ports.specs.declared.entry.Entry.{Entry}
 use Rattle.ports.specs.declared.entry.Entry.TheVariants.{Close}
 use Rattle.ports.specs.declared.links.Turn.{Turn}
@@ -46,13 +47,15 @@ pub record GoesOn (client' : Client) (stream : List ℕ) (before after : Exchang
   pub wants : wants_in client' ≡ wants_of stream (after_sends calls after)
 
 -- The exchange is over: the link is closed.
-pub record Ends (client' : Client) (stream : List ℕ) (before after : Exchange) (progress : Progress) (calls : List Entry) : Type 0 where
+pub record Ends (client' : Client) (stream : List ℕ) (before after : Exchange) (progress : Progress)
+    (calls : List Entry) : Type 0 where
   pub is : progress ≡ progress_of stream before after
   pub calls_are : calls ≡ closing after.link
   pub replies : HasReplies client' after
 
 -- A send failed: the link is closed.
-pub record FailsToSend (client' : Client) (stream : List ℕ) (before after : Exchange) (calls : List Entry) : Type 0 where
+pub record FailsToSend (client' : Client) (stream : List ℕ) (before after : Exchange)
+    (calls : List Entry) : Type 0 where
   pub due : progress_of stream before after ≡ More
   pub sends : List Entry
   pub calls_are : calls ≡ sends ++ closing after.link
@@ -69,8 +72,10 @@ abbrev pub TurnsTo : Client → List ℕ → Exchange → Exchange → Progress 
 TurnsTo client' stream before after More calls = GoesOn client' stream before after calls
 TurnsTo client' stream before after Whole calls = Ends client' stream before after Whole calls
 TurnsTo client' stream before after (Unasked number) calls = Ends client' stream before after (Unasked number) calls
-TurnsTo client' stream before after (Refused number place why) calls = Ends client' stream before after (Refused number place why) calls
-TurnsTo client' stream before after Lost calls = Ends client' stream before after Lost calls ⊎ FailsToSend client' stream before after calls
+TurnsTo client' stream before after (Refused number place why) calls =
+    Ends client' stream before after (Refused number place why) calls
+TurnsTo client' stream before after Lost calls =
+    Ends client' stream before after Lost calls ⊎ FailsToSend client' stream before after calls
 TurnsTo client' stream before after Memory calls = RunsOut stream before after calls
 
 -- from an exchange that goes on, and at which the client is
@@ -82,7 +87,8 @@ GoesOnFrom client client' progress calls =
 -- it does so from every exchange that the client represents
 abbrev pub TurnsFrom : Turn → List ℕ → Client → Client → Progress → List Entry → Type 0
 TurnsFrom turn piece client client' progress calls =
-    (before : Exchange) → Represents client before → TurnsTo client' (stream_of client) before (heard turn piece before) progress calls
+    (before : Exchange) → Represents client before
+    → TurnsTo client' (stream_of client) before (heard turn piece before) progress calls
 
 -- ---- the end of a turn that sent requests
 
@@ -90,7 +96,9 @@ TurnsFrom turn piece client client' progress calls =
 pub record Settles (client client' : Client) (calls : List Entry) : Type 0 where
   pub works : client.gone ≡ false
   pub none : calls ≡ []
-  pub client_is : client' ≡ record client { wants = wants_on (nat_lt 0 (length (drop client.requests.taken client.requests.stream))) client.link }
+  pub client_is : client'
+      ≡ record client
+      { wants = wants_on (nat_lt 0 (length (drop client.requests.taken client.requests.stream))) client.link }
 
 -- a send failed, and the link was closed
 pub record Closes (client client' : Client) (calls : List Entry) : Type 0 where

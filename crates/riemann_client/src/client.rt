@@ -16,8 +16,8 @@ use frame_link::{FirstFrame, FrameLink};
 use ports::{Links, SendAnswer, Turn, Want, Wants, What};
 use std::alloc::Global;
 
-/// A client with its requests, and the replies so far. Its link is the one that is opened first: turns of other links are
-/// left out.
+/// A client with its requests, and the replies so far. Its link is the one that is opened first: turns of other links
+/// are left out.
 #[derive(Drop)]
 pub struct Client {
     requests: Requests,
@@ -33,8 +33,8 @@ pub struct Client {
 }
 
 impl Client {
-    /// A client with requests of these bodies, of which each has at most [`framing::BODY_LIMIT`] bytes. The first reading
-    /// of its clock is `start`, in seconds since 1970, which is at most 2^40.
+    /// A client with requests of these bodies, of which each has at most [`framing::BODY_LIMIT`] bytes. The first
+    /// reading of its clock is `start`, in seconds since 1970, which is at most 2^40.
     pub fn fresh(alloc: Global, requests: &Blobs, start: u64) -> Result<Client, Memory>
         requires start { start ≤ 2 ^ 40 }
         requires within { AreWithinLimit requests.now }
@@ -48,9 +48,9 @@ impl Client {
         Ok(Client::over(alloc, frames, start))
     }
 
-    /// A client whose requests are these frames, one after another, which are sent from where they lie. What follows the
-    /// last whole frame is sent too, and has no reply. The first reading of its clock is `start`, in seconds since 1970,
-    /// which is at most 2^40. It takes no memory.
+    /// A client whose requests are these frames, one after another, which are sent from where they lie. What follows
+    /// the last whole frame is sent too, and has no reply. The first reading of its clock is `start`, in seconds since
+    /// 1970, which is at most 2^40. It takes no memory.
     pub fn over(alloc: Global, frames: Blob, start: u64) -> Client
         requires { start ≤ 2 ^ 40 }
         ensures stream { stream_of result ≡ frames }
@@ -92,9 +92,9 @@ impl Client {
         self.replies
     }
 
-    /// Takes one turn, with the bytes of a read in `piece`: the replies that became whole are accepted in order, and then,
-    /// while replies are to come, the link is sent requests until it takes no more. When the exchange is over, the link is
-    /// closed. Once the answer was not [`Progress::More`], no other turn is taken.
+    /// Takes one turn, with the bytes of a read in `piece`: the replies that became whole are accepted in order, and
+    /// then, while replies are to come, the link is sent requests until it takes no more. When the exchange is over,
+    /// the link is closed. Once the answer was not [`Progress::More`], no other turn is taken.
     pub fn turn<L: Links>(
         &mut self,
         alloc: Global,

@@ -20,11 +20,16 @@ use Rattle.script_text.specs.Words.{number_of}
 use Rattle.command_serve.specs.Serves.{Serves}
 use Rattle.command_test.specs.RunsTests.{RunsTests}
 use Rattle.riemann_commands.specs.declared.command.Command.{Command}
-use Rattle.riemann_commands.specs.declared.command.Command.TheVariants.{Feed, Check, Replay, Serve, Load, Graphite, Test, Send, Query, Record, Resume}
-use Rattle.riemann_commands.specs.Carrying.{CarriesOut, IsWithinLimits, PromiseOf, UnlessFeed, UnlessJournal, UnlessLines, UnlessRunning, UnlessTest}
+use Rattle.riemann_commands.specs.declared.command.Command.TheVariants.{Feed, Check, Replay, Serve, Load, Graphite}
+use Rattle.riemann_commands.specs.declared.command.Command.TheVariants.{Test, Send, Query, Record, Resume}
+use Rattle.riemann_commands.specs.Carrying.{CarriesOut, IsWithinLimits, PromiseOf, UnlessFeed, UnlessJournal}
+use Rattle.riemann_commands.specs.Carrying.{UnlessLines, UnlessRunning, UnlessTest}
 use Rattle.riemann_commands.specs.Commands.{IsCommandOf}
 use Rattle.riemann_commands.specs.Promises.{Promises, Sameness}
-use Rattle.riemann_commands.specs.Words.{IsGraphite, IsLoad, IsQuery, IsSend, IsServe, IsUsage, OnCheck, OnFeed, OnGraphite, OnLoad, OnQuery, OnRecord, OnReplay, OnResume, OnSend, OnServe, OnTest, check_words, feed_words, load_words, record_words, replay_words, resume_words, serve_turns_words, serve_words, test_words}
+use Rattle.riemann_commands.specs.Words.{IsGraphite, IsLoad, IsQuery, IsSend, IsServe, IsUsage, OnCheck, OnFeed}
+use Rattle.riemann_commands.specs.Words.{OnGraphite, OnLoad, OnQuery, OnRecord, OnReplay, OnResume, OnSend, OnServe}
+use Rattle.riemann_commands.specs.Words.{OnTest, check_words, feed_words, load_words, record_words, replay_words}
+use Rattle.riemann_commands.specs.Words.{resume_words, serve_turns_words, serve_words, test_words}
 use Rattle.riemann_commands.proofs.CommandLaws.{asks_named, converts_named, host_part_within, named, sends_named}
 
 -- ---- the name of a command, which is the first of its arguments

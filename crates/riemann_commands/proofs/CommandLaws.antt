@@ -2,18 +2,23 @@
 use Rattle.std.proofs.Common.{◌≡◌, ℕ, ◌≤◌, List, Option, Some, None, ap, sym, ◌∙◌, subst, arith, inl, inr}
 use Rattle.std.specs.Option.{ForSome}
 use Rattle.command_io.specs.declared.ending.Ending.{Ending}
-use Rattle.command_io.specs.declared.ending.Ending.TheVariants.{Finished, ConfigRefused, Unread, OverLimit, BytesLeft, WriteFailed, LinksFailed, ScriptRefused, OutOfMemory}
+use Rattle.command_io.specs.declared.ending.Ending.TheVariants.{Finished, ConfigRefused, Unread, OverLimit, BytesLeft}
+use Rattle.command_io.specs.declared.ending.Ending.TheVariants.{WriteFailed, LinksFailed, ScriptRefused, OutOfMemory}
 use Rattle.command_io.specs.declared.status.Status.{Status}
-use Rattle.command_io.specs.declared.status.Status.TheVariants.{Done, Usage, Config, ReadFault, SinkFault, LinkFault, Memory, Script, Truncated, TooLong, Lines, Tests, Verdict, Unanswered, BadReply, Journal, DiskFault}
+use Rattle.command_io.specs.declared.status.Status.TheVariants.{Done, Usage, Config, ReadFault, SinkFault, LinkFault}
+use Rattle.command_io.specs.declared.status.Status.TheVariants.{Memory, Script, Truncated, TooLong, Lines, Tests}
+use Rattle.command_io.specs.declared.status.Status.TheVariants.{Verdict, Unanswered, BadReply, Journal, DiskFault}
 use Rattle.command_io.specs.Reports.{Reports}
 use Rattle.command_client.specs.Asks.{Asks}
 use Rattle.command_client.specs.Sends.{Sends}
 use Rattle.command_graphite.specs.Converts.{ConvertEnds, Converts}
 use Rattle.command_io.specs.Endings.{HasNoLine, IsRefusal, IsRefusalOrMemory, status_of}
 use Rattle.riemann_commands.specs.declared.command.Command.{Command}
-use Rattle.riemann_commands.specs.declared.command.Command.TheVariants.{Feed, Check, Replay, Serve, Load, Graphite, Test, Send, Query, Record, Resume}
+use Rattle.riemann_commands.specs.declared.command.Command.TheVariants.{Feed, Check, Replay, Serve, Load, Graphite}
+use Rattle.riemann_commands.specs.declared.command.Command.TheVariants.{Test, Send, Query, Record, Resume}
 use Rattle.riemann_commands.specs.Commands.{IsCommandOf}
-use Rattle.riemann_commands.specs.Words.{IsGraphite, IsQuery, IsSend, IsUsage, graphite_host_words, graphite_words, query_turns_words, query_words, send_turns_words, send_words}
+use Rattle.riemann_commands.specs.Words.{IsGraphite, IsQuery, IsSend, IsUsage, graphite_host_words, graphite_words}
+use Rattle.riemann_commands.specs.Words.{query_turns_words, query_words, send_turns_words, send_words}
 use Rattle.script_text.specs.Words.{number_of}
 
 no_ending : (ending : Ending) → status_of ending ≡ Usage → ⊥
@@ -67,7 +72,8 @@ pub not_usage_converting : (file : List ℕ) (host_part : Option ℕ) (old new :
 not_usage_converting file host_part old new status promise e =
     let P : Status → Type 0 = λ s. ConvertEnds file host_part old new s in let ends = subst P e promise.ends in ends.2
 
-pub converting_not_of_disk : (file : List ℕ) (host_part : Option ℕ) (old new : Reports) (status : Status) → Converts file host_part old new status → status ≡ DiskFault → ⊥
+pub converting_not_of_disk : (file : List ℕ) (host_part : Option ℕ) (old new : Reports) (status : Status)
+    → Converts file host_part old new status → status ≡ DiskFault → ⊥
 converting_not_of_disk file host_part old new status promise e =
     let P : Status → Type 0 = λ s. ConvertEnds file host_part old new s in let ends = subst P e promise.ends in ends.2
 

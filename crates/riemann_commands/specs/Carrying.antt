@@ -7,7 +7,8 @@ use Rattle.command_client.specs.Sends.{Sends}
 use Rattle.command_io.specs.Endings.{HasNoLine, IsRefusal}
 use Rattle.command_io.specs.Reports.{Reports}
 use Rattle.command_io.specs.declared.status.Status.{Status}
-use Rattle.command_io.specs.declared.status.Status.TheVariants.{Done, Usage, ReadFault, SinkFault, LinkFault, Memory, DiskFault}
+use Rattle.command_io.specs.declared.status.Status.TheVariants.{Done, Usage, ReadFault, SinkFault, LinkFault, Memory}
+use Rattle.command_io.specs.declared.status.Status.TheVariants.{DiskFault}
 use Rattle.command_feed.specs.Feeds.{Feeds}
 use Rattle.command_graphite.specs.Converts.{Converts}
 use Rattle.command_load.specs.Loads.{Loads}
@@ -21,7 +22,8 @@ use Rattle.command_replay.specs.Replays.{Replays}
 use Rattle.command_serve.specs.Serves.{Serves}
 use Rattle.command_test.specs.RunsTests.{RunsTests}
 use Rattle.riemann_commands.specs.declared.command.Command.{Command}
-use Rattle.riemann_commands.specs.declared.command.Command.TheVariants.{Feed, Check, Replay, Serve, Load, Graphite, Test, Send, Query, Record, Resume}
+use Rattle.riemann_commands.specs.declared.command.Command.TheVariants.{Feed, Check, Replay, Serve, Load, Graphite}
+use Rattle.riemann_commands.specs.declared.command.Command.TheVariants.{Test, Send, Query, Record, Resume}
 use Rattle.riemann_commands.specs.Promises.{Sameness}
 
 -- the numbers and the text of the command are within their limits
@@ -42,14 +44,18 @@ IsWithinLimits (Resume journal) = Unit {0}
 abbrev pub PromiseOf : Command → Reports → Reports → DiskReport → DiskReport → Sameness → Status → Type 0
 PromiseOf (Feed config file) old new disk disk' same status = Feeds config.now file.now old new same.Patterns status
 PromiseOf (Check config) old new disk disk' same status = Checks config.now old new same.Patterns status
-PromiseOf (Replay config script) old new disk disk' same status = Replays config.now script.now old new same.Patterns status
+PromiseOf (Replay config script) old new disk disk' same status =
+    Replays config.now script.now old new same.Patterns status
 PromiseOf (Serve config turns) old new disk disk' same status = Serves config.now turns old new same.Patterns status
-PromiseOf (Load config count start) old new disk disk' same status = Loads config.now count start old new same.Patterns status
+PromiseOf (Load config count start) old new disk disk' same status =
+    Loads config.now count start old new same.Patterns status
 PromiseOf (Graphite file host_part) old new disk disk' same status = Converts file.now host_part old new status
-PromiseOf (Test config tests) old new disk disk' same status = RunsTests config.now tests.now old new same.Patterns same.Out status
+PromiseOf (Test config tests) old new disk disk' same status =
+    RunsTests config.now tests.now old new same.Patterns same.Out status
 PromiseOf (Send address file turns) old new disk disk' same status = Sends address.now file.now turns old new status
 PromiseOf (Query address text turns) old new disk disk' same status = Asks address.now text.now turns old new status
-PromiseOf (Record config journal) old new disk disk' same status = Records config.now journal.now old new disk disk' same.Patterns status
+PromiseOf (Record config journal) old new disk disk' same status =
+    Records config.now journal.now old new disk disk' same.Patterns status
 PromiseOf (Resume journal) old new disk disk' same status = Resumes journal.now old new disk disk' same.Patterns status
 
 -- a fact that need not hold of the tests of a configuration, which may have written lines before a pattern was refused
@@ -84,7 +90,8 @@ UnlessJournal (Resume journal) P = Unit {0}
 UnlessJournal _ P = P
 
 -- The command kept its promise, and those that all commands give (`Promises`).
-pub record CarriesOut (command : Command) (old new : Reports) (disk disk' : DiskReport) (same : Sameness) (status : Status) : Type 0 where
+pub record CarriesOut (command : Command) (old new : Reports) (disk disk' : DiskReport) (same : Sameness)
+    (status : Status) : Type 0 where
   pub promise : PromiseOf command old new disk disk' same status
   pub not_usage : status ≢ Usage
   pub untouched : IsRefusal status → UnlessTest command same.Out × same.Links

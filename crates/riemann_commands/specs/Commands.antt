@@ -1,8 +1,10 @@
 -- The command that matches the arguments.
 use Rattle.std.specs.Prelude.{◌≡◌, ℕ, List}
 use Rattle.riemann_commands.specs.declared.command.Command.{Command}
-use Rattle.riemann_commands.specs.declared.command.Command.TheVariants.{Feed, Check, Replay, Serve, Load, Graphite, Test, Send, Query, Record, Resume}
-use Rattle.riemann_commands.specs.Words.{IsGraphite, IsLoad, IsQuery, IsSend, IsServe, check_words, feed_words, record_words, replay_words, resume_words, test_words}
+use Rattle.riemann_commands.specs.declared.command.Command.TheVariants.{Feed, Check, Replay, Serve, Load, Graphite}
+use Rattle.riemann_commands.specs.declared.command.Command.TheVariants.{Test, Send, Query, Record, Resume}
+use Rattle.riemann_commands.specs.Words.{IsGraphite, IsLoad, IsQuery, IsSend, IsServe, check_words, feed_words}
+use Rattle.riemann_commands.specs.Words.{record_words, replay_words, resume_words, test_words}
 
 -- the arguments are those of the command
 abbrev pub IsCommandOf : List (List ℕ) → Command → Type 0

@@ -7,7 +7,8 @@ use Rattle.command_io.specs.Endings.{GotLineOf, HasNoLine, IsRefusal}
 use Rattle.command_io.specs.Lines.{usage_line}
 use Rattle.command_io.specs.Reports.{Reports}
 use Rattle.command_io.specs.declared.status.Status.{Status}
-use Rattle.command_io.specs.declared.status.Status.TheVariants.{Done, Usage, ReadFault, SinkFault, LinkFault, Memory, DiskFault}
+use Rattle.command_io.specs.declared.status.Status.TheVariants.{Done, Usage, ReadFault, SinkFault, LinkFault, Memory}
+use Rattle.command_io.specs.declared.status.Status.TheVariants.{DiskFault}
 use Rattle.command_feed.specs.Feeds.{Feeds}
 use Rattle.command_graphite.specs.Converts.{Converts}
 use Rattle.command_load.specs.Loads.{Loads}
@@ -20,7 +21,8 @@ use Rattle.command_replay.specs.Replays.{Replays}
 use Rattle.command_serve.specs.Serves.{Serves}
 use Rattle.command_test.specs.RunsTests.{RunsTests}
 use Rattle.riemann_commands.specs.Commands.{IsCommand}
-use Rattle.riemann_commands.specs.Words.{IsUsage, OnCheck, OnFeed, OnGraphite, OnLoad, OnQuery, OnRecord, OnReplay, OnResume, OnSend, OnServe, OnTest}
+use Rattle.riemann_commands.specs.Words.{IsUsage, OnCheck, OnFeed, OnGraphite, OnLoad, OnQuery, OnRecord, OnReplay}
+use Rattle.riemann_commands.specs.Words.{OnResume, OnSend, OnServe, OnTest}
 
 -- the facts that each of the objects that were handed in is as it was
 pub record Sameness : Type 1 where
@@ -36,21 +38,24 @@ abbrev pub sameness : Type 0 → Type 0 → Type 0 → Type 0 → Type 0 → Typ
 sameness Store Links Disk Out Err Patterns Steps =
     record { Store = Store; Links = Links; Disk = Disk; Out = Out; Err = Err; Patterns = Patterns; Steps = Steps }
 
--- What `riemann` promises: first what holds of all commands, then what each command promises by itself. `disk` and `disk'`
--- are what the disk reports, before and after.
-pub record Promises (words : List (List ℕ)) (old new : Reports) (disk disk' : DiskReport) (same : Sameness) (status : Status) : Type 0 where
+-- What `riemann` promises: first what holds of all commands, then what each command promises by itself. `disk` and
+-- `disk'` are what the disk reports, before and after.
+pub record Promises (words : List (List ℕ)) (old new : Reports) (disk disk' : DiskReport) (same : Sameness)
+    (status : Status) : Type 0 where
   -- the status is `Usage` exactly if no command matches the arguments
   pub usage : (status ≡ Usage) ↔ IsUsage words
   pub command : status ≢ Usage → IsCommand words
-  pub idle : status ≡ Usage → same.Store × same.Links × same.Disk × same.Patterns × same.Steps × GotLineOf usage_line old.err new.err
-  -- of the commands only `test` may have written to `out` before it refused what it was given: a pattern, after the lines of
-  -- tests
+  pub idle : status ≡ Usage
+      → same.Store × same.Links × same.Disk × same.Patterns × same.Steps × GotLineOf usage_line old.err new.err
+  -- of the commands only `test` may have written to `out` before it refused what it was given: a pattern, after the
+  -- lines of tests
   pub untouched : IsRefusal status → (OnTest words (λ config tests. ⊥) → same.Out) × same.Links
   -- if memory runs out, only commands that write to `out` while they run have written to it
   pub memory : status ≡ Memory → OnReplay words (λ config script. ⊥) → OnServe words (λ config turns. ⊥)
-      → OnTest words (λ config tests. ⊥) → OnRecord words (λ config journal. ⊥) → OnResume words (λ journal. ⊥) → same.Out
-  -- without a line of its own for the status, only `feed` writes to `err`, where its notices go, and `graphite`, if it could
-  -- not write a line for each refused one
+      → OnTest words (λ config tests. ⊥) → OnRecord words (λ config journal. ⊥) → OnResume words (λ journal. ⊥)
+      → same.Out
+  -- without a line of its own for the status, only `feed` writes to `err`, where its notices go, and `graphite`, if it
+  -- could not write a line for each refused one
   pub no_line : HasNoLine status → OnFeed words (λ config file. ⊥)
       → OnGraphite words (λ file host_part. ⊥) → same.Err
   pub done : status ≡ Done → OnFeed words (λ config file. ⊥) → same.Err
@@ -60,9 +65,9 @@ pub record Promises (words : List (List ℕ)) (old new : Reports) (disk disk' : 
   pub disk_fault : status ≡ DiskFault → Rose disk.faults disk'.faults
   -- only `record` and `resume` call the disk
   pub uncalled : OnRecord words (λ config journal. ⊥) → OnResume words (λ journal. ⊥) → same.Disk
-  -- What each command promises by itself. The promise of a server has the lines of its notices, and that the notices of each
-  -- host are its own (`Runs.antt` and `Apart.antt` of `hub_run`). The sameness of patterns says that none was asked for, and
-  -- that of `out` that nothing was written.
+  -- What each command promises by itself. The promise of a server has the lines of its notices, and that the notices of
+  -- each host are its own (`Runs.antt` and `Apart.antt` of `hub_run`). The sameness of patterns says that none was
+  -- asked for, and that of `out` that nothing was written.
   pub feed : OnFeed words (λ config file. Feeds config file old new same.Patterns status)
   pub check : OnCheck words (λ config. Checks config old new same.Patterns status)
   pub replay : OnReplay words (λ config script. Replays config script old new same.Patterns status)
@@ -89,4 +94,5 @@ IsNoOption words = (words ≡ help_words → ⊥) × (words ≡ version_words �
 
 -- the text was written, or a put failed
 abbrev pub WritesText : List ℕ → SinkReport → SinkReport → Status → Type 0
-WritesText text old new status = ((status ≡ Done) × Got old.text text new.text) ⊎ ((status ≡ SinkFault) × Rose old.faults new.faults)
+WritesText text old new status =
+    ((status ≡ Done) × Got old.text text new.text) ⊎ ((status ≡ SinkFault) × Rose old.faults new.faults)

@@ -53,7 +53,8 @@ pub record IsHostPart (word : List ℕ) (part : ℕ) : Type 0 where
 -- the arguments are `graphite FILE --host K` with this number, or `graphite FILE` and there is none
 abbrev pub IsGraphite : List (List ℕ) → List ℕ → Option ℕ → Type 0
 IsGraphite words file host_part = ((words ≡ graphite_words file) × (host_part ≡ None))
-    ⊎ ((number : List ℕ) × (part : ℕ) × (words ≡ graphite_host_words file number) × IsHostPart number part × (host_part ≡ Some part))
+    ⊎ ((number : List ℕ) × (part : ℕ) × (words ≡ graphite_host_words file number) × IsHostPart number part
+    × (host_part ≡ Some part))
 
 abbrev pub test_words : List ℕ → List ℕ → List (List ℕ)
 test_words config tests = codes "test" ∷ (config ∷ (tests ∷ []))
@@ -77,7 +78,8 @@ query_turns_words address text number = codes "query" ∷ (address ∷ (text ∷
 
 -- the same of `query ADDRESS TEXT`, and the text is within the limit of a query
 abbrev pub IsQuery : List (List ℕ) → List ℕ → List ℕ → ℕ → Type 0
-IsQuery words address text turns = (length text ≤ MAX_BYTES) × (((words ≡ query_words address text) × (turns ≡ greatest))
+IsQuery words address text turns =
+    (length text ≤ MAX_BYTES) × (((words ≡ query_words address text) × (turns ≡ greatest))
     ⊎ ((number : List ℕ) × (words ≡ query_turns_words address text number) × (number_of number ≡ Some turns)))
 
 abbrev pub record_words : List ℕ → List ℕ → List (List ℕ)

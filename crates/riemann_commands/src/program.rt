@@ -94,8 +94,8 @@ fn names_client(words: &[Text]) -> bool
     }
 }
 
-/// Answers `--help` and `--version`, and carries out any other command. Arguments that could not be read have the status
-/// and the line of their fault.
+/// Answers `--help` and `--version`, and carries out any other command. Arguments that could not be read have the
+/// status and the line of their fault.
 pub fn run<S: Store, L: Links, D: Disk, O: Sink, E: Sink, P: Patterns, G: Ledger>(
     alloc: Global,
     arguments: Result<Vec<Text>, ArgumentsFault>,

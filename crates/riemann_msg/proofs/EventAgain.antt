@@ -1,5 +1,6 @@
 -- An event that is written is read again, with its attributes.
-use Rattle.std.proofs.Common.{◌≡◌, ℕ, ◌^◌, ◌<◌, ◌≤◌, true, false, eqb, List, [], ◌∷◌, ◌++◌, length, Option, Some, None, ℤ, pos, negsuc, refl, sym, ap, ◌∙◌, arith}
+use Rattle.std.proofs.Common.{◌≡◌, ℕ, ◌^◌, ◌<◌, ◌≤◌, true, false, eqb, List, [], ◌∷◌, ◌++◌, length, Option, Some, None}
+use Rattle.std.proofs.Common.{ℤ, pos, negsuc, refl, sym, ap, ◌∙◌, arith}
 use Rattle.std.specs.Prelude.{IfSome, FitsSigned, is_some, slice_range, unwrap_or}
 use Rattle.std.specs.Int.{w64, cast_unsigned}
 use Rattle.std.specs.List.{AllByRecursion, filter_map}
@@ -11,17 +12,24 @@ use Rattle.std.proofs.Math.Facts.{Fits-of_z}
 use Rattle.ev_types.specs.declared.event.Attr.{Attr}
 use Rattle.ev_types.specs.declared.event.Event.{Event}
 use Rattle.pb_wire.specs.declared.reader.Body.{Body}
-use Rattle.pb_wire.specs.declared.reader.Body.TheVariants.{Varint as body_varint, Eight as body_eight, Bytes as body_bytes, Four as body_four}
+use Rattle.pb_wire.specs.declared.reader.Body.TheVariants.{Varint as body_varint, Eight as body_eight}
+use Rattle.pb_wire.specs.declared.reader.Body.TheVariants.{Bytes as body_bytes, Four as body_four}
 use Rattle.pb_wire.specs.Spelling.{Content, Varint, Eight, Bytes, Four, content_in}
 use Rattle.pb_wire.specs.ReadBack.{FieldValue}
 use Rattle.riemann_msg.specs.Ttl.{IsSpellableTtl, seconds_of, bits_of}
-use Rattle.riemann_msg.specs.Value.{bytes_in, eight_in, four_in, int64_in, sint64_in, ttl_in, attribute_in, is_among, all_in, last_in, attribute_from, attribute_of, event_from, event_of, second_of}
+use Rattle.riemann_msg.specs.Value.{bytes_in, eight_in, four_in, int64_in, sint64_in, ttl_in, attribute_in, is_among}
+use Rattle.riemann_msg.specs.Value.{all_in, last_in, attribute_from, attribute_of, event_from, event_of, second_of}
 use Rattle.riemann_msg.specs.Fault.{attribute_field_fault, event_field_fault, attribute_fault, event_fault}
-use Rattle.riemann_msg.specs.Spelling.{field, optional, repeated, spelled, zigzag, int64, sint64, attribute_values, attribute_content, name_values, number_values, event_values}
+use Rattle.riemann_msg.specs.Spelling.{field, optional, repeated, spelled, zigzag, int64, sint64, attribute_values}
+use Rattle.riemann_msg.specs.Spelling.{attribute_content, name_values, number_values, event_values}
 use Rattle.riemann_msg.specs.ReadBack.{IsWellFormedAttribute, IsWellFormedEvent}
 use Rattle.riemann_msg.specs.Draft.{field_at}
 use Rattle.riemann_msg.proofs.TtlBits.{seconds_from_ttl, bits_of_spells, bits_of_small}
-use Rattle.riemann_msg.proofs.FoundAgain.{found_in_both, found_in_option, found_in_map, none_in_option, none_in_list, some_in_option, some_in_list, last_of_option, some_if, all_if, some_attribute, int64_again, sint64_again, ttl_again, NumberFits, BytesWithin, IsNumbered, all_append, all_optional, all_repeated, from_repeated, from_back, from_front, both_all, bodies_within, read_again, cond_none, utf8_none, no}
+use Rattle.riemann_msg.proofs.FoundAgain.{found_in_both, found_in_option, found_in_map, none_in_option, none_in_list}
+use Rattle.riemann_msg.proofs.FoundAgain.{some_in_option, some_in_list, last_of_option, some_if, all_if, some_attribute}
+use Rattle.riemann_msg.proofs.FoundAgain.{int64_again, sint64_again, ttl_again, NumberFits, BytesWithin, IsNumbered}
+use Rattle.riemann_msg.proofs.FoundAgain.{all_append, all_optional, all_repeated, from_repeated, from_back, from_front}
+use Rattle.riemann_msg.proofs.FoundAgain.{both_all, bodies_within, read_again, cond_none, utf8_none, no}
 
 -- ---- attributes
 

@@ -1,5 +1,6 @@
 -- Reading fields one after the other gives what all fields hold.
-use Rattle.std.proofs.Common.{◌≡◌, ℕ, ◌+◌, ◌++◌, Bool, true, false, cond, eqb, List, [], ◌∷◌, length, map, Option, Some, None, ℤ, pos, inl, inr, refl, sym, ap, ◌∙◌, append_assoc}
+use Rattle.std.proofs.Common.{◌≡◌, ℕ, ◌+◌, ◌++◌, Bool, true, false, cond, eqb, List, [], ◌∷◌, length, map, Option, Some}
+use Rattle.std.proofs.Common.{None, ℤ, pos, inl, inr, refl, sym, ap, ◌∙◌, append_assoc}
 use Rattle.std.proofs.lemmas.List.{append-nil}
 use Rattle.std.specs.Option.{option_map, option_or}
 use Rattle.std.specs.Prelude.{All, IfSome, filter, slice_range, unwrap_or}
@@ -9,7 +10,8 @@ use Rattle.std.specs.List.{AllByRecursion, flat_map, fold, last_or, filter_map, 
 use Rattle.ev_types.specs.declared.event.Event.{Event}
 use Rattle.ev_types.specs.Set.{event_at}
 use Rattle.pb_wire.specs.declared.reader.Body.{Body}
-use Rattle.pb_wire.specs.declared.reader.Body.TheVariants.{Varint as body_varint, Eight as body_eight, Bytes as body_bytes, Four as body_four}
+use Rattle.pb_wire.specs.declared.reader.Body.TheVariants.{Varint as body_varint, Eight as body_eight}
+use Rattle.pb_wire.specs.declared.reader.Body.TheVariants.{Bytes as body_bytes, Four as body_four}
 use Rattle.pb_wire.specs.Fields.{FieldAt, fields_of, fields_fault}
 use Rattle.pb_wire.specs.Spelling.{Content, Varint, Eight, Bytes, Four}
 use Rattle.pb_wire.specs.ReadBack.{FieldValue, values_of}
@@ -17,16 +19,22 @@ use Rattle.riemann_msg.specs.declared.read.AttrDraft.{AttrDraft}
 use Rattle.riemann_msg.specs.declared.read.MsgDraft.{MsgDraft}
 use Rattle.riemann_msg.specs.declared.read.StateDraft.{StateDraft}
 use Rattle.riemann_msg.specs.declared.msg.QueryPart.{QueryPart}
-use Rattle.riemann_msg.specs.Value.{bytes_in, int64_in, ttl_in, event_from, event_with, rounded, is_of_state, field_in, all_in, last_in, attribute_of, event_of, state_of, query_of, queries_joined, message_of}
+use Rattle.riemann_msg.specs.Value.{bytes_in, int64_in, ttl_in, event_from, event_with, rounded, is_of_state, field_in}
+use Rattle.riemann_msg.specs.Value.{all_in, last_in, attribute_of, event_of, state_of, query_of, queries_joined}
+use Rattle.riemann_msg.specs.Value.{message_of}
 use Rattle.riemann_msg.specs.declared.fault.MsgFault.{MsgFault}
 use Rattle.riemann_msg.specs.declared.fault.MsgFault.TheVariants.{Refused, Memory}
 use Rattle.riemann_msg.specs.declared.fault.MsgWhy.TheVariants.{Key as why_key}
-use Rattle.riemann_msg.specs.Fault.{Fault, fault_at, moved, first_by, first_of, wire_fault, IsRefusedFor, attribute_field_fault, event_field_fault, state_field_fault, query_field_fault, message_field_fault, attribute_fault, event_fault, state_fault, query_fault, key_fault}
+use Rattle.riemann_msg.specs.Fault.{Fault, fault_at, moved, first_by, first_of, wire_fault, IsRefusedFor}
+use Rattle.riemann_msg.specs.Fault.{attribute_field_fault, event_field_fault, state_field_fault, query_field_fault}
+use Rattle.riemann_msg.specs.Fault.{message_field_fault, attribute_fault, event_fault, state_fault, query_fault}
+use Rattle.riemann_msg.specs.Fault.{key_fault}
 use Rattle.riemann_msg.specs.Spelling.{field, IsSpellable, IsSpellableEvent}
 use Rattle.riemann_msg.specs.Ttl.{IsSpellableTtl, seconds_of}
 use Rattle.riemann_msg.proofs.TtlBits.{ttl_from_seconds}
 use Rattle.riemann_msg.proofs.Joined.{IsWhole, values_of_all}
-use Rattle.riemann_msg.specs.Draft.{fresh_message, field_at, query_joined, value_at, attribute_with, query_with, state_with, fresh_state, message_with, no_query, message_in}
+use Rattle.riemann_msg.specs.Draft.{fresh_message, field_at, query_joined, value_at, attribute_with, query_with}
+use Rattle.riemann_msg.specs.Draft.{state_with, fresh_state, message_with, no_query, message_in}
 
 -- what one field holds, and then what more fields hold
 last_step : {A : Type 0} (o x : Option A) (xs : List A)

@@ -1,5 +1,7 @@
 -- What is found in fields that are written one after the other.
-use Rattle.std.proofs.Common.{◌≡◌, ℕ, ◌+◌, ◌*◌, ◌/◌, ◌%◌, ◌^◌, ◌<◌, ◌≤◌, Bool, true, false, cond, List, [], ◌∷◌, ◌++◌, length, map, Option, Some, None, ℤ, pos, negsuc, refl, sym, ap, subst, ◌∙◌, arith, length-append}
+use Rattle.std.proofs.Common.{◌≡◌, ℕ, ◌+◌, ◌*◌, ◌/◌, ◌%◌, ◌^◌, ◌<◌, ◌≤◌, Bool, true, false, cond, List, [], ◌∷◌, ◌++◌}
+use Rattle.std.proofs.Common.{length, map, Option, Some, None, ℤ, pos, negsuc, refl, sym, ap, subst, ◌∙◌, arith}
+use Rattle.std.proofs.Common.{length-append}
 use Rattle.std.specs.Prelude.{IfSome, FitsSigned}
 use Rattle.std.specs.Int.{w64}
 use Rattle.std.specs.List.{AllByRecursion, filter_map, cons_option, last_or}
@@ -55,7 +57,8 @@ none_in_list [] = refl
 none_in_list (x ∷ xs) = none_in_list xs
 
 -- a function that gives each item back
-pub some_in_option : {A : Type 0} (f : A → Option A) (o : Option A) → IfSome o (λ x. f x ≡ Some x) → option_and_then f o ≡ o
+pub some_in_option : {A : Type 0} (f : A → Option A) (o : Option A) → IfSome o (λ x. f x ≡ Some x)
+    → option_and_then f o ≡ o
 some_in_option f None back = refl
 some_in_option f (Some x) back = back
 

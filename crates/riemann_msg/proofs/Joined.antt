@@ -1,5 +1,7 @@
 -- The fields of bytes one after the other are their fields in order.
-use Rattle.std.proofs.Common.{◌≡◌, ℕ, zero, suc, ◌+◌, ◌-◌, ◌<◌, ◌≤◌, List, [], ◌∷◌, ◌++◌, length, take, drop, map, Option, Some, None, refl, sym, ap, subst, ◌∙◌, inl, inr, Err, add-zero, arith, length-append}
+use Rattle.std.proofs.Common.{◌≡◌, ℕ, zero, suc, ◌+◌, ◌-◌, ◌<◌, ◌≤◌, List, [], ◌∷◌, ◌++◌, length, take, drop, map}
+use Rattle.std.proofs.Common.{Option, Some, None, refl, sym, ap, subst, ◌∙◌, inl, inr, Err, add-zero, arith}
+use Rattle.std.proofs.Common.{length-append}
 use Rattle.std.proofs.Math.Seq.{drop-append-add}
 use Rattle.std.proofs.lemmas.Bool.{cases_lt}
 use Rattle.std.proofs.lemmas.List.{drop-append-le, take-append-le, append-nil, length-drop, map-append}
@@ -9,7 +11,8 @@ use Rattle.pb_wire.specs.declared.reader.Body.{Body}
 use Rattle.pb_wire.specs.declared.reader.Body.TheVariants.{Varint, Eight, Bytes, Four}
 use Rattle.pb_wire.specs.declared.reader.WireWhy.{WireWhy}
 use Rattle.pb_wire.specs.declared.reader.WireWhy.TheVariants.{Short}
-use Rattle.pb_wire.specs.Fields.{FieldAt, field_from, fields_within, fields_from, fields_of, fields_end, end_within, next_at, fault_from, fields_fault}
+use Rattle.pb_wire.specs.Fields.{FieldAt, field_from, fields_within, fields_from, fields_of, fields_end, end_within}
+use Rattle.pb_wire.specs.Fields.{next_at, fault_from, fields_fault}
 use Rattle.pb_wire.specs.InRow.{EndsAt, IsFieldAt, AreInRow}
 use Rattle.pb_wire.specs.Spelling.{Content, Bytes as content_bytes, content_in}
 use Rattle.pb_wire.specs.ReadBack.{FieldValue, values_of}

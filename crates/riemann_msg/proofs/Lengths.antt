@@ -1,5 +1,6 @@
 -- The length of a spelling is the sum of the lengths of its fields. Each tag here is one byte.
-use Rattle.std.proofs.Common.{◌≡◌, ℕ, ℤ, Bool, true, false, ◌+◌, ◌*◌, ◌<◌, ◌≤◌, List, [], ◌∷◌, length, get_or, take, Some, refl, ap, ◌∙◌, arith, length-append}
+use Rattle.std.proofs.Common.{◌≡◌, ℕ, ℤ, Bool, true, false, ◌+◌, ◌*◌, ◌<◌, ◌≤◌, List, [], ◌∷◌, length, get_or, take}
+use Rattle.std.proofs.Common.{Some, refl, ap, ◌∙◌, arith, length-append}
 use Rattle.std.proofs.lemmas.Bool.{lt-ltb}
 use Rattle.std.proofs.lemmas.List.{append-nil}
 use denote.Ref.{Bor}
@@ -12,8 +13,13 @@ use Rattle.riemann_msg.specs.declared.msg.Msg.{Msg}
 use Rattle.riemann_msg.specs.declared.msg.QueryPart.{QueryPart}
 use Rattle.riemann_msg.specs.Reply.{events_lent, found}
 use Rattle.riemann_msg.specs.Ttl.{bits_of}
-use Rattle.riemann_msg.specs.Spelling.{optional, repeated, spelled, int64, sint64, zigzag, attribute_values, attribute_content, name_values, number_values, event_values, event_content, query_values, query_content, spelling}
-use Rattle.riemann_msg.proofs.Spelled.{found_spelled, lent_at, lent_so_far, lent_within, embedded, next_tag, next_attribute, next_event, some_tags, some_attributes, some_events, message_spelled, event_spelled, names_spelled, numbers_spelled, attribute_spelled}
+use Rattle.riemann_msg.specs.Spelling.{optional, repeated, spelled, int64, sint64, zigzag, attribute_values}
+use Rattle.riemann_msg.specs.Spelling.{attribute_content, name_values, number_values, event_values, event_content}
+use Rattle.riemann_msg.specs.Spelling.{query_values, query_content, spelling}
+use Rattle.riemann_msg.proofs.Spelled.{found_spelled, lent_at, lent_so_far, lent_within, embedded, next_tag}
+use Rattle.riemann_msg.proofs.Spelled.{next_attribute, next_event, some_tags, some_attributes, some_events}
+use Rattle.riemann_msg.proofs.Spelled.{message_spelled, event_spelled, names_spelled, numbers_spelled}
+use Rattle.riemann_msg.proofs.Spelled.{attribute_spelled}
 
 pub short_varint : (value : ℕ) → value < 128 → varint value ≡ value ∷ []
 unfolding varint spelled_within

@@ -1,5 +1,6 @@
 -- A message that is written is read again.
-use Rattle.std.proofs.Common.{◌≡◌, ℕ, ◌^◌, ◌<◌, ◌≤◌, Bool, true, false, cond, eqb, List, [], ◌++◌, length, Option, Some, None, ℤ, pos, refl, ap, ◌∙◌, arith}
+use Rattle.std.proofs.Common.{◌≡◌, ℕ, ◌^◌, ◌<◌, ◌≤◌, Bool, true, false, cond, eqb, List, [], ◌++◌, length, Option, Some}
+use Rattle.std.proofs.Common.{None, ℤ, pos, refl, ap, ◌∙◌, arith}
 use Rattle.std.specs.Prelude.{IfSome, slice_range}
 use Rattle.std.specs.Int.{from_bool}
 use Rattle.std.specs.List.{AllByRecursion, filter_map}
@@ -9,17 +10,24 @@ use Rattle.std.proofs.lemmas.Str.{is_utf8-from_IsUtf8}
 use Rattle.std.proofs.lemmas.List.{append-nil}
 use Rattle.ev_types.specs.declared.event.Event.{Event}
 use Rattle.pb_wire.specs.declared.reader.Body.{Body}
-use Rattle.pb_wire.specs.declared.reader.Body.TheVariants.{Varint as body_varint, Eight as body_eight, Bytes as body_bytes, Four as body_four}
+use Rattle.pb_wire.specs.declared.reader.Body.TheVariants.{Varint as body_varint, Eight as body_eight}
+use Rattle.pb_wire.specs.declared.reader.Body.TheVariants.{Bytes as body_bytes, Four as body_four}
 use Rattle.pb_wire.specs.Spelling.{Content, Varint, Eight, Bytes, Four, content_in}
 use Rattle.pb_wire.specs.ReadBack.{FieldValue}
 use Rattle.riemann_msg.specs.declared.msg.Msg.{Msg}
 use Rattle.riemann_msg.specs.declared.msg.QueryPart.{QueryPart}
-use Rattle.riemann_msg.specs.Value.{bytes_in, bool_in, event_in, state_in, all_in, last_in, query_of, queries_joined, message_from, message_of}
-use Rattle.riemann_msg.specs.Fault.{Fault, query_field_fault, message_field_fault, event_fault, state_fault, query_fault, first_fault}
-use Rattle.riemann_msg.specs.Spelling.{field, optional, repeated, spelled, event_values, event_content, query_values, query_content, message_values, spelling}
+use Rattle.riemann_msg.specs.Value.{bytes_in, bool_in, event_in, state_in, all_in, last_in, query_of, queries_joined}
+use Rattle.riemann_msg.specs.Value.{message_from, message_of}
+use Rattle.riemann_msg.specs.Fault.{Fault, query_field_fault, message_field_fault, event_fault, state_fault}
+use Rattle.riemann_msg.specs.Fault.{query_fault, first_fault}
+use Rattle.riemann_msg.specs.Spelling.{field, optional, repeated, spelled, event_values, event_content, query_values}
+use Rattle.riemann_msg.specs.Spelling.{query_content, message_values, spelling}
 use Rattle.riemann_msg.specs.ReadBack.{IsWellFormedEvent, IsWellFormedMessage, MessagesAreReadBack}
 use Rattle.riemann_msg.specs.Draft.{field_at}
-use Rattle.riemann_msg.proofs.FoundAgain.{found_in_both, found_in_option, found_in_map, none_in_option, none_in_list, some_in_option, some_in_list, last_of_option, some_if, all_if, BytesWithin, IsNumbered, all_optional, all_repeated, from_repeated, from_back, from_front, both_all, bodies_within, read_again, cond_none, utf8_none, no}
+use Rattle.riemann_msg.proofs.FoundAgain.{found_in_both, found_in_option, found_in_map, none_in_option, none_in_list}
+use Rattle.riemann_msg.proofs.FoundAgain.{some_in_option, some_in_list, last_of_option, some_if, all_if, BytesWithin}
+use Rattle.riemann_msg.proofs.FoundAgain.{IsNumbered, all_optional, all_repeated, from_repeated, from_back, from_front}
+use Rattle.riemann_msg.proofs.FoundAgain.{both_all, bodies_within, read_again, cond_none, utf8_none, no}
 use Rattle.riemann_msg.proofs.EventAgain.{same_option, EventBack, numbered, all_numbers, text_numbered, event_back}
 
 abbrev some_query : QueryPart → Option QueryPart

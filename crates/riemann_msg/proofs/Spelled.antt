@@ -1,7 +1,9 @@
 -- The bytes of fields are those of their parts, one after the other.
-use Rattle.std.proofs.Common.{◌≡◌, ℕ, ◌+◌, ◌*◌, ◌<◌, ◌≤◌, List, [], ◌∷◌, ◌++◌, length, length-append, get_or, take, drop, true, Some, refl, sym, ap, ◌∙◌, append_assoc, arith}
+use Rattle.std.proofs.Common.{◌≡◌, ℕ, ◌+◌, ◌*◌, ◌<◌, ◌≤◌, List, [], ◌∷◌, ◌++◌, length, length-append, get_or, take}
+use Rattle.std.proofs.Common.{drop, true, Some, refl, sym, ap, ◌∙◌, append_assoc, arith}
 use Rattle.std.proofs.lemmas.Grind.{flat_map-append}
-use Rattle.std.proofs.lemmas.List.{append-nil, get_or-map, length-map, take_more, take-map, map-append, take-append-drop}
+use Rattle.std.proofs.lemmas.List.{append-nil, get_or-map, length-map, take_more, take-map, map-append}
+use Rattle.std.proofs.lemmas.List.{take-append-drop}
 use denote.Ref.{Bor}
 use Rattle.std.specs.Int.{from_bool}
 use Rattle.ev_types.specs.declared.event.Attr.{Attr}
@@ -13,7 +15,9 @@ use Rattle.riemann_msg.specs.declared.msg.Msg.{Msg}
 use Rattle.riemann_msg.specs.declared.msg.QueryPart.{QueryPart}
 use Rattle.riemann_msg.specs.Reply.{events_lent, found}
 use Rattle.riemann_msg.specs.Ttl.{bits_of}
-use Rattle.riemann_msg.specs.Spelling.{field, optional, repeated, spelled, int64, sint64, attribute_values, attribute_content, name_values, number_values, event_values, event_content, query_values, query_content, message_values, spelling}
+use Rattle.riemann_msg.specs.Spelling.{field, optional, repeated, spelled, int64, sint64, attribute_values}
+use Rattle.riemann_msg.specs.Spelling.{attribute_content, name_values, number_values, event_values, event_content}
+use Rattle.riemann_msg.specs.Spelling.{query_values, query_content, message_values, spelling}
 
 -- ---- what grew step by step
 

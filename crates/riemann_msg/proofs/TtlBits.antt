@@ -1,12 +1,17 @@
 -- The numbers that a binary32 ttl is made of.
-use Rattle.std.proofs.Common.{◌≡◌, ◌≢◌, ◌⊎◌, ℕ, zero, suc, ◌+◌, ◌-◌, ◌*◌, ◌/◌, ◌%◌, ◌^◌, ◌<◌, ◌≤◌, Bool, true, false, cond, ◌&&◌, eqb, leb, Option, Some, None, refl, sym, ap, subst, ◌∙◌, inl, inr, lit≤, arith, add-zero}
-use Rattle.std.proofs.lemmas.Nat.{pow_pos, pow-add, shl-shr, shr-shr, mod-pow-add, mul-le, leading_top, and_mask, one_shl, mod-mul-add, shl_below, shr_below}
-use Rattle.std.proofs.lemmas.Bool.{cases_lt, and_parts, false_from_ne_true, eqb-true, leb-true, eq-eqb, ne_eqb, le-leb, lt-leb}
+use Rattle.std.proofs.Common.{◌≡◌, ◌≢◌, ◌⊎◌, ℕ, zero, suc, ◌+◌, ◌-◌, ◌*◌, ◌/◌, ◌%◌, ◌^◌, ◌<◌, ◌≤◌, Bool, true, false}
+use Rattle.std.proofs.Common.{cond, ◌&&◌, eqb, leb, Option, Some, None, refl, sym, ap, subst, ◌∙◌, inl, inr, lit≤}
+use Rattle.std.proofs.Common.{arith, add-zero}
+use Rattle.std.proofs.lemmas.Nat.{pow_pos, pow-add, shl-shr, shr-shr, mod-pow-add, mul-le, leading_top, and_mask}
+use Rattle.std.proofs.lemmas.Nat.{one_shl, mod-mul-add, shl_below, shr_below}
+use Rattle.std.proofs.lemmas.Bool.{cases_lt, and_parts, false_from_ne_true, eqb-true, leb-true, eq-eqb, ne_eqb, le-leb}
+use Rattle.std.proofs.lemmas.Bool.{lt-leb}
 use Rattle.std.proofs.Math.Nat.{pow-le-pow_right, mod-eq_of_lt, pow-succ'}
 use Rattle.std.specs.Option.{SomeIff}
 use lib.Count.{count_leading_zeros}
 use lib.Bits.{bit_and}
-use Rattle.riemann_msg.specs.Ttl.{sign_of, exponent_of, fraction_of, scaled_value, IsWhole, IsTtl, IsSpellableTtl, seconds_of, bits_of}
+use Rattle.riemann_msg.specs.Ttl.{sign_of, exponent_of, fraction_of, scaled_value, IsWhole, IsTtl, IsSpellableTtl}
+use Rattle.riemann_msg.specs.Ttl.{seconds_of, bits_of}
 
 -- ---- a shift to the left by e, and then to the right by k, which is p more
 

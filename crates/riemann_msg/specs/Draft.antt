@@ -1,6 +1,7 @@
--- What is known of a message when its first fields were read: words of the private functions that read. No public clause
--- cites them.
-use Rattle.std.specs.Prelude.{◌≡◌, ℕ, ◌==◌, if◌then◌else◌, is_some, ℤ, Result, Ok, Err, ◌++◌, List, [], ◌∷◌, Option, Some, None, unwrap_or}
+-- What is known of a message when its first fields were read: words of the private functions that read. No public
+-- clause cites them.
+use Rattle.std.specs.Prelude.{◌≡◌, ℕ, ◌==◌, if◌then◌else◌, is_some, ℤ, Result, Ok, Err, ◌++◌, List, [], ◌∷◌, Option}
+use Rattle.std.specs.Prelude.{Some, None, unwrap_or}
 use Rattle.std.specs.Str.{is_utf8}
 use Rattle.std.specs.Option.{option_map}
 use Rattle.std.specs.List.{fold}
@@ -17,9 +18,12 @@ use Rattle.riemann_msg.specs.declared.msg.QueryPart.{QueryPart}
 use Rattle.riemann_msg.specs.declared.fault.MsgFault.{MsgFault}
 use Rattle.riemann_msg.specs.declared.fault.MsgWhy.TheVariants.{Utf8 as why_utf8, Ttl as why_ttl}
 use Rattle.riemann_msg.specs.Ttl.{seconds_of}
-use Rattle.riemann_msg.specs.Fault.{Fault, fault_at, moved, IsRefusedFor, attribute_fault, query_fault, event_fault, state_fault}
-use Rattle.riemann_msg.specs.Value.{all_in, bytes_in, bool_in, event_in, event_with, state_in, is_among, is_of_state, later}
-use Rattle.riemann_msg.specs.declared.fields.TheConstants.{ATTRIBUTES, DESCRIPTION, ERROR, EVENTS, HOST, KEY, OK, QUERY, SERVICE, STATE, STATES, STRING, TAGS, TTL, VALUE}
+use Rattle.riemann_msg.specs.Fault.{Fault, fault_at, moved, IsRefusedFor, attribute_fault, query_fault, event_fault}
+use Rattle.riemann_msg.specs.Fault.{state_fault}
+use Rattle.riemann_msg.specs.Value.{all_in, bytes_in, bool_in, event_in, event_with, state_in, is_among, is_of_state}
+use Rattle.riemann_msg.specs.Value.{later}
+use Rattle.riemann_msg.specs.declared.fields.TheConstants.{ATTRIBUTES, DESCRIPTION, ERROR, EVENTS, HOST, KEY, OK, QUERY}
+use Rattle.riemann_msg.specs.declared.fields.TheConstants.{SERVICE, STATE, STATES, STRING, TAGS, TTL, VALUE}
 
 abbrev pub field_at : ℕ → Body → ℕ → FieldAt
 field_at number body place = record { number = number; body = body; place = place }
@@ -29,14 +33,16 @@ value_at bytes field = record { number = field.number; content = content_in byte
 
 -- the drafts, once more fields were read
 abbrev pub attribute_with : AttrDraft → List FieldValue → AttrDraft
-attribute_with draft values = record { key = later draft.key bytes_in KEY values; value = later draft.value bytes_in VALUE values }
+attribute_with draft values =
+    record { key = later draft.key bytes_in KEY values; value = later draft.value bytes_in VALUE values }
 
 abbrev pub query_with : QueryPart → List FieldValue → QueryPart
 query_with query values = record { string = later query.string bytes_in STRING values }
 
 -- a field that a state does not have changes nothing
 abbrev pub state_with : StateDraft → FieldValue → StateDraft
-state_with draft value = if is_of_state value.number then record { event = event_with draft.event (value ∷ []) } else draft
+state_with draft value =
+    if is_of_state value.number then record { event = event_with draft.event (value ∷ []) } else draft
 
 abbrev pub fresh_state : ℤ → StateDraft
 fresh_state now = record { event = event_at now }
@@ -46,7 +52,9 @@ no_query = record { string = None }
 
 -- the fields of one more query
 abbrev pub query_joined : Option QueryPart → List ℕ → Option QueryPart
-query_joined query bytes = Some (fold (λ query field. query_with query (value_at bytes field ∷ [])) (unwrap_or query no_query) (fields_of bytes))
+query_joined query bytes =
+    Some (fold (λ query field. query_with query (value_at bytes field ∷ [])) (unwrap_or query no_query)
+    (fields_of bytes))
 
 abbrev pub message_with : MsgDraft → List FieldValue → MsgDraft
 message_with draft values = record {
@@ -63,14 +71,16 @@ fresh_message now = record { now = now; ok = None; error = None; query = None; s
 
 -- the message with the fields of the draft
 abbrev pub message_in : MsgDraft → Msg
-message_in draft = record { ok = draft.ok; error = draft.error; query = draft.query; events = draft.states ++ draft.events }
+message_in draft =
+    record { ok = draft.ok; error = draft.error; query = draft.query; events = draft.states ++ draft.events }
 
 -- the fault of a body whose tag, and whose bytes, begin at these places of the whole message
 abbrev pub utf8_fault : ℕ → List ℕ → Option Fault
 utf8_fault place bytes = if is_utf8 bytes then None else Some (fault_at place why_utf8)
 
 abbrev pub four_fault : ℕ → ℕ → ℕ → Option Fault
-four_fault number bits place = if number == TTL then (if is_some (seconds_of bits) then None else Some (fault_at place why_ttl)) else None
+four_fault number bits place =
+    if number == TTL then (if is_some (seconds_of bits) then None else Some (fault_at place why_ttl)) else None
 
 abbrev pub bytes_fault : ℕ → List ℕ → ℕ → ℕ → Option Fault
 bytes_fault number bytes start place =

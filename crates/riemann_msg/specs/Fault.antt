@@ -1,21 +1,26 @@
 -- For which fault a message is refused: the first one in the list of its fields. Places count bytes from the start of
 -- the message.
-use Rattle.std.specs.Prelude.{◌≡◌, ℕ, ◌+◌, ◌==◌, if◌then◌else◌, List, [], ◌∷◌, length, slice_range, codes, Option, Some, None, Result, Ok, Err, is_some}
+use Rattle.std.specs.Prelude.{◌≡◌, ℕ, ◌+◌, ◌==◌, if◌then◌else◌, List, [], ◌∷◌, length, slice_range, codes, Option, Some}
+use Rattle.std.specs.Prelude.{None, Result, Ok, Err, is_some}
 use Rattle.std.specs.Option.{option_map, option_or}
 use Rattle.std.specs.Str.{is_utf8}
 use Rattle.pb_wire.specs.declared.reader.Body.{Body}
 use Rattle.pb_wire.specs.declared.reader.Body.TheVariants.{Varint, Eight, Bytes, Four}
 use Rattle.pb_wire.specs.declared.reader.WireWhy.{WireWhy}
-use Rattle.pb_wire.specs.declared.reader.WireWhy.TheVariants.{Short as wire_short, Varint as wire_varint, Tag as wire_tag, Wire as wire_type}
+use Rattle.pb_wire.specs.declared.reader.WireWhy.TheVariants.{Short as wire_short, Varint as wire_varint}
+use Rattle.pb_wire.specs.declared.reader.WireWhy.TheVariants.{Tag as wire_tag, Wire as wire_type}
 use Rattle.pb_wire.specs.Fields.{FieldAt, fields_of, fields_fault}
 use Rattle.pb_wire.specs.ReadBack.{values_of}
 use Rattle.riemann_msg.specs.declared.fault.MsgFault.{MsgFault}
 use Rattle.riemann_msg.specs.declared.fault.MsgFault.TheVariants.{Refused, Memory}
 use Rattle.riemann_msg.specs.declared.fault.MsgWhy.{MsgWhy}
-use Rattle.riemann_msg.specs.declared.fault.MsgWhy.TheVariants.{Short as why_short, Varint as why_varint, Tag as why_tag, Wire as why_wire, Utf8 as why_utf8, Key as why_key, Ttl as why_ttl}
+use Rattle.riemann_msg.specs.declared.fault.MsgWhy.TheVariants.{Short as why_short, Varint as why_varint}
+use Rattle.riemann_msg.specs.declared.fault.MsgWhy.TheVariants.{Tag as why_tag, Wire as why_wire, Utf8 as why_utf8}
+use Rattle.riemann_msg.specs.declared.fault.MsgWhy.TheVariants.{Key as why_key, Ttl as why_ttl}
 use Rattle.riemann_msg.specs.Ttl.{seconds_of}
 use Rattle.riemann_msg.specs.Value.{bytes_in, is_among, is_of_state, last_in}
-use Rattle.riemann_msg.specs.declared.fields.TheConstants.{ATTRIBUTES, DESCRIPTION, ERROR, EVENTS, HOST, KEY, QUERY, SERVICE, STATE, STATES, STRING, TAGS, TTL, VALUE}
+use Rattle.riemann_msg.specs.declared.fields.TheConstants.{ATTRIBUTES, DESCRIPTION, ERROR, EVENTS, HOST, KEY, QUERY}
+use Rattle.riemann_msg.specs.declared.fields.TheConstants.{SERVICE, STATE, STATES, STRING, TAGS, TTL, VALUE}
 
 -- the name of a cause
 abbrev pub why_name : MsgWhy → List ℕ
@@ -41,7 +46,8 @@ moved start fault = fault_at (start + fault.place) fault.why
 -- ---- the fault of one body
 
 abbrev pub text_fault : List ℕ → ℕ → Body → Option Fault
-text_fault bytes place (Bytes start last) = if is_utf8 (slice_range bytes start last) then None else Some (fault_at place why_utf8)
+text_fault bytes place (Bytes start last) =
+    if is_utf8 (slice_range bytes start last) then None else Some (fault_at place why_utf8)
 text_fault bytes place (Varint value) = None
 text_fault bytes place (Eight value) = None
 text_fault bytes place (Four value) = None
@@ -80,18 +86,21 @@ first_by fault bytes = option_or (first_of fault (fields_of bytes)) (option_map 
 -- ---- attributes, events, states, queries, messages
 
 abbrev pub attribute_field_fault : List ℕ → FieldAt → Option Fault
-attribute_field_fault bytes field = if is_among field.number (KEY ∷ VALUE ∷ []) then text_fault bytes field.place field.body else None
+attribute_field_fault bytes field =
+    if is_among field.number (KEY ∷ VALUE ∷ []) then text_fault bytes field.place field.body else None
 
 -- an attribute without a key is refused just past its last byte
 abbrev pub key_fault : List ℕ → Option Fault
-key_fault bytes = if is_some (last_in bytes_in KEY (values_of bytes)) then None else Some (fault_at (length bytes) why_key)
+key_fault bytes =
+    if is_some (last_in bytes_in KEY (values_of bytes)) then None else Some (fault_at (length bytes) why_key)
 
 unfoldable pub attribute_fault : List ℕ → Option Fault
 attribute_fault bytes = option_or (first_by (attribute_field_fault bytes) bytes) (key_fault bytes)
 
 abbrev pub event_field_fault : List ℕ → FieldAt → Option Fault
 event_field_fault bytes field =
-    if is_among field.number (STATE ∷ SERVICE ∷ HOST ∷ DESCRIPTION ∷ TAGS ∷ []) then text_fault bytes field.place field.body
+    if is_among field.number (STATE ∷ SERVICE ∷ HOST ∷ DESCRIPTION ∷ TAGS ∷ [])
+    then text_fault bytes field.place field.body
     else (if field.number == TTL then ttl_fault field.place field.body
     else (if field.number == ATTRIBUTES then embedded_fault attribute_fault bytes field.body else None))
 

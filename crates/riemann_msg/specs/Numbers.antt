@@ -1,4 +1,5 @@
--- The numbers of the fields of messages, as Riemann's `proto.proto` has them. Those of a state are this project's profile.
+-- The numbers of the fields of messages, as Riemann's `proto.proto` has them. Those of a state are this project's
+-- profile.
 use Rattle.std.specs.Prelude.{ℕ, List, [], ◌∷◌}
 
 -- of a message: whether it was accepted
@@ -81,7 +82,7 @@ metric_d_field = 14
 abbrev pub metric_f_field : ℕ
 metric_f_field = 15
 
--- of a state: its time, state, service, host, description, tags and ttl, which are those of an event. Field 6, `once`, is
--- not among them.
+-- of a state: its time, state, service, host, description, tags and ttl, which are those of an event. Field 6, `once`,
+-- is not among them.
 abbrev pub fields_of_a_state : List ℕ
 fields_of_a_state = 1 ∷ 2 ∷ 3 ∷ 4 ∷ 5 ∷ 7 ∷ 8 ∷ []

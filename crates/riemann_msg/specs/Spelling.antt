@@ -1,6 +1,7 @@
 -- How a message is spelled: its fields by rising number, each in its shortest spelling. Of an event the time is
 -- written always, and of the other fields those that are there; tags and attributes in their order.
-use Rattle.std.specs.Prelude.{◌≡◌, ℕ, ◌+◌, ◌*◌, ◌^◌, ◌≤◌, List, ◌∷◌, ◌++◌, map, Option, Result, Ok, Err, ℤ, pos, negsuc, IfSome, All}
+use Rattle.std.specs.Prelude.{◌≡◌, ℕ, ◌+◌, ◌*◌, ◌^◌, ◌≤◌, List, ◌∷◌, ◌++◌, map, Option, Result, Ok, Err, ℤ, pos, negsuc}
+use Rattle.std.specs.Prelude.{IfSome, All}
 use Rattle.std.specs.Int.{w64, cast_unsigned, from_bool}
 use Rattle.std.specs.List.{flat_map}
 use Rattle.std.specs.Option.{option_map, option_to_list}
@@ -12,7 +13,9 @@ use Rattle.pb_wire.specs.ReadBack.{FieldValue, value_spelling}
 use Rattle.riemann_msg.specs.declared.msg.Msg.{Msg}
 use Rattle.riemann_msg.specs.declared.msg.QueryPart.{QueryPart}
 use Rattle.riemann_msg.specs.Ttl.{IsSpellableTtl, bits_of}
-use Rattle.riemann_msg.specs.declared.fields.TheConstants.{ATTRIBUTES, DESCRIPTION, ERROR, EVENTS, HOST, KEY, METRIC_D, METRIC_F, METRIC_SINT64, OK, QUERY, SERVICE, STATE, STRING, TAGS, TIME, TIME_MICROS, TTL, VALUE}
+use Rattle.riemann_msg.specs.declared.fields.TheConstants.{ATTRIBUTES, DESCRIPTION, ERROR, EVENTS, HOST, KEY, METRIC_D}
+use Rattle.riemann_msg.specs.declared.fields.TheConstants.{METRIC_F, METRIC_SINT64, OK, QUERY, SERVICE, STATE, STRING}
+use Rattle.riemann_msg.specs.declared.fields.TheConstants.{TAGS, TIME, TIME_MICROS, TTL, VALUE}
 
 abbrev pub field : ℕ → Content → FieldValue
 field number content = record { number = number; content = content }

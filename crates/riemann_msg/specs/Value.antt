@@ -1,6 +1,7 @@
 -- What a message is, by what its fields hold. Of a field that may be there once the last one counts; a field that is
 -- repeated keeps all, in order. Fields with another number, or of another type, count for nothing.
-use Rattle.std.specs.Prelude.{ℕ, ◌==◌, ◌/◌, ◌%◌, not, Bool, if◌then◌else◌, List, [], ◌∷◌, ◌++◌, filter, Option, Some, None, unwrap_or, ℤ, pos, negsuc}
+use Rattle.std.specs.Prelude.{ℕ, ◌==◌, ◌/◌, ◌%◌, not, Bool, if◌then◌else◌, List, [], ◌∷◌, ◌++◌, filter, Option, Some}
+use Rattle.std.specs.Prelude.{None, unwrap_or, ℤ, pos, negsuc}
 use Rattle.std.specs.Int.{w64, cast_signed, int_div_euclid}
 use Rattle.std.specs.List.{concat, filter_map, last_or, list_any}
 use Rattle.std.specs.Option.{option_map, option_and_then}
@@ -12,7 +13,9 @@ use Rattle.pb_wire.specs.ReadBack.{FieldValue, values_of}
 use Rattle.riemann_msg.specs.declared.msg.Msg.{Msg}
 use Rattle.riemann_msg.specs.declared.msg.QueryPart.{QueryPart}
 use Rattle.riemann_msg.specs.Ttl.{seconds_of}
-use Rattle.riemann_msg.specs.declared.fields.TheConstants.{ATTRIBUTES, DESCRIPTION, ERROR, EVENTS, HOST, KEY, METRIC_D, METRIC_F, METRIC_SINT64, OK, QUERY, SERVICE, STATE, STATES, STRING, TAGS, TIME, TIME_MICROS, TTL, VALUE}
+use Rattle.riemann_msg.specs.declared.fields.TheConstants.{ATTRIBUTES, DESCRIPTION, ERROR, EVENTS, HOST, KEY, METRIC_D}
+use Rattle.riemann_msg.specs.declared.fields.TheConstants.{METRIC_F, METRIC_SINT64, OK, QUERY, SERVICE, STATE, STATES}
+use Rattle.riemann_msg.specs.declared.fields.TheConstants.{STRING, TAGS, TIME, TIME_MICROS, TTL, VALUE}
 
 -- ---- what a body holds, by its type
 
@@ -77,7 +80,8 @@ is_among number numbers = list_any (λ other. number == other) numbers
 -- ---- attributes, events, states, queries, messages
 
 abbrev pub attribute_from : List FieldValue → Attr
-attribute_from values = record { key = unwrap_or (last_in bytes_in KEY values) []; value = last_in bytes_in VALUE values }
+attribute_from values =
+    record { key = unwrap_or (last_in bytes_in KEY values) []; value = last_in bytes_in VALUE values }
 
 unfoldable pub attribute_of : List ℕ → Attr
 attribute_of bytes = attribute_from (values_of bytes)

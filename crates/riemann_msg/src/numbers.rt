@@ -3,8 +3,8 @@ ghost use Rattle.riemann_msg.specs.Value.{state_fields};
 ghost use Rattle.riemann_msg.specs.Numbers.{attributes_field, description_field, error_field, events_field, fields_of_a_state, host_field, key_field, metric_d_field, metric_f_field, metric_sint64_field, ok_field, query_field, service_field, state_field, states_field, string_field, tags_field, time_field, time_micros_field, ttl_field, value_field};
 ghost use Rattle.riemann_msg.specs.declared.fields.TheConstants.{ATTRIBUTES, DESCRIPTION, ERROR, EVENTS, HOST, KEY, METRIC_D, METRIC_F, METRIC_SINT64, OK, QUERY, SERVICE, STATE, STATES, STRING, TAGS, TIME, TIME_MICROS, TTL, VALUE};
 
-/// The field numbers of the code are those of Riemann's `proto.proto`. That of states, and which fields a state has, are
-/// this project's profile.
+/// The field numbers of the code are those of Riemann's `proto.proto`. That of states, and which fields a state has,
+/// are this project's profile.
 pub fn field_numbers_are_given()
     ensures ok { OK ≡ ok_field }
     ensures error { ERROR ≡ error_field }

@@ -1,5 +1,5 @@
-//! Reading messages, field by field. What reads a field of an event is always inlined: the reading of a state is a second
-//! caller, and each field of an event would else be a call.
+//! Reading messages, field by field. What reads a field of an event is always inlined: the reading of a state is a
+//! second caller, and each field of an event would else be a call.
 
 ghost use Rattle.std.specs.Prelude.{◌≡◌, ℕ, ◌+◌, ◌^◌, ◌<◌, ◌≤◌, ◌++◌, ◌∷◌, [], List, drop, length, take, Option, OnOk, OnErr, IfOk, IfErr, None, pos};
 ghost use Rattle.std.specs.List.{fold};
@@ -469,8 +469,8 @@ impl EventsDraft {
         }
     }
 
-    /// Reads the bytes, which begin at `base` in the whole message, as one more event. One without a time gets `now`. An
-    /// event that is refused counts too, since it holds what was read of it before its fault.
+    /// Reads the bytes, which begin at `base` in the whole message, as one more event. One without a time gets `now`.
+    /// An event that is refused counts too, since it holds what was read of it before its fault.
     fn add(&mut self, alloc: Global, now: i64, bytes: &[u8], base: usize) -> Result<(), MsgFault>
         requires { base + length bytes.now < 2 ^ 64 }
         ensures { Puts (option_map (moved base) (event_fault bytes.now))
@@ -509,8 +509,8 @@ fn make_room(alloc: Global, events: &mut Events, count: usize) -> Result<(), Mem
     Ok(())
 }
 
-/// Adds an event that holds nothing. It is never inlined, since its local event is large and would be cleared at each entry
-/// of the caller.
+/// Adds an event that holds nothing. It is never inlined, since its local event is large and would be cleared at each
+/// entry of the caller.
 #[cold]
 #[inline(never)]
 fn push_blank(alloc: Global, events: &mut Events) -> Result<(), Memory>
@@ -652,8 +652,8 @@ impl Draft for MsgDraft {
 }
 
 /// Reads the bytes as a message, at the moment `now` in seconds since 1970, which is less than 2^63, into the memory of
-/// `spent`. Its states are events too, and come before the others. An event without a time gets `now`. `Refused` comes for
-/// the first fault in the order of the fields, and then nothing was read. `Memory`: out of memory.
+/// `spent`. Its states are events too, and come before the others. An event without a time gets `now`. `Refused` comes
+/// for the first fault in the order of the fields, and then nothing was read. `Memory`: out of memory.
 #[tactic(auto, unfolding(crate::specs::Fault::first_fault))]
 pub fn read_msg_into(
     alloc: Global,

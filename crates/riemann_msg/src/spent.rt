@@ -10,8 +10,8 @@ use std::marker::Model;
 /// At most this many events are kept for their memory.
 pub const SPENT_LIMIT: usize = 128;
 
-/// Events that nobody needs any more, into whose memory a message is read. Each of them is cleared: it holds nothing, and
-/// its time is 0.
+/// Events that nobody needs any more, into whose memory a message is read. Each of them is cleared: it holds nothing,
+/// and its time is 0.
 #[derive(Drop)]
 pub struct SpentEvents {
     events: Events,

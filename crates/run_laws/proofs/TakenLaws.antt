@@ -1,5 +1,6 @@
 -- What a run took of a link is what its sends took.
-use Rattle.std.proofs.Common.{◌≡◌, ℕ, ◌==◌, Bool, true, false, cond, List, [], ◌∷◌, ◌++◌, map, refl, ap, sym, ◌∙◌, subst, append-nil, append_assoc}
+use Rattle.std.proofs.Common.{◌≡◌, ℕ, ◌==◌, Bool, true, false, cond, List, [], ◌∷◌, ◌++◌, map, refl, ap, sym, ◌∙◌}
+use Rattle.std.proofs.Common.{subst, append-nil, append_assoc}
 use Rattle.std.specs.Prelude.{Option, Some, None}
 use Rattle.std.specs.Option.{option_map}
 use Rattle.std.proofs.lemmas.Bool.{eqb-true, eq-eqb}
@@ -16,9 +17,12 @@ use Rattle.ports.specs.declared.links.What.TheVariants as what
 use Rattle.ev_types.specs.Clock.{next_moment}
 use Rattle.hub_run.specs.hub_meaning.Legal.{IsLegalFrom, MayCome}
 use Rattle.hub_run.specs.hub_meaning.declared.stage.Stage.TheVariants.{ReadClosed, Closing}
-use Rattle.hub_run.specs.hub_meaning.Links.{Link, changed, closed, broken, ended, find_link, has_number, is_above, is_connected, is_open, new_link, opened, sent, unblocked, with_stage}
+use Rattle.hub_run.specs.hub_meaning.Links.{Link, changed, closed, broken, ended, find_link, has_number, is_above}
+use Rattle.hub_run.specs.hub_meaning.Links.{is_connected, is_open, new_link, opened, sent, unblocked, with_stage}
 use Rattle.hub_run.specs.hub_meaning.Replies.{reply_to_oversized}
-use Rattle.hub_run.specs.hub_meaning.Runs.{RunState, Step, Talk, after_entry, after_step, all_answered, answered, cut_off, entry_of, is_oversized, messages_in, occurred, passed, read_by, read_from, state_from, talk_of, turned, with_reply, with_talk}
+use Rattle.hub_run.specs.hub_meaning.Runs.{RunState, Step, Talk, after_entry, after_step, all_answered, answered}
+use Rattle.hub_run.specs.hub_meaning.Runs.{cut_off, entry_of, is_oversized, messages_in, occurred, passed, read_by}
+use Rattle.hub_run.specs.hub_meaning.Runs.{read_from, state_from, talk_of, turned, with_reply, with_talk}
 use Rattle.hub_run.specs.hub_meaning.Verdicts.{Message, Refusal}
 use Rattle.hub_run.proofs.HubMeaningLinkLaws.{KeepsNumber, broken_number, ended_number, found_number, unblocked_number}
 use Rattle.run_laws.specs.Taking.{taken_of, taken_on}

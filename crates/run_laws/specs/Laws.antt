@@ -21,7 +21,8 @@ abbrev pub PrefixesAreTaken : Type 0
 PrefixesAreTaken = (config : CoreConfig) (turns : List TakenTurn) (number : ℕ) → IsLegal config (steps_of turns)
     → IsPrefix (bytes_taken number (entries_of turns)) (replies_on number (state_after config (steps_of turns)).links)
 
--- Of links that feed bytes all replies are taken, however the run ends: a turn may be asked for again, or it was the last.
+-- Of links that feed bytes all replies are taken, however the run ends: a turn may be asked for again, or it was the
+-- last.
 abbrev pub FeedsAreAnswered : Type 0
 FeedsAreAnswered = (config : CoreConfig) (limit : ℕ) (bytes address : List ℕ) (secs : ℕ) (turns : List TakenTurn)
     → IsScriptedRun (feed_script limit bytes) (Listen address (Ready secs) ∷ entries_of turns)

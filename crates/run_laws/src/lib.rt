@@ -1,5 +1,5 @@
-//! Laws of runs: the bytes that were taken from a link are a prefix of its replies, and all of them where bytes were fed.
-//! Nothing here runs.
+//! Laws of runs: the bytes that were taken from a link are a prefix of its replies, and all of them where bytes were
+//! fed. Nothing here runs.
 #![tactic(auto)]
 
 mod law;

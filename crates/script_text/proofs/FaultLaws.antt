@@ -1,5 +1,6 @@
 -- A text that is not a script is refused at its first fault.
-use Rattle.std.proofs.Common.{◌≡◌, ℕ, ◌+◌, ◌-◌, ◌<◌, ◌≤◌, ◌⊎◌, suc, List, [], ◌∷◌, ◌++◌, length, take, codes, Option, Some, None, Result, Ok, Err, refl, sym, ◌∙◌, ap, append-nil, inl, inr, arith}
+use Rattle.std.proofs.Common.{◌≡◌, ℕ, ◌+◌, ◌-◌, ◌<◌, ◌≤◌, ◌⊎◌, suc, List, [], ◌∷◌, ◌++◌, length, take, codes, Option}
+use Rattle.std.proofs.Common.{Some, None, Result, Ok, Err, refl, sym, ◌∙◌, ap, append-nil, inl, inr, arith}
 use Rattle.ports.specs.declared.script.Script.{Script}
 use Rattle.ports.specs.declared.script.Step.{Step as ScriptStep}
 use Rattle.script_text.specs.declared.line.Line.{Line}

@@ -1,5 +1,6 @@
 -- A text is a script exactly where its lines are.
-use Rattle.std.proofs.Common.{◌≡◌, ℕ, ◌+◌, List, [], ◌∷◌, map, Option, Some, None, Result, Ok, Err, refl, sym, ◌∙◌, ap, inl, inr}
+use Rattle.std.proofs.Common.{◌≡◌, ℕ, ◌+◌, List, [], ◌∷◌, map, Option, Some, None, Result, Ok, Err, refl, sym, ◌∙◌, ap}
+use Rattle.std.proofs.Common.{inl, inr}
 use Rattle.ports.specs.declared.script.Script.{Script}
 use Rattle.ports.specs.declared.script.Step.{Step as ScriptStep}
 use Rattle.script_text.specs.declared.line.Line.{Line}

@@ -1,5 +1,6 @@
 -- Which lines are a script, and where the first fault of others is, said of all lines at once.
-use Rattle.std.specs.Prelude.{◌≡◌, ℕ, ◌+◌, ◌-◌, ◌<◌, ◌≤◌, Bool, true, false, List, ◌∷◌, ◌++◌, map, filter, take, length, Some, Ok, Err}
+use Rattle.std.specs.Prelude.{◌≡◌, ℕ, ◌+◌, ◌-◌, ◌<◌, ◌≤◌, Bool, true, false, List, ◌∷◌, ◌++◌, map, filter, take, length}
+use Rattle.std.specs.Prelude.{Some, Ok, Err}
 use Rattle.ports.specs.declared.script.Script.{Script}
 use Rattle.script_text.specs.declared.line.Line.{Line}
 use Rattle.script_text.specs.declared.line.Line.TheVariants.{Skipped, Start, Step}

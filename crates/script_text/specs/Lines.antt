@@ -58,7 +58,8 @@ three_words first second third =
 unfoldable pub four_words : List ℕ → List ℕ → List ℕ → List ℕ → Option Line
 four_words first second third fourth =
     if bytes_eq second (codes "read")
-    then option_and_then (λ link. option_and_then (λ piece. turn_at first (Read link piece)) (piece_of fourth)) (number_of third)
+    then option_and_then (λ link. option_and_then (λ piece. turn_at first (Read link piece)) (piece_of fourth))
+    (number_of third)
     else None
 
 abbrev pub line_of_words : List (List ℕ) → Option Line

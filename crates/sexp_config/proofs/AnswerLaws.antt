@@ -1,5 +1,6 @@
 -- Each text has one answer.
-use Rattle.std.proofs.Common.{◌≡◌, ℕ, ◌≤◌, ◌⊎◌, Bool, true, false, nat_lt, List, [], ◌∷◌, length, Option, Some, None, Result, Ok, Err, inl, inr, refl, ap, sym, ◌∙◌}
+use Rattle.std.proofs.Common.{◌≡◌, ℕ, ◌≤◌, ◌⊎◌, Bool, true, false, nat_lt, List, [], ◌∷◌, length, Option, Some, None}
+use Rattle.std.proofs.Common.{Result, Ok, Err, inl, inr, refl, ap, sym, ◌∙◌}
 use Rattle.std.proofs.lemmas.Bool.{ltb-false}
 use Rattle.std.proofs.lemmas.Str.{IsUtf8-from_is_utf8}
 use Rattle.std.specs.Str.{is_utf8}
@@ -7,7 +8,8 @@ use Rattle.std.specs.Str.Lossy.{utf8_valid_len}
 use Rattle.sexp_read.specs.declared.fault.SexpWhy.TheVariants.{Long, Utf8}
 use Rattle.sexp_read.specs.Tokens.{lexed}
 use Rattle.sexp_read.specs.Tokens as forms
-use Rattle.sexp_read.specs.Grammar.{IsForms, longest, bracket_fault, fault_after, forms_fault, text_fault, or_else, unclosed, open_after, Brackets}
+use Rattle.sexp_read.specs.Grammar.{IsForms, longest, bracket_fault, fault_after, forms_fault, text_fault, or_else}
+use Rattle.sexp_read.specs.Grammar.{unclosed, open_after, Brackets}
 use Rattle.sexp_read.specs.Tree.{FormTrees}
 use Rattle.sexp_read.proofs.FrontLaws.{closed_forms}
 use Rattle.sexp_read.proofs.Spellings.{no_bracket_fault, none_open, one_reading}
@@ -15,7 +17,8 @@ use Rattle.sexp_read.proofs.Whole.{are_forms, fault_of_forms}
 use Rattle.sexp_config.specs.declared.config.Config.{Config}
 use Rattle.config_terms.specs.Steps.{Fault}
 use Rattle.sexp_config.specs.Config.{config_of, why_of}
-use Rattle.sexp_config.specs.Answer.{IsConfig, IsRefused, TextsAreAnswered, ConfigsAreNotRefused, ConfigsAreOne, RefusalsAreOne}
+use Rattle.sexp_config.specs.Answer.{IsConfig, IsRefused, TextsAreAnswered, ConfigsAreNotRefused, ConfigsAreOne}
+use Rattle.sexp_config.specs.Answer.{RefusalsAreOne}
 use Rattle.sexp_config.proofs.GrammarLaws.{configs_are_read, config_read_of}
 use Rattle.sexp_config.proofs.ReadLaws.{place_in, why_in, none_some, same_places}
 

@@ -1,5 +1,6 @@
 -- Canonical forms piece by piece.
-use Rattle.std.proofs.Common.{◌≡◌, ℕ, Bool, false, nat_eq, ◌+◌, ◌<◌, List, [], ◌∷◌, ◌++◌, length, get_or, take, map, Vec, Global, refl, ap, sym, ◌∙◌, append_assoc, arith}
+use Rattle.std.proofs.Common.{◌≡◌, ℕ, Bool, false, nat_eq, ◌+◌, ◌<◌, List, [], ◌∷◌, ◌++◌, length, get_or, take, map}
+use Rattle.std.proofs.Common.{Vec, Global, refl, ap, sym, ◌∙◌, append_assoc, arith}
 use Rattle.std.proofs.Math.Seq.{take-length}
 use Rattle.std.proofs.lemmas.Bool.Decides.{nat_tests}
 use Rattle.std.proofs.lemmas.List.{take_more}
@@ -22,7 +23,9 @@ use Rattle.stream_plan.proofs.Trees.{stream_tree-opened}
 use Rattle.config_terms.specs.declared.word.RuleWord.TheVariants as rule
 use Rattle.config_terms.specs.declared.word.StreamWord.TheVariants as word
 use Rattle.config_terms.specs.Words.{rule_text, stream_text}
-use Rattle.sexp_config.specs.Canonical.{bare_form, bare_forms, text_form, field_form, value_form, keep_form, symbol_form, list_form, worded_form, rule_form, rule_forms, set_forms, kind_forms, kind_form, else_forms, stream_form, stream_forms}
+use Rattle.sexp_config.specs.Canonical.{bare_form, bare_forms, text_form, field_form, value_form, keep_form}
+use Rattle.sexp_config.specs.Canonical.{symbol_form, list_form, worded_form, rule_form, rule_forms, set_forms}
+use Rattle.sexp_config.specs.Canonical.{kind_forms, kind_form, else_forms, stream_form, stream_forms}
 
 pub bare_listed : (forms : List Form) → bare_trees (form_trees forms) ≡ listed (bare_forms forms)
 bare_listed [] = refl

@@ -1,5 +1,6 @@
 -- The canonical form of a stream that a form represents represents it too, and can be written.
-use Rattle.std.proofs.Common.{◌≡◌, ℕ, pos, Bool, true, false, ◌||◌, codes, List, [], ◌∷◌, ◌++◌, map, refl, ap, sym, ◌∙◌, subst, arith}
+use Rattle.std.proofs.Common.{◌≡◌, ℕ, pos, Bool, true, false, ◌||◌, codes, List, [], ◌∷◌, ◌++◌, map, refl, ap, sym, ◌∙◌}
+use Rattle.std.proofs.Common.{subst, arith}
 use Rattle.std.proofs.lemmas.List.{append-nil}
 use Rattle.ev_types.specs.declared.field.Field.TheVariants as field
 use Rattle.ev_types.specs.declared.settings.Fold.{Fold}
@@ -16,13 +17,24 @@ use Rattle.stream_plan.specs.Tree.{KindTree, StreamTree, stream, StreamTrees, no
 use Rattle.stream_plan.specs.Tree as plan
 use Rattle.config_terms.specs.declared.binding.Bound.TheVariants as bound
 use Rattle.config_terms.specs.Arguments.{Env}
-use Rattle.config_terms.specs.Grammar.{worded, a_text, a_number, a_keyword, text_value, all_of, tagged as tagged_with, no_parts, more_parts}
-use Rattle.config_terms.specs.Terms.{IsRanged, a_ranged, a_set, no_sets, more_sets, text_vector, IsInit, an_init, IsIdle, an_idle}
-use Rattle.config_streams.specs.Grammar.{IsCount, AreSecs, IsFold, sum, minimum, maximum, counted, each_tag, and_then, IsKind, sdo, where_, with_one, with_all, default_one, default_all, tagging, by, by_idle, changed, changed_from, runs, throttle, rollup, batch, stable, fixed_event, moving_event, fixed_time, moving_time, coalesce, coalesce_every, smap, expired, tagged, over, under, IsStream, index_word, index_name, index_list, notice, passing, where_else, AreStreams, no_streams, more_streams, with_streams}
-use Rattle.sexp_config.specs.Canonical.{symbol_form, keyword_form, text_form, number_form, worded_form, value_form, rule_form, kind_form, else_forms, stream_form, stream_forms}
+use Rattle.config_terms.specs.Grammar.{worded, a_text, a_number, a_keyword, text_value, all_of, tagged as tagged_with}
+use Rattle.config_terms.specs.Grammar.{no_parts, more_parts}
+use Rattle.config_terms.specs.Terms.{IsRanged, a_ranged, a_set, no_sets, more_sets, text_vector, IsInit, an_init}
+use Rattle.config_terms.specs.Terms.{IsIdle, an_idle}
+use Rattle.config_streams.specs.Grammar.{IsCount, AreSecs, IsFold, sum, minimum, maximum, counted, each_tag, and_then}
+use Rattle.config_streams.specs.Grammar.{IsKind, sdo, where_, with_one, with_all, default_one, default_all, tagging, by}
+use Rattle.config_streams.specs.Grammar.{by_idle, changed, changed_from, runs, throttle, rollup, batch, stable}
+use Rattle.config_streams.specs.Grammar.{fixed_event, moving_event, fixed_time, moving_time, coalesce, coalesce_every}
+use Rattle.config_streams.specs.Grammar.{smap, expired, tagged, over, under, IsStream, index_word, index_name}
+use Rattle.config_streams.specs.Grammar.{index_list, notice, passing, where_else, AreStreams, no_streams, more_streams}
+use Rattle.config_streams.specs.Grammar.{with_streams}
+use Rattle.sexp_config.specs.Canonical.{symbol_form, keyword_form, text_form, number_form, worded_form, value_form}
+use Rattle.sexp_config.specs.Canonical.{rule_form, kind_form, else_forms, stream_form, stream_forms}
 use Rattle.config_terms.specs.Words.{stream_text, fold_text, init_text, idle_text}
 use Rattle.config_terms.specs.declared.word.StreamWord.TheVariants as word
-use Rattle.sexp_config.proofs.CanonicalTerms.{GoodEnv, literal_good, field_written, value_written, RuleWritten, RulesWritten, all_written, order_written, equal_written, state_tested, metric_tested, rule_written, texts_written, fields_written, sets_written}
+use Rattle.sexp_config.proofs.CanonicalTerms.{GoodEnv, literal_good, field_written, value_written, RuleWritten}
+use Rattle.sexp_config.proofs.CanonicalTerms.{RulesWritten, all_written, order_written, equal_written, state_tested}
+use Rattle.sexp_config.proofs.CanonicalTerms.{metric_tested, rule_written, texts_written, fields_written, sets_written}
 
 -- ---- arguments
 

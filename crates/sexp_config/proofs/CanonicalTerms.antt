@@ -1,5 +1,6 @@
 -- The canonical form of what a form represents represents it too, and can be written: fields, values and predicates.
-use Rattle.std.proofs.Common.{◌≡◌, ℕ, ℤ, Bool, true, false, cond, codes, List, [], ◌∷◌, ◌++◌, map, reverse, Option, Some, None, refl, ap, sym, ◌∙◌, subst}
+use Rattle.std.proofs.Common.{◌≡◌, ℕ, ℤ, Bool, true, false, cond, codes, List, [], ◌∷◌, ◌++◌, map, reverse, Option}
+use Rattle.std.proofs.Common.{Some, None, refl, ap, sym, ◌∙◌, subst}
 use Rattle.std.proofs.lemmas.List.{reverse-append}
 use Rattle.std.specs.List.{find}
 use Rattle.std.specs.Option.{option_map, option_or}
@@ -19,10 +20,16 @@ use Rattle.config_terms.specs.declared.binding.Binding.{Binding}
 use Rattle.config_terms.specs.declared.binding.Bound.{Bound}
 use Rattle.config_terms.specs.declared.binding.Bound.TheVariants as bound
 use Rattle.config_terms.specs.Arguments.{Env, bound_value}
-use Rattle.config_terms.specs.Grammar.{IsLiteral, a_text, a_pattern, a_number, a_keyword, a_name, IsValue, text_value, number_value, nil_value, IsTested, bare, keyed, all_of, any_of, IsPredicate, always, never, never_nil, all_parts, any_part, negated, tagged, equal, unequal, compared, like, holds, found, ArePredicates, no_parts, more_parts}
-use Rattle.config_terms.specs.Terms.{IsField, a_field, AreTexts, no_texts, more_texts, IsTexts, text_alone, text_vector, AreFields, no_fields, more_fields, IsFields, field_alone, field_vector, a_set, AreSets, no_sets, more_sets}
+use Rattle.config_terms.specs.Grammar.{IsLiteral, a_text, a_pattern, a_number, a_keyword, a_name, IsValue, text_value}
+use Rattle.config_terms.specs.Grammar.{number_value, nil_value, IsTested, bare, keyed, all_of, any_of, IsPredicate}
+use Rattle.config_terms.specs.Grammar.{always, never, never_nil, all_parts, any_part, negated, tagged, equal, unequal}
+use Rattle.config_terms.specs.Grammar.{compared, like, holds, found, ArePredicates, no_parts, more_parts}
+use Rattle.config_terms.specs.Terms.{IsField, a_field, AreTexts, no_texts, more_texts, IsTexts, text_alone, text_vector}
+use Rattle.config_terms.specs.Terms.{AreFields, no_fields, more_fields, IsFields, field_alone, field_vector, a_set}
+use Rattle.config_terms.specs.Terms.{AreSets, no_sets, more_sets}
 use Rattle.config_terms.proofs.Outcomes.{SomeGood, some_found}
-use Rattle.sexp_config.specs.Canonical.{text_form, vector_form, value_form, field_form, rule_field_form, rule_form, rule_forms, set_forms}
+use Rattle.sexp_config.specs.Canonical.{text_form, vector_form, value_form, field_form, rule_field_form, rule_form}
+use Rattle.sexp_config.specs.Canonical.{rule_forms, set_forms}
 
 -- ---- all of a list
 

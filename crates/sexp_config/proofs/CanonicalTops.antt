@@ -1,5 +1,6 @@
 -- The canonical forms of a configuration that forms represent represent it too, and can be written.
-use Rattle.std.proofs.Common.{◌≡◌, ℕ, pos, ◌≤◌, Bool, true, false, nat_lt, codes, List, [], ◌∷◌, ◌++◌, map, Option, Some, None, unwrap_or, refl, ap, sym, ◌∙◌, subst, arith}
+use Rattle.std.proofs.Common.{◌≡◌, ℕ, pos, ◌≤◌, Bool, true, false, nat_lt, codes, List, [], ◌∷◌, ◌++◌, map, Option}
+use Rattle.std.proofs.Common.{Some, None, unwrap_or, refl, ap, sym, ◌∙◌, subst, arith}
 use Rattle.std.proofs.lemmas.Bool.{and_parts, ltb-true}
 use Rattle.std.proofs.lemmas.Str.{IsUtf8-from_ascii}
 use Rattle.std.proofs.lemmas.Str.Ascii.{IsAscii-nil, IsAscii-cons}
@@ -20,12 +21,19 @@ use Rattle.config_terms.specs.Grammar.{a_text, a_number, a_keyword}
 use Rattle.config_terms.specs.Terms.{IsRanged, a_ranged, a_field}
 use Rattle.config_streams.proofs.GrammarRead.{with_none}
 use Rattle.sexp_config.specs.declared.config.Config.{Config}
-use Rattle.sexp_config.specs.Canonical.{keyword_form, text_form, number_form, vector_form, map_form, keep_form, server_form, expiry_form, expiry_forms, streams_form, config_forms}
+use Rattle.sexp_config.specs.Canonical.{keyword_form, text_form, number_form, vector_form, map_form, keep_form}
+use Rattle.sexp_config.specs.Canonical.{server_form, expiry_form, expiry_forms, streams_form, config_forms}
 use Rattle.config_terms.specs.Words.{keep_text, host_text, port_text}
-use Rattle.sexp_config.specs.Grammar.{IsNamed, a_value, the_index, AreNames, no_names, more_names, Server, listening, AreEntries, no_entries, a_host, a_port, IsServer, by_default, by_map, field_key, tags_key, AreKeys, no_keys, more_keys, host_and_service, IsExpiry, every_ten, every, keeping, Said, nothing_said, IsTop, a_server, an_expiry, some_streams, with_names, AreTops, no_tops, more_tops, AreConfig}
+use Rattle.sexp_config.specs.Grammar.{IsNamed, a_value, the_index, AreNames, no_names, more_names, Server, listening}
+use Rattle.sexp_config.specs.Grammar.{AreEntries, no_entries, a_host, a_port, IsServer, by_default, by_map, field_key}
+use Rattle.sexp_config.specs.Grammar.{tags_key, AreKeys, no_keys, more_keys, host_and_service, IsExpiry, every_ten}
+use Rattle.sexp_config.specs.Grammar.{every, keeping, Said, nothing_said, IsTop, a_server, an_expiry, some_streams}
+use Rattle.sexp_config.specs.Grammar.{with_names, AreTops, no_tops, more_tops, AreConfig}
 use Rattle.config_terms.proofs.Outcomes.{SomeGood}
-use Rattle.sexp_config.proofs.CanonicalTerms.{AllGood, all_both, GoodBound, GoodBinding, GoodEnv, literal_good, field_written}
-use Rattle.sexp_config.proofs.CanonicalStreams.{number_written, AllWritten, row_written, joined_written, streams_written}
+use Rattle.sexp_config.proofs.CanonicalTerms.{AllGood, all_both, GoodBound, GoodBinding, GoodEnv, literal_good}
+use Rattle.sexp_config.proofs.CanonicalTerms.{field_written}
+use Rattle.sexp_config.proofs.CanonicalStreams.{number_written, AllWritten, row_written, joined_written}
+use Rattle.sexp_config.proofs.CanonicalStreams.{streams_written}
 
 -- ---- names
 

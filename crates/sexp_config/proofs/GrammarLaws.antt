@@ -12,7 +12,8 @@ use Rattle.config_streams.specs.Streams.{Located}
 use Rattle.sexp_config.specs.declared.config.Config.{Config}
 use Rattle.sexp_config.specs.Grammar.{Server, listening, AreTops, AreConfig}
 use Rattle.sexp_config.specs.Tops.{Draft, fresh_draft, default_server, or_default, run, tops_in}
-use Rattle.sexp_config.specs.Config.{plan_fault, faultless, checked, config_from, finished, config_of, ConfigsAreRead, IsConfigOf}
+use Rattle.sexp_config.specs.Config.{plan_fault, faultless, checked, config_from, finished, config_of, ConfigsAreRead}
+use Rattle.sexp_config.specs.Config.{IsConfigOf}
 use Rattle.sexp_config.proofs.GrammarTops.{tops_read, TopsMean, tops_mean}
 use Rattle.sexp_config.proofs.PlanPasses.{Passes, passes, passed}
 

@@ -1,5 +1,6 @@
 -- What is read as names, a server or an expiry is what the grammar says.
-use Rattle.std.proofs.Common.{◌≡◌, ℕ, Bool, true, false, codes, List, [], ◌∷◌, ◌++◌, append_assoc, Option, Some, None, Result, Ok, Err, refl, ap, sym, ◌∙◌, subst}
+use Rattle.std.proofs.Common.{◌≡◌, ℕ, Bool, true, false, codes, List, [], ◌∷◌, ◌++◌, append_assoc, Option, Some, None}
+use Rattle.std.proofs.Common.{Result, Ok, Err, refl, ap, sym, ◌∙◌, subst}
 use Rattle.std.proofs.lemmas.List.{append-nil}
 use Rattle.std.proofs.lemmas.Slice.Eq.{bytes_eq-Decides}
 use Rattle.std.specs.Option.{option_or}
@@ -18,15 +19,22 @@ use Rattle.config_terms.specs.declared.binding.Bound.TheVariants as bound
 use Rattle.config_terms.specs.declared.word.StreamWord.TheVariants as word
 use Rattle.config_terms.specs.Steps.{Fault, ◌>>=◌, start_of, argument, at_most, each}
 use Rattle.config_terms.specs.Words.{stream_text, tags_text, keep_text, host_text, port_text}
-use Rattle.config_terms.specs.Arguments.{Env, bound_value, Argument, Text, Pattern, Number, Keyword, Index, Unbound, Forms, bound_argument, argument_of, vector_in, map_in, text_at, keyword_at, ranged_at, vector_at, map_at, only_key, only_key_at, one_entry}
+use Rattle.config_terms.specs.Arguments.{Env, bound_value, Argument, Text, Pattern, Number, Keyword, Index, Unbound}
+use Rattle.config_terms.specs.Arguments.{Forms, bound_argument, argument_of, vector_in, map_in, text_at, keyword_at}
+use Rattle.config_terms.specs.Arguments.{ranged_at, vector_at, map_at, only_key, only_key_at, one_entry}
 use Rattle.config_terms.specs.Grammar.{symbol, worded, IsLiteral, a_text, a_pattern, a_number, a_keyword, a_name}
 use Rattle.config_terms.specs.Terms.{vector_of, map_of, IsRanged, a_field}
-use Rattle.config_terms.proofs.Outcomes.{OkGood, SomeGood, Any_, bind_good, any_good, weaker, ok_if, some_if, fitting_good}
+use Rattle.config_terms.proofs.Outcomes.{OkGood, SomeGood, Any_, bind_good, any_good, weaker, ok_if, some_if}
+use Rattle.config_terms.proofs.Outcomes.{fitting_good}
 use Rattle.config_terms.proofs.GrammarOnly.{TextIs, Meaning, taken_means, text_means}
 use Rattle.config_terms.proofs.SetLaws.{KeyIs, keyword_means}
 use Rattle.config_terms.proofs.VectorLaws.{ranges_are_read}
-use Rattle.sexp_config.specs.Grammar.{Server, IsNamed, a_value, the_index, AreNames, no_names, more_names, AreEntries, no_entries, a_host, a_port, IsServer, by_default, by_map, IsKey, field_key, tags_key, AreKeys, no_keys, more_keys, IsExpiry, every_ten, every, keeping}
-use Rattle.sexp_config.specs.Tops.{once, Listens, no_listens, server_of, listen_key, listen_key_at, with_entry, listens_from, server_at, server_in, keep_field, keep_in, keep_at, with_keep, keys_at, keys_of_map, expiry_in, name_at, bound_by, index_by, bound_at, names_from, names_in}
+use Rattle.sexp_config.specs.Grammar.{Server, IsNamed, a_value, the_index, AreNames, no_names, more_names, AreEntries}
+use Rattle.sexp_config.specs.Grammar.{no_entries, a_host, a_port, IsServer, by_default, by_map, IsKey, field_key}
+use Rattle.sexp_config.specs.Grammar.{tags_key, AreKeys, no_keys, more_keys, IsExpiry, every_ten, every, keeping}
+use Rattle.sexp_config.specs.Tops.{once, Listens, no_listens, server_of, listen_key, listen_key_at, with_entry}
+use Rattle.sexp_config.specs.Tops.{listens_from, server_at, server_in, keep_field, keep_in, keep_at, with_keep, keys_at}
+use Rattle.sexp_config.specs.Tops.{keys_of_map, expiry_in, name_at, bound_by, index_by, bound_at, names_from, names_in}
 use Rattle.sexp_config.proofs.GrammarRead.{NotBoth, listens, same_server}
 
 -- ---- arguments

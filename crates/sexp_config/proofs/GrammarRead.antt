@@ -1,5 +1,6 @@
 -- What the grammar says of names, the server and the expiry is read.
-use Rattle.std.proofs.Common.{◌≡◌, ℕ, Bool, true, false, codes, List, [], ◌∷◌, ◌++◌, append_assoc, Option, Some, None, Ok, refl, ap, sym, ◌∙◌, subst}
+use Rattle.std.proofs.Common.{◌≡◌, ℕ, Bool, true, false, codes, List, [], ◌∷◌, ◌++◌, append_assoc, Option, Some, None}
+use Rattle.std.proofs.Common.{Ok, refl, ap, sym, ◌∙◌, subst}
 use Rattle.std.proofs.lemmas.List.{append-nil}
 use Rattle.std.proofs.lemmas.Slice.Eq.{bytes_eq-Decides}
 use Rattle.std.specs.Option.{option_or}
@@ -19,15 +20,20 @@ use Rattle.config_terms.specs.declared.binding.Bound.{Bound}
 use Rattle.config_terms.specs.declared.binding.Bound.TheVariants as bound
 use Rattle.config_terms.specs.Steps.{argument, at_most, each}
 use Rattle.config_terms.specs.Words.{tags_text, keep_text}
-use Rattle.config_terms.specs.Arguments.{Env, Keyword, argument_of, text_at, keyword_at, ranged_at, vector_at, map_at, only_key_at, one_entry}
+use Rattle.config_terms.specs.Arguments.{Env, Keyword, argument_of, text_at, keyword_at, ranged_at, vector_at, map_at}
+use Rattle.config_terms.specs.Arguments.{only_key_at, one_entry}
 use Rattle.config_terms.specs.Grammar.{symbol, IsLiteral, a_text, a_pattern, a_number, a_keyword, a_name}
 use Rattle.config_terms.specs.Terms.{vector_of, map_of, IsRanged, a_field}
 use Rattle.config_terms.proofs.BareForms.{single_of, group_of, also_of, none_of, call_of}
 use Rattle.config_terms.proofs.GrammarRead.{given, literal_read, text_read}
 use Rattle.config_terms.proofs.SetLaws.{keyword_read}
 use Rattle.config_terms.proofs.VectorLaws.{ranges_are_read}
-use Rattle.sexp_config.specs.Grammar.{Server, IsNamed, a_value, the_index, AreNames, no_names, more_names, listening, AreEntries, no_entries, a_host, a_port, IsServer, by_default, by_map, IsKey, field_key, tags_key, AreKeys, no_keys, more_keys, host_and_service, IsExpiry, every_ten, every, keeping}
-use Rattle.sexp_config.specs.Tops.{Listens, server_of, listens_from, listen_key_at, with_entry, server_in, keep_at, with_keep, keys_at, expiry_in, name_at, bound_by, bound_at, names_from, names_in}
+use Rattle.sexp_config.specs.Grammar.{Server, IsNamed, a_value, the_index, AreNames, no_names, more_names, listening}
+use Rattle.sexp_config.specs.Grammar.{AreEntries, no_entries, a_host, a_port, IsServer, by_default, by_map, IsKey}
+use Rattle.sexp_config.specs.Grammar.{field_key, tags_key, AreKeys, no_keys, more_keys, host_and_service, IsExpiry}
+use Rattle.sexp_config.specs.Grammar.{every_ten, every, keeping}
+use Rattle.sexp_config.specs.Tops.{Listens, server_of, listens_from, listen_key_at, with_entry, server_in, keep_at}
+use Rattle.sexp_config.specs.Tops.{with_keep, keys_at, expiry_in, name_at, bound_by, bound_at, names_from, names_in}
 
 -- ---- arguments
 

@@ -1,5 +1,6 @@
 -- Forms at the top are read exactly as the grammar says.
-use Rattle.std.proofs.Common.{◌≡◌, ℕ, false, codes, List, [], ◌∷◌, ◌++◌, drop, append_assoc, Option, Some, None, if◌then◌else◌, Result, Ok, Err, refl, ap, sym, ◌∙◌, subst}
+use Rattle.std.proofs.Common.{◌≡◌, ℕ, false, codes, List, [], ◌∷◌, ◌++◌, drop, append_assoc, Option, Some, None}
+use Rattle.std.proofs.Common.{if◌then◌else◌, Result, Ok, Err, refl, ap, sym, ◌∙◌, subst}
 use Rattle.std.specs.Prelude.{option_to_list}
 use Rattle.std.proofs.lemmas.List.{append-nil}
 use Rattle.std.proofs.lemmas.Slice.Eq.{bytes_eq-Decides}
@@ -23,8 +24,10 @@ use Rattle.config_terms.proofs.Outcomes.{OkGood, SomeGood, bind_good, weaker, so
 use Rattle.config_streams.specs.Streams.{Below, all_read, parts_in}
 use Rattle.config_streams.specs.Grammar.{AreStreams, with_streams, AreThose}
 use Rattle.config_streams.proofs.GrammarLaws.{streams_are_read, only_streams_are_read}
-use Rattle.sexp_config.specs.Grammar.{Server, AreNames, IsServer, IsExpiry, Said, nothing_said, together, IsTop, a_server, an_expiry, some_streams, with_names, AreTops, no_tops, more_tops}
-use Rattle.sexp_config.specs.Tops.{Draft, once, server_in, expiry_in, names_in, Step, run, with_server, with_expiry, with_streams as streams_onto, let_by, top_by, top_at, tops_in}
+use Rattle.sexp_config.specs.Grammar.{Server, AreNames, IsServer, IsExpiry, Said, nothing_said, together, IsTop}
+use Rattle.sexp_config.specs.Grammar.{a_server, an_expiry, some_streams, with_names, AreTops, no_tops, more_tops}
+use Rattle.sexp_config.specs.Tops.{Draft, once, server_in, expiry_in, names_in, Step, run, with_server, with_expiry}
+use Rattle.sexp_config.specs.Tops.{with_streams as streams_onto, let_by, top_by, top_at, tops_in}
 use Rattle.sexp_config.proofs.GrammarRead.{server_read, expiry_read, vector_read}
 use Rattle.sexp_config.proofs.GrammarOnly.{HasNames, once_means, server_means, expiry_means, vector_names}
 

@@ -1,6 +1,7 @@
 -- A plan that is read has no more patterns than its forms have brackets, and those are no more than the bytes of the
 -- text.
-use Rattle.std.proofs.Common.{◌≡◌, ℕ, ◌+◌, ◌≤◌, Bool, false, ◌||◌, codes, List, [], ◌∷◌, ◌++◌, length, refl, ap, arith, length-append}
+use Rattle.std.proofs.Common.{◌≡◌, ℕ, ◌+◌, ◌≤◌, Bool, false, ◌||◌, codes, List, [], ◌∷◌, ◌++◌, length, refl, ap, arith}
+use Rattle.std.proofs.Common.{length-append}
 use Rattle.pred_eval.specs.Tree.{Tree, Trees, Tagged}
 use Rattle.pred_eval.specs.Tree as pred
 use Rattle.pred_eval.specs.Truth.{searches, searches_of}
@@ -9,17 +10,23 @@ use Rattle.sexp_read.specs.Grammar.{IsForms, form_spelling, spelling, longest}
 use Rattle.sexp_read.specs.Tokens.{Closed}
 use Rattle.sexp_read.specs.Tree.{FormTree, FormTrees, Single, Group}
 use Rattle.sexp_read.specs.Tree as tree
-use Rattle.sexp_read.specs.Written.{BareTree, BareTrees, Leaf, Branch, no_trees, and_trees, bare_tree, bare_trees, listed}
+use Rattle.sexp_read.specs.Written.{BareTree, BareTrees, Leaf, Branch, no_trees, and_trees, bare_tree, bare_trees}
+use Rattle.sexp_read.specs.Written.{listed}
 use Rattle.stream_plan.specs.Kinds.{is_by}
 use Rattle.stream_plan.specs.Ready.{kind_patterns, stream_patterns, plan_patterns}
 use Rattle.stream_plan.specs.Tree.{KindTree, StreamTree, stream, StreamTrees, none, also}
 use Rattle.config_terms.specs.Arguments.{Env}
-use Rattle.config_terms.specs.Grammar.{worded, all_of, any_of, IsPredicate, always, never, never_nil, all_parts, any_part, negated, equal, unequal, compared, like, holds, found, ArePredicates, no_parts, more_parts}
+use Rattle.config_terms.specs.Grammar.{worded, all_of, any_of, IsPredicate, always, never, never_nil, all_parts}
+use Rattle.config_terms.specs.Grammar.{any_part, negated, equal, unequal, compared, like, holds, found, ArePredicates}
+use Rattle.config_terms.specs.Grammar.{no_parts, more_parts}
 use Rattle.config_terms.specs.Grammar as term
-use Rattle.config_streams.specs.Grammar.{each_tag, and_then, IsKind, where_, tagged, sdo, IsStream, index_word, index_name, index_list, notice, passing, where_else, AreStreams, no_streams, more_streams, with_streams}
+use Rattle.config_streams.specs.Grammar.{each_tag, and_then, IsKind, where_, tagged, sdo, IsStream, index_word}
+use Rattle.config_streams.specs.Grammar.{index_name, index_list, notice, passing, where_else, AreStreams, no_streams}
+use Rattle.config_streams.specs.Grammar.{more_streams, with_streams}
 use Rattle.sexp_config.specs.declared.config.Config.{Config}
 use Rattle.sexp_config.specs.Config.{IsConfigOf}
-use Rattle.sexp_config.specs.Grammar.{Said, IsTop, a_server, an_expiry, some_streams, with_names, AreTops, no_tops, more_tops}
+use Rattle.sexp_config.specs.Grammar.{Said, IsTop, a_server, an_expiry, some_streams, with_names, AreTops, no_tops}
+use Rattle.sexp_config.specs.Grammar.{more_tops}
 
 -- ---- brackets
 

@@ -1,5 +1,6 @@
 -- What a text is read as, by its forms.
-use Rattle.std.proofs.Common.{◌≡◌, ℕ, List, Option, Some, None, Result, Ok, Err, IfOk, IfErr, inl, inr, refl, ap, sym, ◌∙◌, subst}
+use Rattle.std.proofs.Common.{◌≡◌, ℕ, List, Option, Some, None, Result, Ok, Err, IfOk, IfErr, inl, inr, refl, ap, sym}
+use Rattle.std.proofs.Common.{◌∙◌, subst}
 use Rattle.sexp_read.specs.declared.fault.SexpFault.{SexpFault}
 use Rattle.sexp_read.specs.declared.fault.SexpFault.TheVariants as sexp
 use Rattle.sexp_read.specs.declared.fault.SexpWhy.{SexpWhy}
@@ -14,7 +15,8 @@ use Rattle.config_terms.specs.declared.fault.ConfigFault.{ConfigFault}
 use Rattle.config_terms.specs.declared.fault.ConfigFault.TheVariants.{Refused, Memory}
 use Rattle.config_terms.specs.declared.fault.ConfigWhy.{ConfigWhy}
 use Rattle.config_terms.specs.Steps.{Fault, Gives}
-use Rattle.sexp_config.specs.Config.{config_of, IsConfigOf, IsConfigFault, IsRefusedFor, IsReadAs, IsRefusedAs, why_of, fault_in}
+use Rattle.sexp_config.specs.Config.{config_of, IsConfigOf, IsConfigFault, IsRefusedFor, IsReadAs, IsRefusedAs, why_of}
+use Rattle.sexp_config.specs.Config.{fault_in}
 use Rattle.sexp_config.proofs.GrammarLaws.{configs_are_read, config_read_of}
 
 -- ---- the text is forms

@@ -1,8 +1,10 @@
 -- Where paths lead.
-use Rattle.std.proofs.Common.{◌≡◌, ℕ, zero, suc, ◌+◌, ◌-◌, ◌<◌, ◌≤◌, List, [], ◌∷◌, drop, length, get_or, Option, Some, None, refl, ap, sym, ◌∙◌, subst, arith, add-one}
+use Rattle.std.proofs.Common.{◌≡◌, ℕ, zero, suc, ◌+◌, ◌-◌, ◌<◌, ◌≤◌, List, [], ◌∷◌, drop, length, get_or, Option, Some}
+use Rattle.std.proofs.Common.{None, refl, ap, sym, ◌∙◌, subst, arith, add-one}
 use Rattle.std.proofs.Math.Seq.{drop-cons}
 use Rattle.config_streams.specs.declared.source.Source.{Source, out-Source}
-use Rattle.config_streams.specs.Sources.{SourceTree, SourceTrees, source, none, also, with_sources, nth_source, place_of, sources_of, place_along}
+use Rattle.config_streams.specs.Sources.{SourceTree, SourceTrees, source, none, also, with_sources, nth_source}
+use Rattle.config_streams.specs.Sources.{place_of, sources_of, place_along}
 use Rattle.config_streams.specs.Made.{source_tree, source_list}
 use Rattle.config_streams.proofs.StreamLaws.{source_tree-opened}
 

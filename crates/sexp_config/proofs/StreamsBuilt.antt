@@ -1,20 +1,27 @@
 -- Streams that forms represent are well built: their numbers and sets are in their ranges, no stream has streams but
 -- those that may follow it, and none is deeper than its form.
-use Rattle.std.proofs.Common.{◌≡◌, ℕ, suc, ◌+◌, ◌≤◌, Bool, true, false, not, ◌&&◌, ◌||◌, codes, List, [], ◌∷◌, refl, arith}
+use Rattle.std.proofs.Common.{◌≡◌, ℕ, suc, ◌+◌, ◌≤◌, Bool, true, false, not, ◌&&◌, ◌||◌, codes, List, [], ◌∷◌, refl}
+use Rattle.std.proofs.Common.{arith}
 use Rattle.std.proofs.lemmas.Bool.{le-leb}
 use Rattle.ev_types.specs.declared.settings.Set.{Set}
 use Rattle.ev_types.specs.Set.{all_fit}
 use Rattle.sexp_read.specs.Written.{BareTree, BareTrees, no_trees, and_trees, listed, bare_tree_depth, bare_depth}
 use Rattle.stream_plan.specs.declared.kinds.TheConstants.{MAX_COUNT, MAX_SECS}
 use Rattle.stream_plan.specs.Faults.{has_streams, has_wrong_streams}
-use Rattle.stream_plan.specs.Kinds.{may_have_children, may_have_otherwise, is_by, has_idle, is_count, is_secs, is_in_range}
+use Rattle.stream_plan.specs.Kinds.{may_have_children, may_have_otherwise, is_by, has_idle, is_count, is_secs}
+use Rattle.stream_plan.specs.Kinds.{is_in_range}
 use Rattle.stream_plan.specs.Tree.{KindTree, StreamTree, stream, StreamTrees, none, also}
 use Rattle.config_terms.specs.Arguments.{Env}
 use Rattle.config_terms.specs.Grammar.{worded}
 use Rattle.config_terms.specs.Terms.{a_ranged, a_set, AreSets, no_sets, more_sets, an_idle}
-use Rattle.config_streams.specs.Grammar.{IsCount, AreSecs, and_then, IsKind, with_one, with_all, default_one, default_all, by_idle, runs, throttle, rollup, batch, stable, fixed_event, moving_event, fixed_time, moving_time, coalesce_every, IsStream, index_word, index_name, index_list, notice, passing, where_else, AreStreams, no_streams, more_streams, with_streams}
+use Rattle.config_streams.specs.Grammar.{IsCount, AreSecs, and_then, IsKind, with_one, with_all, default_one}
+use Rattle.config_streams.specs.Grammar.{default_all, by_idle, runs, throttle, rollup, batch, stable, fixed_event}
+use Rattle.config_streams.specs.Grammar.{moving_event, fixed_time, moving_time, coalesce_every, IsStream, index_word}
+use Rattle.config_streams.specs.Grammar.{index_name, index_list, notice, passing, where_else, AreStreams, no_streams}
+use Rattle.config_streams.specs.Grammar.{more_streams, with_streams}
 use Rattle.config_streams.proofs.KindsRead.{kind_passes}
-use Rattle.sexp_config.specs.Grammar.{Said, IsTop, a_server, an_expiry, some_streams, with_names, AreTops, no_tops, more_tops}
+use Rattle.sexp_config.specs.Grammar.{Said, IsTop, a_server, an_expiry, some_streams, with_names, AreTops, no_tops}
+use Rattle.sexp_config.specs.Grammar.{more_tops}
 
 -- ---- ranges
 

@@ -1,5 +1,6 @@
 -- The forms of a configuration, by what they look like, and one more of them.
-use Rattle.std.proofs.Common.{◌≡◌, ℕ, zero, suc, ◌≤◌, length-append, Bool, List, [], ◌∷◌, ◌++◌, take, drop, length, Option, Some, None, Result, Ok, Err, refl, ap, sym, ◌∙◌, arith}
+use Rattle.std.proofs.Common.{◌≡◌, ℕ, zero, suc, ◌≤◌, length-append, Bool, List, [], ◌∷◌, ◌++◌, take, drop, length}
+use Rattle.std.proofs.Common.{Option, Some, None, Result, Ok, Err, refl, ap, sym, ◌∙◌, arith}
 use Rattle.std.proofs.lemmas.List.{take-append-le}
 use Rattle.sexp_read.specs.declared.piece.Atom.TheVariants as atom
 use Rattle.sexp_read.specs.declared.piece.Bracket.TheVariants.{Round, Square, Curly}
@@ -11,7 +12,8 @@ use Rattle.config_terms.specs.Steps.{Fault, ◌>>=◌, start_of, argument}
 use Rattle.config_terms.specs.Words.{top_word}
 use Rattle.config_terms.specs.Arguments.{Env, bound_value, argument_of, misfit, vector_at}
 use Rattle.config_terms.specs.Rules.{no_form}
-use Rattle.sexp_config.specs.Tops.{Draft, Listens, listen_key_at, with_entry, listens_from, name_at, bound_by, index_by, bound_at, names_from, names_at, let_by, run, top_by, top_at, tops_in}
+use Rattle.sexp_config.specs.Tops.{Draft, Listens, listen_key_at, with_entry, listens_from, name_at, bound_by, index_by}
+use Rattle.sexp_config.specs.Tops.{bound_at, names_from, names_at, let_by, run, top_by, top_at, tops_in}
 use Rattle.config_terms.specs.Code.{Look, Symbol, Call, Lookup, Other, look_of, later, vector_in_form}
 
 -- ---- by what a form looks like

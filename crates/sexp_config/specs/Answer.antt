@@ -16,11 +16,15 @@ TextsAreAnswered = (text : List ℕ) → IsConfig text ⊎ IsRefused text
 
 -- not both
 abbrev pub ConfigsAreNotRefused : Type 0
-ConfigsAreNotRefused = (text : List ℕ) (config : Config) (place : ℕ) (why : ConfigWhy) → IsConfigOf text config → IsConfigFault text place why → ⊥
+ConfigsAreNotRefused =
+    (text : List ℕ) (config : Config) (place : ℕ) (why : ConfigWhy) → IsConfigOf text config
+    → IsConfigFault text place why → ⊥
 
 -- no other configuration, and no other cause or place
 abbrev pub ConfigsAreOne : Type 0
-ConfigsAreOne = (text : List ℕ) (config other : Config) → IsConfigOf text config → IsConfigOf text other → config ≡ other
+ConfigsAreOne =
+    (text : List ℕ) (config other : Config) → IsConfigOf text config → IsConfigOf text other → config ≡ other
 
 abbrev pub RefusalsAreOne : Type 0
-RefusalsAreOne = (text : List ℕ) (place other : ℕ) (why cause : ConfigWhy) → IsConfigFault text place why → IsConfigFault text other cause → (place ≡ other) × (why ≡ cause)
+RefusalsAreOne = (text : List ℕ) (place other : ℕ) (why cause : ConfigWhy) → IsConfigFault text place why
+    → IsConfigFault text other cause → (place ≡ other) × (why ≡ cause)

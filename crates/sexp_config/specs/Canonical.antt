@@ -22,7 +22,8 @@ use Rattle.config_terms.specs.declared.word.RuleWord.TheVariants as rule
 use Rattle.config_terms.specs.declared.word.StreamWord.TheVariants as word
 use Rattle.config_terms.specs.declared.word.TopWord.TheVariants as top
 use Rattle.ev_types.specs.Names.{field_name}
-use Rattle.config_terms.specs.Words.{top_text, stream_text, rule_text, true_text, false_text, nil_text, tags_text, fold_text, init_text, idle_text, keep_text, host_text, port_text}
+use Rattle.config_terms.specs.Words.{top_text, stream_text, rule_text, true_text, false_text, nil_text, tags_text}
+use Rattle.config_terms.specs.Words.{fold_text, init_text, idle_text, keep_text, host_text, port_text}
 
 -- ---- forms
 
@@ -85,7 +86,8 @@ abbrev mutual
   rule_form (Any rules) = worded_form (rule_text rule.Or) (rule_forms rules)
   rule_form (Tagged tag) = worded_form (rule_text rule.Tagged) (text_form tag ∷ [])
   rule_form (Equal field value) = worded_form (rule_text rule.Equal) (rule_field_form field ∷ value_form value ∷ [])
-  rule_form (Order field order number) = worded_form (rule_text (rule.Order order)) (rule_field_form field ∷ number_form number ∷ [])
+  rule_form (Order field order number) =
+      worded_form (rule_text (rule.Order order)) (rule_field_form field ∷ number_form number ∷ [])
   rule_form (Wild field pattern) = worded_form (rule_text rule.Like) (rule_field_form field ∷ text_form pattern ∷ [])
   rule_form (Search field pattern) = list_form (rule_field_form field ∷ pattern_form pattern ∷ [])
 
@@ -117,13 +119,19 @@ kind_forms (plan.Where one) = symbol_form (stream_text word.Where) ∷ rule_form
 kind_forms (plan.With sets) = symbol_form (stream_text word.With) ∷ map_form (set_forms sets) ∷ []
 kind_forms (plan.Default sets) = symbol_form (stream_text word.Default) ∷ map_form (set_forms sets) ∷ []
 kind_forms (plan.Tag tags) = symbol_form (stream_text word.Tag) ∷ vector_form (map text_form tags) ∷ []
-kind_forms (plan.By fields idle) = symbol_form (stream_text word.By) ∷ vector_form (map field_form fields) ∷ idle_forms idle
+kind_forms (plan.By fields idle) =
+    symbol_form (stream_text word.By) ∷ vector_form (map field_form fields) ∷ idle_forms idle
 kind_forms (plan.Changed field init) = symbol_form (stream_text word.Changed) ∷ field_form field ∷ init_forms init
-kind_forms (plan.Runs count field) = symbol_form (stream_text word.Runs) ∷ number_form (pos count) ∷ field_form field ∷ []
-kind_forms (plan.Throttle count secs) = symbol_form (stream_text word.Throttle) ∷ number_form (pos count) ∷ number_form (pos secs) ∷ []
-kind_forms (plan.Rollup count secs) = symbol_form (stream_text word.Rollup) ∷ number_form (pos count) ∷ number_form (pos secs) ∷ []
-kind_forms (plan.Batch count secs) = symbol_form (stream_text word.Batch) ∷ number_form (pos count) ∷ number_form (pos secs) ∷ []
-kind_forms (plan.Stable secs field) = symbol_form (stream_text word.Stable) ∷ number_form (pos secs) ∷ field_form field ∷ []
+kind_forms (plan.Runs count field) =
+    symbol_form (stream_text word.Runs) ∷ number_form (pos count) ∷ field_form field ∷ []
+kind_forms (plan.Throttle count secs) =
+    symbol_form (stream_text word.Throttle) ∷ number_form (pos count) ∷ number_form (pos secs) ∷ []
+kind_forms (plan.Rollup count secs) =
+    symbol_form (stream_text word.Rollup) ∷ number_form (pos count) ∷ number_form (pos secs) ∷ []
+kind_forms (plan.Batch count secs) =
+    symbol_form (stream_text word.Batch) ∷ number_form (pos count) ∷ number_form (pos secs) ∷ []
+kind_forms (plan.Stable secs field) =
+    symbol_form (stream_text word.Stable) ∷ number_form (pos secs) ∷ field_form field ∷ []
 kind_forms (plan.FixedEvent count) = symbol_form (stream_text word.FixedEvent) ∷ number_form (pos count) ∷ []
 kind_forms (plan.MovingEvent count) = symbol_form (stream_text word.MovingEvent) ∷ number_form (pos count) ∷ []
 kind_forms (plan.FixedTime secs) = symbol_form (stream_text word.FixedTime) ∷ number_form (pos secs) ∷ []
@@ -143,7 +151,8 @@ kind_form kind forms = list_form (kind_forms kind ++ forms)
 
 abbrev mutual
   pub stream_form : StreamTree → BareTree
-  stream_form (stream kind children otherwise) = kind_form kind (stream_forms children ++ else_forms (stream_forms otherwise))
+  stream_form (stream kind children otherwise) =
+      kind_form kind (stream_forms children ++ else_forms (stream_forms otherwise))
 
   pub stream_forms : StreamTrees → List BareTree
   stream_forms plan.none = []
@@ -163,7 +172,8 @@ server_form host port =
 abbrev pub expiry_form : Expiry → BareTree
 expiry_form expiry =
     worded_form (top_text top.PeriodicallyExpire)
-    (number_form (pos expiry.interval) ∷ map_form (keyword_form keep_text ∷ vector_form (map keep_form expiry.keep) ∷ []) ∷ [])
+    (number_form (pos expiry.interval)
+    ∷ map_form (keyword_form keep_text ∷ vector_form (map keep_form expiry.keep) ∷ []) ∷ [])
 
 abbrev pub expiry_forms : Option Expiry → List BareTree
 expiry_forms None = []
@@ -174,7 +184,8 @@ streams_form streams = worded_form (top_text top.Streams) (stream_forms streams)
 
 -- a line for the server, one for the expiry where it is set, and one for the streams
 abbrev pub config_forms : Config → List BareTree
-config_forms config = server_form config.host config.port ∷ (expiry_forms config.expiry ++ streams_form config.plan ∷ [])
+config_forms config =
+    server_form config.host config.port ∷ (expiry_forms config.expiry ++ streams_form config.plan ∷ [])
 
 unfoldable pub canonical_text : Config → List ℕ
 canonical_text config = lines_text (listed (config_forms config))

@@ -27,7 +27,9 @@ use Rattle.sexp_config.specs.Tops.{Draft, default_server, fresh_draft, or_defaul
 
 -- the first stream that is one too many for a cause
 abbrev pub fault_for : PlanWhy → ConfigWhy → Located → Option Fault
-fault_for cause why located = option_map (λ s. (place_along 0 located.places s.path, why)) (plan.place_of cause (plan.preorder_of located.streams))
+fault_for cause why located =
+    option_map (λ s. (place_along 0 located.places s.path, why))
+    (plan.place_of cause (plan.preorder_of located.streams))
 
 -- a stream too many counts before one that does not take what comes
 unfoldable pub plan_fault : Located → Option Fault
@@ -52,16 +54,18 @@ abbrev pub config_from : Draft → Server → StreamTrees → Config
 config_from draft server plan = record { host = server.host; port = server.port; expiry = draft.expiry; plan = plan }
 
 abbrev pub finished : Draft → Result Config Fault
-finished draft = checked draft.below.children >>= λ plan. Ok (config_from draft (or_default default_server draft.server) plan)
+finished draft =
+    checked draft.below.children >>= λ plan. Ok (config_from draft (or_default default_server draft.server) plan)
 
--- What the forms of a text are read as, step by step. Which forms represent a configuration is said by the grammar; this
--- says in addition where and for what the others are refused.
+-- What the forms of a text are read as, step by step. Which forms represent a configuration is said by the grammar;
+-- this says in addition where and for what the others are refused.
 unfoldable pub config_of : FormTrees → Result Config Fault
 config_of forms = run [] fresh_draft (tops_in forms) >>= λ draft. finished draft
 
 -- forms are read as a configuration exactly where they represent it
 abbrev pub ConfigsAreRead : Type 0
-ConfigsAreRead = (forms : FormTrees) (config : Config) → AreConfig (bare_trees forms) config ↔ (config_of forms ≡ Ok config)
+ConfigsAreRead =
+    (forms : FormTrees) (config : Config) → AreConfig (bare_trees forms) config ↔ (config_of forms ≡ Ok config)
 
 -- ---- texts
 

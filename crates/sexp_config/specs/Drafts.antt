@@ -14,4 +14,5 @@ abbrev pub listens_made : code_listens.Listens → Listens
 listens_made listens = record { host = listens.host; port = listens.port }
 
 abbrev pub draft_in : code_draft.Draft → Draft
-draft_in draft = record { server = option_map server_made draft.server; expiry = draft.expiry; below = below_in draft.below }
+draft_in draft =
+    record { server = option_map server_made draft.server; expiry = draft.expiry; below = below_in draft.below }

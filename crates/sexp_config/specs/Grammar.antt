@@ -1,6 +1,8 @@
--- The grammar of whole configurations, as a relation: which forms, apart from their places, represent which configuration.
--- Each case belongs to a row of the table of forms at the top in docs/CONFIGURATIONS.md, or to what the page says of names.
-use Rattle.std.specs.Prelude.{◌≡◌, ℕ, ◌≤◌, false, List, [], ◌∷◌, ◌++◌, length, codes, Option, Some, None, option_to_list, unwrap_or}
+-- The grammar of whole configurations, as a relation: which forms, apart from their places, represent which
+-- configuration. Each case belongs to a row of the table of forms at the top in docs/CONFIGURATIONS.md, or to what the
+-- page says of names.
+use Rattle.std.specs.Prelude.{◌≡◌, ℕ, ◌≤◌, false, List, [], ◌∷◌, ◌++◌, length, codes, Option, Some, None}
+use Rattle.std.specs.Prelude.{option_to_list, unwrap_or}
 use Rattle.std.specs.List.{AllByRecursion}
 use Rattle.ev_types.specs.declared.field.Field.{Field}
 use Rattle.ev_types.specs.declared.field.Field.TheVariants.{Host, Service}
@@ -28,8 +30,8 @@ pub data IsNamed : Env → BareTree → Bound → Type 0 where
   a_value : {env : Env} {form : BareTree} {value : Bound} → IsLiteral env form value → IsNamed env form value
   the_index : {env : Env} → IsNamed env (worded (codes "index") no_trees) bound.Index
 
--- `name value ..`: what is bound before these, and what is bound after them. A value may name what was bound before it, and
--- of bindings of one name the last one holds
+-- `name value ..`: what is bound before these, and what is bound after them. A value may name what was bound before it,
+-- and of bindings of one name the last one holds
 pub data AreNames : Env → BareTrees → Env → Type 0 where
   no_names : {env : Env} → AreNames env no_trees env
   more_names : {env inner : Env} {name : List ℕ} {v : BareTree} {value : Bound} {forms : BareTrees}
@@ -50,7 +52,8 @@ listening host port = record { host = unwrap_or host (codes "127.0.0.1"); port =
 pub data AreEntries : Env → BareTrees → Option (List ℕ) → Option ℕ → Type 0 where
   no_entries : {env : Env} → AreEntries env no_trees None None
   a_host : {env : Env} {key h : BareTree} {forms : BareTrees} {host : List ℕ} {port : Option ℕ}
-      → IsLiteral env key (bound.Keyword (codes "host")) → IsLiteral env h (bound.Text host) → AreEntries env forms None port
+      → IsLiteral env key (bound.Keyword (codes "host")) → IsLiteral env h (bound.Text host)
+      → AreEntries env forms None port
       → AreEntries env (and_trees key (and_trees h forms)) (Some host) port
   a_port : {env : Env} {key p : BareTree} {forms : BareTrees} {host : Option (List ℕ)} {port : ℕ}
       → IsLiteral env key (bound.Keyword (codes "port")) → IsRanged 0 65535 env p port → AreEntries env forms host None
@@ -59,7 +62,8 @@ pub data AreEntries : Env → BareTrees → Option (List ℕ) → Option ℕ →
 -- what follows `tcp-server`
 pub data IsServer : Env → BareTrees → Server → Type 0 where
   by_default : {env : Env} → IsServer env no_trees (listening None None)
-  by_map : {env : Env} {entries : BareTrees} {host : Option (List ℕ)} {port : Option ℕ} → AreEntries env entries host port
+  by_map : {env : Env} {entries : BareTrees} {host : Option (List ℕ)} {port : Option ℕ}
+      → AreEntries env entries host port
       → IsServer env (listed (map_of entries ∷ [])) (listening host port)
 
 -- ---- how expired events are looked for
@@ -67,11 +71,13 @@ pub data IsServer : Env → BareTrees → Server → Type 0 where
 -- a field, or `:tags`
 pub data IsKey : Env → BareTree → KeepKey → Type 0 where
   field_key : {env : Env} {form : BareTree} {field : Field} → IsField env form field → IsKey env form (keep.Field field)
-  tags_key : {env : Env} {form : BareTree} → IsLiteral env form (bound.Keyword (codes "tags")) → IsKey env form keep.Tags
+  tags_key : {env : Env} {form : BareTree} → IsLiteral env form (bound.Keyword (codes "tags"))
+      → IsKey env form keep.Tags
 
 pub data AreKeys : Env → BareTrees → List KeepKey → Type 0 where
   no_keys : {env : Env} → AreKeys env no_trees []
-  more_keys : {env : Env} {form : BareTree} {forms : BareTrees} {key : KeepKey} {keys : List KeepKey} → IsKey env form key → AreKeys env forms keys
+  more_keys : {env : Env} {form : BareTree} {forms : BareTrees} {key : KeepKey} {keys : List KeepKey}
+      → IsKey env form key → AreKeys env forms keys
       → AreKeys env (and_trees form forms) (key ∷ keys)
 
 abbrev pub host_and_service : List KeepKey
@@ -84,7 +90,8 @@ pub data IsExpiry : Env → BareTrees → Expiry → Type 0 where
       → IsExpiry env (listed (n ∷ [])) (record { interval = secs; keep = host_and_service })
   keeping : {env : Env} {n key : BareTree} {forms : BareTrees} {secs : ℕ} {keys : List KeepKey}
       → IsRanged 1 MAX_SECS env n secs → IsLiteral env key (bound.Keyword (codes "keep-keys")) → AreKeys env forms keys
-      → IsExpiry env (listed (n ∷ map_of (listed (key ∷ vector_of forms ∷ [])) ∷ [])) (record { interval = secs; keep = keys })
+      → IsExpiry env (listed (n ∷ map_of (listed (key ∷ vector_of forms ∷ [])) ∷ []))
+      (record { interval = secs; keep = keys })
 
 -- ---- forms at the top
 
@@ -99,7 +106,11 @@ nothing_said = record { servers = []; expiries = []; streams = none }
 
 abbrev pub together : Said → Said → Said
 together first second =
-    record { servers = first.servers ++ second.servers; expiries = first.expiries ++ second.expiries; streams = with_streams first.streams second.streams }
+    record {
+      servers = first.servers ++ second.servers;
+      expiries = first.expiries ++ second.expiries;
+      streams = with_streams first.streams second.streams;
+    }
 
 mutual
   pub data IsTop : Env → BareTree → Said → Type 0 where
@@ -109,22 +120,28 @@ mutual
         → IsTop env (worded (codes "periodically-expire") forms) (record nothing_said { expiries = expiry ∷ [] })
     some_streams : {env : Env} {forms : BareTrees} {streams : StreamTrees} → AreStreams false env forms streams
         → IsTop env (worded (codes "streams") forms) (record nothing_said { streams = streams })
-    with_names : {env inner : Env} {names forms : BareTrees} {said : Said} → AreNames env names inner → AreTops inner forms said
+    with_names : {env inner : Env} {names forms : BareTrees} {said : Said} → AreNames env names inner
+        → AreTops inner forms said
         → IsTop env (worded (codes "let") (and_trees (vector_of names) forms)) said
 
   -- forms at the top in a row
   pub data AreTops : Env → BareTrees → Said → Type 0 where
     no_tops : {env : Env} → AreTops env no_trees nothing_said
-    more_tops : {env : Env} {form : BareTree} {forms : BareTrees} {said more : Said} → IsTop env form said → AreTops env forms more
+    more_tops : {env : Env} {form : BareTree} {forms : BareTrees} {said more : Said} → IsTop env form said
+        → AreTops env forms more
         → AreTops env (and_trees form forms) (together said more)
 
 -- ---- configurations
 
--- the forms represent the configuration: they say one server at most and one expiry at most, and all their streams are its
--- plan, which are not too many and take what comes to them
+-- the forms represent the configuration: they say one server at most and one expiry at most, and all their streams are
+-- its plan, which are not too many and take what comes to them
 pub record AreConfig (forms : BareTrees) (config : Config) : Type 0 where
   pub server : Option Server
-  pub said : AreTops [] forms (record { servers = option_to_list server; expiries = option_to_list config.expiry; streams = config.plan })
+  pub said : AreTops [] forms (record {
+    servers = option_to_list server;
+    expiries = option_to_list config.expiry;
+    streams = config.plan;
+  })
   pub host : config.host ≡ (unwrap_or server (listening None None)).host
   pub port : config.port ≡ (unwrap_or server (listening None None)).port
   pub few : length (preorder_of config.plan) ≤ MAX_STREAMS

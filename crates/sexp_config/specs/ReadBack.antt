@@ -17,4 +17,5 @@ pub record IsWithinLimits (config : Config) : Type 0 where
 
 -- the canonical text of a configuration that was read represents it
 abbrev pub CanonicalIsRead : Type 0
-CanonicalIsRead = (config : Config) → IsReadable config → IsWithinLimits config → IsConfigOf (canonical_text config) config
+CanonicalIsRead =
+    (config : Config) → IsReadable config → IsWithinLimits config → IsConfigOf (canonical_text config) config

@@ -1,6 +1,7 @@
 -- How the forms of a whole configuration are read, step by step, and what each step refuses at which place. Which forms
 -- represent a configuration is said by the grammar, apart from these steps (`Grammar.antt`).
-use Rattle.std.specs.Prelude.{ℕ, Bool, true, false, if◌then◌else◌, List, [], ◌∷◌, ◌++◌, drop, codes, Option, Some, None, Result, Ok, Err}
+use Rattle.std.specs.Prelude.{ℕ, Bool, true, false, if◌then◌else◌, List, [], ◌∷◌, ◌++◌, drop, codes, Option, Some, None}
+use Rattle.std.specs.Prelude.{Result, Ok, Err}
 use Rattle.std.specs.Str.{bytes_eq}
 use Rattle.ev_types.specs.declared.field.Field.{Field}
 use Rattle.ev_types.specs.declared.field.Field.TheVariants.{Host, Service}
@@ -22,7 +23,8 @@ use Rattle.config_terms.specs.declared.word.TopWord.TheVariants as top
 use Rattle.config_terms.specs.Steps.{Fault, ◌>>=◌, start_of, nth, argument, at_most, each, name_in}
 use Rattle.ev_types.specs.Names.{named_field}
 use Rattle.config_terms.specs.Words.{stream_text, top_word, tags_text, keep_text, host_text, port_text}
-use Rattle.config_terms.specs.Arguments.{Env, bound_value, Argument, Text, Pattern, Number, Keyword, Index, argument_of, misfit, fitting, keyword_at, text_at, ranged_at, vector_at, map_at, one_entry}
+use Rattle.config_terms.specs.Arguments.{Env, bound_value, Argument, Text, Pattern, Number, Keyword, Index, argument_of}
+use Rattle.config_terms.specs.Arguments.{misfit, fitting, keyword_at, text_at, ranged_at, vector_at, map_at, one_entry}
 use Rattle.config_terms.specs.Rules.{no_form}
 use Rattle.config_streams.specs.Streams.{Below, nothing, parts_in, all_read}
 use Rattle.sexp_config.specs.Grammar.{Server}
@@ -60,7 +62,8 @@ or_default default None = default
 or_default default (Some a) = a
 
 abbrev pub server_of : Listens → Server
-server_of listens = record { host = or_default default_server.host listens.host; port = or_default default_server.port listens.port }
+server_of listens =
+    record { host = or_default default_server.host listens.host; port = or_default default_server.port listens.port }
 
 -- the key of an entry: the first is that of the host
 abbrev pub listen_key : ℕ → Listens → List ℕ → Result Bool Fault
@@ -206,7 +209,8 @@ with_expiry env start forms draft =
     Ok (record draft { expiry = Some expiry })
 
 abbrev pub with_streams : Env → FormTrees → Draft → Result Draft Fault
-with_streams env forms draft = all_read draft.below (parts_in false false env forms) >>= λ below. Ok (record draft { below = below })
+with_streams env forms draft =
+    all_read draft.below (parts_in false false env forms) >>= λ below. Ok (record draft { below = below })
 
 -- the forms after the names, where these are bound
 abbrev pub let_by : Env → ℕ → FormTrees → List Step → Draft → Result Draft Fault

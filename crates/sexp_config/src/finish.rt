@@ -76,9 +76,9 @@ fn checked(alloc: Global, located: Located) -> Result<CheckedPlan, ConfigFault>
     }
 }
 
-/// The refusal of the stream at the place. Of the five causes only Many and Kind can still come: only `where` gets other
-/// streams, what takes no streams has none, numbers are in their ranges, no `by` with `idle` is below another `by`, and at
-/// most 64 brackets are open at once.
+/// The refusal of the stream at the place. Of the five causes only Many and Kind can still come: only `where` gets
+/// other streams, what takes no streams has none, numbers are in their ranges, no `by` with `idle` is below another
+/// `by`, and at most 64 brackets are open at once.
 fn fault_of(place: usize, why: PlanWhy) -> ConfigFault
     requires { IsLeft why }
     ensures { result ≡ fault_by why place }

@@ -5,8 +5,8 @@ ghost use Rattle.sexp_config.specs.Config.{ConfigsAreRead};
 ghost use Rattle.sexp_config.specs.WellBuilt.{ReadPlansHaveNoFault};
 ghost use Rattle.sexp_config.specs.ReadBack.{CanonicalIsRead};
 
-/// The forms that are read as a configuration are exactly those that represent it by the grammar. So forms represent one
-/// configuration at most.
+/// The forms that are read as a configuration are exactly those that represent it by the grammar. So forms represent
+/// one configuration at most.
 pub fn configs_are_read()
     ensures { ConfigsAreRead }
 {}
@@ -17,9 +17,9 @@ pub fn written_is_read()
     ensures { CanonicalIsRead }
 {}
 
-/// The plan of a configuration that was read has no fault: it has at most 4,096 streams, at most 64 of them in a row from
-/// the top down, and each has no streams but those that may follow it, its numbers and sets in their ranges, takes what
-/// its parent passes on, and is no `By` with `idle` below another `By`.
+/// The plan of a configuration that was read has no fault: it has at most 4,096 streams, at most 64 of them in a row
+/// from the top down, and each has no streams but those that may follow it, its numbers and sets in their ranges, takes
+/// what its parent passes on, and is no `By` with `idle` below another `By`.
 pub fn read_plans_have_no_fault()
     ensures { ReadPlansHaveNoFault }
 {}

@@ -17,8 +17,8 @@ use std::alloc::Global;
 ///
 /// A text is refused for the first of these that it has:
 /// - what [`read_forms`] refuses texts for, at its place;
-/// - in reading order, in each list the head first and then its arguments: a form of a kind that is not allowed there, at
-///   its start (Form); a symbol that is bound to nothing and is not a word of its place, at the symbol (Name); an
+/// - in reading order, in each list the head first and then its arguments: a form of a kind that is not allowed there,
+///   at its start (Form); a symbol that is bound to nothing and is not a word of its place, at the symbol (Name); an
 ///   argument that does not fit, at that argument, or one that is missing, at the bracket of the form that lacks it
 ///   (Arguments);
 ///   a number outside its range, at the number (Range); a `tcp-server` or `periodically-expire` that comes again, at

@@ -76,7 +76,8 @@ fn server_of(alloc: Global, listens: Listens) -> Result<Server, ConfigFault>
     Ok(Server { host, port })
 }
 
-/// Whether the key is that of the host; else it is that of the port. It is refused where it is neither, or there already.
+/// Whether the key is that of the host; else it is that of the port. It is refused where it is neither, or there
+/// already.
 #[tactic(auto, using(config_terms::proofs::FormLaws::start_of_form), unfolding(crate::specs::Tops::listen_key_at))]
 fn listen_key_at(env: &[Binding], listens: &Listens, key: &Form) -> Result<bool, ConfigFault>
     ensures { Gives result

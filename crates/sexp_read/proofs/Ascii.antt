@@ -1,5 +1,6 @@
 -- The bytes of names and symbols are ASCII, so they are UTF-8.
-use Rattle.std.proofs.Common.{◌≡◌, ℕ, ◌<◌, Bool, true, nat_lt, List, [], ◌∷◌, length, take, refl, subst, sym, arith, ◌||◌, codes, nat_eq, drop, ◌-◌, inl, inr}
+use Rattle.std.proofs.Common.{◌≡◌, ℕ, ◌<◌, Bool, true, nat_lt, List, [], ◌∷◌, length, take, refl, subst, sym, arith}
+use Rattle.std.proofs.Common.{◌||◌, codes, nat_eq, drop, ◌-◌, inl, inr}
 use Rattle.std.proofs.Math.Seq.{take-length}
 use Rattle.std.proofs.lemmas.Bool.{and_parts, or_cases, ltb-true}
 use Rattle.std.proofs.lemmas.List.{take_all}
@@ -9,7 +10,8 @@ use Rattle.std.proofs.lemmas.Str.{IsUtf8-from_ascii}
 use Rattle.std.proofs.lemmas.Str.Ascii.{IsAscii-nil, IsAscii-cons}
 use Rattle.std.specs.List.{list_all}
 use Rattle.std.specs.Str.{IsUtf8, IsAscii, IsValidUpTo, bytes_eq}
-use Rattle.sexp_read.specs.Bytes.{is_letter, is_name_byte, is_symbol_byte, is_name, is_word, is_comparison, is_symbol, is_keyword}
+use Rattle.sexp_read.specs.Bytes.{is_letter, is_name_byte, is_symbol_byte, is_name, is_word, is_comparison, is_symbol}
+use Rattle.sexp_read.specs.Bytes.{is_keyword}
 
 pub not_utf8 : (bytes : List ℕ) (place : ℕ) → IsValidUpTo bytes place → IsUtf8 bytes → ⊥
 not_utf8 bytes place h u =

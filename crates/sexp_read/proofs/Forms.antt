@@ -1,7 +1,8 @@
 -- Forms as plain trees, at the values that the code makes.
 use Rattle.std.proofs.Common.{◌≡◌, ℕ, List, [], ◌∷◌, ◌++◌, Vec, Global, refl, ap, ◌∙◌}
 use Rattle.sexp_read.specs.declared.form.Form.{Form}
-use Rattle.sexp_read.specs.declared.form.Shape.{Row_of-Form, end_of-Form, more_of-Form, items-the_row-Form, items_hidden-the_row-Form-0}
+use Rattle.sexp_read.specs.declared.form.Shape.{Row_of-Form, end_of-Form, more_of-Form, items-the_row-Form}
+use Rattle.sexp_read.specs.declared.form.Shape.{items_hidden-the_row-Form-0}
 use Rattle.sexp_read.specs.declared.form.Shape.TheBlock.{hidden-the_row-Form-0}
 use Rattle.sexp_read.specs.declared.form.Shape as code
 use Rattle.sexp_read.specs.Tree.{Round, Square, Curly, Group, also, shape_tree, row_trees, form_tree, form_trees}

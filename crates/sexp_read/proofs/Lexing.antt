@@ -1,5 +1,6 @@
 -- The tokens from a place on, piece by piece.
-use Rattle.std.proofs.Common.{◌≡◌, ℕ, ◌+◌, ◌-◌, ◌<◌, ◌≤◌, nat_lt, List, [], ◌∷◌, length, drop, get_or, Some, None, Ok, Err, refl, ap, ◌∙◌, arith, inl, inr, drop-cons, add-one}
+use Rattle.std.proofs.Common.{◌≡◌, ℕ, ◌+◌, ◌-◌, ◌<◌, ◌≤◌, nat_lt, List, [], ◌∷◌, length, drop, get_or, Some, None, Ok}
+use Rattle.std.proofs.Common.{Err, refl, ap, ◌∙◌, arith, inl, inr, drop-cons, add-one}
 use Rattle.std.proofs.Math.Seq.{drop-nil}
 use Rattle.std.proofs.lemmas.Bool.{cases_Bool, ltb-true, ltb-false, le-ltb}
 use Rattle.std.proofs.lemmas.List.{drop_all, drop-drop}

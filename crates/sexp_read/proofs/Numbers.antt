@@ -1,10 +1,14 @@
 -- What is parsed as a number of 64 signed bits.
-use Rattle.std.proofs.Common.{◌≡◌, ℕ, ◌<◌, ◌≤◌, ◌^◌, ◌-◌, Bool, true, false, cond, nat_eq, nat_lt, nat_le, ◌&&◌, ◌≢◌, List, [], ◌∷◌, length, get_or, ℤ, pos, neg_ℤ, Some, None, Result, Ok, Err, refl, ap, arith, w64, inl, inr}
+use Rattle.std.proofs.Common.{◌≡◌, ℕ, ◌<◌, ◌≤◌, ◌^◌, ◌-◌, Bool, true, false, cond, nat_eq, nat_lt, nat_le, ◌&&◌, ◌≢◌}
+use Rattle.std.proofs.Common.{List, [], ◌∷◌, length, get_or, ℤ, pos, neg_ℤ, Some, None, Result, Ok, Err, refl, ap}
+use Rattle.std.proofs.Common.{arith, w64, inl, inr}
 use Rattle.std.proofs.lemmas.Fmt.{IsAscii-from_digits}
-use Rattle.std.proofs.lemmas.Bool.{cond-false, and_left, and_right, and_parts, and_from, cases_Bool, leb-true, le-leb, lt-ltb, ltb-true, eqb-true, eqb-false}
+use Rattle.std.proofs.lemmas.Bool.{cond-false, and_left, and_right, and_parts, and_from, cases_Bool, leb-true, le-leb}
+use Rattle.std.proofs.lemmas.Bool.{lt-ltb, ltb-true, eqb-true, eqb-false}
 use Rattle.std.proofs.lemmas.Str.{IsUtf8-from_ascii}
 use Rattle.std.proofs.lemmas.Str.Ascii.{IsAscii-cons}
-use Rattle.std.proofs.lemmas.Str.Parse.{IsNumeralModel, numerals_by_value, tells_all_ascii_digits, parse_signed_minus, parse_signed_plain}
+use Rattle.std.proofs.lemmas.Str.Parse.{IsNumeralModel, numerals_by_value, tells_all_ascii_digits, parse_signed_minus}
+use Rattle.std.proofs.lemmas.Str.Parse.{parse_signed_plain}
 use Rattle.std.specs.Bool.{Decides}
 use Rattle.std.specs.Result.{OkIff, result_ok}
 use Rattle.std.specs.Str.{IsUtf8, all_ascii_digits}

@@ -1,5 +1,7 @@
 -- What was read can be written.
-use Rattle.std.proofs.Common.{◌≡◌, ℕ, ℤ, pos, neg_ℤ, zero, suc, ◌+◌, ◌<◌, ◌≤◌, ◌^◌, ◌-◌, Bool, true, false, cond, nat_eq, nat_lt, nat_le, ◌&&◌, List, [], ◌∷◌, ◌++◌, length, drop, Option, Some, None, Result, Ok, Err, refl, ap, sym, ◌∙◌, subst, arith, append_assoc, inl, inr}
+use Rattle.std.proofs.Common.{◌≡◌, ℕ, ℤ, pos, neg_ℤ, zero, suc, ◌+◌, ◌<◌, ◌≤◌, ◌^◌, ◌-◌, Bool, true, false, cond}
+use Rattle.std.proofs.Common.{nat_eq, nat_lt, nat_le, ◌&&◌, List, [], ◌∷◌, ◌++◌, length, drop, Option, Some, None}
+use Rattle.std.proofs.Common.{Result, Ok, Err, refl, ap, sym, ◌∙◌, subst, arith, append_assoc, inl, inr}
 use Rattle.std.proofs.lemmas.Bool.{cases_Bool, and_parts, leb-true, eqb-true}
 use Rattle.std.specs.Str.{IsUtf8, all_ascii_digits}
 use Rattle.std.specs.Str.Parse.{digits_value}
@@ -11,10 +13,13 @@ use Rattle.sexp_read.specs.declared.piece.Piece.TheVariants.{Blank, Opening, Clo
 use Rattle.sexp_read.specs.declared.piece.Quoted.{Quoted}
 use Rattle.sexp_read.specs.declared.piece.Quoted.TheVariants.{Text as in_text, Pattern as in_pattern}
 use Rattle.sexp_read.specs.Tree.{Atom, FormTree, FormTrees, Single, Group, none, also}
-use Rattle.sexp_read.specs.Bytes.{class_of, run_of, is_name, is_keyword, is_symbol, begins_number, magnitude, signed, number_of, number_atom, atom_of, escape_of}
-use Rattle.sexp_read.specs.Tokens.{Fault, Token, Opened, Closed, Stood, Lexed, lexed_from, lexed, tokens_in, and_then, piece_at, piece_by, run_at, run_piece, placed, quoted_at, quoted_piece, quoted_from}
+use Rattle.sexp_read.specs.Bytes.{class_of, run_of, is_name, is_keyword, is_symbol, begins_number, magnitude, signed}
+use Rattle.sexp_read.specs.Bytes.{number_of, number_atom, atom_of, escape_of}
+use Rattle.sexp_read.specs.Tokens.{Fault, Token, Opened, Closed, Stood, Lexed, lexed_from, lexed, tokens_in, and_then}
+use Rattle.sexp_read.specs.Tokens.{piece_at, piece_by, run_at, run_piece, placed, quoted_at, quoted_piece, quoted_from}
 use Rattle.sexp_read.specs.Grammar.{form_spelling, spelling, deepest, IsForms}
-use Rattle.sexp_read.specs.Written.{bare_tree, bare_trees, bare_depth, is_pattern, IsWithin64, IsWritable, IsWritableTree, AreWritable}
+use Rattle.sexp_read.specs.Written.{bare_tree, bare_trees, bare_depth, is_pattern, IsWithin64, IsWritable}
+use Rattle.sexp_read.specs.Written.{IsWritableTree, AreWritable}
 use Rattle.sexp_read.proofs.Pieces.{quote_is_ascii}
 use Rattle.sexp_read.proofs.QuotedText.{following_ascii, ok_parts, fronted, escaped, quoted_is_utf8}
 use Rattle.sexp_read.proofs.WrittenTrees.{depth_is}

@@ -1,10 +1,12 @@
 -- The tokens of forms: how deep they nest, which bracket they leave open, and that no other forms have them.
-use Rattle.std.proofs.Common.{◌≡◌, ℕ, ◌+◌, ◌≤◌, nat_le, List, [], ◌∷◌, ◌++◌, length, None, refl, ap, sym, ◌∙◌, arith, inl, inr, append_assoc}
+use Rattle.std.proofs.Common.{◌≡◌, ℕ, ◌+◌, ◌≤◌, nat_le, List, [], ◌∷◌, ◌++◌, length, None, refl, ap, sym, ◌∙◌, arith}
+use Rattle.std.proofs.Common.{inl, inr, append_assoc}
 use Rattle.std.proofs.lemmas.Bool.{cases_Bool, leb-false, lt-leb}
 use Rattle.std.proofs.lemmas.List.{append-nil}
 use Rattle.sexp_read.specs.Tree.{Bracket, FormTree, FormTrees, Single, Group, none, also}
 use Rattle.sexp_read.specs.Tokens.{Token, Closed}
-use Rattle.sexp_read.specs.Grammar.{form_spelling, spelling, form_depth, depth, deepest, Brackets, bracket_fault, open_after}
+use Rattle.sexp_read.specs.Grammar.{form_spelling, spelling, form_depth, depth, deepest, Brackets, bracket_fault}
+use Rattle.sexp_read.specs.Grammar.{open_after}
 use Rattle.sexp_read.proofs.ReadingLaws.{same_bracket_refl}
 
 -- the tokens inside a group, and those after it

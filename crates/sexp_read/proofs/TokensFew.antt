@@ -1,5 +1,6 @@
 -- A text has no more tokens than bytes.
-use Rattle.std.proofs.Common.{ℕ, suc, ◌+◌, ◌≤◌, Bool, true, false, cond, nat_lt, List, [], ◌∷◌, length, Result, Ok, Err, arith}
+use Rattle.std.proofs.Common.{ℕ, suc, ◌+◌, ◌≤◌, Bool, true, false, cond, nat_lt, List, [], ◌∷◌, length, Result, Ok, Err}
+use Rattle.std.proofs.Common.{arith}
 use Rattle.sexp_read.specs.declared.piece.Piece.{Piece}
 use Rattle.sexp_read.specs.declared.piece.Piece.TheVariants.{Blank, Opening, Closing, Whole}
 use Rattle.sexp_read.specs.Tokens.{Fault, Lexed, and_then, piece_at, lexed_from, lexed}

@@ -1,5 +1,6 @@
 -- A text that is forms, and no other.
-use Rattle.std.proofs.Common.{◌≡◌, ℕ, ◌≤◌, ◌<◌, List, [], length, Option, Some, None, Result, Ok, Err, Vec, Global, IfOk, IfErr, refl, ap, sym, ◌∙◌}
+use Rattle.std.proofs.Common.{◌≡◌, ℕ, ◌≤◌, ◌<◌, List, [], length, Option, Some, None, Result, Ok, Err, Vec, Global}
+use Rattle.std.proofs.Common.{IfOk, IfErr, refl, ap, sym, ◌∙◌}
 use Rattle.std.proofs.lemmas.Bool.{le-ltb, lt-ltb, false_from_ne_true}
 use Rattle.std.proofs.lemmas.Str.{is_utf8-from_IsUtf8, IsUtf8-from_is_utf8}
 use Rattle.std.specs.Str.{IsUtf8, is_utf8}
@@ -10,7 +11,8 @@ use Rattle.sexp_read.specs.declared.fault.SexpFault.TheVariants.{Refused, Memory
 use Rattle.sexp_read.specs.declared.fault.SexpWhy.TheVariants.{Long, Utf8}
 use Rattle.sexp_read.specs.Tree.{FormTrees, form_trees}
 use Rattle.sexp_read.specs.Tokens.{Fault, lexed}
-use Rattle.sexp_read.specs.Grammar.{AreRead, IsForms, IsReadAs, longest, bracket_fault, fault_after, forms_fault, text_fault, or_else, unclosed, open_after}
+use Rattle.sexp_read.specs.Grammar.{AreRead, IsForms, IsReadAs, longest, bracket_fault, fault_after, forms_fault}
+use Rattle.sexp_read.specs.Grammar.{text_fault, or_else, unclosed, open_after}
 use Rattle.sexp_read.specs.Gives.{IsFault}
 use Rattle.sexp_read.proofs.Spellings.{no_bracket_fault, shallow_forms, none_open, one_reading}
 

@@ -1,5 +1,7 @@
 -- What is written of an atom is a piece of its text.
-use Rattle.std.proofs.Common.{◌≡◌, ◌≢◌, ℕ, ℤ, pos, negsuc, suc, ◌+◌, ◌-◌, ◌<◌, ◌≤◌, ◌^◌, Bool, true, false, nat_eq, ◌||◌, codes, List, [], ◌∷◌, ◌++◌, length, take, drop, Some, Ok, refl, ap, sym, ◌∙◌, subst, arith, append_assoc, one-add, inl, inr, ⊎_elim, length-append}
+use Rattle.std.proofs.Common.{◌≡◌, ◌≢◌, ℕ, ℤ, pos, negsuc, suc, ◌+◌, ◌-◌, ◌<◌, ◌≤◌, ◌^◌, Bool, true, false, nat_eq}
+use Rattle.std.proofs.Common.{◌||◌, codes, List, [], ◌∷◌, ◌++◌, length, take, drop, Some, Ok, refl, ap, sym, ◌∙◌, subst}
+use Rattle.std.proofs.Common.{arith, append_assoc, one-add, inl, inr, ⊎_elim, length-append}
 use Rattle.std.proofs.Math.Seq.{drop-append_seam, take-append_seam}
 use Rattle.std.proofs.lemmas.Bool.{and_parts, and_from, or_cases, lt-ltb, le-leb, le-ltb, ne_eqb}
 use Rattle.std.proofs.lemmas.Bool.Decides.{nat_tests, eqb_tells}
@@ -15,8 +17,11 @@ use Rattle.sexp_read.specs.declared.piece.Piece.{Piece}
 use Rattle.sexp_read.specs.declared.piece.Piece.TheVariants.{Whole}
 use Rattle.sexp_read.specs.declared.piece.Quoted.TheVariants.{Text as in_text, Pattern as in_pattern}
 use Rattle.sexp_read.specs.Tree.{Atom, Text, Pattern, Number, Keyword, Symbol}
-use Rattle.sexp_read.specs.Bytes.{class_of, runs_on, run_of, is_digit, is_letter, is_name_byte, is_name, is_keyword, is_symbol_byte, is_word, is_comparison, is_symbol, begins_number, number_of, atom_of, magnitude, signed}
-use Rattle.sexp_read.specs.Tokens.{Token, Stood, lexed_from, with_tokens, tokens_in, piece_at, run_at, quoted_at, quoted_from, quoted_piece, with_prefix}
+use Rattle.sexp_read.specs.Bytes.{class_of, runs_on, run_of, is_digit, is_letter, is_name_byte, is_name, is_keyword}
+use Rattle.sexp_read.specs.Bytes.{is_symbol_byte, is_word, is_comparison, is_symbol, begins_number, number_of, atom_of}
+use Rattle.sexp_read.specs.Bytes.{magnitude, signed}
+use Rattle.sexp_read.specs.Tokens.{Token, Stood, lexed_from, with_tokens, tokens_in, piece_at, run_at, quoted_at}
+use Rattle.sexp_read.specs.Tokens.{quoted_from, quoted_piece, with_prefix}
 use Rattle.string_literals.specs.Literals.{escape as byte_text}
 use Rattle.sexp_read.specs.Written.{atom_text, is_pattern, IsWithin64, IsWritable}
 use Rattle.sexp_read.proofs.Lexing.{skipped}

@@ -1,5 +1,6 @@
 -- What is written of trees is read as these trees.
-use Rattle.std.proofs.Common.{◌≡◌, ℕ, ℤ, pos, negsuc, suc, ◌+◌, ◌<◌, ◌≤◌, List, [], ◌∷◌, ◌++◌, length, None, refl, ap, sym, ◌∙◌, subst, arith, append_assoc, length-append, ⊎_elim}
+use Rattle.std.proofs.Common.{◌≡◌, ℕ, ℤ, pos, negsuc, suc, ◌+◌, ◌<◌, ◌≤◌, List, [], ◌∷◌, ◌++◌, length, None, refl, ap}
+use Rattle.std.proofs.Common.{sym, ◌∙◌, subst, arith, append_assoc, length-append, ⊎_elim}
 use Rattle.std.proofs.lemmas.Bool.Decides.{eqb_tells}
 use Rattle.std.proofs.lemmas.Fmt.{IsAscii-decimal}
 use Rattle.std.proofs.lemmas.List.{append-nil}
@@ -9,11 +10,15 @@ use Rattle.std.specs.Fmt.{decimal, signed_decimal}
 use Rattle.std.specs.List.{flat_map}
 use Rattle.std.specs.Str.{IsUtf8}
 use Rattle.sexp_read.specs.declared.piece.Piece.TheVariants.{Blank, Opening, Closing}
-use Rattle.sexp_read.specs.Tree.{Bracket, Round, Square, Curly, Atom, Text, Pattern, Number, Keyword, Symbol, FormTree, FormTrees, Single, Group, none, also}
+use Rattle.sexp_read.specs.Tree.{Bracket, Round, Square, Curly, Atom, Text, Pattern, Number, Keyword, Symbol, FormTree}
+use Rattle.sexp_read.specs.Tree.{FormTrees, Single, Group, none, also}
 use Rattle.sexp_read.specs.Tokens.{Token, Opened, Closed, Lexed, lexed_from, lexed, with_tokens, piece_at}
 use Rattle.sexp_read.specs.Grammar.{form_spelling, spelling, form_depth, depth, deepest, longest}
 use Rattle.string_literals.specs.Literals.{escape as byte_text}
-use Rattle.sexp_read.specs.Written.{BareTree, BareTrees, Leaf, Branch, no_trees, and_trees, bare_tree, bare_trees, bare_tree_depth, bare_depth, atom_text, opening, closing, tree_text, between_text, later_text, lines_text, IsWithin64, IsWritable, IsWritableTree, AreWritable, IsReadBack}
+use Rattle.sexp_read.specs.Written.{BareTree, BareTrees, Leaf, Branch, no_trees, and_trees, bare_tree, bare_trees}
+use Rattle.sexp_read.specs.Written.{bare_tree_depth, bare_depth, atom_text, opening, closing, tree_text, between_text}
+use Rattle.sexp_read.specs.Written.{later_text, lines_text, IsWithin64, IsWritable, IsWritableTree, AreWritable}
+use Rattle.sexp_read.specs.Written.{IsReadBack}
 use Rattle.sexp_read.proofs.Ascii.{symbol_is_utf8, keyword_is_utf8}
 use Rattle.sexp_read.proofs.QuotedText.{before_ascii, following_ascii}
 use Rattle.sexp_read.proofs.WrittenAtoms.{Ends, ReadsBack, piece_read, atom_read}

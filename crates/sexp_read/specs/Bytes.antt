@@ -1,5 +1,6 @@
 -- What the bytes of a text are to a form.
-use Rattle.std.specs.Prelude.{ℕ, ℤ, pos, neg_ℤ, ◌-◌, Bool, true, false, not, ◌==◌, ◌&&◌, ◌||◌, nat_lt, nat_le, ◌^◌, if◌then◌else◌, List, [], ◌∷◌, length, drop, codes, Option, Some, None, Result, Ok, Err}
+use Rattle.std.specs.Prelude.{ℕ, ℤ, pos, neg_ℤ, ◌-◌, Bool, true, false, not, ◌==◌, ◌&&◌, ◌||◌, nat_lt, nat_le, ◌^◌}
+use Rattle.std.specs.Prelude.{if◌then◌else◌, List, [], ◌∷◌, length, drop, codes, Option, Some, None, Result, Ok, Err}
 use Rattle.std.specs.List.{list_all, take_while}
 use Rattle.std.specs.Option.{option_map}
 use Rattle.std.specs.Str.{bytes_eq, all_ascii_digits}
@@ -69,7 +70,8 @@ is_keyword (b ∷ bytes) = b == 58 && is_name bytes
 
 -- symbols: a letter or `_`, and then letters, digits, `_` `.` `/` `?` `!` `*` `-`
 abbrev pub is_symbol_byte : ℕ → Bool
-is_symbol_byte b = is_letter b || is_digit b || b == 95 || b == 46 || b == 47 || b == 63 || b == 33 || b == 42 || b == 45
+is_symbol_byte b =
+    is_letter b || is_digit b || b == 95 || b == 46 || b == 47 || b == 63 || b == 33 || b == 42 || b == 45
 
 abbrev pub is_word : List ℕ → Bool
 is_word [] = false
@@ -94,7 +96,9 @@ begins_number (b ∷ bytes) = is_digit b || (b == 45 || b == 43) && begins_with_
 
 -- the digits of a number, which has a minus sign or none, and its value, within 64 signed bits
 abbrev pub magnitude : List ℕ → ℕ → Option ℕ
-magnitude digits most = if nat_lt 0 (length digits) && all_ascii_digits digits && nat_le (digits_value 10 digits) most then Some (digits_value 10 digits) else None
+magnitude digits most =
+    if nat_lt 0 (length digits) && all_ascii_digits digits
+    && nat_le (digits_value 10 digits) most then Some (digits_value 10 digits) else None
 
 abbrev pub signed : Bool → Option ℕ → Option ℤ
 signed minus None = None
@@ -103,7 +107,8 @@ signed false (Some n) = Some (pos n)
 
 unfoldable pub number_of : List ℕ → Option ℤ
 number_of [] = None
-number_of (b ∷ bytes) = if b == 45 then signed true (magnitude bytes (2 ^ 63)) else signed false (magnitude (b ∷ bytes) (2 ^ 63 - 1))
+number_of (b ∷ bytes) =
+    if b == 45 then signed true (magnitude bytes (2 ^ 63)) else signed false (magnitude (b ∷ bytes) (2 ^ 63 - 1))
 
 abbrev pub number_atom : Option ℤ → Result Atom SexpWhy
 number_atom (Some n) = Ok (Number n)

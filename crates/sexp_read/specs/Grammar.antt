@@ -1,5 +1,6 @@
 -- The texts that are forms, and for what the others are refused.
-use Rattle.std.specs.Prelude.{◌≡◌, ℕ, ◌+◌, ◌-◌, ◌≤◌, nat_le, nat_lt, max, if◌then◌else◌, Bool, true, false, List, [], ◌∷◌, ◌++◌, length, Option, Some, None, Result, Ok, Err}
+use Rattle.std.specs.Prelude.{◌≡◌, ℕ, ◌+◌, ◌-◌, ◌≤◌, nat_le, nat_lt, max, if◌then◌else◌, Bool, true, false, List, []}
+use Rattle.std.specs.Prelude.{◌∷◌, ◌++◌, length, Option, Some, None, Result, Ok, Err}
 use Rattle.std.specs.Str.{IsUtf8, is_utf8}
 use Rattle.std.specs.Str.Lossy.{utf8_valid_len}
 use Rattle.sexp_read.specs.declared.fault.SexpFault.{SexpFault}
@@ -9,7 +10,8 @@ use Rattle.std.specs.declared.alloc.Global.{Global}
 use Rattle.std.specs.declared.vec.Vec.{Vec}
 use Rattle.sexp_read.specs.declared.form.Form.{Form}
 use Rattle.sexp_read.specs.declared.read.TheConstants.{LONGEST, DEEPEST}
-use Rattle.sexp_read.specs.Tree.{form_trees, Bracket, Round, Square, Curly, FormTree, FormTrees, Single, Group, none, also}
+use Rattle.sexp_read.specs.Tree.{form_trees, Bracket, Round, Square, Curly, FormTree, FormTrees, Single, Group, none}
+use Rattle.sexp_read.specs.Tree.{also}
 use Rattle.sexp_read.specs.Tokens.{Token, Opened, Closed, Stood, Fault, Lexed, lexed}
 
 -- the tokens of forms
@@ -95,7 +97,8 @@ or_else None other = other
 
 -- a bracket's fault comes before the faulty token after it, and a bracket that stays open last
 unfoldable pub fault_after : Brackets → Lexed → Option Fault
-fault_after stack rest = or_else (bracket_fault stack rest.tokens) (or_else rest.fault (unclosed (open_after stack rest.tokens)))
+fault_after stack rest =
+    or_else (bracket_fault stack rest.tokens) (or_else rest.fault (unclosed (open_after stack rest.tokens)))
 
 unfoldable pub forms_fault : List ℕ → Option Fault
 forms_fault text = fault_after [] (lexed text)

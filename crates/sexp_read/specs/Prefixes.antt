@@ -13,7 +13,8 @@ pub record IsPrefixOfForms (tokens : List Token) : Type 0 where
 
 -- a closing bracket after which no more tokens make forms of them, or an opening bracket where the most are open
 abbrev pub IsFaulty : List Token → Token → Fault → Type 0
-IsFaulty before (Closed bracket last) fault = (fault ≡ (last - 1, Close)) × (IsPrefixOfForms (before ++ Closed bracket last ∷ []) → ⊥)
+IsFaulty before (Closed bracket last) fault =
+    (fault ≡ (last - 1, Close)) × (IsPrefixOfForms (before ++ Closed bracket last ∷ []) → ⊥)
 IsFaulty before (Opened bracket place) fault = (fault ≡ (place, Deep)) × (length (open_after [] before) ≡ deepest)
 IsFaulty before (Stood atom start last) fault = ⊥
 

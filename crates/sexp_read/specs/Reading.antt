@@ -40,7 +40,10 @@ with_form (also first forms) form = also first (with_form forms form)
 abbrev pub opened : Reading → Bracket → ℕ → Result Reading Fault
 opened reading bracket place =
     if nat_le deepest (length reading.stack) then Err (place, Deep)
-    else Ok (record { stack = record { bracket = bracket; place = place; before = reading.forms } ∷ reading.stack; forms = none })
+    else Ok (record {
+      stack = record { bracket = bracket; place = place; before = reading.forms } ∷ reading.stack;
+      forms = none;
+    })
 
 abbrev pub closed : List Frame → FormTrees → Bracket → ℕ → Result Reading Fault
 closed [] forms bracket last = Err (last - 1, Close)
@@ -53,4 +56,5 @@ abbrev pub with_piece : Reading → ℕ → Piece → ℕ → Result Reading Fau
 with_piece reading start Blank last = Ok reading
 with_piece reading start (Opening bracket) last = opened reading bracket start
 with_piece reading start (Closing bracket) last = closed reading.stack reading.forms bracket last
-with_piece reading start (Whole atom) last = Ok (record { stack = reading.stack; forms = with_form reading.forms (Single atom start last) })
+with_piece reading start (Whole atom) last =
+    Ok (record { stack = reading.stack; forms = with_form reading.forms (Single atom start last) })

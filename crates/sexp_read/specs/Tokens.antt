@@ -1,5 +1,6 @@
 -- The tokens of a text, up to its end or to the first token that is faulty.
-use Rattle.std.specs.Prelude.{ℕ, Bool, false, ◌+◌, ◌==◌, nat_lt, if◌then◌else◌, List, [], ◌∷◌, ◌++◌, length, drop, Option, Some, None, Result, Ok, Err}
+use Rattle.std.specs.Prelude.{ℕ, Bool, false, ◌+◌, ◌==◌, nat_lt, if◌then◌else◌, List, [], ◌∷◌, ◌++◌, length, drop}
+use Rattle.std.specs.Prelude.{Option, Some, None, Result, Ok, Err}
 use Rattle.sexp_read.specs.declared.fault.SexpWhy.{SexpWhy}
 use Rattle.sexp_read.specs.declared.fault.SexpWhy.TheVariants.{Open, Escape}
 use Rattle.sexp_read.specs.declared.piece.Class.{Class}
@@ -69,14 +70,15 @@ piece_by Comment place b bytes = Ok (Blank, place + 1 + length (comment_of bytes
 piece_by (Opens bracket) place b bytes = Ok (Opening bracket, place + 1)
 piece_by (Closes bracket) place b bytes = Ok (Closing bracket, place + 1)
 piece_by Quote place b bytes = quoted_at in_text place (place + 1) bytes
-piece_by Hash place b bytes = if is_quote bytes then quoted_at in_pattern place (place + 2) (drop 1 bytes) else run_at place (b ∷ bytes)
+piece_by Hash place b bytes =
+    if is_quote bytes then quoted_at in_pattern place (place + 2) (drop 1 bytes) else run_at place (b ∷ bytes)
 piece_by Run place b bytes = run_at place (b ∷ bytes)
 
 unfoldable pub piece_at : ℕ → ℕ → List ℕ → Result (Piece × ℕ) Fault
 piece_at place b bytes = piece_by (class_of b) place b bytes
 
--- a token: a bracket by its place, a closing one by the place just past it; or an atom by the place of its first byte and
--- the place just past its last one
+-- a token: a bracket by its place, a closing one by the place just past it; or an atom by the place of its first byte
+-- and the place just past its last one
 pub data Token : Type 0 where
   Opened : Bracket → ℕ → Token
   Closed : Bracket → ℕ → Token

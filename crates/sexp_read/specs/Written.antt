@@ -1,9 +1,11 @@
 -- Forms without their places, and how they are written.
-use Rattle.std.specs.Prelude.{◌≡◌, ℕ, ℤ, pos, negsuc, ◌+◌, ◌<◌, ◌≤◌, ◌^◌, ◌==◌, ◌||◌, max, if◌then◌else◌, Bool, true, false, List, [], ◌∷◌, ◌++◌, length}
+use Rattle.std.specs.Prelude.{◌≡◌, ℕ, ℤ, pos, negsuc, ◌+◌, ◌<◌, ◌≤◌, ◌^◌, ◌==◌, ◌||◌, max, if◌then◌else◌, Bool, true}
+use Rattle.std.specs.Prelude.{false, List, [], ◌∷◌, ◌++◌, length}
 use Rattle.std.specs.Fmt.{signed_decimal}
 use Rattle.std.specs.Str.{IsUtf8}
 use Rattle.string_literals.specs.Literals.{string_literal}
-use Rattle.sexp_read.specs.Tree.{Bracket, Round, Square, Curly, Atom, Text, Pattern, Number, Keyword, Symbol, FormTree, FormTrees, Single, Group, none, also}
+use Rattle.sexp_read.specs.Tree.{Bracket, Round, Square, Curly, Atom, Text, Pattern, Number, Keyword, Symbol, FormTree}
+use Rattle.sexp_read.specs.Tree.{FormTrees, Single, Group, none, also}
 use Rattle.sexp_read.specs.Bytes.{is_name, is_symbol}
 use Rattle.sexp_read.specs.Grammar.{IsForms, longest, deepest}
 
@@ -116,9 +118,11 @@ pub record IsReadBack (text : List ℕ) (trees : BareTrees) : Type 0 where
 
 -- what is written of trees is read as these trees
 abbrev pub WrittenIsRead : Type 0
-WrittenIsRead = (trees : BareTrees) → AreWritable trees → bare_depth trees ≤ deepest → length (lines_text trees) ≤ longest
+WrittenIsRead =
+    (trees : BareTrees) → AreWritable trees → bare_depth trees ≤ deepest → length (lines_text trees) ≤ longest
     → IsReadBack (lines_text trees) trees
 
 -- what was read can be written
 abbrev pub ReadIsWritable : Type 0
-ReadIsWritable = (text : List ℕ) (forms : FormTrees) → IsForms text forms → AreWritable (bare_trees forms) × (bare_depth (bare_trees forms) ≤ deepest)
+ReadIsWritable = (text : List ℕ) (forms : FormTrees) → IsForms text forms
+    → AreWritable (bare_trees forms) × (bare_depth (bare_trees forms) ≤ deepest)

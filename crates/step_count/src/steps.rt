@@ -6,8 +6,8 @@ use http_server::Log;
 use std::marker::Model;
 
 /// How many forks were entered and how many entries were visited. Contracts see both numbers, which take no memory
-/// and no time when the program runs: what is counted then is up to the ledger. What the ledger has counted at any time is
-/// what it had counted when the count began, and the steps since.
+/// and no time when the program runs: what is counted then is up to the ledger. What the ledger has counted at any time
+/// is what it had counted when the count began, and the steps since.
 #[derive(Drop)]
 pub struct Steps<G: Ledger> {
     ledger: G,

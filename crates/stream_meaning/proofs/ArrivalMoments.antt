@@ -1,12 +1,14 @@
 -- Moments over arrivals.
-use Rattle.std.proofs.Common.{◌≡◌, ℕ, ◌+◌, ◌-◌, ◌%◌, ◌==◌, Bool, true, false, cond, List, [], ◌∷◌, ◌++◌, Option, Some, None, refl, ◌∙◌, arith}
+use Rattle.std.proofs.Common.{◌≡◌, ℕ, ◌+◌, ◌-◌, ◌%◌, ◌==◌, Bool, true, false, cond, List, [], ◌∷◌, ◌++◌, Option, Some}
+use Rattle.std.proofs.Common.{None, refl, ◌∙◌, arith}
 use Rattle.ev_types.specs.declared.event.Event.{Event}
 use Rattle.ev_types.specs.declared.item.Item.TheVariants.{One}
 use Rattle.ev_types.specs.declared.settings.Expiry.{Expiry}
 use Rattle.ev_types.specs.declared.settings.KeepKey.{KeepKey}
 use Rattle.stream_plan.specs.Tree.{StreamTrees}
 use Rattle.stream_meaning.specs.History.{since, Tick, In, begun, moment_of}
-use Rattle.stream_meaning.specs.Arrivals.{Arrival, Elapsed, Post, CoreState, entered, streamed, expired_copies, with_reap, fed_back, swept, arrived, state_from}
+use Rattle.stream_meaning.specs.Arrivals.{Arrival, Elapsed, Post, CoreState, entered, streamed, expired_copies}
+use Rattle.stream_meaning.specs.Arrivals.{with_reap, fed_back, swept, arrived, state_from}
 use Rattle.stream_meaning.specs.Laws.{SameMoments}
 use Rattle.stream_meaning.specs.ArrivalLaws.{ArrivalsComeInOrder, elapsed_in, ArrivalsAreMoments}
 

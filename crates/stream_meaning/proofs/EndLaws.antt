@@ -1,5 +1,6 @@
 -- When keys end, and what their forks receive.
-use Rattle.std.proofs.Common.{◌≡◌, ℕ, ◌+◌, ◌≤◌, ◌==◌, Bool, true, false, ◌||◌, cond, List, [], ◌∷◌, ◌++◌, map, Option, Some, None, refl, sym, ap, subst, ◌∙◌, arith}
+use Rattle.std.proofs.Common.{◌≡◌, ℕ, ◌+◌, ◌≤◌, ◌==◌, Bool, true, false, ◌||◌, cond, List, [], ◌∷◌, ◌++◌, map, Option}
+use Rattle.std.proofs.Common.{Some, None, refl, sym, ap, subst, ◌∙◌, arith}
 use mathlib.Core.Bool.{true≢false}
 use Rattle.std.specs.List.{AllByRecursion, filter, list_any}
 use Rattle.std.proofs.lemmas.Bool.{eq-eqb, eqb-true}
@@ -16,8 +17,11 @@ use Rattle.ev_types.proofs.Values.{same_key_decides}
 use Rattle.index_log.proofs.OfKeyLaws.{both_true}
 use Rattle.stream_meaning.specs.History.{History, since, ◌▸◌, Entry, Tick, In, moment_of, is_at, TicksAlone}
 use Rattle.stream_meaning.specs.Came.{timed_events}
-use Rattle.stream_meaning.specs.Ends.{last_moment, idle_after, ends_next, times_ended, KeyFork, same_fork, fork_of, forks_that_came}
-use Rattle.stream_meaning.specs.EndLaws.{has_key, at_of, moments_of_key, IsLast, LastMomentsAreLast, CameBefore, EndsFollowSilence, is_event_of, EndsAreApart, ForksComeByNumber, EndedForksGetNoItems}
+use Rattle.stream_meaning.specs.Ends.{last_moment, idle_after, ends_next, times_ended, KeyFork, same_fork, fork_of}
+use Rattle.stream_meaning.specs.Ends.{forks_that_came}
+use Rattle.stream_meaning.specs.EndLaws.{has_key, at_of, moments_of_key, IsLast, LastMomentsAreLast, CameBefore}
+use Rattle.stream_meaning.specs.EndLaws.{EndsFollowSilence, is_event_of, EndsAreApart, ForksComeByNumber}
+use Rattle.stream_meaning.specs.EndLaws.{EndedForksGetNoItems}
 use Rattle.stream_meaning.specs.KeyOrderLaws.{lengthened}
 use Rattle.stream_meaning.specs.Laws.{of_fork, UnseenForksHaveTicks}
 use Rattle.stream_meaning.proofs.ForkLaws.{fork_events, event_step}

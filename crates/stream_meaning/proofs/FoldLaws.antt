@@ -1,13 +1,17 @@
 -- The least and the greatest of events by their metrics, the first of those that tie, and the sum within its range.
-use Rattle.std.proofs.Common.{◌≡◌, ℤ, pos, negsuc, ◌+ℤ◌, Bool, true, false, cond, List, [], ◌∷◌, ◌++◌, refl, sym, ap, subst, ◌∙◌, arith, append_assoc}
+use Rattle.std.proofs.Common.{◌≡◌, ℤ, pos, negsuc, ◌+ℤ◌, Bool, true, false, cond, List, [], ◌∷◌, ◌++◌, refl, sym, ap}
+use Rattle.std.proofs.Common.{subst, ◌∙◌, arith, append_assoc}
 use Rattle.std.specs.Prelude.{◌<ℤ◌, ◌≤ℤ◌, int_lt, All, MatchOption}
 use Rattle.std.specs.Int.{w64, saturate_signed}
 use Rattle.std.proofs.lemmas.Int.{ints}
 use Rattle.std.proofs.lemmas.List.{append-nil}
 use Rattle.std.proofs.lemmas.List.Elements.{All-nil, All-cons, All-append, All-weaker, All-same}
 use Rattle.ev_types.specs.declared.event.Event.{Event}
-use Rattle.stream_meaning.specs.Images.{measured, metric_of, sum_of_metrics, least_of, least_event, greatest_of, greatest_event, sum_event}
-use Rattle.stream_meaning.specs.FoldLaws.{IsFirstLeast, IsFirstGreatest, MinimumIsTheFirstLeast, MaximumIsTheFirstGreatest, SumsAdd, least_number, greatest_number, IsHeld, IsSumOfAll, SumIsHeldToTheRange}
+use Rattle.stream_meaning.specs.Images.{measured, metric_of, sum_of_metrics, least_of, least_event, greatest_of}
+use Rattle.stream_meaning.specs.Images.{greatest_event, sum_event}
+use Rattle.stream_meaning.specs.FoldLaws.{IsFirstLeast, IsFirstGreatest, MinimumIsTheFirstLeast}
+use Rattle.stream_meaning.specs.FoldLaws.{MaximumIsTheFirstGreatest, SumsAdd, least_number, greatest_number, IsHeld}
+use Rattle.stream_meaning.specs.FoldLaws.{IsSumOfAll, SumIsHeldToTheRange}
 
 -- ---- least
 

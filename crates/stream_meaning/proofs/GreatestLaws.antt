@@ -1,5 +1,6 @@
 -- The greatest of some numbers is one of them and a bound, and no other number is both.
-use Rattle.std.proofs.Common.{◌≡◌, ℕ, suc, ℤ, pos, negsuc, neg_ℤ, ◌+◌, ◌*◌, ◌/◌, ◌%◌, ◌<◌, ◌≤◌, ◌+ℤ◌, ◌-ℤ◌, ◌*ℤ◌, inl, inr, Bool, true, false, cond, List, [], ◌∷◌, ◌++◌, map, refl, sym, ap, subst, ◌∙◌, arith}
+use Rattle.std.proofs.Common.{◌≡◌, ℕ, suc, ℤ, pos, negsuc, neg_ℤ, ◌+◌, ◌*◌, ◌/◌, ◌%◌, ◌<◌, ◌≤◌, ◌+ℤ◌, ◌-ℤ◌, ◌*ℤ◌, inl}
+use Rattle.std.proofs.Common.{inr, Bool, true, false, cond, List, [], ◌∷◌, ◌++◌, map, refl, sym, ap, subst, ◌∙◌, arith}
 use Rattle.std.specs.Prelude.{◌<ℤ◌, ◌≤ℤ◌, int_lt, filter, fold, Contains}
 use Rattle.std.specs.Int.{int_max}
 use Rattle.std.specs.Ordering.{int_eq}
@@ -7,11 +8,14 @@ use Rattle.std.proofs.Math.Nat.{mod-lt}
 use Rattle.std.proofs.lemmas.Nat.{div-add-mod'}
 use Rattle.std.proofs.lemmas.Int.{ints, fold-int_max_bounds, fold-int_max_reached}
 use Rattle.std.proofs.lemmas.List.{map-append}
-use Rattle.std.proofs.lemmas.List.Elements.{All-cons, All-head, All-tail, All-push, All-contains, Contains-append_left, Contains-append_right, Contains-append_cases, Contains-push}
+use Rattle.std.proofs.lemmas.List.Elements.{All-cons, All-head, All-tail, All-push, All-contains, Contains-append_left}
+use Rattle.std.proofs.lemmas.List.Elements.{Contains-append_right, Contains-append_cases, Contains-push}
 use Rattle.ev_types.specs.declared.event.Event.{Event}
 use Rattle.stream_meaning.specs.Came.{events, vector}
-use Rattle.stream_meaning.specs.Windows.{greatest, time_of, latest_time, is_recent, floor_div, stretch_of, stretch_before}
-use Rattle.stream_meaning.specs.GreatestLaws.{IsGreatest, GreatestIsReached, MovingTimeGoesByTheGreatest, FixedTimeGoesByTheGreatest, EventsLieInTheirStretch}
+use Rattle.stream_meaning.specs.Windows.{greatest, time_of, latest_time, is_recent, floor_div, stretch_of}
+use Rattle.stream_meaning.specs.Windows.{stretch_before}
+use Rattle.stream_meaning.specs.GreatestLaws.{IsGreatest, GreatestIsReached, MovingTimeGoesByTheGreatest}
+use Rattle.stream_meaning.specs.GreatestLaws.{FixedTimeGoesByTheGreatest, EventsLieInTheirStretch}
 
 as_fold : (a : ℤ) (bs : List ℤ) → greatest a bs ≡ fold int_max a bs
 as_fold a [] = refl

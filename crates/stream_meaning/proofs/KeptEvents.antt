@@ -1,5 +1,6 @@
 -- What all events that come to a plan have, and its streams leave to them, all events in its outputs have.
-use Rattle.std.proofs.Common.{ℕ, zero, suc, ◌-◌, ◌%◌, ◌==◌, int_lt, ℤ, Bool, true, false, cond, List, [], ◌∷◌, ◌++◌, map, drop, length, None}
+use Rattle.std.proofs.Common.{ℕ, zero, suc, ◌-◌, ◌%◌, ◌==◌, int_lt, ℤ, Bool, true, false, cond, List, [], ◌∷◌, ◌++◌}
+use Rattle.std.proofs.Common.{map, drop, length, None}
 use Rattle.std.specs.Ordering.{is_lt, int_eq}
 use Rattle.std.specs.List.{AllByRecursion, filter, flat_map, list_any}
 use Rattle.ev_types.specs.declared.event.Event.{Event}
@@ -12,17 +13,22 @@ use Rattle.ev_types.specs.declared.settings.Fold.TheVariants.{Sum, Minimum, Maxi
 use Rattle.ev_types.specs.Set.{with_tag}
 use Rattle.index_log.specs.IndexKey.{index_key_cmp}
 use Rattle.index_log.specs.Live.{placed, placed_onto}
-use Rattle.stream_plan.specs.Tree.{KindTree, Index, Notice, Sdo, Where, With, Default, Tag, By, Changed, Runs, Throttle, Rollup, Batch, Stable, FixedEvent, MovingEvent, FixedTime, MovingTime, Coalesce, Smap, StreamTree, StreamTrees, stream, none, also}
+use Rattle.stream_plan.specs.Tree.{KindTree, Index, Notice, Sdo, Where, With, Default, Tag, By, Changed, Runs, Throttle}
+use Rattle.stream_plan.specs.Tree.{Rollup, Batch, Stable, FixedEvent, MovingEvent, FixedTime, MovingTime, Coalesce}
+use Rattle.stream_plan.specs.Tree.{Smap, StreamTree, StreamTrees, stream, none, also}
 use Rattle.stream_meaning.specs.History.{History, since, ◌▸◌, Entry, Tick, In, begun, moment_of, window_of}
 use Rattle.stream_meaning.specs.Came.{Timed, events, events_in, timed_events, each, vector, last_of}
-use Rattle.stream_meaning.specs.Images.{with_sets, with_defaults, with_tags, with_metric, measured, least_of, greatest_of, sum_event, least_event, greatest_event, count_event, folded}
+use Rattle.stream_meaning.specs.Images.{with_sets, with_defaults, with_tags, with_metric, measured, least_of}
+use Rattle.stream_meaning.specs.Images.{greatest_of, sum_event, least_event, greatest_event, count_event, folded}
 use Rattle.stream_meaning.specs.Runs.{run, differs_from, last_value}
 use Rattle.stream_meaning.specs.Rates.{events_now, rolls_into, allowed}
 use Rattle.stream_meaning.specs.Windows.{stretch_before, greatest, stretch_of, is_recent, latest_time}
 use Rattle.stream_meaning.specs.Coalesce.{newest, replaces, still_passes, event_of, coalesced}
 use Rattle.stream_meaning.specs.Emission.{Branch, Children, Otherwise, Fork, Emission, emissions, to_children, one_of}
 use Rattle.stream_meaning.specs.Branches.{same_branch, after_emissions, ticked, child_history, branches}
-use Rattle.stream_meaning.specs.Outputs.{Effect, Emits, Due, Given, Put, at_item, emits_if_any, own_effects, due_if_any, marked, BranchEffects, at_tick, received_more, at_emissions, branch_effects, stream_effects, plan_effects, outputs_among, outputs_at}
+use Rattle.stream_meaning.specs.Outputs.{Effect, Emits, Due, Given, Put, at_item, emits_if_any, own_effects, due_if_any}
+use Rattle.stream_meaning.specs.Outputs.{marked, BranchEffects, at_tick, received_more, at_emissions, branch_effects}
+use Rattle.stream_meaning.specs.Outputs.{stream_effects, plan_effects, outputs_among, outputs_at}
 
 -- ---- lists
 

@@ -8,7 +8,8 @@ use Rattle.ev_types.specs.declared.value.Value.{Value}
 use Rattle.ev_types.specs.Key.{same_key, event_key}
 use Rattle.index_log.specs.OfKey.{event_has}
 use Rattle.stream_meaning.specs.History.{History, since, ◌▸◌, Tick, In, moment_of, is_at}
-use Rattle.stream_meaning.specs.Ends.{last_moment, idle_after, end_of, ends_next, times_ended, KeyFork, same_fork, fork_of}
+use Rattle.stream_meaning.specs.Ends.{last_moment, idle_after, end_of, ends_next, times_ended, KeyFork, same_fork}
+use Rattle.stream_meaning.specs.Ends.{fork_of}
 use Rattle.stream_meaning.specs.Branches.{fork_history}
 use Rattle.stream_meaning.specs.Laws.{of_key, of_fork}
 use Rattle.stream_meaning.proofs.MetLaws.{and_false}

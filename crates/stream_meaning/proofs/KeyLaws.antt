@@ -1,12 +1,14 @@
 -- What one `by` on host and service does for each key.
-use Rattle.std.proofs.Common.{◌≡◌, ℕ, Bool, true, false, not, ◌||◌, ◌&&◌, cond, List, [], ◌∷◌, ◌++◌, map, Option, refl, sym, ap, ◌∙◌, subst}
+use Rattle.std.proofs.Common.{◌≡◌, ℕ, Bool, true, false, not, ◌||◌, ◌&&◌, cond, List, [], ◌∷◌, ◌++◌, map, Option, refl}
+use Rattle.std.proofs.Common.{sym, ap, ◌∙◌, subst}
 use mathlib.Core.Bool.{true≢false}
 use Rattle.std.specs.List.{AllByRecursion, IsDistinct, filter, flat_map, list_any, list_all}
 use Rattle.std.proofs.lemmas.List.{append-nil}
 use Rattle.std.proofs.lemmas.List.Elements.{filter-append}
 use Rattle.ev_types.specs.declared.event.Event.{Event}
 use Rattle.ev_types.specs.declared.field.Field.{Field}
-use Rattle.ev_types.specs.declared.field.Field.TheVariants.{Host, Service, State, Description, Time, Ttl, Metric, Attribute}
+use Rattle.ev_types.specs.declared.field.Field.TheVariants.{Host, Service, State, Description, Time, Ttl, Metric}
+use Rattle.ev_types.specs.declared.field.Field.TheVariants.{Attribute}
 use Rattle.ev_types.specs.declared.item.Item.{Item}
 use Rattle.ev_types.specs.declared.item.Item.TheVariants.{One, Many}
 use Rattle.ev_types.specs.declared.item.Output.{Output}
@@ -22,19 +24,23 @@ use Rattle.index_log.specs.OfKey.{are_index_fields, event_has}
 use Rattle.index_log.proofs.OfKeyLaws.{both_true, same_values}
 use Rattle.stream_plan.specs.Tree.{KindTree, Index, With, Default, By, StreamTree, StreamTrees, stream, none, also}
 use Rattle.stream_meaning.specs.History.{History, since, ◌▸◌, Tick, In}
-use Rattle.stream_meaning.specs.Ends.{times_ended, KeyFork, same_fork, key_of_fork, fork_at, fork_of, live_forks, live_keys}
+use Rattle.stream_meaning.specs.Ends.{times_ended, KeyFork, same_fork, key_of_fork, fork_at, fork_of, live_forks}
+use Rattle.stream_meaning.specs.Ends.{live_keys}
 use Rattle.stream_meaning.specs.Images.{with_sets, with_default, with_defaults, with_metric}
 use Rattle.stream_meaning.specs.Emission.{Fork}
 use Rattle.stream_meaning.specs.Branches.{child_history, fork_history}
 use Rattle.stream_meaning.specs.Outputs.{outputs_among, outputs_at, outputs_of}
-use Rattle.stream_meaning.specs.Keys.{item_has, output_has, same_index_field, sets_one, kind_keeps, stream_keeps, plan_keeps}
-use Rattle.stream_meaning.specs.KeyLaws.{one_by, keeps_keys, outputs_for, ActsByForks, KeysActByForks, KeysHaveTheirOutputs, HasOneKey, OutputsHaveOneKey}
+use Rattle.stream_meaning.specs.Keys.{item_has, output_has, same_index_field, sets_one, kind_keeps, stream_keeps}
+use Rattle.stream_meaning.specs.Keys.{plan_keeps}
+use Rattle.stream_meaning.specs.KeyLaws.{one_by, keeps_keys, outputs_for, ActsByForks, KeysActByForks}
+use Rattle.stream_meaning.specs.KeyLaws.{KeysHaveTheirOutputs, HasOneKey, OutputsHaveOneKey}
 use Rattle.stream_meaning.specs.Laws.{below, of_key, of_fork, is_among}
 use Rattle.stream_meaning.proofs.ForkLaws.{fork_events}
 use Rattle.stream_meaning.proofs.KeyEndLaws.{other_key, times_same, history_same}
 use Rattle.stream_meaning.proofs.EndLaws.{key_is, key_same, the_fork, fork_is, unseen_forks_have_ticks}
 use Rattle.stream_meaning.proofs.LiveLaws.{live_keys_are_apart, live_forks_are_the_latest, not_come}
-use Rattle.stream_meaning.proofs.KeptEvents.{all-append, all-weaker, ItemAll, HistoryAll, OutputAll, Leaves, StreamLeaves, PlanLeaves, IsKept, outputs_kept}
+use Rattle.stream_meaning.proofs.KeptEvents.{all-append, all-weaker, ItemAll, HistoryAll, OutputAll, Leaves}
+use Rattle.stream_meaning.proofs.KeptEvents.{StreamLeaves, PlanLeaves, IsKept, outputs_kept}
 use Rattle.stream_meaning.proofs.OutputLaws.{outputs_said}
 use Rattle.stream_meaning.proofs.TickLaws.{plan_quiet}
 

@@ -1,5 +1,6 @@
 -- The keys that came are those of the events, each after those that came before it.
-use Rattle.std.proofs.Common.{◌≡◌, ◌⊎◌, inl, inr, Bool, true, false, cond, List, [], ◌∷◌, ◌++◌, refl, sym, ap, subst, ◌∙◌, append_assoc}
+use Rattle.std.proofs.Common.{◌≡◌, ◌⊎◌, inl, inr, Bool, true, false, cond, List, [], ◌∷◌, ◌++◌, refl, sym, ap, subst}
+use Rattle.std.proofs.Common.{◌∙◌, append_assoc}
 use Rattle.std.specs.Prelude.{Contains}
 use Rattle.std.proofs.lemmas.List.{map-append, append-nil}
 use Rattle.std.proofs.lemmas.List.Elements.{Contains-append_left, Contains-push, Contains-push_cases}
@@ -14,7 +15,8 @@ use Rattle.stream_meaning.specs.History.{History, since, ◌▸◌, Entry, Tick,
 use Rattle.stream_meaning.specs.Came.{events}
 use Rattle.stream_meaning.specs.Branches.{fork_keys}
 use Rattle.stream_meaning.specs.Laws.{is_among}
-use Rattle.stream_meaning.specs.KeyOrderLaws.{keys_that_came, KeysAreThoseThatCame, lengthened, AddsKeys, KeysStayInOrder}
+use Rattle.stream_meaning.specs.KeyOrderLaws.{keys_that_came, KeysAreThoseThatCame, lengthened, AddsKeys}
+use Rattle.stream_meaning.specs.KeyOrderLaws.{KeysStayInOrder}
 
 pub among_is : (key : List Value) (keys : List (List Value)) → is_among key keys ≡ true → Contains keys key
 among_is key keys e =

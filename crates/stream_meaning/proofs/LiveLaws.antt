@@ -1,5 +1,6 @@
 -- The forks that are live: those without `idle`, and what each entry does to them.
-use Rattle.std.proofs.Common.{◌≡◌, ℕ, ◌+◌, ◌<◌, ◌≤◌, ◌==◌, Bool, true, false, not, ◌||◌, ◌&&◌, cond, List, [], ◌∷◌, ◌++◌, map, nat_lt, Option, Some, None, refl, sym, ap, subst, ◌∙◌, arith}
+use Rattle.std.proofs.Common.{◌≡◌, ℕ, ◌+◌, ◌<◌, ◌≤◌, ◌==◌, Bool, true, false, not, ◌||◌, ◌&&◌, cond, List, [], ◌∷◌}
+use Rattle.std.proofs.Common.{◌++◌, map, nat_lt, Option, Some, None, refl, sym, ap, subst, ◌∙◌, arith}
 use mathlib.Core.Bool.{true≢false}
 use Rattle.std.specs.Prelude.{Contains}
 use Rattle.std.specs.List.{AllByRecursion, IsDistinct, filter, list_any}
@@ -15,9 +16,11 @@ use Rattle.ev_types.specs.declared.item.Item.TheVariants.{One, Many}
 use Rattle.ev_types.specs.declared.value.Value.{Value}
 use Rattle.ev_types.specs.Key.{same_key, event_key}
 use Rattle.stream_meaning.specs.History.{History, since, ◌▸◌, Tick, In, moment_of, is_at}
-use Rattle.stream_meaning.specs.Ends.{last_moment, idle_after, ends_next, times_ended, KeyFork, same_fork, key_of_fork, fork_at, fork_of, with_fork, forks_that_came, is_live, live_forks, live_keys}
+use Rattle.stream_meaning.specs.Ends.{last_moment, idle_after, ends_next, times_ended, KeyFork, same_fork, key_of_fork}
+use Rattle.stream_meaning.specs.Ends.{fork_at, fork_of, with_fork, forks_that_came, is_live, live_forks, live_keys}
 use Rattle.stream_meaning.specs.Branches.{with_key, fork_keys}
-use Rattle.stream_meaning.specs.EndLaws.{first_fork, NothingEndsWithoutIdle, LiveKeysAreApart, LiveForksAreTheLatest, CameWithin, LiveKeysAreRecent}
+use Rattle.stream_meaning.specs.EndLaws.{first_fork, NothingEndsWithoutIdle, LiveKeysAreApart, LiveForksAreTheLatest}
+use Rattle.stream_meaning.specs.EndLaws.{CameWithin, LiveKeysAreRecent}
 use Rattle.stream_meaning.specs.EndSteps.{LiveForksFollowEntries, LiveKeysFollowEntries}
 use Rattle.stream_meaning.specs.Laws.{of_key, of_fork, is_among}
 use Rattle.stream_meaning.proofs.WindowLaws.{ne-test}

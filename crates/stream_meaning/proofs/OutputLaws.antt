@@ -5,8 +5,11 @@ use Rattle.stream_plan.specs.Tree.{KindTree, StreamTrees}
 use Rattle.stream_meaning.specs.History.{History, since, ◌▸◌, Entry, Tick, In}
 use Rattle.stream_meaning.specs.Emission.{Branch, Children, Otherwise, Fork, Emission, emissions}
 use Rattle.stream_meaning.specs.Branches.{ticked, child_history, branches}
-use Rattle.stream_meaning.specs.Outputs.{Effect, Emits, Due, Given, Put, own_effects, emits_if_any, due_if_any, marked, BranchEffects, at_tick, received_more, at_emissions, branch_effects, stream_effects, plan_effects, outputs_among, outputs_at}
-use Rattle.stream_meaning.specs.Laws.{below, own_outputs, outputs_at_tick, outputs_at_emissions, OutputsAreInOrder, OutputsGrow}
+use Rattle.stream_meaning.specs.Outputs.{Effect, Emits, Due, Given, Put, own_effects, emits_if_any, due_if_any, marked}
+use Rattle.stream_meaning.specs.Outputs.{BranchEffects, at_tick, received_more, at_emissions, branch_effects}
+use Rattle.stream_meaning.specs.Outputs.{stream_effects, plan_effects, outputs_among, outputs_at}
+use Rattle.stream_meaning.specs.Laws.{below, own_outputs, outputs_at_tick, outputs_at_emissions, OutputsAreInOrder}
+use Rattle.stream_meaning.specs.Laws.{OutputsGrow}
 
 pub outputs_among-append : (xs ys : List Effect) → outputs_among (xs ++ ys) ≡ outputs_among xs ++ outputs_among ys
 outputs_among-append [] ys = refl

@@ -1,5 +1,6 @@
 -- The deadline of a whole plan, from those of its streams.
-use Rattle.std.proofs.Common.{◌≡◌, ℕ, ◌+◌, ◌<◌, ◌==◌, min, Bool, true, false, not, ◌||◌, cond, nat_le, nat_lt, List, [], ◌∷◌, ◌++◌, map, Option, Some, None, refl, sym, ap, subst, ◌∙◌, arith}
+use Rattle.std.proofs.Common.{◌≡◌, ℕ, ◌+◌, ◌<◌, ◌==◌, min, Bool, true, false, not, ◌||◌, cond, nat_le, nat_lt, List, []}
+use Rattle.std.proofs.Common.{◌∷◌, ◌++◌, map, Option, Some, None, refl, sym, ap, subst, ◌∙◌, arith}
 use mathlib.Core.Bool.{true≢false}
 use Rattle.std.specs.Prelude.{IfSome}
 use Rattle.std.specs.List.{AllByRecursion, filter, list_any}
@@ -10,10 +11,13 @@ use Rattle.stream_meaning.specs.History.{History, ◌▸◌, Tick, moment_of, is
 use Rattle.stream_meaning.specs.Ends.{last_moment, idle_after, KeyFork, key_of_fork, live_forks}
 use Rattle.stream_meaning.specs.Emission.{Branch, Children, Otherwise, Fork, Emission, emissions}
 use Rattle.stream_meaning.specs.Branches.{after_emissions, child_history, branches}
-use Rattle.stream_meaning.specs.Outputs.{Effect, emits_if_any, marked, BranchEffects, at_tick, at_emissions, branch_effects, stream_effects, plan_effects}
-use Rattle.stream_meaning.specs.Deadlines.{next_deadline, earlier, earliest, deadline_of, branch_end, until, stream_deadline, plan_deadline}
+use Rattle.stream_meaning.specs.Outputs.{Effect, emits_if_any, marked, BranchEffects, at_tick, at_emissions}
+use Rattle.stream_meaning.specs.Outputs.{branch_effects, stream_effects, plan_effects}
+use Rattle.stream_meaning.specs.Deadlines.{next_deadline, earlier, earliest, deadline_of, branch_end, until}
+use Rattle.stream_meaning.specs.Deadlines.{stream_deadline, plan_deadline}
 use Rattle.stream_meaning.specs.DeadlineLaws.{HasRange, is_any, emits}
-use Rattle.stream_meaning.specs.DueLaws.{has_effects, HasStreamRanges, HasRanges, PlanDeadlinesAreMet, PlanDeadlinesStay}
+use Rattle.stream_meaning.specs.DueLaws.{has_effects, HasStreamRanges, HasRanges, PlanDeadlinesAreMet}
+use Rattle.stream_meaning.specs.DueLaws.{PlanDeadlinesStay}
 use Rattle.stream_meaning.proofs.LiveLaws.{map_filter, is_recent, live_at_tick}
 use Rattle.stream_meaning.proofs.StepLaws.{live_recent}
 use Rattle.stream_meaning.proofs.MomentLaws.{branch_moments}

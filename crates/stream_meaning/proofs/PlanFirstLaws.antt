@@ -1,12 +1,14 @@
 -- The deadline of a plan is the first and the least, and a plan without faults has its numbers in their ranges.
-use Rattle.std.proofs.Common.{◌≡◌, ℕ, zero, suc, ◌+◌, ◌<◌, ◌≤◌, ◌⊎◌, inl, inr, min, Bool, true, false, ◌&&◌, cond, nat_le, List, [], ◌∷◌, ◌++◌, map, Option, Some, None, refl, sym, ap, subst, ◌∙◌, arith}
+use Rattle.std.proofs.Common.{◌≡◌, ℕ, zero, suc, ◌+◌, ◌<◌, ◌≤◌, ◌⊎◌, inl, inr, min, Bool, true, false, ◌&&◌, cond}
+use Rattle.std.proofs.Common.{nat_le, List, [], ◌∷◌, ◌++◌, map, Option, Some, None, refl, sym, ap, subst, ◌∙◌, arith}
 use mathlib.Core.Bool.{true≢false}
 use Rattle.std.specs.Prelude.{IfSome, Contains}
 use Rattle.std.specs.List.{AllByRecursion, flat_map}
 use Rattle.std.proofs.lemmas.Bool.Decides.{nat_tests}
 use Rattle.std.proofs.Math.ListN.{get_or-map}
 use Rattle.std.proofs.lemmas.List.{length-map}
-use Rattle.std.proofs.lemmas.List.Elements.{All-nil, All-cons, All-append, All-map, All-weaker, Contains-append_left, Contains-append_right, Contains-push}
+use Rattle.std.proofs.lemmas.List.Elements.{All-nil, All-cons, All-append, All-map, All-weaker, Contains-append_left}
+use Rattle.std.proofs.lemmas.List.Elements.{Contains-append_right, Contains-push}
 use Rattle.stream_plan.specs.Faults.{preorder_at, preorder_in, count_of}
 use Rattle.stream_plan.specs.Kinds.{passes_on, is_in_range, is_count, is_secs}
 use Rattle.stream_plan.specs.Sound.{IsInRange}
@@ -15,9 +17,12 @@ use Rattle.stream_plan.proofs.SoundLaws.{faultless_is_sound}
 use Rattle.stream_meaning.specs.History.{History, moment_of, is_at}
 use Rattle.stream_meaning.specs.Emission.{Branch, Children, Otherwise, Fork}
 use Rattle.stream_meaning.specs.Branches.{child_history, branches}
-use Rattle.stream_meaning.specs.Deadlines.{next_deadline, branch_end, until, earlier, earliest, deadline_of, stream_deadline, plan_deadline}
+use Rattle.stream_meaning.specs.Deadlines.{next_deadline, branch_end, until, earlier, earliest, deadline_of}
+use Rattle.stream_meaning.specs.Deadlines.{stream_deadline, plan_deadline}
 use Rattle.stream_meaning.specs.DeadlineLaws.{HasRange, waited}
-use Rattle.stream_meaning.specs.DueLaws.{HasStreamRanges, HasRanges, IsPlanStill, PlanDeadlinesAreFirst, deadlines_of, stream_deadlines, plan_deadlines, IsEarliest, PlanDeadlinesAreEarliest, FaultlessPlansHaveRanges, FaultlessPlansMeetDeadlines}
+use Rattle.stream_meaning.specs.DueLaws.{HasStreamRanges, HasRanges, IsPlanStill, PlanDeadlinesAreFirst, deadlines_of}
+use Rattle.stream_meaning.specs.DueLaws.{stream_deadlines, plan_deadlines, IsEarliest, PlanDeadlinesAreEarliest}
+use Rattle.stream_meaning.specs.DueLaws.{FaultlessPlansHaveRanges, FaultlessPlansMeetDeadlines}
 use Rattle.stream_meaning.proofs.StayLaws.{moment-waited}
 use Rattle.stream_meaning.proofs.PlanDueLaws.{plan_ahead, plan_met, plan_stays}
 

@@ -7,7 +7,8 @@ use Rattle.stream_plan.specs.Tree.{StreamTree, StreamTrees, stream, none, also}
 use Rattle.stream_meaning.specs.History.{History, ◌▸◌, Tick}
 use Rattle.stream_meaning.specs.Emission.{Branch, Children, Otherwise, Fork, Emission, emissions}
 use Rattle.stream_meaning.specs.Branches.{child_history, branches}
-use Rattle.stream_meaning.specs.Outputs.{Effect, due_if_any, emits_if_any, marked, BranchEffects, at_tick, at_emissions, branch_effects, stream_effects, plan_effects}
+use Rattle.stream_meaning.specs.Outputs.{Effect, due_if_any, emits_if_any, marked, BranchEffects, at_tick, at_emissions}
+use Rattle.stream_meaning.specs.Outputs.{branch_effects, stream_effects, plan_effects}
 use Rattle.stream_meaning.specs.DeadlineLaws.{is_any}
 use Rattle.stream_meaning.specs.DueLaws.{is_emission, has_effects}
 

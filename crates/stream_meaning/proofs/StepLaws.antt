@@ -1,5 +1,6 @@
 -- The keys of live forks with the moments of their last events, as each entry leaves them.
-use Rattle.std.proofs.Common.{◌≡◌, ℕ, ◌+◌, ◌-◌, ◌<◌, ◌≤◌, ◌==◌, Bool, true, false, not, ◌||◌, cond, List, [], ◌∷◌, ◌++◌, map, nat_lt, Option, Some, None, refl, sym, ap, ◌∙◌, arith}
+use Rattle.std.proofs.Common.{◌≡◌, ℕ, ◌+◌, ◌-◌, ◌<◌, ◌≤◌, ◌==◌, Bool, true, false, not, ◌||◌, cond, List, [], ◌∷◌, ◌++◌}
+use Rattle.std.proofs.Common.{map, nat_lt, Option, Some, None, refl, sym, ap, ◌∙◌, arith}
 use mathlib.Core.Bool.{true≢false}
 use Rattle.std.specs.List.{AllByRecursion, filter, list_any}
 use Rattle.std.proofs.lemmas.Bool.Decides.{nat_tests}
@@ -11,11 +12,13 @@ use Rattle.ev_types.specs.declared.value.Value.{Value}
 use Rattle.ev_types.specs.Key.{same_key, event_key}
 use Rattle.stream_meaning.specs.History.{History, since, ◌▸◌, Tick, In, moment_of, is_at}
 use Rattle.stream_meaning.specs.Ends.{last_moment, idle_after, ends_next, live_keys}
-use Rattle.stream_meaning.specs.EndSteps.{TimedKey, moment_or_zero, timed_key, timed_keys, is_of_key, touched, with_timed, is_fresh, TimedKeysFollowEntries, FreshKeysGoByMoments}
+use Rattle.stream_meaning.specs.EndSteps.{TimedKey, moment_or_zero, timed_key, timed_keys, is_of_key, touched}
+use Rattle.stream_meaning.specs.EndSteps.{with_timed, is_fresh, TimedKeysFollowEntries, FreshKeysGoByMoments}
 use Rattle.stream_meaning.specs.Laws.{is_among}
 use Rattle.stream_meaning.proofs.KeptEvents.{all-weaker}
 use Rattle.stream_meaning.proofs.EndLaws.{key_same, key_flip}
-use Rattle.stream_meaning.proofs.LiveLaws.{map_filter, filter_same, keys_at_tick, keys_at_event, is_recent, live_is_recent}
+use Rattle.stream_meaning.proofs.LiveLaws.{map_filter, filter_same, keys_at_tick, keys_at_event, is_recent}
+use Rattle.stream_meaning.proofs.LiveLaws.{live_is_recent}
 
 -- ---- lists
 

@@ -1,11 +1,13 @@
 -- Where nothing has come but ticks, there are no effects.
-use Rattle.std.proofs.Common.{◌≡◌, ℕ, zero, suc, ◌+◌, ◌-◌, ◌%◌, Bool, true, false, cond, List, [], ◌∷◌, ◌++◌, length, drop, Option, nat_lt, ◌==◌, refl, sym, ap, ◌∙◌, subst, arith}
+use Rattle.std.proofs.Common.{◌≡◌, ℕ, zero, suc, ◌+◌, ◌-◌, ◌%◌, Bool, true, false, cond, List, [], ◌∷◌, ◌++◌, length}
+use Rattle.std.proofs.Common.{drop, Option, nat_lt, ◌==◌, refl, sym, ap, ◌∙◌, subst, arith}
 use Rattle.std.specs.List.{filter, flat_map}
 use Rattle.std.proofs.Math.Seq.{drop-nil}
 use Rattle.std.proofs.lemmas.Bool.Decides.{nat_tests}
 use Rattle.ev_types.specs.declared.field.Field.{Field}
 use Rattle.ev_types.specs.declared.item.Item.{Item}
-use Rattle.stream_plan.specs.Tree.{KindTree, Index, Rollup, Batch, Stable, Coalesce, StreamTree, StreamTrees, stream, none, also}
+use Rattle.stream_plan.specs.Tree.{KindTree, Index, Rollup, Batch, Stable, Coalesce, StreamTree, StreamTrees, stream}
+use Rattle.stream_plan.specs.Tree.{none, also}
 use Rattle.stream_meaning.specs.History.{History, since, ◌▸◌, Tick, In, begun, moment_of, window_of, TicksAlone}
 use Rattle.stream_meaning.specs.Came.{events_in, timed_events, each, vector, last_of}
 use Rattle.stream_meaning.specs.Ends.{forks_that_came, is_live, live_forks}
@@ -14,7 +16,8 @@ use Rattle.stream_meaning.specs.Rates.{events_now, rolls_into, allowed, one_if}
 use Rattle.stream_meaning.specs.Coalesce.{coalesced}
 use Rattle.stream_meaning.specs.Emission.{Branch, Children, Otherwise, Fork, emissions, to_children}
 use Rattle.stream_meaning.specs.Branches.{after_emissions, child_history, branches}
-use Rattle.stream_meaning.specs.Outputs.{Effect, emits_if_any, marked, branch_effects, at_tick, at_emissions, stream_effects, plan_effects}
+use Rattle.stream_meaning.specs.Outputs.{Effect, emits_if_any, marked, branch_effects, at_tick, at_emissions}
+use Rattle.stream_meaning.specs.Outputs.{stream_effects, plan_effects}
 
 pub events_in-ticks : (secs window : ℕ) (h : History) → TicksAlone h → events_in secs window h ≡ []
 events_in-ticks secs window (since start) alone = refl

@@ -3,7 +3,8 @@ use Rattle.std.proofs.Common.{ℕ, suc, ◌==◌, drop, Bool, true, false, cond,
 use Rattle.ev_types.specs.declared.event.Event.{Event}
 use Rattle.ev_types.specs.declared.item.Item.{Item}
 use Rattle.ev_types.specs.declared.item.Item.TheVariants.{One, Many}
-use Rattle.stream_plan.specs.Tree.{KindTree, Index, Sdo, Where, With, Default, Tag, By, Changed, Runs, Throttle, Rollup, Batch, Stable, FixedEvent, MovingEvent, FixedTime, MovingTime, Coalesce, Smap}
+use Rattle.stream_plan.specs.Tree.{KindTree, Index, Sdo, Where, With, Default, Tag, By, Changed, Runs, Throttle, Rollup}
+use Rattle.stream_plan.specs.Tree.{Batch, Stable, FixedEvent, MovingEvent, FixedTime, MovingTime, Coalesce, Smap}
 use Rattle.stream_meaning.specs.History.{since, ◌▸◌, Tick, In, window_of}
 use Rattle.stream_meaning.specs.Came.{each, vector, events_in}
 use Rattle.stream_meaning.specs.Rates.{rolls_into, allowed}

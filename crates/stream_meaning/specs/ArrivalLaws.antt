@@ -22,4 +22,6 @@ pub record AreMoments (plan : StreamTrees) (expiry : Option Expiry) (start : ℕ
   pub ends : moment_of (state_after plan expiry start arrivals).history ≡ start + elapsed_in arrivals
 
 abbrev pub ArrivalsAreMoments : Type 0
-ArrivalsAreMoments = (plan : StreamTrees) (expiry : Option Expiry) (start : ℕ) (arrivals : List Arrival) → AreMoments plan expiry start arrivals
+ArrivalsAreMoments =
+    (plan : StreamTrees) (expiry : Option Expiry) (start : ℕ) (arrivals : List Arrival)
+    → AreMoments plan expiry start arrivals

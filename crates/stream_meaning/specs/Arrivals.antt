@@ -71,7 +71,8 @@ fed_back plan keep state = streamed plan (expired_copies keep state) (with_reap 
 abbrev pub swept : StreamTrees → Option Expiry → CoreState → CoreState
 swept plan None state = state
 swept plan (Some expiry) state =
-    if (moment_of state.history - begun state.history) % expiry.interval == 0 then fed_back plan expiry.keep state else state
+    if (moment_of state.history - begun state.history) % expiry.interval == 0 then fed_back plan expiry.keep state
+    else state
 
 abbrev pub arrived : StreamTrees → Option Expiry → Arrival → CoreState → CoreState
 arrived plan expiry Elapsed state = swept plan expiry (entered plan Tick state)
@@ -89,7 +90,8 @@ state_after plan expiry start arrivals = state_from plan expiry arrivals (record
 abbrev pub notices_of : StreamTrees → Option Expiry → ℕ → List Arrival → List Notice
 notices_of plan expiry start arrivals = notices_among (outputs_of plan (state_after plan expiry start arrivals).history)
 
--- the streams that arrivals come to, with their index: the plan, how expired events are looked for, and the first moment
+-- the streams that arrivals come to, with their index: the plan, how expired events are looked for, and the first
+-- moment
 pub record CoreConfig : Type 0 where
   pub plan : StreamTrees
   pub expiry : Option Expiry

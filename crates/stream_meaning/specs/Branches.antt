@@ -19,7 +19,8 @@ same_branch _ _ = false
 -- a branch's history once those of these emissions that go to it have come
 abbrev pub after_emissions : Branch → List Emission → History → History
 after_emissions branch [] h = h
-after_emissions branch (emission ∷ more) h = after_emissions branch more (if same_branch emission.branch branch then h ▸ In emission.item else h)
+after_emissions branch (emission ∷ more) h =
+    after_emissions branch more (if same_branch emission.branch branch then h ▸ In emission.item else h)
 
 -- a branch's history once a tick came to it, where the entry is one
 abbrev pub ticked : Entry → History → History
@@ -29,7 +30,8 @@ ticked (In item) h = h
 -- what a branch has received: at each entry the tick, where it is one, and then what the stream passes on to the branch
 abbrev pub child_history : KindTree → Branch → History → History
 child_history kind branch (since start) = since start
-child_history kind branch (h ▸ x) = after_emissions branch (emissions kind (h ▸ x)) (ticked x (child_history kind branch h))
+child_history kind branch (h ▸ x) =
+    after_emissions branch (emissions kind (h ▸ x)) (ticked x (child_history kind branch h))
 
 -- the keys, and one more where it is not among them
 abbrev pub with_key : List Value → List (List Value) → List (List Value)

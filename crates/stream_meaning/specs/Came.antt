@@ -16,7 +16,8 @@ events (h ▸ In (Many es)) = events h
 abbrev pub events_in : ℕ → ℕ → History → List Event
 events_in secs window (since start) = []
 events_in secs window (h ▸ Tick) = events_in secs window h
-events_in secs window (h ▸ In (One event)) = if window_of secs h == window then events_in secs window h ++ event ∷ [] else events_in secs window h
+events_in secs window (h ▸ In (One event)) =
+    if window_of secs h == window then events_in secs window h ++ event ∷ [] else events_in secs window h
 events_in secs window (h ▸ In (Many es)) = events_in secs window h
 
 -- an event, and the moment at which it came

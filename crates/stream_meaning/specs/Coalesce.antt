@@ -20,7 +20,8 @@ newest (older ∷ later) = if list_any (replaces older) later then newest later 
 
 -- it has not expired at t, or had not `secs` seconds before, or came in these seconds
 abbrev pub still_passes : ℕ → ℕ → Timed → Bool
-still_passes secs t timed = not (is_expired t timed.event) || not (is_expired (t - secs) timed.event) || nat_le (t - secs) timed.at
+still_passes secs t timed =
+    not (is_expired t timed.event) || not (is_expired (t - secs) timed.event) || nat_le (t - secs) timed.at
 
 abbrev pub event_of : Timed → Event
 event_of timed = timed.event

@@ -27,21 +27,26 @@ abbrev pub emits : KindTree → History → Bool
 emits kind h = is_any (emissions kind h)
 
 abbrev pub DeadlinesLieAhead : Type 0
-DeadlinesLieAhead = (kind : KindTree) (h : History) → HasRange kind → IfSome (next_deadline kind h) (λ deadline. moment_of h < deadline)
+DeadlinesLieAhead =
+    (kind : KindTree) (h : History) → HasRange kind → IfSome (next_deadline kind h) (λ deadline. moment_of h < deadline)
 
 -- at the next tick something is passed on exactly where that is the deadline
 abbrev pub DeadlinesAreMet : Type 0
-DeadlinesAreMet = (kind : KindTree) (h : History) → HasRange kind → emits kind (h ▸ Tick) ≡ is_at (moment_of h + 1) (next_deadline kind h)
+DeadlinesAreMet = (kind : KindTree) (h : History) → HasRange kind
+    → emits kind (h ▸ Tick) ≡ is_at (moment_of h + 1) (next_deadline kind h)
 
 -- a tick at which nothing is passed on leaves the deadline
 abbrev pub DeadlinesStay : Type 0
-DeadlinesStay = (kind : KindTree) (h : History) → HasRange kind → emits kind (h ▸ Tick) ≡ false → next_deadline kind (h ▸ Tick) ≡ next_deadline kind h
+DeadlinesStay =
+    (kind : KindTree) (h : History) → HasRange kind → emits kind (h ▸ Tick) ≡ false
+    → next_deadline kind (h ▸ Tick) ≡ next_deadline kind h
 
 -- nothing was passed on at the first n ticks that followed
 abbrev pub IsStill : KindTree → History → ℕ → Type 0
 IsStill kind h n = (k : ℕ) → k < n → emits kind (waited k h ▸ Tick) ≡ false
 
--- where only ticks follow, the first one at which something is passed on is the one at the deadline, and there is none without
+-- where only ticks follow, the first one at which something is passed on is the one at the deadline, and there is none
+-- without
 abbrev pub DeadlinesAreFirst : Type 0
 DeadlinesAreFirst = (kind : KindTree) (h : History) (n : ℕ) → HasRange kind → IsStill kind h n →
     emits kind (waited n h ▸ Tick) ≡ is_at (moment_of h + n + 1) (next_deadline kind h)

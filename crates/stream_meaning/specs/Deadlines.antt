@@ -1,6 +1,8 @@
 -- When a stream passes something on next if only ticks follow.
-use Rattle.std.specs.Prelude.{ℕ, suc, true, false, ◌&&◌, ◌+◌, ◌*◌, ◌%◌, min, Bool, not, ◌==◌, nat_le, nat_lt, if◌then◌else◌, List, [], ◌∷◌, map, length, Option, Some, None}
-use Rattle.stream_plan.specs.Tree.{KindTree, By, Rollup, Batch, Stable, Coalesce, StreamTree, StreamTrees, stream, none, also}
+use Rattle.std.specs.Prelude.{ℕ, suc, true, false, ◌&&◌, ◌+◌, ◌*◌, ◌%◌, min, Bool, not, ◌==◌, nat_le, nat_lt}
+use Rattle.std.specs.Prelude.{if◌then◌else◌, List, [], ◌∷◌, map, length, Option, Some, None}
+use Rattle.stream_plan.specs.Tree.{KindTree, By, Rollup, Batch, Stable, Coalesce, StreamTree, StreamTrees, stream, none}
+use Rattle.stream_plan.specs.Tree.{also}
 use Rattle.ev_types.specs.declared.event.Event.{Event}
 use Rattle.stream_meaning.specs.History.{History, begun, moment_of, window_of}
 use Rattle.stream_meaning.specs.Came.{timed_events}
@@ -26,8 +28,10 @@ is_there (event ∷ es) = true
 abbrev pub next_deadline : KindTree → History → Option ℕ
 next_deadline (Rollup n secs) h = some_if (rolls_into n secs (suc (window_of secs h)) h) (next_window secs h)
 next_deadline (Batch n secs) h = some_if (not (length (events_now secs h) % n == 0)) (next_window secs h)
-next_deadline (Stable secs field) h = some_if (is_there (run field h) && nat_lt (moment_of h) (run_began field h + secs)) (run_began field h + secs)
-next_deadline (Coalesce secs) h = some_if (is_there (coalesced secs (next_window secs h) (timed_events h))) (next_window secs h)
+next_deadline (Stable secs field) h =
+    some_if (is_there (run field h) && nat_lt (moment_of h) (run_began field h + secs)) (run_began field h + secs)
+next_deadline (Coalesce secs) h =
+    some_if (is_there (coalesced secs (next_window secs h) (timed_events h))) (next_window secs h)
 next_deadline kind h = None
 
 -- the lesser of two moments that may be absent
@@ -60,7 +64,12 @@ until (Some end) (Some deadline) = if nat_le deadline end then Some deadline els
 abbrev mutual
   pub stream_deadline : StreamTree → History → Option ℕ
   stream_deadline (stream kind children otherwise) h =
-      earlier (next_deadline kind h) (earliest (map (λ branch. until (branch_end kind branch h) (deadline_of (plan_deadline children) (plan_deadline otherwise) branch (child_history kind branch h))) (branches kind h)))
+      earlier (next_deadline kind h)
+      (earliest
+      (map
+      (λ branch. until (branch_end kind branch h)
+      (deadline_of (plan_deadline children) (plan_deadline otherwise) branch (child_history kind branch h)))
+      (branches kind h)))
 
   pub plan_deadline : StreamTrees → History → Option ℕ
   plan_deadline none h = None

@@ -1,5 +1,6 @@
 -- What the deadline of a whole plan says, and which forks are due.
-use Rattle.std.specs.Prelude.{◌≡◌, ℕ, ◌+◌, ◌<◌, ◌≤◌, Bool, true, false, List, [], ◌∷◌, ◌++◌, map, Option, Some, None, IfSome, All, Contains}
+use Rattle.std.specs.Prelude.{◌≡◌, ℕ, ◌+◌, ◌<◌, ◌≤◌, Bool, true, false, List, [], ◌∷◌, ◌++◌, map, Option, Some, None}
+use Rattle.std.specs.Prelude.{IfSome, All, Contains}
 use Rattle.std.specs.List.{list_any, flat_map}
 use Rattle.stream_plan.specs.Faults.{first_fault}
 use Rattle.stream_plan.specs.Tree.{StreamTree, StreamTrees, stream, none, also}
@@ -26,7 +27,8 @@ some_emits plan h = list_any is_emission (plan_effects plan h)
 
 -- a tick has effects exactly where some stream passes something on, so those forks are due in which one does
 abbrev pub TicksActByEmissions : Type 0
-TicksActByEmissions = (plan : StreamTrees) (h : History) → has_effects (plan_effects plan (h ▸ Tick)) ≡ some_emits plan (h ▸ Tick)
+TicksActByEmissions =
+    (plan : StreamTrees) (h : History) → has_effects (plan_effects plan (h ▸ Tick)) ≡ some_emits plan (h ▸ Tick)
 
 -- the numbers of all streams of a plan are in their ranges
 abbrev mutual
@@ -38,21 +40,26 @@ abbrev mutual
   HasRanges (also first more) = HasStreamRanges first × HasRanges more
 
 abbrev pub PlanDeadlinesLieAhead : Type 0
-PlanDeadlinesLieAhead = (plan : StreamTrees) (h : History) → HasRanges plan → IfSome (plan_deadline plan h) (λ deadline. moment_of h < deadline)
+PlanDeadlinesLieAhead = (plan : StreamTrees) (h : History) → HasRanges plan
+    → IfSome (plan_deadline plan h) (λ deadline. moment_of h < deadline)
 
 -- at the next tick some stream passes something on exactly where that is the plan's deadline
 abbrev pub PlanDeadlinesAreMet : Type 0
-PlanDeadlinesAreMet = (plan : StreamTrees) (h : History) → HasRanges plan → some_emits plan (h ▸ Tick) ≡ is_at (moment_of h + 1) (plan_deadline plan h)
+PlanDeadlinesAreMet = (plan : StreamTrees) (h : History) → HasRanges plan
+    → some_emits plan (h ▸ Tick) ≡ is_at (moment_of h + 1) (plan_deadline plan h)
 
 -- a tick at which none does leaves the deadline
 abbrev pub PlanDeadlinesStay : Type 0
-PlanDeadlinesStay = (plan : StreamTrees) (h : History) → HasRanges plan → some_emits plan (h ▸ Tick) ≡ false → plan_deadline plan (h ▸ Tick) ≡ plan_deadline plan h
+PlanDeadlinesStay =
+    (plan : StreamTrees) (h : History) → HasRanges plan → some_emits plan (h ▸ Tick) ≡ false
+    → plan_deadline plan (h ▸ Tick) ≡ plan_deadline plan h
 
 -- no stream of the plan passed anything on at the first n ticks that followed
 abbrev pub IsPlanStill : StreamTrees → History → ℕ → Type 0
 IsPlanStill plan h n = (k : ℕ) → k < n → some_emits plan (waited k h ▸ Tick) ≡ false
 
--- where only ticks follow, the first one at which some stream passes something on is the one at the plan's deadline, and there is none without
+-- where only ticks follow, the first one at which some stream passes something on is the one at the plan's deadline,
+-- and there is none without
 abbrev pub PlanDeadlinesAreFirst : Type 0
 PlanDeadlinesAreFirst = (plan : StreamTrees) (h : History) (n : ℕ) → HasRanges plan → IsPlanStill plan h n →
     some_emits plan (waited n h ▸ Tick) ≡ is_at (moment_of h + n + 1) (plan_deadline plan h)
@@ -67,7 +74,10 @@ abbrev mutual
   pub stream_deadlines : StreamTree → History → List (Option ℕ)
   stream_deadlines (stream kind children otherwise) h =
       next_deadline kind h
-      ∷ flat_map (λ branch. map (until (branch_end kind branch h)) (deadlines_of (plan_deadlines children) (plan_deadlines otherwise) branch (child_history kind branch h))) (branches kind h)
+      ∷ flat_map
+      (λ branch. map (until (branch_end kind branch h))
+      (deadlines_of (plan_deadlines children) (plan_deadlines otherwise) branch (child_history kind branch h)))
+      (branches kind h)
 
   pub plan_deadlines : StreamTrees → History → List (Option ℕ)
   plan_deadlines none h = []
@@ -76,11 +86,13 @@ abbrev mutual
 -- one of the deadlines, of which none is earlier, or nothing where no stream has one
 abbrev pub IsEarliest : List (Option ℕ) → Option ℕ → Type 0
 IsEarliest deadlines None = All (λ deadline. deadline ≡ None) deadlines
-IsEarliest deadlines (Some first) = Contains deadlines (Some first) × All (λ deadline. IfSome deadline (λ moment. first ≤ moment)) deadlines
+IsEarliest deadlines (Some first) =
+    Contains deadlines (Some first) × All (λ deadline. IfSome deadline (λ moment. first ≤ moment)) deadlines
 
 -- the deadline of a plan is the least of those of its streams
 abbrev pub PlanDeadlinesAreEarliest : Type 0
-PlanDeadlinesAreEarliest = (plan : StreamTrees) (h : History) → IsEarliest (plan_deadlines plan h) (plan_deadline plan h)
+PlanDeadlinesAreEarliest =
+    (plan : StreamTrees) (h : History) → IsEarliest (plan_deadlines plan h) (plan_deadline plan h)
 
 -- a plan without faults, as each checked plan is, has its numbers in their ranges
 abbrev pub FaultlessPlansHaveRanges : Type 0
@@ -89,7 +101,8 @@ FaultlessPlansHaveRanges = (plan : StreamTrees) → first_fault plan ≡ None �
 -- all of this is so for a plan after any history
 pub record MeetsDeadlines (plan : StreamTrees) : Type 0 where
   pub ahead : (h : History) → IfSome (plan_deadline plan h) (λ deadline. moment_of h < deadline)
-  pub first : (h : History) (n : ℕ) → IsPlanStill plan h n → some_emits plan (waited n h ▸ Tick) ≡ is_at (moment_of h + n + 1) (plan_deadline plan h)
+  pub first : (h : History) (n : ℕ) → IsPlanStill plan h n
+      → some_emits plan (waited n h ▸ Tick) ≡ is_at (moment_of h + n + 1) (plan_deadline plan h)
 
 abbrev pub FaultlessPlansMeetDeadlines : Type 0
 FaultlessPlansMeetDeadlines = (plan : StreamTrees) → first_fault plan ≡ None → MeetsDeadlines plan

@@ -7,7 +7,9 @@ use Rattle.ev_types.specs.declared.item.Item.TheVariants.{One, Many}
 use Rattle.ev_types.specs.declared.settings.Fold.{Fold}
 use Rattle.pred_eval.specs.Tree.{Tree}
 use Rattle.pred_eval.specs.Truth.{holds}
-use Rattle.stream_plan.specs.Tree.{KindTree, Index, Notice, Sdo, Where, With, Default, Tag, By, Changed, Runs, Throttle, Rollup, Batch, Stable, FixedEvent, MovingEvent, FixedTime, MovingTime, Coalesce, Smap}
+use Rattle.stream_plan.specs.Tree.{KindTree, Index, Notice, Sdo, Where, With, Default, Tag, By, Changed, Runs, Throttle}
+use Rattle.stream_plan.specs.Tree.{Rollup, Batch, Stable, FixedEvent, MovingEvent, FixedTime, MovingTime, Coalesce}
+use Rattle.stream_plan.specs.Tree.{Smap}
 use Rattle.stream_meaning.specs.History.{History, since, ◌▸◌, Entry, Tick, In}
 use Rattle.stream_meaning.specs.Ends.{KeyFork, fork_of}
 use Rattle.stream_meaning.specs.Images.{with_sets, with_defaults, with_tags, folded}

@@ -1,5 +1,6 @@
 -- Laws of the ends of keys, and of the forks that are live.
-use Rattle.std.specs.Prelude.{◌≡◌, ◌↔◌, ℕ, ◌+◌, ◌<◌, Bool, false, IsTrue, IsFalse, List, [], ◌∷◌, ◌++◌, map, filter, Option, Some, None, Contains}
+use Rattle.std.specs.Prelude.{◌≡◌, ◌↔◌, ℕ, ◌+◌, ◌<◌, Bool, false, IsTrue, IsFalse, List, [], ◌∷◌, ◌++◌, map, filter}
+use Rattle.std.specs.Prelude.{Option, Some, None, Contains}
 use Rattle.std.specs.List.{list_any, AllByRecursion, IsDistinct}
 use Rattle.ev_types.specs.declared.field.Field.{Field}
 use Rattle.ev_types.specs.declared.item.Item.{Item}
@@ -8,7 +9,8 @@ use Rattle.ev_types.specs.declared.value.Value.{Value}
 use Rattle.ev_types.specs.Key.{same_key, event_key}
 use Rattle.stream_meaning.specs.History.{History, ◌▸◌, Entry, Tick, In, moment_of}
 use Rattle.stream_meaning.specs.Came.{Timed, timed_events}
-use Rattle.stream_meaning.specs.Ends.{last_moment, ends_next, times_ended, KeyFork, same_fork, forks_that_came, live_forks, live_keys}
+use Rattle.stream_meaning.specs.Ends.{last_moment, ends_next, times_ended, KeyFork, same_fork, forks_that_came}
+use Rattle.stream_meaning.specs.Ends.{live_forks, live_keys}
 use Rattle.stream_meaning.specs.Branches.{fork_keys}
 use Rattle.stream_meaning.specs.KeyOrderLaws.{lengthened}
 use Rattle.stream_meaning.specs.Laws.{of_key, of_fork}
@@ -35,7 +37,8 @@ IsLast moments None = moments ≡ []
 IsLast moments (Some last) = EndsWith moments last
 
 abbrev pub LastMomentsAreLast : Type 0
-LastMomentsAreLast = (fields : List Field) (key : List Value) (h : History) → IsLast (moments_of_key fields key h) (last_moment fields key h)
+LastMomentsAreLast = (fields : List Field) (key : List Value) (h : History)
+    → IsLast (moments_of_key fields key h) (last_moment fields key h)
 
 -- ---- ends
 
@@ -47,7 +50,9 @@ pub record CameBefore (secs : ℕ) (fields : List Field) (key : List Value) (h :
 
 -- a key ends at a tick exactly if its last event came `secs` seconds before
 abbrev pub EndsFollowSilence : Type 0
-EndsFollowSilence = (secs : ℕ) (fields : List Field) (key : List Value) (h : History) → IsTrue (ends_next (Some secs) fields key h) ↔ CameBefore secs fields key h
+EndsFollowSilence =
+    (secs : ℕ) (fields : List Field) (key : List Value) (h : History)
+    → IsTrue (ends_next (Some secs) fields key h) ↔ CameBefore secs fields key h
 
 -- the entry is an event of the key
 abbrev pub is_event_of : List Field → List Value → Entry → Bool
@@ -57,19 +62,25 @@ is_event_of fields key (In (Many es)) = false
 
 -- between two ends of a key an event of it comes
 abbrev pub EndsAreApart : Type 0
-EndsAreApart = (idle : Option ℕ) (fields : List Field) (key : List Value) (h : History) (more : List Entry) → IsTrue (ends_next idle fields key h) →
+EndsAreApart =
+    (idle : Option ℕ) (fields : List Field) (key : List Value) (h : History) (more : List Entry) →
+    IsTrue (ends_next idle fields key h) →
     IsTrue (ends_next idle fields key (lengthened (h ▸ Tick) more)) → IsTrue (list_any (is_event_of fields key) more)
 
 -- ---- what a fork receives
 
 -- a key has no fork with a number that it has not come to
 abbrev pub ForksComeByNumber : Type 0
-ForksComeByNumber = (idle : Option ℕ) (fields : List Field) (fork : KeyFork) (h : History) → times_ended idle fields fork.key h < fork.number →
+ForksComeByNumber =
+    (idle : Option ℕ) (fields : List Field) (fork : KeyFork) (h : History) →
+    times_ended idle fields fork.key h < fork.number →
     IsFalse (list_any (λ other. same_fork other fork) (forks_that_came idle fields h))
 
 -- once its key has ended, a fork gets no more items
 abbrev pub EndedForksGetNoItems : Type 0
-EndedForksGetNoItems = (idle : Option ℕ) (fields : List Field) (fork : KeyFork) (h : History) (item : Item) → fork.number < times_ended idle fields fork.key h →
+EndedForksGetNoItems =
+    (idle : Option ℕ) (fields : List Field) (fork : KeyFork) (h : History) (item : Item) →
+    fork.number < times_ended idle fields fork.key h →
     of_fork idle fields fork (h ▸ In item) ≡ of_fork idle fields fork h
 
 -- ---- without `idle`
@@ -97,7 +108,8 @@ LiveKeysAreApart = (idle : Option ℕ) (fields : List Field) (h : History) → I
 
 -- the number of a live fork is how often its key ended
 abbrev pub LiveForksAreTheLatest : Type 0
-LiveForksAreTheLatest = (idle : Option ℕ) (fields : List Field) (h : History) → AllByRecursion (λ fork. fork.number ≡ times_ended idle fields fork.key h) (live_forks idle fields h)
+LiveForksAreTheLatest = (idle : Option ℕ) (fields : List Field) (h : History)
+    → AllByRecursion (λ fork. fork.number ≡ times_ended idle fields fork.key h) (live_forks idle fields h)
 
 -- the last event of the key came less than so many seconds ago
 pub record CameWithin (secs : ℕ) (fields : List Field) (key : List Value) (h : History) : Type 0 where

@@ -1,5 +1,6 @@
 -- What each entry does to the forks that are live, and to the moments of their last events.
-use Rattle.std.specs.Prelude.{◌≡◌, ℕ, ◌+◌, ◌-◌, ◌<◌, ◌≤◌, Bool, IsTrue, nat_lt, not, if◌then◌else◌, List, [], ◌∷◌, ◌++◌, map, filter, Option, Some, None}
+use Rattle.std.specs.Prelude.{◌≡◌, ℕ, ◌+◌, ◌-◌, ◌<◌, ◌≤◌, Bool, IsTrue, nat_lt, not, if◌then◌else◌, List, [], ◌∷◌, ◌++◌}
+use Rattle.std.specs.Prelude.{map, filter, Option, Some, None}
 use Rattle.std.specs.List.{list_any, AllByRecursion}
 use Rattle.ev_types.specs.declared.event.Event.{Event}
 use Rattle.ev_types.specs.declared.field.Field.{Field}
@@ -13,15 +14,20 @@ use Rattle.stream_meaning.specs.Branches.{with_key}
 -- a tick leaves the forks whose key does not end at it, and an event brings the fork of its key if that is not there
 pub record LiveForksFollow (idle : Option ℕ) (fields : List Field) : Type 0 where
   pub begin : (start : ℕ) → live_forks idle fields (since start) ≡ []
-  pub tick : (h : History) → live_forks idle fields (h ▸ Tick) ≡ filter (λ fork. not (ends_next idle fields fork.key h)) (live_forks idle fields h)
-  pub event : (h : History) (event : Event) → live_forks idle fields (h ▸ In (One event)) ≡ with_fork (fork_of idle fields event h) (live_forks idle fields h)
+  pub tick : (h : History)
+      → live_forks idle fields (h ▸ Tick)
+      ≡ filter (λ fork. not (ends_next idle fields fork.key h)) (live_forks idle fields h)
+  pub event : (h : History) (event : Event)
+      → live_forks idle fields (h ▸ In (One event)) ≡ with_fork (fork_of idle fields event h) (live_forks idle fields h)
   pub vector : (h : History) (es : List Event) → live_forks idle fields (h ▸ In (Many es)) ≡ live_forks idle fields h
 
 -- so with their keys
 pub record LiveKeysFollow (idle : Option ℕ) (fields : List Field) : Type 0 where
   pub begin : (start : ℕ) → live_keys idle fields (since start) ≡ []
-  pub tick : (h : History) → live_keys idle fields (h ▸ Tick) ≡ filter (λ key. not (ends_next idle fields key h)) (live_keys idle fields h)
-  pub event : (h : History) (event : Event) → live_keys idle fields (h ▸ In (One event)) ≡ with_key (event_key event fields) (live_keys idle fields h)
+  pub tick : (h : History)
+      → live_keys idle fields (h ▸ Tick) ≡ filter (λ key. not (ends_next idle fields key h)) (live_keys idle fields h)
+  pub event : (h : History) (event : Event)
+      → live_keys idle fields (h ▸ In (One event)) ≡ with_key (event_key event fields) (live_keys idle fields h)
   pub vector : (h : History) (es : List Event) → live_keys idle fields (h ▸ In (Many es)) ≡ live_keys idle fields h
 
 abbrev pub LiveForksFollowEntries : Type 0
@@ -56,27 +62,35 @@ touched key now timed = if is_of_key key timed then record timed { at = now } el
 
 -- an event of the key comes at this moment
 abbrev pub with_timed : List Value → ℕ → List TimedKey → List TimedKey
-with_timed key now timed = if list_any (is_of_key key) timed then map (touched key now) timed else timed ++ record { key = key; at = now } ∷ []
+with_timed key now timed =
+    if list_any (is_of_key key) timed then map (touched key now) timed else timed ++ record { key = key; at = now } ∷ []
 
 -- the key does not end by this moment
 abbrev pub is_fresh : ℕ → ℕ → TimedKey → Bool
 is_fresh secs now timed = nat_lt now (timed.at + secs)
 
--- a tick leaves the keys whose last event came less than `secs` seconds before it, and an event sets the moment of its key
+-- a tick leaves the keys whose last event came less than `secs` seconds before it, and an event sets the moment of its
+-- key
 pub record TimedKeysFollow (secs : ℕ) (fields : List Field) : Type 0 where
   pub begin : (start : ℕ) → timed_keys (Some secs) fields (since start) ≡ []
-  pub tick : (h : History) → timed_keys (Some secs) fields (h ▸ Tick) ≡ filter (is_fresh secs (moment_of (h ▸ Tick))) (timed_keys (Some secs) fields h)
+  pub tick : (h : History)
+      → timed_keys (Some secs) fields (h ▸ Tick)
+      ≡ filter (is_fresh secs (moment_of (h ▸ Tick))) (timed_keys (Some secs) fields h)
   pub event : (h : History) (event : Event) →
-      timed_keys (Some secs) fields (h ▸ In (One event)) ≡ with_timed (event_key event fields) (moment_of h) (timed_keys (Some secs) fields h)
-  pub vector : (h : History) (es : List Event) → timed_keys (Some secs) fields (h ▸ In (Many es)) ≡ timed_keys (Some secs) fields h
+      timed_keys (Some secs) fields (h ▸ In (One event))
+      ≡ with_timed (event_key event fields) (moment_of h) (timed_keys (Some secs) fields h)
+  pub vector : (h : History) (es : List Event)
+      → timed_keys (Some secs) fields (h ▸ In (Many es)) ≡ timed_keys (Some secs) fields h
   -- no event came later than the last entry, and none of a live key is `secs` seconds old
-  pub between : (h : History) → AllByRecursion (λ timed. (timed.at ≤ moment_of h) × (moment_of h < timed.at + secs)) (timed_keys (Some secs) fields h)
+  pub between : (h : History)
+      → AllByRecursion (λ timed. (timed.at ≤ moment_of h) × (moment_of h < timed.at + secs))
+      (timed_keys (Some secs) fields h)
 
 abbrev pub TimedKeysFollowEntries : Type 0
 TimedKeysFollowEntries = (secs : ℕ) (fields : List Field) → 0 < secs → TimedKeysFollow secs fields
 
--- the keys that end by a moment are those whose last event came `secs` seconds before it or earlier, and none before so many
--- seconds have passed since moment 0
+-- the keys that end by a moment are those whose last event came `secs` seconds before it or earlier, and none before so
+-- many seconds have passed since moment 0
 pub record IsFreshByMoment (secs now : ℕ) (timed : TimedKey) : Type 0 where
   pub later : secs ≤ now → is_fresh secs now timed ≡ nat_lt (now - secs) timed.at
   pub early : now < secs → IsTrue (is_fresh secs now timed)

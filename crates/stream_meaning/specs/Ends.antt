@@ -1,6 +1,7 @@
--- Forks that end. A key ends at the second at which its last event came `idle` seconds before, and the next event of the key
--- begins a new fork. Without `idle` no key ends.
-use Rattle.std.specs.Prelude.{ℕ, ◌+◌, ◌&&◌, ◌==◌, Bool, if◌then◌else◌, List, [], ◌∷◌, ◌++◌, map, filter, Option, Some, None}
+-- Forks that end. A key ends at the second at which its last event came `idle` seconds before, and the next event of
+-- the key begins a new fork. Without `idle` no key ends.
+use Rattle.std.specs.Prelude.{ℕ, ◌+◌, ◌&&◌, ◌==◌, Bool, if◌then◌else◌, List, [], ◌∷◌, ◌++◌, map, filter, Option, Some}
+use Rattle.std.specs.Prelude.{None}
 use Rattle.std.specs.List.{list_any}
 use Rattle.ev_types.specs.declared.event.Event.{Event}
 use Rattle.ev_types.specs.declared.field.Field.{Field}
@@ -13,7 +14,8 @@ use Rattle.stream_meaning.specs.History.{History, since, ◌▸◌, Tick, In, mo
 abbrev pub last_moment : List Field → List Value → History → Option ℕ
 last_moment fields key (since start) = None
 last_moment fields key (h ▸ Tick) = last_moment fields key h
-last_moment fields key (h ▸ In (One event)) = if same_key (event_key event fields) key then Some (moment_of h) else last_moment fields key h
+last_moment fields key (h ▸ In (One event)) =
+    if same_key (event_key event fields) key then Some (moment_of h) else last_moment fields key h
 last_moment fields key (h ▸ In (Many es)) = last_moment fields key h
 
 -- so many seconds after a moment, if there are both
@@ -33,7 +35,8 @@ ends_next idle fields key h = is_at (moment_of h + 1) (end_of idle fields key h)
 -- how often a key ended
 abbrev pub times_ended : Option ℕ → List Field → List Value → History → ℕ
 times_ended idle fields key (since start) = 0
-times_ended idle fields key (h ▸ Tick) = if ends_next idle fields key h then times_ended idle fields key h + 1 else times_ended idle fields key h
+times_ended idle fields key (h ▸ Tick) =
+    if ends_next idle fields key h then times_ended idle fields key h + 1 else times_ended idle fields key h
 times_ended idle fields key (h ▸ In item) = times_ended idle fields key h
 
 -- a fork of a `by`: its key, and how often that had ended when the fork began
@@ -63,7 +66,8 @@ with_fork fork forks = if list_any (λ other. same_fork other fork) forks then f
 abbrev pub forks_that_came : Option ℕ → List Field → History → List KeyFork
 forks_that_came idle fields (since start) = []
 forks_that_came idle fields (h ▸ Tick) = forks_that_came idle fields h
-forks_that_came idle fields (h ▸ In (One event)) = with_fork (fork_of idle fields event h) (forks_that_came idle fields h)
+forks_that_came idle fields (h ▸ In (One event)) =
+    with_fork (fork_of idle fields event h) (forks_that_came idle fields h)
 forks_that_came idle fields (h ▸ In (Many es)) = forks_that_came idle fields h
 
 -- the key of the fork has not ended since the fork began

@@ -22,10 +22,12 @@ pub record IsFirstGreatest (es : List Event) (greatest : Event) : Type 0 where
 
 -- of the events that have a metric; nothing where none has one
 abbrev pub MinimumIsTheFirstLeast : Type 0
-MinimumIsTheFirstLeast = (es : List Event) → MatchOption (folded Minimum es) (measured es ≡ []) (IsFirstLeast (measured es))
+MinimumIsTheFirstLeast =
+    (es : List Event) → MatchOption (folded Minimum es) (measured es ≡ []) (IsFirstLeast (measured es))
 
 abbrev pub MaximumIsTheFirstGreatest : Type 0
-MaximumIsTheFirstGreatest = (es : List Event) → MatchOption (folded Maximum es) (measured es ≡ []) (IsFirstGreatest (measured es))
+MaximumIsTheFirstGreatest =
+    (es : List Event) → MatchOption (folded Maximum es) (measured es ≡ []) (IsFirstGreatest (measured es))
 
 -- the sum of one metric is the metric, and that of two lists of events is the sum of both
 pub record SumsAdd : Type 0 where

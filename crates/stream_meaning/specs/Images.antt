@@ -1,5 +1,6 @@
 -- Streams that change what comes and keep nothing.
-use Rattle.std.specs.Prelude.{ℕ, ℤ, pos, ◌+ℤ◌, int_lt, if◌then◌else◌, List, [], ◌∷◌, length, filter, Option, Some, None, is_some, unwrap_or}
+use Rattle.std.specs.Prelude.{ℕ, ℤ, pos, ◌+ℤ◌, int_lt, if◌then◌else◌, List, [], ◌∷◌, length, filter, Option, Some, None}
+use Rattle.std.specs.Prelude.{is_some, unwrap_or}
 use Rattle.std.specs.Int.{w64, saturate_signed}
 use Rattle.ev_types.specs.declared.event.Event.{Event}
 use Rattle.ev_types.specs.declared.settings.Fold.{Fold}
@@ -17,7 +18,8 @@ with_sets (set ∷ sets) event = with_sets sets (with_set event set.field set.va
 
 -- the set made where the field holds nothing
 abbrev pub with_default : Event → Set → Event
-with_default event set = if same_value (field_value event set.field) Nil then with_set event set.field set.value else event
+with_default event set =
+    if same_value (field_value event set.field) Nil then with_set event set.field set.value else event
 
 -- each set made where its field holds nothing, in order
 abbrev pub with_defaults : List Set → Event → Event
@@ -53,7 +55,8 @@ least_of least (event ∷ es) = least_of (if int_lt (metric_of event) (metric_of
 -- the first of the events with the greatest metric
 abbrev pub greatest_of : Event → List Event → Event
 greatest_of greatest [] = greatest
-greatest_of greatest (event ∷ es) = greatest_of (if int_lt (metric_of greatest) (metric_of event) then event else greatest) es
+greatest_of greatest (event ∷ es) =
+    greatest_of (if int_lt (metric_of greatest) (metric_of event) then event else greatest) es
 
 -- one event of those that have a metric: the first one with the sum of all, within 64 signed bits
 abbrev pub sum_event : List Event → Option Event

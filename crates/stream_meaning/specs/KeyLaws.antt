@@ -21,7 +21,8 @@ one_by idle fields children otherwise = also (stream (By fields idle) children o
 
 -- its fields are the host or the service or both, and no stream below it changes them
 abbrev pub keeps_keys : List Field → StreamTrees → StreamTrees → Bool
-keeps_keys fields children otherwise = are_index_fields fields && (plan_keeps fields children && plan_keeps fields otherwise)
+keeps_keys fields children otherwise =
+    are_index_fields fields && (plan_keeps fields children && plan_keeps fields otherwise)
 
 -- the outputs of a key at the last entry
 abbrev pub outputs_for : List Field → List Value → StreamTrees → History → List Output
@@ -29,21 +30,32 @@ outputs_for fields key plan h = filter (output_has fields key) (outputs_at plan 
 
 -- the outputs of a key are those of the fork to which its events go, at a tick and at an event of the key; an event of
 -- another key does nothing to either
-pub record ActsByForks (idle : Option ℕ) (fields : List Field) (key : List Value) (children otherwise : StreamTrees) (h : History) : Type 0 where
-  pub tick : outputs_for fields key (one_by idle fields children otherwise) (h ▸ Tick) ≡ outputs_at children (fork_history idle fields (fork_at idle fields key h) h ▸ Tick)
+pub record ActsByForks (idle : Option ℕ) (fields : List Field) (key : List Value) (children otherwise : StreamTrees)
+    (h : History) : Type 0 where
+  pub tick : outputs_for fields key (one_by idle fields children otherwise) (h ▸ Tick)
+      ≡ outputs_at children (fork_history idle fields (fork_at idle fields key h) h ▸ Tick)
   pub own_event : (event : Event) → IsTrue (event_has fields key event) →
-      outputs_for fields key (one_by idle fields children otherwise) (h ▸ In (One event)) ≡ outputs_at children (fork_history idle fields (fork_at idle fields key h) h ▸ In (One event))
-  pub other_event : (event : Event) → IsFalse (event_has fields key event) → outputs_for fields key (one_by idle fields children otherwise) (h ▸ In (One event)) ≡ []
-  pub other_fork : (event : Event) → IsFalse (event_has fields key event) → fork_history idle fields (fork_at idle fields key h) (h ▸ In (One event)) ≡ fork_history idle fields (fork_at idle fields key h) h
+      outputs_for fields key (one_by idle fields children otherwise) (h ▸ In (One event))
+      ≡ outputs_at children (fork_history idle fields (fork_at idle fields key h) h ▸ In (One event))
+  pub other_event : (event : Event) → IsFalse (event_has fields key event)
+      → outputs_for fields key (one_by idle fields children otherwise) (h ▸ In (One event)) ≡ []
+  pub other_fork : (event : Event) → IsFalse (event_has fields key event)
+      → fork_history idle fields (fork_at idle fields key h) (h ▸ In (One event))
+      ≡ fork_history idle fields (fork_at idle fields key h) h
 
 abbrev pub KeysActByForks : Type 0
-KeysActByForks = (idle : Option ℕ) (fields : List Field) (key : List Value) (children otherwise : StreamTrees) (h : History) → IsTrue (keeps_keys fields children otherwise) →
+KeysActByForks =
+    (idle : Option ℕ) (fields : List Field) (key : List Value) (children otherwise : StreamTrees) (h : History) →
+    IsTrue (keeps_keys fields children otherwise) →
     ActsByForks idle fields key children otherwise h
 
 -- the outputs of a key over a history are the outputs over the ticks and the events of the key
 abbrev pub KeysHaveTheirOutputs : Type 0
-KeysHaveTheirOutputs = (idle : Option ℕ) (fields : List Field) (key : List Value) (children otherwise : StreamTrees) (h : History) → IsTrue (keeps_keys fields children otherwise) →
-    filter (output_has fields key) (outputs_of (one_by idle fields children otherwise) h) ≡ outputs_of (one_by idle fields children otherwise) (of_key fields key h)
+KeysHaveTheirOutputs =
+    (idle : Option ℕ) (fields : List Field) (key : List Value) (children otherwise : StreamTrees) (h : History) →
+    IsTrue (keeps_keys fields children otherwise) →
+    filter (output_has fields key) (outputs_of (one_by idle fields children otherwise) h)
+    ≡ outputs_of (one_by idle fields children otherwise) (of_key fields key h)
 
 -- the output has a key, and no other
 pub record HasOneKey (fields : List Field) (output : Output) : Type 0 where
@@ -52,5 +64,7 @@ pub record HasOneKey (fields : List Field) (output : Output) : Type 0 where
   pub only : (other : List Value) → IsTrue (output_has fields other output) → other ≡ key
 
 abbrev pub OutputsHaveOneKey : Type 0
-OutputsHaveOneKey = (idle : Option ℕ) (fields : List Field) (children otherwise : StreamTrees) (h : History) → IsTrue (keeps_keys fields children otherwise) →
+OutputsHaveOneKey =
+    (idle : Option ℕ) (fields : List Field) (children otherwise : StreamTrees) (h : History) →
+    IsTrue (keeps_keys fields children otherwise) →
     AllByRecursion (HasOneKey fields) (outputs_of (one_by idle fields children otherwise) h)

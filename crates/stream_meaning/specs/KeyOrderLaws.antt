@@ -13,7 +13,9 @@ keys_that_came fields h = map (λ event. event_key event fields) (events h)
 
 -- a key is listed exactly where an event with that key came
 abbrev pub KeysAreThoseThatCame : Type 0
-KeysAreThoseThatCame = (fields : List Field) (key : List Value) (h : History) → Contains (fork_keys fields h) key ↔ Contains (keys_that_came fields h) key
+KeysAreThoseThatCame =
+    (fields : List Field) (key : List Value) (h : History)
+    → Contains (fork_keys fields h) key ↔ Contains (keys_that_came fields h) key
 
 -- a history with more entries
 abbrev pub lengthened : History → List Entry → History
@@ -27,4 +29,5 @@ pub record AddsKeys (before now : List (List Value)) : Type 0 where
 
 -- keys stand in the order in which they first came: those of a longer history begin with those of the shorter one
 abbrev pub KeysStayInOrder : Type 0
-KeysStayInOrder = (fields : List Field) (h : History) (more : List Entry) → AddsKeys (fork_keys fields h) (fork_keys fields (lengthened h more))
+KeysStayInOrder = (fields : List Field) (h : History) (more : List Entry)
+    → AddsKeys (fork_keys fields h) (fork_keys fields (lengthened h more))

@@ -47,7 +47,8 @@ kind_keeps fields _ = true
 -- so do all streams of a plan
 abbrev mutual
   pub stream_keeps : List Field → StreamTree → Bool
-  stream_keeps fields (stream kind children otherwise) = kind_keeps fields kind && (plan_keeps fields children && plan_keeps fields otherwise)
+  stream_keeps fields (stream kind children otherwise) =
+      kind_keeps fields kind && (plan_keeps fields children && plan_keeps fields otherwise)
 
   pub plan_keeps : List Field → StreamTrees → Bool
   plan_keeps fields none = true

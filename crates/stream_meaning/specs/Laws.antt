@@ -1,5 +1,6 @@
 -- Laws of what streams mean.
-use Rattle.std.specs.Prelude.{◌≡◌, ℕ, ◌+◌, ◌-◌, ◌%◌, ◌<◌, ◌==◌, Bool, if◌then◌else◌, IsFalse, List, [], ◌∷◌, ◌++◌, Option}
+use Rattle.std.specs.Prelude.{◌≡◌, ℕ, ◌+◌, ◌-◌, ◌%◌, ◌<◌, ◌==◌, Bool, if◌then◌else◌, IsFalse, List, [], ◌∷◌, ◌++◌}
+use Rattle.std.specs.Prelude.{Option}
 use Rattle.std.specs.List.{flat_map, list_any, IsDistinct}
 use Rattle.ev_types.specs.declared.field.Field.{Field}
 use Rattle.ev_types.specs.declared.item.Item.{Item}
@@ -40,44 +41,54 @@ own_outputs kind (h ▸ In item) = outputs_among (at_item kind (h ▸ In item))
 
 -- the outputs below at a tick, branch by branch
 abbrev pub outputs_at_tick : Entry → (Branch → StreamTrees) → (Branch → History) → List Branch → List Output
-outputs_at_tick Tick below received branches = flat_map (λ branch. outputs_at (below branch) (received branch ▸ Tick)) branches
+outputs_at_tick Tick below received branches =
+    flat_map (λ branch. outputs_at (below branch) (received branch ▸ Tick)) branches
 outputs_at_tick (In item) below received branches = []
 
 -- the outputs below at each emission, in order
 abbrev pub outputs_at_emissions : (Branch → StreamTrees) → (Branch → History) → List Emission → List Output
 outputs_at_emissions below received [] = []
 outputs_at_emissions below received (emission ∷ more) =
-    outputs_at (below emission.branch) (received emission.branch ▸ In emission.item) ++ outputs_at_emissions below (received_more emission received) more
+    outputs_at (below emission.branch) (received emission.branch ▸ In emission.item)
+    ++ outputs_at_emissions below (received_more emission received) more
 
 abbrev pub OutputsAreInOrder : Type 0
 OutputsAreInOrder = (kind : KindTree) (children otherwise : StreamTrees) (h : History) (x : Entry) →
     outputs_at (also (stream kind children otherwise) none) (h ▸ x)
     ≡ own_outputs kind (h ▸ x)
     ++ (outputs_at_tick x (below children otherwise) (λ branch. child_history kind branch h) (branches kind h)
-    ++ outputs_at_emissions (below children otherwise) (λ branch. ticked x (child_history kind branch h)) (emissions kind (h ▸ x)))
+    ++ outputs_at_emissions (below children otherwise) (λ branch. ticked x (child_history kind branch h))
+    (emissions kind (h ▸ x)))
 
 -- outputs come stream by stream, and over a history entry by entry
 pub record OutputsGrow : Type 0 where
-  pub streams : (first : StreamTree) (more : StreamTrees) (h : History) → outputs_at (also first more) h ≡ outputs_at (also first none) h ++ outputs_at more h
+  pub streams : (first : StreamTree) (more : StreamTrees) (h : History)
+      → outputs_at (also first more) h ≡ outputs_at (also first none) h ++ outputs_at more h
   pub nothing : (h : History) → outputs_at none h ≡ []
-  pub entries : (plan : StreamTrees) (h : History) (x : Entry) → outputs_of plan (h ▸ x) ≡ outputs_of plan h ++ outputs_at plan (h ▸ x)
+  pub entries : (plan : StreamTrees) (h : History) (x : Entry)
+      → outputs_of plan (h ▸ x) ≡ outputs_of plan h ++ outputs_at plan (h ▸ x)
 
 -- a history without the events of other keys
 abbrev pub of_key : List Field → List Value → History → History
 of_key fields key (since start) = since start
 of_key fields key (h ▸ Tick) = of_key fields key h ▸ Tick
-of_key fields key (h ▸ In (One event)) = if same_key (event_key event fields) key then of_key fields key h ▸ In (One event) else of_key fields key h
+of_key fields key (h ▸ In (One event)) =
+    if same_key (event_key event fields) key then of_key fields key h ▸ In (One event) else of_key fields key h
 of_key fields key (h ▸ In (Many es)) = of_key fields key h
 
 -- a history without the events of other forks
 abbrev pub of_fork : Option ℕ → List Field → KeyFork → History → History
 of_fork idle fields fork (since start) = since start
 of_fork idle fields fork (h ▸ Tick) = of_fork idle fields fork h ▸ Tick
-of_fork idle fields fork (h ▸ In (One event)) = if same_fork (fork_of idle fields event h) fork then of_fork idle fields fork h ▸ In (One event) else of_fork idle fields fork h
+of_fork idle fields fork (h ▸ In (One event)) =
+    if same_fork (fork_of idle fields event h) fork then of_fork idle fields fork h ▸ In (One event)
+    else of_fork idle fields fork h
 of_fork idle fields fork (h ▸ In (Many es)) = of_fork idle fields fork h
 
 abbrev pub ForksHaveTheirEvents : Type 0
-ForksHaveTheirEvents = (idle : Option ℕ) (fields : List Field) (fork : KeyFork) (h : History) → fork_history idle fields fork h ≡ of_fork idle fields fork h
+ForksHaveTheirEvents =
+    (idle : Option ℕ) (fields : List Field) (fork : KeyFork) (h : History)
+    → fork_history idle fields fork h ≡ of_fork idle fields fork h
 
 -- no key comes twice
 abbrev pub ForkKeysAreApart : Type 0
@@ -88,7 +99,9 @@ is_among key = list_any (λ other. same_key other key)
 
 -- a fork has ticks alone until its first event comes
 abbrev pub UnseenForksHaveTicks : Type 0
-UnseenForksHaveTicks = (idle : Option ℕ) (fields : List Field) (fork : KeyFork) (h : History) → IsFalse (list_any (λ other. same_fork other fork) (forks_that_came idle fields h)) →
+UnseenForksHaveTicks =
+    (idle : Option ℕ) (fields : List Field) (fork : KeyFork) (h : History) →
+    IsFalse (list_any (λ other. same_fork other fork) (forks_that_came idle fields h)) →
     TicksAlone (fork_history idle fields fork h)
 
 -- how many ticks have come
@@ -109,7 +122,8 @@ BranchesKeepMoments = (kind : KindTree) (branch : Branch) (h : History) → Same
 
 abbrev pub WindowsAreMultiples : Type 0
 WindowsAreMultiples = (secs : ℕ) (h : History) → 0 < secs →
-    window_of secs (h ▸ Tick) ≡ (if (moment_of (h ▸ Tick) - begun h) % secs == 0 then window_of secs h + 1 else window_of secs h)
+    window_of secs (h ▸ Tick)
+    ≡ (if (moment_of (h ▸ Tick) - begun h) % secs == 0 then window_of secs h + 1 else window_of secs h)
 
 -- an item that is not an empty vector
 abbrev pub IsNotEmpty : Item → Type 0

@@ -52,18 +52,21 @@ BranchEffects = Branch → History → List Effect
 
 -- a tick goes to each branch that was there before it, which has received this so far
 abbrev pub at_tick : Entry → BranchEffects → (Branch → History) → List Branch → List Effect
-at_tick Tick effects_in received below = flat_map (λ branch. marked branch (effects_in branch (received branch ▸ Tick))) below
+at_tick Tick effects_in received below =
+    flat_map (λ branch. marked branch (effects_in branch (received branch ▸ Tick))) below
 at_tick (In item) effects_in received below = []
 
 -- what a branch has received once one more emission was made
 abbrev pub received_more : Emission → (Branch → History) → Branch → History
-received_more emission received branch = if same_branch emission.branch branch then received branch ▸ In emission.item else received branch
+received_more emission received branch =
+    if same_branch emission.branch branch then received branch ▸ In emission.item else received branch
 
 -- each emission goes to its branch, which has received this so far, before the next one is made
 abbrev pub at_emissions : BranchEffects → (Branch → History) → List Emission → List Effect
 at_emissions effects_in received [] = []
 at_emissions effects_in received (emission ∷ more) =
-    effects_in emission.branch (received emission.branch ▸ In emission.item) ++ at_emissions effects_in (received_more emission received) more
+    effects_in emission.branch (received emission.branch ▸ In emission.item)
+    ++ at_emissions effects_in (received_more emission received) more
 
 -- below a `by` each fork is a copy of the children
 abbrev pub branch_effects : (History → List Effect) → (History → List Effect) → BranchEffects
@@ -78,8 +81,10 @@ abbrev mutual
   stream_effects (stream kind children otherwise) (since start) = []
   stream_effects (stream kind children otherwise) (h ▸ x) =
       own_effects kind (h ▸ x)
-      ++ at_tick x (branch_effects (plan_effects children) (plan_effects otherwise)) (λ branch. child_history kind branch h) (branches kind h)
-      ++ at_emissions (branch_effects (plan_effects children) (plan_effects otherwise)) (λ branch. ticked x (child_history kind branch h)) (emissions kind (h ▸ x))
+      ++ at_tick x (branch_effects (plan_effects children) (plan_effects otherwise))
+      (λ branch. child_history kind branch h) (branches kind h)
+      ++ at_emissions (branch_effects (plan_effects children) (plan_effects otherwise))
+      (λ branch. ticked x (child_history kind branch h)) (emissions kind (h ▸ x))
 
   pub plan_effects : StreamTrees → History → List Effect
   plan_effects none h = []

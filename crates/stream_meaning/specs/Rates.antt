@@ -1,5 +1,6 @@
 -- Streams that count events in windows. The first tick of a window is the one at which its number comes.
-use Rattle.std.specs.Prelude.{ℕ, zero, suc, ◌+◌, ◌-◌, ◌%◌, Bool, false, nat_lt, ◌==◌, if◌then◌else◌, List, [], ◌∷◌, ◌++◌, length, drop}
+use Rattle.std.specs.Prelude.{ℕ, zero, suc, ◌+◌, ◌-◌, ◌%◌, Bool, false, nat_lt, ◌==◌, if◌then◌else◌, List, [], ◌∷◌}
+use Rattle.std.specs.Prelude.{◌++◌, length, drop}
 use Rattle.ev_types.specs.declared.event.Event.{Event}
 use Rattle.ev_types.specs.declared.item.Item.{Item}
 use Rattle.ev_types.specs.declared.item.Item.TheVariants.{One, Many}
@@ -44,14 +45,15 @@ rolls_into n secs (suc window) h = nat_lt n (count_in secs window h + one_if (ro
 abbrev pub allowed : ℕ → ℕ → ℕ → History → ℕ
 allowed n secs window h = n - one_if (rolls_into n secs window h)
 
--- rollup: the first n of a window one by one, each as a vector; when the window ends, the others in one, which counts in
--- the next, so that of that one only n - 1 events pass one by one
+-- rollup: the first n of a window one by one, each as a vector; when the window ends, the others in one, which counts
+-- in the next, so that of that one only n - 1 events pass one by one
 abbrev pub rollup_items : ℕ → ℕ → History → List Item
 rollup_items n secs (since start) = []
 rollup_items n secs (h ▸ Tick) =
     let window = window_of secs h in
     if window_of secs (h ▸ Tick) == window then []
-    else (if rolls_into n secs (suc window) h then vector (drop (allowed n secs window h) (events_in secs window h)) else [])
+    else (if rolls_into n secs (suc window) h then vector (drop (allowed n secs window h) (events_in secs window h))
+    else [])
 rollup_items n secs (h ▸ In (One event)) =
     let window = window_of secs h in
     if nat_lt (count_in secs window h + one_if (rolls_into n secs window h)) n then vector (event ∷ []) else []

@@ -19,7 +19,8 @@ pub record IsLongestRun (field : Field) (es last : List Event) : Type 0 where
   pub suffix : es ≡ earlier ++ last
   pub value : Value
   pub same : all_hold field value last
-  pub longest : (other : Value) (front back : List Event) → es ≡ front ++ back → all_hold field other back → length back ≤ length last
+  pub longest : (other : Value) (front back : List Event) → es ≡ front ++ back → all_hold field other back
+      → length back ≤ length last
 
 abbrev pub RunsAreLongest : Type 0
 RunsAreLongest = (field : Field) (h : History) → IsLongestRun field (events h) (run field h)

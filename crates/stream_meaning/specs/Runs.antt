@@ -1,5 +1,6 @@
 -- Streams that compare an event with those before it.
-use Rattle.std.specs.Prelude.{ℕ, ◌+◌, Bool, true, not, ◌&&◌, nat_le, ◌==◌, if◌then◌else◌, List, [], ◌∷◌, ◌++◌, length, Option, Some, None}
+use Rattle.std.specs.Prelude.{ℕ, ◌+◌, Bool, true, not, ◌&&◌, nat_le, ◌==◌, if◌then◌else◌, List, [], ◌∷◌, ◌++◌, length}
+use Rattle.std.specs.Prelude.{Option, Some, None}
 use Rattle.std.specs.List.{list_all}
 use Rattle.ev_types.specs.declared.event.Event.{Event}
 use Rattle.ev_types.specs.declared.field.Field.{Field}
@@ -31,7 +32,8 @@ last_value field init (h ▸ In (Many es)) = last_value field init h
 abbrev pub changed_items : Field → Option Value → History → List Item
 changed_items field init (since start) = []
 changed_items field init (h ▸ Tick) = []
-changed_items field init (h ▸ In (One event)) = if differs_from field (last_value field init h) event then each (event ∷ []) else []
+changed_items field init (h ▸ In (One event)) =
+    if differs_from field (last_value field init h) event then each (event ∷ []) else []
 changed_items field init (h ▸ In (Many es)) = []
 
 -- there are at least n events, and the last n hold the value
@@ -42,26 +44,30 @@ has_run n field value es = nat_le n (length es) && list_all (holds_value field v
 abbrev pub runs_items : ℕ → Field → History → List Item
 runs_items n field (since start) = []
 runs_items n field (h ▸ Tick) = []
-runs_items n field (h ▸ In (One event)) = if has_run n field (field_value event field) (events h ++ event ∷ []) then each (event ∷ []) else []
+runs_items n field (h ▸ In (One event)) =
+    if has_run n field (field_value event field) (events h ++ event ∷ []) then each (event ∷ []) else []
 runs_items n field (h ▸ In (Many es)) = []
 
 -- the last events that hold the same, back to the last change
 abbrev pub run : Field → History → List Event
 run field (since start) = []
 run field (h ▸ Tick) = run field h
-run field (h ▸ In (One event)) = if differs_from field (last_value field None h) event then event ∷ [] else run field h ++ event ∷ []
+run field (h ▸ In (One event)) =
+    if differs_from field (last_value field None h) event then event ∷ [] else run field h ++ event ∷ []
 run field (h ▸ In (Many es)) = run field h
 
 -- the moment of the first of them
 abbrev pub run_began : Field → History → ℕ
 run_began field (since start) = start
 run_began field (h ▸ Tick) = run_began field h
-run_began field (h ▸ In (One event)) = if differs_from field (last_value field None h) event then moment_of h else run_began field h
+run_began field (h ▸ In (One event)) =
+    if differs_from field (last_value field None h) event then moment_of h else run_began field h
 run_began field (h ▸ In (Many es)) = run_began field h
 
 -- stable: each event of the run at the second when the run has lasted `secs`, and from then on each event as it comes
 abbrev pub stable_items : ℕ → Field → History → List Item
 stable_items secs field (since start) = []
 stable_items secs field (h ▸ Tick) = if moment_of (h ▸ Tick) == run_began field h + secs then each (run field h) else []
-stable_items secs field (h ▸ In (One event)) = if nat_le (run_began field (h ▸ In (One event)) + secs) (moment_of h) then each (event ∷ []) else []
+stable_items secs field (h ▸ In (One event)) =
+    if nat_le (run_began field (h ▸ In (One event)) + secs) (moment_of h) then each (event ∷ []) else []
 stable_items secs field (h ▸ In (Many es)) = []

@@ -1,5 +1,6 @@
 -- Streams that pass on vectors of events, by their number or by their own times.
-use Rattle.std.specs.Prelude.{ℕ, ℤ, Bool, pos, negsuc, ◌/◌, ◌%◌, ◌-ℤ◌, int_lt, ◌==◌, if◌then◌else◌, List, [], ◌∷◌, ◌++◌, length, filter, map}
+use Rattle.std.specs.Prelude.{ℕ, ℤ, Bool, pos, negsuc, ◌/◌, ◌%◌, ◌-ℤ◌, int_lt, ◌==◌, if◌then◌else◌, List, [], ◌∷◌, ◌++◌}
+use Rattle.std.specs.Prelude.{length, filter, map}
 use Rattle.std.specs.Int.{int_max}
 use Rattle.std.specs.Ordering.{int_eq}
 use Rattle.ev_types.specs.declared.event.Event.{Event}
@@ -43,7 +44,8 @@ abbrev pub stretch_before : ℕ → List Event → Event → List Event
 stretch_before secs [] event = []
 stretch_before secs (first ∷ more) event =
     let latest = greatest (stretch_of secs first first) (map (stretch_of secs first) more) in
-    if int_lt latest (stretch_of secs first event) then filter (λ other. int_eq (stretch_of secs first other) latest) (first ∷ more) else []
+    if int_lt latest (stretch_of secs first event)
+    then filter (λ other. int_eq (stretch_of secs first other) latest) (first ∷ more) else []
 
 -- fixed time window: at the first event of a later stretch the events of the latest one before
 abbrev pub fixed_time_items : ℕ → History → List Item

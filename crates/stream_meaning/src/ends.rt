@@ -44,8 +44,8 @@ pub fn end_examples_are_computed()
     ensures nested_end { NestedEndExample }
 {}
 
-/// A key ends at a tick exactly if its last event came `idle` seconds before, so an event of it comes between two of its
-/// ends.
+/// A key ends at a tick exactly if its last event came `idle` seconds before, so an event of it comes between two of
+/// its ends.
 pub fn keys_end_after_silence()
     ensures last { LastMomentsAreLast }
     ensures ends { EndsFollowSilence }
@@ -72,8 +72,8 @@ pub fn live_forks_are_recent()
 {}
 
 /// What each entry does to the live forks: a tick removes those whose key ends at it, and an event adds the fork of its
-/// key if that is not there. So with their keys, and with the moments at which the last events of these came. A key ends
-/// by a moment if its last event came `idle` seconds before it or earlier.
+/// key if that is not there. So with their keys, and with the moments at which the last events of these came. A key
+/// ends by a moment if its last event came `idle` seconds before it or earlier.
 pub fn live_forks_follow_entries()
     ensures forks { LiveForksFollowEntries }
     ensures keys { LiveKeysFollowEntries }

@@ -103,7 +103,8 @@ pub fn index_examples_are_computed()
     ensures defaulted { DefaultedExample }
 {}
 
-/// What small plans say at the moments and times where a window, a run or a stretch ends, as the definitions compute it.
+/// What small plans say at the moments and times where a window, a run or a stretch ends, as the definitions compute
+/// it.
 pub fn window_examples_are_computed()
     ensures expired_on_arrival { ExpiredOnArrivalExample }
     ensures expired_at_the_start { ExpiredAtTheStartExample }

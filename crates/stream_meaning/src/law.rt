@@ -51,15 +51,15 @@ pub fn ticks_alone_are_quiet()
     ensures plans { TicksAreQuiet }
 {}
 
-/// What a stream says at the last entry of its history: what it says by itself; then, at a tick, what is below it says at
-/// the tick, branch by branch; then what is below it says at each emission, in order.
+/// What a stream says at the last entry of its history: what it says by itself; then, at a tick, what is below it says
+/// at the tick, branch by branch; then what is below it says at each emission, in order.
 pub fn outputs_are_in_order()
     ensures entry { OutputsAreInOrder }
     ensures history { OutputsGrow }
 {}
 
-/// A fork's history has all ticks and the events that go to it, so ticks alone before the first of these. No key is twice
-/// among those that came.
+/// A fork's history has all ticks and the events that go to it, so ticks alone before the first of these. No key is
+/// twice among those that came.
 pub fn forks_have_their_events()
     ensures apart { ForkKeysAreApart }
     ensures events { ForksHaveTheirEvents }
@@ -88,8 +88,8 @@ pub fn deadlines_are_first()
     ensures first { DeadlinesAreFirst }
 {}
 
-/// Where only ticks follow, some stream of a plan passes something on next at the plan's deadline, the least of those of
-/// its streams in all forks. This is so where the streams' numbers are in their ranges. A fork is due exactly where
+/// Where only ticks follow, some stream of a plan passes something on next at the plan's deadline, the least of those
+/// of its streams in all forks. This is so where the streams' numbers are in their ranges. A fork is due exactly where
 /// some stream in it passes something on.
 pub fn deadlines_of_plans_are_first()
     ensures due { TicksActByEmissions }
@@ -157,9 +157,9 @@ pub fn folds_are_of_all_metrics()
     ensures sums { SumsAdd }
 {}
 
-/// Under one `by` on host and service, or on one of them, whose streams set none of its fields, each output is of one key.
-/// What a key has at an entry is what its fork has there, and an event of another key does nothing to either. So the
-/// outputs of a key are those of the ticks and the events of the key alone.
+/// Under one `by` on host and service, or on one of them, whose streams set none of its fields, each output is of one
+/// key. What a key has at an entry is what its fork has there, and an event of another key does nothing to either. So
+/// the outputs of a key are those of the ticks and the events of the key alone.
 pub fn keys_have_their_outputs()
     ensures entry { KeysActByForks }
     ensures history { KeysHaveTheirOutputs }

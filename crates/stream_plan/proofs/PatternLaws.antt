@@ -1,6 +1,7 @@
 -- The texts of a plan's regular expressions, one level and one stream at a time.
 use Rattle.std.proofs.lemmas.List.{drop_all, append-nil}
-use Rattle.std.proofs.Common.{length-append, arith, min, ◌≡◌, ℕ, ◌+◌, ◌<◌, ◌≤◌, subst, List, [], ◌++◌, length, drop, get_or, refl, sym, ap, ◌∙◌, append_assoc, add-one}
+use Rattle.std.proofs.Common.{length-append, arith, min, ◌≡◌, ℕ, ◌+◌, ◌<◌, ◌≤◌, subst, List, [], ◌++◌, length, drop}
+use Rattle.std.proofs.Common.{get_or, refl, sym, ap, ◌∙◌, append_assoc, add-one}
 use Rattle.std.proofs.Math.Seq.{drop-cons}
 use Rattle.stream_plan.specs.declared.plan.Stream.{Stream, out-Stream}
 use Rattle.list_laws.specs.Counts.{greatest}

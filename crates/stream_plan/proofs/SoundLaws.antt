@@ -1,5 +1,6 @@
 -- There is no fault exactly where each stream is without it.
-use Rattle.std.proofs.Common.{inl, inr, ◌≡◌, ◌≤◌, Bool, true, false, not, ◌||◌, List, [], ◌∷◌, length, Option, Some, None, refl, ap}
+use Rattle.std.proofs.Common.{inl, inr, ◌≡◌, ◌≤◌, Bool, true, false, not, ◌||◌, List, [], ◌∷◌, length, Option, Some}
+use Rattle.std.proofs.Common.{None, refl, ap}
 use Rattle.std.specs.Prelude.{slice_get}
 use Rattle.std.specs.List.{filter, AllByRecursion}
 use Rattle.std.specs.Option.{option_map, option_or}
@@ -7,9 +8,11 @@ use Rattle.std.proofs.lemmas.Bool.{le-ltb, ltb-false}
 use Rattle.std.proofs.lemmas.Option.{slice_get_cases, slice_get_past}
 use Rattle.stream_plan.specs.declared.fault.PlanWhy.{PlanWhy}
 use Rattle.stream_plan.specs.declared.fault.PlanWhy.TheVariants.{Many, Deep, Children, Range, Kind}
-use Rattle.stream_plan.specs.Faults.{Placed, Fault, preorder_of, kind_of, counts, ends_in_fork, place_of, fault_for, first_fault}
+use Rattle.stream_plan.specs.Faults.{Placed, Fault, preorder_of, kind_of, counts, ends_in_fork, place_of, fault_for}
+use Rattle.stream_plan.specs.Faults.{first_fault}
 use Rattle.stream_plan.specs.Kinds.{takes, is_in_range}
-use Rattle.stream_plan.specs.Sound.{IsSound, IsShallow, IsInRange, IsEndlessInForks, TakesWhatComes, SoundPlansHaveNoFault}
+use Rattle.stream_plan.specs.Sound.{IsSound, IsShallow, IsInRange, IsEndlessInForks, TakesWhatComes}
+use Rattle.stream_plan.specs.Sound.{SoundPlansHaveNoFault}
 use Rattle.stream_plan.specs.Tree.{StreamTrees}
 
 all_are : {A : Type 0} (P Q : A → Type 0) → ((x : A) → P x → Q x) → (xs : List A) → AllByRecursion P xs

@@ -1,10 +1,12 @@
 -- The plain tree of a stream, one level at a time, and the lists of streams in it.
-use Rattle.std.proofs.Common.{◌≡◌, ℕ, suc, ◌+◌, ◌<◌, ◌==◌, not, List, [], ◌∷◌, ◌++◌, length, drop, get_or, refl, ap, ◌∙◌, arith, add-one}
+use Rattle.std.proofs.Common.{◌≡◌, ℕ, suc, ◌+◌, ◌<◌, ◌==◌, not, List, [], ◌∷◌, ◌++◌, length, drop, get_or, refl, ap}
+use Rattle.std.proofs.Common.{◌∙◌, arith, add-one}
 use Rattle.std.specs.declared.alloc.Global.{Global}
 use Rattle.std.specs.declared.vec.Vec.{Vec}
 use Rattle.std.proofs.Math.Seq.{drop-cons}
 use Rattle.stream_plan.specs.declared.kinds.Flow.{Flow}
-use Rattle.stream_plan.specs.declared.plan.Stream.{Stream, Row_of-Stream, end_of-Stream, more_of-Stream, out-Stream, is-Stream', items-the_row-Stream, items_hidden-the_row-Stream-0}
+use Rattle.stream_plan.specs.declared.plan.Stream.{Stream, Row_of-Stream, end_of-Stream, more_of-Stream, out-Stream}
+use Rattle.stream_plan.specs.declared.plan.Stream.{is-Stream', items-the_row-Stream, items_hidden-the_row-Stream-0}
 use Rattle.stream_plan.specs.declared.plan.Stream.TheBlock.{hidden-the_row-Stream-0}
 use Rattle.stream_plan.specs.Faults.{preorder_at, preorder_in, count_of, has_streams}
 use Rattle.stream_plan.specs.Search.{opened}

@@ -30,16 +30,21 @@ stream_lists (Last ∷ ms) = none ∷ stream_lists ms
 stream_lists (Here kind ∷ ms) = built kind (stream_lists ms)
 
 mutual
-  back-stream : (s : StreamTree) (ms : List Mark) (streams : StreamTrees) (lists : List StreamTrees) → stream_lists ms ≡ streams ∷ lists →
+  back-stream : (s : StreamTree) (ms : List Mark) (streams : StreamTrees) (lists : List StreamTrees) →
+      stream_lists ms ≡ streams ∷ lists →
       stream_lists (stream_marks s ++ ms) ≡ also s streams ∷ lists
   back-stream (stream kind children otherwise) ms streams lists is =
       ap (λ more. built kind (stream_lists more)) (append_assoc (streams_marks children) (streams_marks otherwise) ms)
-      ∙ ap (built kind) (back-streams children (streams_marks otherwise ++ ms) ∙ ap (λ rest. children ∷ rest) (back-streams otherwise ms ∙ ap (λ rest. otherwise ∷ rest) is))
+      ∙ ap (built kind)
+      (back-streams children (streams_marks otherwise ++ ms)
+      ∙ ap (λ rest. children ∷ rest) (back-streams otherwise ms ∙ ap (λ rest. otherwise ∷ rest) is))
 
-  back-streams : (streams : StreamTrees) (ms : List Mark) → stream_lists (streams_marks streams ++ ms) ≡ streams ∷ stream_lists ms
+  back-streams : (streams : StreamTrees) (ms : List Mark)
+      → stream_lists (streams_marks streams ++ ms) ≡ streams ∷ stream_lists ms
   back-streams none ms = refl
   back-streams (also s streams) ms =
-      ap stream_lists (append_assoc (stream_marks s) (streams_marks streams) ms) ∙ back-stream s (streams_marks streams ++ ms) streams (stream_lists ms) (back-streams streams ms)
+      ap stream_lists (append_assoc (stream_marks s) (streams_marks streams) ms)
+      ∙ back-stream s (streams_marks streams ++ ms) streams (stream_lists ms) (back-streams streams ms)
 
 abbrev first_streams : List StreamTrees → StreamTrees
 first_streams [] = none

@@ -1,5 +1,6 @@
 -- The faults of a plan, each with the path of the stream that has it.
-use Rattle.std.specs.Prelude.{◌≡◌, ℕ, ◌+◌, Bool, true, false, not, ◌&&◌, ◌||◌, nat_lt, List, [], ◌∷◌, ◌++◌, length, Option, Some, slice_get}
+use Rattle.std.specs.Prelude.{◌≡◌, ℕ, ◌+◌, Bool, true, false, not, ◌&&◌, ◌||◌, nat_lt, List, [], ◌∷◌, ◌++◌, length}
+use Rattle.std.specs.Prelude.{Option, Some, slice_get}
 use Rattle.std.specs.List.{filter}
 use Rattle.std.specs.Option.{option_map, option_or}
 use Rattle.stream_plan.specs.declared.fault.PlanFault.{PlanFault}
@@ -8,12 +9,14 @@ use Rattle.stream_plan.specs.declared.fault.PlanWhy.{PlanWhy}
 use Rattle.stream_plan.specs.declared.fault.PlanWhy.TheVariants.{Many, Deep, Children, Range, Kind}
 use Rattle.stream_plan.specs.declared.search.TheConstants.{MAX_STREAMS, MAX_DEPTH}
 use Rattle.stream_plan.specs.declared.kinds.Flow.{Flow}
-use Rattle.stream_plan.specs.Kinds.{takes, passes_on, at_top, has_idle, may_have_children, may_have_otherwise, is_in_range}
+use Rattle.stream_plan.specs.Kinds.{takes, passes_on, at_top, has_idle, may_have_children, may_have_otherwise}
+use Rattle.stream_plan.specs.Kinds.{is_in_range}
 use Rattle.stream_plan.specs.Tree.{KindTree, StreamTree, stream, StreamTrees, none, also}
 
 -- ---- the streams of a plan
 
--- a stream with its path, which are the child numbers from the top down to it, and with what its parent passes on and whether it is in forks
+-- a stream with its path, which are the child numbers from the top down to it, and with what its parent passes on and
+-- whether it is in forks
 pub record Placed : Type 0 where
   pub path : List ℕ
   pub flow : Flow

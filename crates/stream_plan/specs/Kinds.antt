@@ -5,7 +5,8 @@ use Rattle.stream_plan.specs.declared.kinds.TheConstants.{MAX_COUNT, MAX_SECS}
 use Rattle.stream_plan.specs.declared.kinds.Flow.{Flow}
 use Rattle.stream_plan.specs.declared.kinds.Input.{Input}
 use Rattle.stream_plan.specs.declared.kinds.Input.TheVariants.{Nothing, Event, Vector}
-use Rattle.stream_plan.specs.Tree.{KindTree, Index, Notice, Sdo, Where, With, Default, By, Runs, Throttle, Rollup, Batch, Stable, FixedEvent, MovingEvent, FixedTime, MovingTime, Coalesce, Smap}
+use Rattle.stream_plan.specs.Tree.{KindTree, Index, Notice, Sdo, Where, With, Default, By, Runs, Throttle, Rollup}
+use Rattle.stream_plan.specs.Tree.{Batch, Stable, FixedEvent, MovingEvent, FixedTime, MovingTime, Coalesce, Smap}
 
 -- ---- what is taken and what is passed on
 

@@ -13,7 +13,8 @@ kind_patterns _ = []
 -- their texts, those of each stream before those of the streams below it, its children before the others that follow it
 unfoldable mutual
   pub stream_patterns : StreamTree → List (List ℕ)
-  stream_patterns (stream kind children otherwise) = kind_patterns kind ++ (plan_patterns children ++ plan_patterns otherwise)
+  stream_patterns (stream kind children otherwise) =
+      kind_patterns kind ++ (plan_patterns children ++ plan_patterns otherwise)
 
   pub plan_patterns : StreamTrees → List (List ℕ)
   plan_patterns none = []

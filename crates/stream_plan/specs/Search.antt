@@ -10,7 +10,8 @@ use Rattle.stream_plan.specs.Tree.{StreamTree, stream, kind_tree, list_trees}
 -- the tree of a stream, whose first level is open
 unfoldable pub opened : Stream → StreamTree
 opened s =
-    stream (kind_tree (out-Stream s).kind) (list_trees (out-Stream s).children.items) (list_trees (out-Stream s).otherwise.items)
+    stream (kind_tree (out-Stream s).kind) (list_trees (out-Stream s).children.items)
+    (list_trees (out-Stream s).otherwise.items)
 
 -- where a search ends that has these streams before it
 abbrev pub ends_at : Search → List Placed → Option (List ℕ)

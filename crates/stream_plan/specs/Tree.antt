@@ -65,7 +65,8 @@ kind_tree (code.Smap fold) = Smap fold
 
 abbrev mutual
   pub stream_tree : Stream → StreamTree
-  stream_tree (Stream' kind shape children shape' otherwise) = stream (kind_tree kind) (stream_trees children) (stream_trees otherwise)
+  stream_tree (Stream' kind shape children shape' otherwise) =
+      stream (kind_tree kind) (stream_trees children) (stream_trees otherwise)
 
   pub stream_trees : {m : _} → Row_of-Stream m → StreamTrees
   stream_trees end_of-Stream = none

@@ -52,8 +52,8 @@ impl CheckedPlan {
     }
 }
 
-/// Checks the plan. It is refused for its first fault, by the order of [`PlanWhy`], and taken if it has none. Attributes
-/// that are set may have any key: which names are fields is a rule of the texts of configurations.
+/// Checks the plan. It is refused for its first fault, by the order of [`PlanWhy`], and taken if it has none.
+/// Attributes that are set may have any key: which names are fields is a rule of the texts of configurations.
 #[tactic(auto, unfolding(crate::specs::Faults::first_fault))]
 pub fn check_kinds(alloc: Global, plan: Plan) -> Result<CheckedPlan, PlanFault>
     ensures ok { IfOk result (λ checked. checked ≡ plan_tree plan) }

@@ -33,8 +33,8 @@ pub enum PlanWhy {
     /// It is an `Index` or a `Notice` and has children, or it has streams in `otherwise` and is not a `Where`.
     #[error("children")]
     Children,
-    /// A count or a number of seconds is out of its range, a field is set to a value that does not fit it, or it is a `By`
-    /// with `idle` that is below another `By`.
+    /// A count or a number of seconds is out of its range, a field is set to a value that does not fit it, or it is a
+    /// `By` with `idle` that is below another `By`.
     #[error("range")]
     Range,
     /// It does not take what its parent passes on.

@@ -62,8 +62,8 @@ impl ReadyPlan {
     }
 }
 
-/// Builds the regular expressions of the plan, of which there are fewer than 2^32. They are numbered from 0, in the order
-/// of [`ReadyPlan`].
+/// Builds the regular expressions of the plan, of which there are fewer than 2^32. They are numbered from 0, in the
+/// order of [`ReadyPlan`].
 pub fn build_plan<P: Patterns>(
     alloc: Global,
     plan: CheckedPlan,

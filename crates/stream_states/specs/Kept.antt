@@ -18,7 +18,9 @@ use Rattle.stream_meaning.specs.Emitted.{emitted}
 use Rattle.stream_meaning.specs.History.{History, begun, TicksAlone}
 use Rattle.stream_plan.specs.Tree.{KindTree, Index, Notice, Sdo, Where, With, Default, Tag, By, Smap}
 use Rattle.stream_states.specs.declared.kept.KeptState.{KeptState}
-use Rattle.stream_states.specs.declared.kept.KeptState.TheVariants.{Changed, Runs, Throttle, Rollup, Batch, Stable, FixedEvent, MovingEvent, FixedTime, MovingTime, Coalesce}
+use Rattle.stream_states.specs.declared.kept.KeptState.TheVariants.{Changed, Runs, Throttle, Rollup, Batch, Stable}
+use Rattle.stream_states.specs.declared.kept.KeptState.TheVariants.{FixedEvent, MovingEvent, FixedTime, MovingTime}
+use Rattle.stream_states.specs.declared.kept.KeptState.TheVariants.{Coalesce}
 
 -- a stream of the kind needs to know what came before
 abbrev pub keeps : KindTree → Bool

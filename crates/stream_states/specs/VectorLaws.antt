@@ -10,7 +10,9 @@ use Rattle.stream_states.specs.Kept.{keeps, KeptRepresents}
 use Rattle.stream_states.specs.declared.kept.KeptState.{KeptState}
 
 abbrev pub VectorsPassNothing : Type 0
-VectorsPassNothing = (kind : KindTree) (h : History) (es : List Event) → keeps kind ≡ true → emissions kind (h ▸ In (Many es)) ≡ []
+VectorsPassNothing =
+    (kind : KindTree) (h : History) (es : List Event) → keeps kind ≡ true → emissions kind (h ▸ In (Many es)) ≡ []
 
 abbrev pub VectorsAreIgnored : Type 0
-VectorsAreIgnored = (kind : KindTree) (state : KeptState) (h : History) (es : List Event) → KeptRepresents kind state h → KeptRepresents kind state (h ▸ In (Many es))
+VectorsAreIgnored = (kind : KindTree) (state : KeptState) (h : History) (es : List Event) → KeptRepresents kind state h
+    → KeptRepresents kind state (h ▸ In (Many es))

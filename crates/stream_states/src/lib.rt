@@ -1,4 +1,5 @@
-//! The states of the kinds of streams that keep something, as one type. A stream needs no line for each kind to run them.
+//! The states of the kinds of streams that keep something, as one type. A stream needs no line for each kind to run
+//! them.
 #![tactic(auto)]
 
 mod fresh;

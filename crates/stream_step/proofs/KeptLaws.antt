@@ -1,5 +1,6 @@
 -- What the states of kinds that keep something pass on, and what they keep at a vector and at a quiet tick.
-use Rattle.std.proofs.Common.{◌≡◌, ℕ, ◌+◌, ◌==◌, nat_lt, Bool, true, false, cond, List, [], ◌∷◌, ◌++◌, map, refl, sym, ap, subst, ◌∙◌, arith}
+use Rattle.std.proofs.Common.{◌≡◌, ℕ, ◌+◌, ◌==◌, nat_lt, Bool, true, false, cond, List, [], ◌∷◌, ◌++◌, map, refl, sym}
+use Rattle.std.proofs.Common.{ap, subst, ◌∙◌, arith}
 use Rattle.std.proofs.lemmas.Bool.Decides.{nat_tests}
 use Rattle.ev_types.specs.declared.event.Event.{Event}
 use Rattle.ev_types.specs.declared.item.Emission.{Emission as CodeEmission}
@@ -33,7 +34,9 @@ use Rattle.stream_meaning.specs.Runs.{run, run_began}
 use Rattle.stream_plan.specs.Tree.{KindTree}
 use Rattle.stream_states.specs.Kept.{keeps, kept_kind, KeptRepresents, HasHistory, Passes}
 use Rattle.stream_states.specs.declared.kept.KeptState.{KeptState}
-use Rattle.stream_states.specs.declared.kept.KeptState.TheVariants.{Changed, Runs, Throttle, Rollup, Batch, Stable, FixedEvent, MovingEvent, FixedTime, MovingTime, Coalesce}
+use Rattle.stream_states.specs.declared.kept.KeptState.TheVariants.{Changed, Runs, Throttle, Rollup, Batch, Stable}
+use Rattle.stream_states.specs.declared.kept.KeptState.TheVariants.{FixedEvent, MovingEvent, FixedTime, MovingTime}
+use Rattle.stream_states.specs.declared.kept.KeptState.TheVariants.{Coalesce}
 use Rattle.stream_states.proofs.PassLaws.{none_passed, silent_as}
 use Rattle.stream_states.proofs.VectorLaws.{vectors_pass_nothing, vectors_are_ignored}
 use Rattle.stream_step.specs.Step.{emission_meant}

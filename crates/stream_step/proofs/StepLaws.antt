@@ -1,5 +1,6 @@
 -- Where a stream's regular expressions are, and what streams that keep nothing do.
-use Rattle.std.proofs.Common.{◌≡◌, ℕ, ◌+◌, ◌≤◌, Bool, true, false, cond, List, [], ◌++◌, length, take, drop, refl, sym, ap, ◌∙◌, subst, arith, length-append}
+use Rattle.std.proofs.Common.{◌≡◌, ℕ, ◌+◌, ◌≤◌, Bool, true, false, cond, List, [], ◌++◌, length, take, drop, refl, sym}
+use Rattle.std.proofs.Common.{ap, ◌∙◌, subst, arith, length-append}
 use Rattle.std.specs.Prelude.{Option, None}
 use Rattle.std.proofs.lemmas.List.{append-nil}
 use Rattle.ev_types.specs.declared.event.Event.{Event}
@@ -24,7 +25,8 @@ use Rattle.stream_meaning.specs.Emission.{Children, Otherwise, Fork, to, emissio
 use Rattle.stream_meaning.specs.declared.entry.Entry.TheVariants.{Tick, Item as In}
 use Rattle.stream_meaning.specs.History.{History, ◌▸◌}
 use Rattle.stream_step.specs.declared.passed.Passed.TheVariants.{Keyed}
-use Rattle.stream_step.specs.Step.{AreAt, ended_by, emissions_meant, HasNumbers, is_kept, Keeps, StateRepresents, QuietTicksKeepStates}
+use Rattle.stream_step.specs.Step.{AreAt, ended_by, emissions_meant, HasNumbers, is_kept, Keeps, StateRepresents}
+use Rattle.stream_step.specs.Step.{QuietTicksKeepStates}
 use Rattle.stream_step.specs.declared.state.State.{State}
 use Rattle.stream_step.specs.declared.state.State.TheVariants.{Bare, Rule, Kept, Forks}
 use Rattle.stream_step.proofs.KeptLaws.{kept_still}

@@ -10,7 +10,8 @@ use Rattle.stream_meaning.specs.declared.entry.Entry.{Entry}
 use Rattle.stream_meaning.specs.declared.entry.Entry.TheVariants.{Tick, Item as In}
 use Rattle.stream_meaning.specs.History.{History, ◌▸◌}
 use Rattle.stream_meaning.specs.Ends.{times_ended}
-use Rattle.stream_meaning.specs.Emission.{Branch as MeantBranch, Children as children, Otherwise as otherwise, Fork as fork, Emission, to, emissions}
+use Rattle.stream_meaning.specs.Emission.{Branch as MeantBranch, Children as children, Otherwise as otherwise}
+use Rattle.stream_meaning.specs.Emission.{Fork as fork, Emission, to, emissions}
 use Rattle.stream_meaning.specs.Laws.{own_outputs}
 use Rattle.stream_states.specs.Kept.{keeps, KeptRepresents}
 use Rattle.stream_step.specs.declared.passed.Branch.{Branch}
@@ -61,8 +62,8 @@ pub record AreAt (own : List (List ℕ)) (first count : ℕ) (texts : List (List
   pub counted : length own ≡ count
   pub among : texts ≡ before ++ (own ++ after)
 
--- A `where` keeps the numbers of its regular expressions among those of the whole plan, and a `by` the number from which
--- on its children have theirs. The other kinds that keep nothing of what came need no number.
+-- A `where` keeps the numbers of its regular expressions among those of the whole plan, and a `by` the number from
+-- which on its children have theirs. The other kinds that keep nothing of what came need no number.
 abbrev pub HasNumbers : List (List ℕ) → KindTree → State → Type 0
 HasNumbers texts (Where rule) (Rule first count) = AreAt (searches rule) first count texts
 HasNumbers texts (Where rule) state = ⊥
@@ -92,8 +93,10 @@ QuietTicksKeepStates = (texts : List (List ℕ)) (kind : KindTree) (state : Stat
 
 -- ---- what one entry does
 
--- after one more entry the state represents the longer history, the stream's own outputs are put, and this is what it passes on
-pub record Acts (texts : List (List ℕ)) (kind : KindTree) (old new : State) (h : History) (x : Entry) (before after : List Output) (passed : Passed) : Type 0 where
+-- after one more entry the state represents the longer history, the stream's own outputs are put, and this is what it
+-- passes on
+pub record Acts (texts : List (List ℕ)) (kind : KindTree) (old new : State) (h : History) (x : Entry)
+    (before after : List Output) (passed : Passed) : Type 0 where
   pub represents : StateRepresents texts kind new (h ▸ x)
   pub said : after ≡ before ++ own_outputs kind (h ▸ x)
   pub passes : emissions_meant (ended_by kind h) passed x ≡ emissions kind (h ▸ x)

@@ -33,9 +33,9 @@ pub enum State {
 
 impl State {
     /// The state of a stream that begins at the moment `start`, in seconds since 1970, and to which nothing but ticks
-    /// has come. Its own regular expressions, where it has some, are those of the plan from number `next` on, and `next`
-    /// becomes the number after them. A `by` has none of its own: those of its children begin at `next`, which is left
-    /// there.
+    /// has come. Its own regular expressions, where it has some, are those of the plan from number `next` on, and
+    /// `next` becomes the number after them. A `by` has none of its own: those of its children begin at `next`, which
+    /// is left there.
     pub fn fresh(alloc: Global, kind: &Kind, next: &mut usize, start: u64) -> Result<State, Memory>
         ensures represents { IfOk result (λ state.
             (before after : List (List ℕ)) (h : History) →

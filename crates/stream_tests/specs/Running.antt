@@ -16,8 +16,8 @@ fault_of build.Memory = Memory
 abbrev pub core_of : Config → CoreConfig
 core_of config = record { plan = config.plan; expiry = config.expiry; start = 0 }
 
--- Why a test was not run: a pattern of the configuration, by its number from 0, was refused, and counted. Nothing else is
--- counted.
+-- Why a test was not run: a pattern of the configuration, by its number from 0, was refused, and counted. Nothing else
+-- is counted.
 abbrev pub HasCause : {A : Type 0} → List (List ℕ) → ℕ → ℕ → Result A RunFault → Type 0
 HasCause patterns old new (Ok verdict) = new ≡ old
 HasCause patterns old new (Err (Pattern number)) = (number < length patterns) × Rose old new

@@ -55,4 +55,6 @@ IsVerdictOn config test = IsVerdict (notices_by config (arrivals_in test.entries
 
 -- there is no other verdict
 abbrev pub VerdictsAreOne : Type 0
-VerdictsAreOne = (notices : List Notice) (expects : List Expect) (verdict other : Verdict) → IsVerdict notices expects verdict → IsVerdict notices expects other → verdict ≡ other
+VerdictsAreOne =
+    (notices : List Notice) (expects : List Expect) (verdict other : Verdict) → IsVerdict notices expects verdict
+    → IsVerdict notices expects other → verdict ≡ other

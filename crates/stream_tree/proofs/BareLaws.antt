@@ -1,5 +1,6 @@
 -- Streams that keep nothing and have none below them do no more than what they say themselves.
-use Rattle.std.proofs.Common.{◌≡◌, ℕ, zero, suc, ◌<◌, ◌≤◌, min, List, [], ◌∷◌, ◌++◌, length, drop, get_or, Option, None, refl, sym, ap, ◌∙◌, subst, arith}
+use Rattle.std.proofs.Common.{◌≡◌, ℕ, zero, suc, ◌<◌, ◌≤◌, min, List, [], ◌∷◌, ◌++◌, length, drop, get_or, Option, None}
+use Rattle.std.proofs.Common.{refl, sym, ap, ◌∙◌, subst, arith}
 use Rattle.ev_types.specs.declared.item.Item.TheVariants.{One, Many}
 use Rattle.ev_types.specs.declared.item.Output.{Output}
 use Rattle.list_laws.specs.Prefix.{IsPrefix}
@@ -7,14 +8,16 @@ use Rattle.step_count.specs.Count.{StepCount}
 use Rattle.stream_plan.specs.declared.plan.Stream.{Stream, out-Stream}
 use Rattle.stream_plan.specs.Ready.{stream_patterns, plan_patterns}
 use Rattle.stream_plan.specs.Search.{opened}
-use Rattle.stream_plan.specs.Tree.{KindTree, Index, Notice, StreamTree, StreamTrees, stream, none, also, kind_tree, list_trees}
+use Rattle.stream_plan.specs.Tree.{KindTree, Index, Notice, StreamTree, StreamTrees, stream, none, also, kind_tree}
+use Rattle.stream_plan.specs.Tree.{list_trees}
 use Rattle.stream_plan.proofs.Trees.{stream_tree-opened}
 use Rattle.stream_meaning.specs.Deadlines.{earlier, stream_deadline, plan_deadline}
 use Rattle.stream_meaning.specs.declared.entry.Entry.{Entry}
 use Rattle.stream_meaning.specs.declared.entry.Entry.TheVariants.{Tick, Item as In}
 use Rattle.stream_meaning.specs.History.{History, ◌▸◌}
 use Rattle.stream_meaning.specs.Laws.{own_outputs}
-use Rattle.stream_meaning.specs.Outputs.{Effect, stream_effects, plan_effects, outputs_among, outputs_at, due_among, given_among}
+use Rattle.stream_meaning.specs.Outputs.{Effect, stream_effects, plan_effects, outputs_among, outputs_at, due_among}
+use Rattle.stream_meaning.specs.Outputs.{given_among}
 use Rattle.stream_step.specs.declared.state.State.TheVariants.{Bare}
 use Rattle.stream_step.specs.Step.{StateRepresents}
 use Rattle.stream_tree.specs.declared.forest.Node.{Node}

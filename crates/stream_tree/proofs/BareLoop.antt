@@ -1,5 +1,6 @@
 -- An entry on its way along streams that are bare, of which the first ones have got it.
-use Rattle.std.proofs.Common.{◌≡◌, ℕ, ◌+◌, ◌<◌, ◌≤◌, ◌^◌, List, [], ◌∷◌, ◌++◌, length, take, drop, get_or, refl, sym, ap, ◌∙◌, subst}
+use Rattle.std.proofs.Common.{◌≡◌, ℕ, ◌+◌, ◌<◌, ◌≤◌, ◌^◌, List, [], ◌∷◌, ◌++◌, length, take, drop, get_or, refl, sym}
+use Rattle.std.proofs.Common.{ap, ◌∙◌, subst}
 use Rattle.std.proofs.lemmas.List.{append-nil, append_assoc, take_more, take_all}
 use Rattle.ev_types.specs.declared.item.Output.{Output}
 use Rattle.list_laws.specs.Prefix.{IsPrefix}
@@ -87,7 +88,8 @@ module _ (patterns : List Regex) (start moment : ℕ) (x : Entry) (a : List Outp
       let front = plan_effects (list_trees (take i streams)) (h ▸ x) in
       let here = stream_effects (opened (get_or streams i s)) (h ▸ x) in
       says texts h from (state_here i s texts h within is bare) comes.comes comes.small
-      ∙ ap (λ (l : List Output). l ++ own_outputs (kind_tree (out-Stream s).kind) (h ▸ x)) (so_far texts h from bare comes)
+      ∙ ap (λ (l : List Output). l ++ own_outputs (kind_tree (out-Stream s).kind) (h ▸ x))
+      (so_far texts h from bare comes)
       ∙ append_assoc a (outputs_among front) (own_outputs (kind_tree (out-Stream s).kind) (h ▸ x))
       ∙ ap (λ (l : List Output). a ++ (outputs_among front ++ l)) (sym (said_here i s h within is bare))
       ∙ ap (λ (l : List Output). a ++ l) (sym (outputs_among-append front here))
@@ -113,7 +115,8 @@ module _ (patterns : List Regex) (start moment : ℕ) (x : Entry) (a : List Outp
       ∙ ap (λ (l : List Output). a ++ l) (outputs_among-append (front ++ here) rest)
       ∙ sym (append_assoc a (outputs_among (front ++ here)) (outputs_among rest))
       ∙ ap (λ (l : List Output). l ++ outputs_among rest) (sym ends) in
-      extends_then c (b ++ own) (a ++ outputs_at (list_trees streams) (h ▸ x)) (stops h comes.comes) (outputs_among rest, all)
+      extends_then c (b ++ own) (a ++ outputs_at (list_trees streams) (h ▸ x)) (stops h comes.comes)
+      (outputs_among rest, all)
 
   pub bare_ends : (i : ℕ) (b : List Output) → length streams ≤ i → BareRan i b →
       BareRun patterns start moment a b x (list_trees streams)

@@ -1,5 +1,6 @@
 -- What comes to the branches below a stream, part by part.
-use Rattle.std.proofs.Common.{◌≡◌, ℕ, Bool, true, false, cond, List, [], ◌∷◌, ◌++◌, map, Option, Some, None, is_some, sym, ap, ◌∙◌, subst}
+use Rattle.std.proofs.Common.{◌≡◌, ℕ, Bool, true, false, cond, List, [], ◌∷◌, ◌++◌, map, Option, Some, None, is_some}
+use Rattle.std.proofs.Common.{sym, ap, ◌∙◌, subst}
 use Rattle.std.proofs.lemmas.List.{append-nil, map-append}
 use Rattle.ev_types.specs.declared.item.Emission.{Emission as CodeEmission}
 use Rattle.ev_types.specs.declared.item.Item.{Item}
@@ -26,14 +27,25 @@ use Rattle.stream_step.specs.Step.{branch_meant, branch_numbered, emission_meant
 use Rattle.stream_tree.specs.declared.forest.Forest.{Forest}
 use Rattle.stream_tree.specs.declared.forest.Node.{Node}
 use Rattle.stream_tree.specs.Ends.{idle_by}
-use Rattle.stream_tree.specs.Forest.{nodes_of, Below, LiveKeys, below_of, forked_by, key_fork, BelowRepresents, ForestRepresents}
+use Rattle.stream_tree.specs.Forest.{nodes_of, Below, LiveKeys, below_of, forked_by, key_fork, BelowRepresents}
+use Rattle.stream_tree.specs.Forest.{ForestRepresents}
 use Rattle.stream_tree.specs.Forks.{Finds}
-use Rattle.stream_tree.specs.Running.{ComesAt, Stops, ForestRuns, ForestStops, kind_of, children_of, otherwise_of, Received, BelowIs, effects_below, branches_by, FitsBranch, with_branch, with_branches, after_tick, extended, entering, ForkRuns, ForkStops, DueRuns, DueStops, TickRuns, TickStops, BranchRuns, BranchStops, EmissionsRun, EmissionsStop}
+use Rattle.stream_tree.specs.Running.{ComesAt, Stops, ForestRuns, ForestStops, kind_of, children_of, otherwise_of}
+use Rattle.stream_tree.specs.Running.{Received, BelowIs, effects_below, branches_by, FitsBranch, with_branch}
+use Rattle.stream_tree.specs.Running.{with_branches, after_tick, extended, entering, ForkRuns, ForkStops, DueRuns}
+use Rattle.stream_tree.specs.Running.{DueStops, TickRuns, TickStops, BranchRuns, BranchStops, EmissionsRun}
+use Rattle.stream_tree.specs.Running.{EmissionsStop}
 use Rattle.stream_tree.specs.Tree.{Performs, PerformsPart}
 use Rattle.stream_tree.proofs.ForkLaws.{fork_goes_on, extended_here, extended_elsewhere}
-use Rattle.stream_tree.proofs.PerformLaws.{grew_none, grew_then, part_none, part_more, part_then, stops_more, stops_then}
+use Rattle.stream_tree.proofs.PerformLaws.{grew_none, grew_then, part_none, part_more, part_then, stops_more}
+use Rattle.stream_tree.proofs.PerformLaws.{stops_then}
 use Rattle.stream_tree.proofs.StillLaws.{below_same, forks_tick}
-use Rattle.stream_tree.proofs.ReceivedLaws.{fork_found, holds_there, kind_of-opened, children_of-opened, otherwise_of-opened, branch_of_key, idle_in, item_leaves, idle_same, children_stand, otherwise_stand, children_put, otherwise_put, forks_represent, forks_put, fit_front, fit_back, live-snoc, items_ended, after_emissions-snoc, at_emissions-snoc, at_emissions-append, unseen_after, comes_here, stand_after, none_past}
+use Rattle.stream_tree.proofs.ReceivedLaws.{fork_found, holds_there, kind_of-opened, children_of-opened}
+use Rattle.stream_tree.proofs.ReceivedLaws.{otherwise_of-opened, branch_of_key, idle_in, item_leaves, idle_same}
+use Rattle.stream_tree.proofs.ReceivedLaws.{children_stand, otherwise_stand, children_put, otherwise_put}
+use Rattle.stream_tree.proofs.ReceivedLaws.{forks_represent, forks_put, fit_front, fit_back, live-snoc, items_ended}
+use Rattle.stream_tree.proofs.ReceivedLaws.{after_emissions-snoc, at_emissions-snoc, at_emissions-append, unseen_after}
+use Rattle.stream_tree.proofs.ReceivedLaws.{comes_here, stand_after, none_past}
 
 module _ {G : Type 0} (patterns : List Regex) (start moment : ℕ) where
   -- ---- the entry comes to one branch
@@ -382,7 +394,8 @@ module _ {G : Type 0} (patterns : List Regex) (start moment : ℕ) where
   due_stops_case texts plan beside first None idle live received a b t u below forked idle_is from represents comes
       stops =
       absurd (cc)
-  due_stops_case texts plan beside first (Some own) idle live received a b t u below forked idle_is from represents comes
+  due_stops_case texts plan beside first (Some own) idle live received a b t u below forked idle_is from
+      represents comes
       stops =
       subst (λ (hs : List Effect). Stops a t b u Tick hs)
       (sym (forks_tick (plan_effects plan) (plan_effects beside) received live))
@@ -433,9 +446,11 @@ module _ {G : Type 0} (patterns : List Regex) (start moment : ℕ) where
         let shape = forked_by (kind_of (opened s)) in
         let idle = idle_in shape in
         let here =
-        forks_represent texts plan first (ForestRepresents texts plan) (ForestRepresents texts (otherwise_of (opened s)))
+        forks_represent texts plan first (ForestRepresents texts plan)
+        (ForestRepresents texts (otherwise_of (opened s)))
         shape live received key ended (below_of children otherwise forks) fits represents in
-        let own : (branch_of_key key ended) ≡ key_fork live key = ap (λ (n : ℕ). Fork (record { key = key; number = n })) here.3 in
+        let own : (branch_of_key key ended) ≡ key_fork live key =
+        ap (λ (n : ℕ). Fork (record { key = key; number = n })) here.3 in
         let at =
         fork_found start moment s streams is first key ended x children otherwise forks found number finds texts live
         received fits represents unseen past comes in
@@ -449,7 +464,8 @@ module _ {G : Type 0} (patterns : List Regex) (start moment : ℕ) where
               shape moment live received (extended (branch_of_key key ended) x received) key ended
               (nodes_of children) (nodes_of otherwise) forks forks' fits represents
               (fork_goes_on texts plan idle key moment live.keys live.last after.last
-              (λ k. received (key_fork live k)) (λ k. extended (branch_of_key key ended) x received (key_fork live k)) found forks'
+              (λ k. received (key_fork live k)) (λ k. extended (branch_of_key key ended) x received (key_fork live k))
+              found forks'
               number (received (branch_of_key key ended) ▸ x) here.1 comes.comes
               (extended_here live key ended here.3 x received) (extended_elsewhere live key ended here.3 x received)
               (λ k same. ap (λ (b : Bool). cond b (Some moment) (live.last k)) same)
@@ -465,9 +481,11 @@ module _ {G : Type 0} (patterns : List Regex) (start moment : ℕ) where
         let plan = children_of (opened s) in
         let shape = forked_by (kind_of (opened s)) in
         let here =
-        forks_represent texts plan first (ForestRepresents texts plan) (ForestRepresents texts (otherwise_of (opened s)))
+        forks_represent texts plan first (ForestRepresents texts plan)
+        (ForestRepresents texts (otherwise_of (opened s)))
         shape live received key ended (below_of children otherwise forks) fits represents in
-        let own : (branch_of_key key ended) ≡ key_fork live key = ap (λ (n : ℕ). Fork (record { key = key; number = n })) here.3 in
+        let own : (branch_of_key key ended) ≡ key_fork live key =
+        ap (λ (n : ℕ). Fork (record { key = key; number = n })) here.3 in
         let at =
         fork_found start moment s streams is first key ended x children otherwise forks found number finds texts live
         received fits represents unseen past comes in
@@ -562,7 +580,8 @@ module _ {G : Type 0} (patterns : List Regex) (start moment : ℕ) where
       let Means = ForestRepresents texts plan in
       let Beside = ForestRepresents texts (otherwise_of s) in
       let shape = forked_by (kind_of s) in
-      let one = so_far texts live received from (fit_front shape live.ended es (emission ∷ []) fit) represents unseen stand in
+      let one =
+      so_far texts live received from (fit_front shape live.ended es (emission ∷ []) fit) represents unseen stand in
       let so = λ (branch : Branch). after_emissions branch es (received branch) in
       let some = with_branches moment es live in
       let fits = subst (λ (ended : List Value → ℕ). FitsBranch shape ended emission.branch)
@@ -612,7 +631,8 @@ module _ {G : Type 0} (patterns : List Regex) (start moment : ℕ) where
       unseen stand =
       let shape = forked_by (kind_of s) in
       let fit' = fit_front shape live.ended (es ++ emission ∷ []) rest fit in
-      let one = so_far texts live received from (fit_front shape live.ended es (emission ∷ []) fit') represents unseen stand in
+      let one =
+      so_far texts live received from (fit_front shape live.ended es (emission ∷ []) fit') represents unseen stand in
       let so = λ (branch : Branch). after_emissions branch es (received branch) in
       let some = with_branches moment es live in
       let fits = subst (λ (ended : List Value → ℕ). FitsBranch shape ended emission.branch)

@@ -1,5 +1,6 @@
 -- Which forks are due at a tick, in which order, and which end at it.
-use Rattle.std.proofs.Common.{◌≡◌, ℕ, ◌+◌, ◌<◌, ◌≤◌, ◌==◌, Bool, true, false, not, ◌||◌, cond, nat_le, eqb, List, [], ◌∷◌, ◌++◌, map, filter, length, Option, Some, None, refl, sym, ap, ◌∙◌, subst, arith}
+use Rattle.std.proofs.Common.{◌≡◌, ℕ, ◌+◌, ◌<◌, ◌≤◌, ◌==◌, Bool, true, false, not, ◌||◌, cond, nat_le, eqb, List, []}
+use Rattle.std.proofs.Common.{◌∷◌, ◌++◌, map, filter, length, Option, Some, None, refl, sym, ap, ◌∙◌, subst, arith}
 use mathlib.Core.Bool.{true≢false}
 use Rattle.std.specs.Prelude.{IfSome}
 use Rattle.std.specs.List.{AllByRecursion, IsDistinct, flat_map}
@@ -16,7 +17,8 @@ use Rattle.stream_meaning.specs.DueLaws.{has_effects}
 use Rattle.stream_meaning.specs.declared.entry.Entry.TheVariants.{Tick}
 use Rattle.stream_meaning.specs.Ends.{idle_after}
 use Rattle.stream_meaning.specs.History.{History, ◌▸◌, moment_of, is_at as falls_at}
-use Rattle.stream_meaning.specs.Outputs.{Effect, Due, Given, due_if_any, outputs_among, due_among, given_among, plan_effects}
+use Rattle.stream_meaning.specs.Outputs.{Effect, Due, Given, due_if_any, outputs_among, due_among, given_among}
+use Rattle.stream_meaning.specs.Outputs.{plan_effects}
 use Rattle.stream_meaning.proofs.KeptEvents.{all-weaker}
 use Rattle.stream_meaning.proofs.LiveLaws.{map_filter, filter_same}
 use Rattle.stream_meaning.proofs.OutputLaws.{outputs_among-append}
@@ -28,7 +30,9 @@ use Rattle.stream_tree.specs.Ends.{has_ended, not_ended}
 use Rattle.stream_tree.specs.Forest.{AreInRange, Meaning, nodes_of, keys_in, IsFork, ForksRepresent}
 use Rattle.stream_tree.specs.Running.{fork_after, lives_on}
 use Rattle.stream_tree.proofs.ForkLaws.{keys_stay}
-use Rattle.stream_tree.proofs.KeptLaws.{Kept, numbers_of, keys_of_kept, has, or-true, eqb-is, all-both, all-to_map, all-passed, chosen_apart, all-chosen_numbers, has_all, has_chosen, key_at, keys_at}
+use Rattle.stream_tree.proofs.KeptLaws.{Kept, numbers_of, keys_of_kept, has, or-true, eqb-is, all-both, all-to_map}
+use Rattle.stream_tree.proofs.KeptLaws.{all-passed, chosen_apart, all-chosen_numbers, has_all, has_chosen, key_at}
+use Rattle.stream_tree.proofs.KeptLaws.{keys_at}
 use Rattle.stream_tree.proofs.KindLaws.{plan_ranges}
 use Rattle.stream_tree.proofs.PerformLaws.{due-append, given-append}
 use Rattle.stream_tree.proofs.StillLaws.{IsStill, plan_still}

@@ -1,5 +1,6 @@
 -- A tick on its way along the forks that are due.
-use Rattle.std.proofs.Common.{◌≡◌, ℕ, zero, suc, ◌+◌, ◌<◌, ◌≤◌, Bool, true, false, ◌||◌, List, [], ◌∷◌, ◌++◌, map, length, take, drop, get_or, eqb, Option, refl, sym, ap, ◌∙◌, subst, arith}
+use Rattle.std.proofs.Common.{◌≡◌, ℕ, zero, suc, ◌+◌, ◌<◌, ◌≤◌, Bool, true, false, ◌||◌, List, [], ◌∷◌, ◌++◌, map}
+use Rattle.std.proofs.Common.{length, take, drop, get_or, eqb, Option, refl, sym, ap, ◌∙◌, subst, arith}
 use Rattle.std.specs.List.{IsDistinct, flat_map}
 use Rattle.std.proofs.lemmas.List.{append-nil, drop_more, drop_all, take_more, take_all, take-append-drop}
 use Rattle.std.proofs.lemmas.Grind.{flat_map-append, get_or_default_zero}
@@ -23,7 +24,8 @@ use Rattle.stream_tree.specs.Ends.{not_ended}
 use Rattle.stream_tree.specs.Forest.{Meaning, LiveKeys, nodes_of, AreInRange, ForksRepresent, ForestRepresents}
 use Rattle.stream_tree.specs.Running.{ComesAt, ForkRuns, ForkStops, DueRuns, DueStops, ForkComes}
 use Rattle.stream_tree.specs.Tree.{Performs, PerformsPart}
-use Rattle.stream_tree.proofs.DueLaws.{entered_as_given, due_are_all, due_apart, none_due, Halfway, DueRan, due_begins, due_goes_on, due_ends}
+use Rattle.stream_tree.proofs.DueLaws.{entered_as_given, due_are_all, due_apart, none_due, Halfway, DueRan, due_begins}
+use Rattle.stream_tree.proofs.DueLaws.{due_goes_on, due_ends}
 use Rattle.stream_tree.proofs.KeptLaws.{Kept, has, eqb-is, eqb-self, has_rest, distinct_rest, key_at}
 use Rattle.stream_tree.proofs.PerformLaws.{extends_none, grew_none, grew_then, part_more, part_then}
 use Rattle.stream_tree.proofs.StillLaws.{forest_still}
@@ -109,7 +111,8 @@ module _ {G : Type 0} (patterns : List Regex) (start moment : ℕ) (a : List Out
         (due_apart streams (ForestRepresents texts streams) idle live.keys live.last received moment ranges
         (now received comes) first represents)
 
-    all_due : flat_map (λ key. due_if_any (plan_effects streams (received key ▸ Tick))) live.keys ≡ Due_in received numbers
+    all_due : flat_map (λ key. due_if_any (plan_effects streams (received key ▸ Tick))) live.keys
+        ≡ Due_in received numbers
     all_due =
         due_are_all streams (ForestRepresents texts streams) idle live.keys live.last received moment ranges
         (now received comes) first represents

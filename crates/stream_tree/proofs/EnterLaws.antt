@@ -1,5 +1,6 @@
 -- An entry that comes to one fork.
-use Rattle.std.proofs.Common.{◌≡◌, ℕ, ◌+◌, ◌≤◌, ◌^◌, Bool, true, false, cond, eqb, List, [], ◌∷◌, map, Option, Some, None, IsSome, refl, sym, ap, ◌∙◌, subst, arith}
+use Rattle.std.proofs.Common.{◌≡◌, ℕ, ◌+◌, ◌≤◌, ◌^◌, Bool, true, false, cond, eqb, List, [], ◌∷◌, map, Option, Some}
+use Rattle.std.proofs.Common.{None, IsSome, refl, sym, ap, ◌∙◌, subst, arith}
 use Rattle.std.specs.Prelude.{IfSome}
 use Rattle.std.specs.List.{AllByRecursion}
 use Rattle.std.proofs.lemmas.List.{append-nil}
@@ -22,7 +23,8 @@ use Rattle.stream_tree.specs.declared.forest.Forest.{Forest}
 use Rattle.stream_tree.specs.declared.forest.Node.{Node}
 use Rattle.stream_tree.specs.Ends.{idle_by}
 use Rattle.stream_tree.specs.Forest.{nodes_of, ForestRepresents}
-use Rattle.stream_tree.specs.Running.{ComesAt, ForestRuns, ForestStops, kind_of, children_of, fork_after, ForkRan, ForkComes, ForkRuns, ForkStops}
+use Rattle.stream_tree.specs.Running.{ComesAt, ForestRuns, ForestStops, kind_of, children_of, fork_after, ForkRan}
+use Rattle.stream_tree.specs.Running.{ForkComes, ForkRuns, ForkStops}
 use Rattle.stream_tree.specs.Tree.{Performs, PerformsPart}
 use Rattle.stream_tree.proofs.ReceivedLaws.{kind_of-opened, children_of-opened}
 use Rattle.stream_tree.proofs.KeptLaws.{Kept, eqb-self, all-from_map, map-map, map-pointwise, at_number, only_kept}
@@ -108,7 +110,8 @@ fork_replaced_is texts streams idle number forks forks' fork moment due h is_tab
     written_is_replaced forks is_table number fork has_fork in
     let moments : AllByRecursion (λ (k : Kept). eqb k.number number ≡ true → moment ≡ k.moment) ks =
     all-weaker
-    (λ (k : Kept). eqb (fork_replaced number fork k).number number ≡ true → moment ≡ (fork_replaced number fork k).moment)
+    (λ (k : Kept). eqb (fork_replaced number fork k).number number ≡ true
+    → moment ≡ (fork_replaced number fork k).moment)
     (λ (k : Kept). eqb k.number number ≡ true → moment ≡ k.moment) (replaced_moment number fork moment) ks
     (all-from_map (λ (k : Kept). eqb k.number number ≡ true → moment ≡ k.moment) (fork_replaced number fork) ks
     (subst (AllByRecursion (λ (k : Kept). eqb k.number number ≡ true → moment ≡ k.moment)) put
@@ -193,13 +196,15 @@ module _ {G : Type 0} (patterns : List Regex) (start moment : ℕ) (s : Stream) 
       kept_forks forks' ≡ map (fork_dated number due) (kept_forks (with_fork forks number fork')) →
       (IsTable (with_fork forks number fork') → IsTable forks') →
       ((other : ℕ) → HasFork other (with_fork forks number fork') → HasFork other forks') →
-      ForkRuns patterns start moment a t b u x (children_of (opened s)) (idle_by (kind_of (opened s))) number forks forks'
+      ForkRuns patterns start moment a t b u x (children_of (opened s)) (idle_by (kind_of (opened s)))
+      number forks forks'
   fork_runs fork' forks' read deadline due runs deadline_is due_is read_is dated table has_on texts h from represents =
       let ran = runs texts h from (holds_here texts h represents) represents.comes in
       let deadline_so : deadline ≡ plan_deadline (children_of (opened s)) (h ▸ x) =
       deadline_is texts (h ▸ x) ran.0 (moment_small start moment h x represents.comes)
       ∙ ap (λ (ts : StreamTrees). plan_deadline ts (h ▸ x)) trees in (
-        fork_replaced_is texts (children_of (opened s)) (idle_by (kind_of (opened s))) number forks forks' fork' read due
+        fork_replaced_is texts (children_of (opened s)) (idle_by (kind_of (opened s)))
+            number forks forks' fork' read due
             (h ▸ x) represents.is_table has_fork
             (read_is (written_is_table forks represents.is_table number fork')) dated table has_on
             (subst (λ (ts : StreamTrees). ForestRepresents texts ts (nodes_of fork') (h ▸ x)) trees ran.0)

@@ -1,5 +1,6 @@
 -- An entry on its way along a list of streams, of which the first ones have got it.
-use Rattle.std.proofs.Common.{◌≡◌, ℕ, zero, suc, ◌+◌, ◌<◌, ◌≤◌, min, List, [], ◌∷◌, ◌++◌, length, take, drop, get_or, refl, sym, ap, ◌∙◌, subst, arith}
+use Rattle.std.proofs.Common.{◌≡◌, ℕ, zero, suc, ◌+◌, ◌<◌, ◌≤◌, min, List, [], ◌∷◌, ◌++◌, length, take, drop, get_or}
+use Rattle.std.proofs.Common.{refl, sym, ap, ◌∙◌, subst, arith}
 use Rattle.std.proofs.Math.ListN.{set}
 use Rattle.std.proofs.lemmas.List.{append-nil, append_assoc, take_more, take_all, take-append-drop}
 use Rattle.ev_types.specs.declared.item.Output.{Output}
@@ -15,7 +16,8 @@ use Rattle.stream_meaning.specs.History.{History, ◌▸◌}
 use Rattle.stream_meaning.specs.Outputs.{Effect, stream_effects, plan_effects}
 use Rattle.stream_tree.specs.declared.forest.Node.{Node, out-Node}
 use Rattle.stream_tree.specs.Forest.{node_below, NodeRepresents, ForestRepresents}
-use Rattle.stream_tree.specs.Running.{Stops, FirstRepresent, FirstRun, BareRun, BareStop, ForestRuns, ForestStops, StreamRuns, StreamStops}
+use Rattle.stream_tree.specs.Running.{Stops, FirstRepresent, FirstRun, BareRun, BareStop, ForestRuns, ForestStops}
+use Rattle.stream_tree.specs.Running.{StreamRuns, StreamStops}
 use Rattle.stream_tree.specs.Tree.{Performs}
 use Rattle.list_laws.specs.Prefix.{IsPrefix}
 use Rattle.stream_tree.proofs.BareLaws.{bare_after, bare_performs, bare_part}

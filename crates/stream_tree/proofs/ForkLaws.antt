@@ -1,5 +1,6 @@
 -- The forks of a `by`: the fork of a key, and an item that comes to it.
-use Rattle.std.proofs.Common.{◌≡◌, ℕ, ◌+◌, ◌<◌, ◌≤◌, Bool, true, false, ◌&&◌, ◌==◌, cond, eqb, List, [], ◌∷◌, ◌++◌, map, length, Option, Some, None, refl, sym, ap, ◌∙◌, subst, arith}
+use Rattle.std.proofs.Common.{◌≡◌, ℕ, ◌+◌, ◌<◌, ◌≤◌, Bool, true, false, ◌&&◌, ◌==◌, cond, eqb, List, [], ◌∷◌, ◌++◌, map}
+use Rattle.std.proofs.Common.{length, Option, Some, None, refl, sym, ap, ◌∙◌, subst, arith}
 use mathlib.Core.Bool.{true≢false}
 use Rattle.std.specs.Prelude.{IfSome}
 use Rattle.std.specs.List.{AllByRecursion}
@@ -29,7 +30,8 @@ use Rattle.stream_tree.specs.Forest.{Meaning, LiveKeys, key_fork, nodes_of, IsFo
 use Rattle.stream_tree.specs.Forks.{IsFound, FoundAt, Finds}
 use Rattle.stream_tree.specs.Fresh.{ForestIsFresh}
 use Rattle.stream_tree.specs.Running.{Received, FitsBranch, with_branch, UnseenHaveTicks, extended, fork_after, ForkRan}
-use Rattle.stream_tree.proofs.KeptLaws.{Kept, Tied, keys_of_kept, all-both, all-to_map, all-front, all-last, apart_tied, at_number, among_at, no_number, new_key}
+use Rattle.stream_tree.proofs.KeptLaws.{Kept, Tied, keys_of_kept, all-both, all-to_map, all-front, all-last, apart_tied}
+use Rattle.stream_tree.proofs.KeptLaws.{at_number, among_at, no_number, new_key}
 
 abbrev Keys : Type 0
 Keys = List (List Value)
@@ -71,8 +73,10 @@ module _ (Means : Meaning) (deadline : History → Option ℕ) (idle : Option �
           subst Found (sym (ap put e)) (record {
             numbered = tied;
             here =
-                λ at.
-                (subst (λ (other : List Value). Means (nodes_of k.fork) (received other)) (sym is) was.represents, refl);
+                λ at. (
+                  subst (λ (other : List Value). Means (nodes_of k.fork) (received other)) (sym is) was.represents,
+                  refl,
+                );
             elsewhere = λ other. absurd (true≢false (sym same ∙ other));
           })
       step false e =
@@ -232,7 +236,8 @@ module _ (texts : List (List ℕ)) (streams : StreamTrees) (idle : Option ℕ) (
       step true = refl
       step false = refl
 
-  goes : (idle : Option ℕ) → IfSome idle (λ secs. 0 < secs) → (g : History) (moment : ℕ) → moment_of g ≡ now → moment ≡ now
+  goes : (idle : Option ℕ) → IfSome idle (λ secs. 0 < secs) → (g : History) (moment : ℕ) → moment_of g ≡ now
+      → moment ≡ now
       → IfSome idle (λ secs. moment_of g < moment + secs)
   goes None lasts g moment at is = tt
   goes (Some secs) lasts g moment at is = omega (arith, lasts, at, is)
@@ -252,7 +257,8 @@ module _ (texts : List (List ℕ)) (streams : StreamTrees) (idle : Option ℕ) (
           let gets : received' k.key ≡ h = got k.key e in
           let last_is : last' k.key ≡ Some k.moment = came k.key e ∙ ap Some (sym here.1) in
           let at : moment_of (received' k.key) ≡ now = ap moment_of gets ∙ comes in
-          subst (IsFork Means deadline idle (last' k.key) (received' k.key)) (sym (ap put (found.numbered ∙ e))) (record {
+          subst (IsFork Means deadline idle (last' k.key) (received' k.key))
+          (sym (ap put (found.numbered ∙ e))) (record {
             represents = subst (Means (nodes_of fork)) (sym gets) represents;
             last_is = last_is;
             due_is =
@@ -281,7 +287,8 @@ module _ (texts : List (List ℕ)) (streams : StreamTrees) (idle : Option ℕ) (
             (all-to_map (λ k. IsFork Means deadline idle (last' k.key) (received' k.key) k) after ks
             (all-weaker (IsFound Means deadline idle key now number last received)
             (λ k. IsFork Means deadline idle (last' (after k).key) (received' (after k).key) (after k))
-            (λ k is. subst (λ (other : List Value). IsFork Means deadline idle (last' other) (received' other) (after k))
+            (λ k is. subst
+            (λ (other : List Value). IsFork Means deadline idle (last' other) (received' other) (after k))
             (sym (after_key ran.fork (deadline h) k))
             (now_after ran.fork ran.represents k is)) ks found.each));
       }

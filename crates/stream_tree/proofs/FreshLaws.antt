@@ -1,6 +1,7 @@
 -- Nodes that are made for streams represent ticks alone.
 use Rattle.std.specs.List.{AllByRecursion}
-use Rattle.std.proofs.Common.{◌≡◌, ℕ, ◌+◌, ◌<◌, ◌≤◌, Bool, true, false, ◌||◌, List, [], ◌∷◌, ◌++◌, length, take, get_or, Option, Some, None, is_some, refl, sym, ap, ◌∙◌, subst, arith, length-append}
+use Rattle.std.proofs.Common.{◌≡◌, ℕ, ◌+◌, ◌<◌, ◌≤◌, Bool, true, false, ◌||◌, List, [], ◌∷◌, ◌++◌, length, take, get_or}
+use Rattle.std.proofs.Common.{Option, Some, None, is_some, refl, sym, ap, ◌∙◌, subst, arith, length-append}
 use Rattle.std.proofs.lemmas.List.{append-nil, append_assoc, take_more, take_all, length-take}
 use Rattle.list_laws.specs.Counts.{greatest}
 use Rattle.ev_types.specs.declared.field.Field.{Field}
@@ -13,7 +14,8 @@ use Rattle.stream_plan.specs.Nesting.{EndsOutermost, AllEndOutermost}
 use Rattle.stream_plan.specs.Ready.{kind_patterns, stream_patterns, plan_patterns}
 use Rattle.stream_plan.specs.Search.{opened}
 use Rattle.stream_plan.specs.Sound.{IsSound}
-use Rattle.stream_plan.specs.Tree.{KindTree, By, StreamTree, StreamTrees, stream, none, kind_tree, stream_tree, list_trees}
+use Rattle.stream_plan.specs.Tree.{KindTree, By, StreamTree, StreamTrees, stream, none, kind_tree, stream_tree}
+use Rattle.stream_plan.specs.Tree.{list_trees}
 use Rattle.stream_plan.proofs.NestingLaws.{ends_outermost}
 use Rattle.stream_plan.proofs.PatternLaws.{stream_patterns-opened}
 use Rattle.stream_plan.proofs.Trees.{stream_tree-opened}
@@ -27,7 +29,9 @@ use Rattle.stream_step.specs.declared.state.State.TheVariants.{Forks}
 use Rattle.stream_step.specs.Step.{StateRepresents}
 use Rattle.stream_tree.specs.declared.forest.Forest.{Forest}
 use Rattle.stream_tree.specs.declared.forest.Node.{Node, out-Node}
-use Rattle.stream_tree.specs.Forest.{IsStreamInRange, AreInRange, Meaning, Below, LiveKeys, node_below, first_of, forked_by, live_by, key_fork, AllBare, IsFork, ForksRepresent, BelowRepresents, PartsRepresent, NodeRepresents, ForestRepresents}
+use Rattle.stream_tree.specs.Forest.{IsStreamInRange, AreInRange, Meaning, Below, LiveKeys, node_below, first_of}
+use Rattle.stream_tree.specs.Forest.{forked_by, live_by, key_fork, AllBare, IsFork, ForksRepresent, BelowRepresents}
+use Rattle.stream_tree.specs.Forest.{PartsRepresent, NodeRepresents, ForestRepresents}
 use Rattle.stream_tree.specs.Fresh.{ForestIsFresh, NodeIsFresh}
 use Rattle.stream_tree.proofs.BareLaws.{no_patterns}
 use Rattle.stream_tree.proofs.KeptLaws.{keys_of_kept}
@@ -348,7 +352,10 @@ outermost-snoc in_fork (first ∷ front) s nested =
 no_nodes : (start first : ℕ) → ForestIsFresh none start first first []
 unfolding plan_patterns
 no_nodes start first =
-    record { represents = λ before after in_fork h alone begins ranges nested at small. tt; following = λ small. omega arith }
+    record {
+      represents = λ before after in_fork h alone begins ranges nested at small. tt;
+      following = λ small. omega arith;
+    }
 
 fresh-snoc : (front : List Stream) (s : Stream) (nodes : List Node) (node : Node) (start first second third : ℕ) →
     length nodes ≡ length front →

@@ -1,5 +1,6 @@
 -- What is to be known of each kind of stream.
-use Rattle.std.proofs.Common.{◌≡◌, ℕ, ◌+◌, ◌<◌, Bool, true, false, ◌&&◌, cond, nat_le, List, [], ◌∷◌, ◌++◌, Option, Some, None, refl, ap, ◌∙◌, arith}
+use Rattle.std.proofs.Common.{◌≡◌, ℕ, ◌+◌, ◌<◌, Bool, true, false, ◌&&◌, cond, nat_le, List, [], ◌∷◌, ◌++◌, Option}
+use Rattle.std.proofs.Common.{Some, None, refl, ap, ◌∙◌, arith}
 use Rattle.std.specs.List.{AllByRecursion}
 use Rattle.std.proofs.lemmas.Bool.Decides.{nat_tests}
 use Rattle.ev_types.specs.declared.event.Event.{Event}
@@ -13,15 +14,18 @@ use Rattle.pred_eval.specs.Truth.{holds}
 use Rattle.stream_plan.specs.Faults.{preorder_at, preorder_in, count_of}
 use Rattle.stream_plan.specs.Kinds.{is_count, is_secs, is_in_range, passes_on}
 use Rattle.stream_plan.specs.Sound.{IsInRange, IsSound}
-use Rattle.stream_plan.specs.Tree.{KindTree, Index, Notice, Sdo, Where, With, Default, Tag, By, Rollup, Batch, Coalesce, Smap, StreamTree, StreamTrees, stream, none, also}
+use Rattle.stream_plan.specs.Tree.{KindTree, Index, Notice, Sdo, Where, With, Default, Tag, By, Rollup, Batch, Coalesce}
+use Rattle.stream_plan.specs.Tree.{Smap, StreamTree, StreamTrees, stream, none, also}
 use Rattle.stream_meaning.specs.declared.entry.Entry.{Entry}
 use Rattle.stream_meaning.specs.declared.entry.Entry.TheVariants.{Tick, Item as In}
 use Rattle.stream_meaning.specs.DeadlineLaws.{HasRange}
 use Rattle.stream_meaning.specs.DueLaws.{HasStreamRanges, HasRanges}
-use Rattle.stream_meaning.specs.Emission.{Branch, Children, Otherwise, Fork, Emission, to_children, image_of, passed, routed, forked, one_of, fold_of, emissions}
+use Rattle.stream_meaning.specs.Emission.{Branch, Children, Otherwise, Fork, Emission, to_children, image_of, passed}
+use Rattle.stream_meaning.specs.Emission.{routed, forked, one_of, fold_of, emissions}
 use Rattle.stream_meaning.specs.History.{History, ◌▸◌}
 use Rattle.stream_meaning.specs.Images.{folded}
-use Rattle.stream_meaning.specs.Outputs.{Effect, BranchEffects, own_effects, emits_if_any, at_tick, at_emissions, received_more}
+use Rattle.stream_meaning.specs.Outputs.{Effect, BranchEffects, own_effects, emits_if_any, at_tick, at_emissions}
+use Rattle.stream_meaning.specs.Outputs.{received_more}
 use Rattle.stream_tree.specs.Forest.{IsStreamInRange, AreInRange, forked_by}
 use Rattle.stream_tree.specs.Running.{Received, FitsBranch, FitAll, given_to, entering}
 use Rattle.stream_tree.proofs.LiveLaws.{live_ticked}

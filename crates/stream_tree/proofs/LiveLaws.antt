@@ -1,5 +1,6 @@
 -- The forks of a `by` that are live after each entry.
-use Rattle.std.proofs.Common.{◌≡◌, ℕ, ◌+◌, Bool, true, false, not, cond, List, [], ◌∷◌, map, filter, Option, Some, None, refl, sym, ap, ◌∙◌, subst}
+use Rattle.std.proofs.Common.{◌≡◌, ℕ, ◌+◌, Bool, true, false, not, cond, List, [], ◌∷◌, map, filter, Option, Some, None}
+use Rattle.std.proofs.Common.{refl, sym, ap, ◌∙◌, subst}
 use Rattle.std.specs.List.{AllByRecursion}
 use Rattle.ev_types.specs.declared.field.Field.{Field}
 use Rattle.ev_types.specs.declared.item.Item.TheVariants.{One, Many}
@@ -10,7 +11,8 @@ use Rattle.stream_meaning.specs.Branches.{branches, child_history, with_key}
 use Rattle.stream_meaning.specs.declared.entry.Entry.{Entry}
 use Rattle.stream_meaning.specs.declared.entry.Entry.TheVariants.{Tick, Item as In}
 use Rattle.stream_meaning.specs.Emission.{Branch, Fork, emissions}
-use Rattle.stream_meaning.specs.Ends.{KeyFork, key_of_fork, last_moment, times_ended, ends_next, fork_at, live_forks, live_keys}
+use Rattle.stream_meaning.specs.Ends.{KeyFork, key_of_fork, last_moment, times_ended, ends_next, fork_at, live_forks}
+use Rattle.stream_meaning.specs.Ends.{live_keys}
 use Rattle.stream_meaning.specs.History.{History, since, ◌▸◌, moment_of, TicksAlone}
 use Rattle.stream_meaning.proofs.EndLaws.{unseen_forks_have_ticks}
 use Rattle.stream_meaning.proofs.LiveLaws.{live_forks_are_the_latest, not_come, keys_at_tick, keys_at_event}
@@ -62,7 +64,8 @@ pub ended_left : (idle : Option ℕ) (fields : List Field) (h : History) →
     (live_keys idle fields (h ▸ Tick))
 ended_left idle fields h =
     subst
-    (λ (keys : Keys). AllByRecursion (λ key. times_ended idle fields key (h ▸ Tick) ≡ times_ended idle fields key h) keys)
+    (λ (keys : Keys). AllByRecursion
+    (λ key. times_ended idle fields key (h ▸ Tick) ≡ times_ended idle fields key h) keys)
     (sym (keys_at_tick idle fields h))
     (all-passed (λ (key : List Value). Unit {0})
     (λ key. times_ended idle fields key (h ▸ Tick) ≡ times_ended idle fields key h)

@@ -1,5 +1,6 @@
 -- When something is due next, part by part.
-use Rattle.std.proofs.Common.{◌≡◌, ℕ, zero, suc, ◌+◌, ◌<◌, ◌≤◌, ◌^◌, min, Bool, true, false, ◌||◌, eqb, List, [], ◌∷◌, length, map, drop, get_or, Option, Some, None, is_some, refl, sym, ap, ◌∙◌, subst, arith}
+use Rattle.std.proofs.Common.{◌≡◌, ℕ, zero, suc, ◌+◌, ◌<◌, ◌≤◌, ◌^◌, min, Bool, true, false, ◌||◌, eqb, List, [], ◌∷◌}
+use Rattle.std.proofs.Common.{length, map, drop, get_or, Option, Some, None, is_some, refl, sym, ap, ◌∙◌, subst, arith}
 use Rattle.std.specs.Prelude.{IfSome}
 use Rattle.std.specs.List.{AllByRecursion, list_any, cons_option}
 use Rattle.std.proofs.lemmas.Bool.{eq-eqb}
@@ -14,7 +15,8 @@ use Rattle.stream_plan.specs.Search.{opened}
 use Rattle.stream_plan.specs.Tree.{KindTree, By, StreamTree, StreamTrees, stream, kind_tree, list_trees}
 use Rattle.stream_plan.proofs.Trees.{stream_tree-opened}
 use Rattle.stream_meaning.specs.Branches.{child_history}
-use Rattle.stream_meaning.specs.Deadlines.{next_deadline, earlier, earliest, deadline_of, branch_end, until, stream_deadline, plan_deadline}
+use Rattle.stream_meaning.specs.Deadlines.{next_deadline, earlier, earliest, deadline_of, branch_end, until}
+use Rattle.stream_meaning.specs.Deadlines.{stream_deadline, plan_deadline}
 use Rattle.stream_meaning.specs.Emission.{Branch, Children, Otherwise}
 use Rattle.stream_meaning.specs.Ends.{idle_after}
 use Rattle.stream_meaning.specs.History.{History, moment_of}
@@ -25,7 +27,8 @@ use Rattle.stream_step.specs.Step.{StateRepresents}
 use Rattle.tick_schedule.specs.Queue.{IsLeast}
 use Rattle.stream_tree.specs.declared.forest.Forest.{Forest}
 use Rattle.stream_tree.specs.declared.forest.Node.{Node}
-use Rattle.stream_tree.specs.Forest.{Meaning, Below, first_of, forked_by, live_by, key_fork, IsFork, ForksRepresent, BelowRepresents, PartsRepresent, NodeRepresents, ForestRepresents}
+use Rattle.stream_tree.specs.Forest.{Meaning, Below, first_of, forked_by, live_by, key_fork, IsFork, ForksRepresent}
+use Rattle.stream_tree.specs.Forest.{BelowRepresents, PartsRepresent, NodeRepresents, ForestRepresents}
 use Rattle.stream_tree.specs.Running.{branches_by}
 use Rattle.stream_tree.proofs.BareLaws.{never_due, bare_after}
 use Rattle.stream_tree.proofs.KeptLaws.{Kept, eqb-is, map-map, map-pointwise}

@@ -11,7 +11,8 @@ use Rattle.stream_meaning.specs.declared.entry.Entry.TheVariants.{Tick, Item as 
 use Rattle.stream_meaning.specs.History.{History, ◌▸◌}
 use Rattle.stream_meaning.specs.Emission.{Emission, emissions}
 use Rattle.stream_meaning.specs.Laws.{own_outputs}
-use Rattle.stream_meaning.specs.Outputs.{Effect, Emits, Due, Given, Put, own_effects, emits_if_any, outputs_among, due_among, given_among}
+use Rattle.stream_meaning.specs.Outputs.{Effect, Emits, Due, Given, Put, own_effects, emits_if_any, outputs_among}
+use Rattle.stream_meaning.specs.Outputs.{due_among, given_among}
 use Rattle.stream_meaning.proofs.OutputLaws.{outputs_among-append}
 use Rattle.stream_tree.specs.Forest.{forked_by}
 use Rattle.stream_tree.specs.Running.{Stops}

@@ -1,5 +1,6 @@
 -- What the branches below a stream received, and where their nodes are then.
-use Rattle.std.proofs.Common.{◌≡◌, ℕ, ◌<◌, true, cond, eqb, List, [], ◌∷◌, ◌++◌, Option, Some, None, refl, sym, ap, ◌∙◌, subst, arith}
+use Rattle.std.proofs.Common.{◌≡◌, ℕ, ◌<◌, true, cond, eqb, List, [], ◌∷◌, ◌++◌, Option, Some, None, refl, sym, ap, ◌∙◌}
+use Rattle.std.proofs.Common.{subst, arith}
 use Rattle.std.specs.Prelude.{IfSome}
 use Rattle.std.proofs.lemmas.List.{append-nil, append_assoc}
 use Rattle.ev_types.specs.declared.item.Item.{Item}
@@ -22,9 +23,12 @@ use Rattle.stream_step.specs.declared.passed.Branch.TheVariants as code
 use Rattle.stream_tree.specs.declared.forest.Forest.{Forest}
 use Rattle.stream_tree.specs.declared.forest.Node.{Node}
 use Rattle.stream_tree.specs.Ends.{idle_by}
-use Rattle.stream_tree.specs.Forest.{Meaning, nodes_of, Below, LiveKeys, below_of, forked_by, key_fork, CanFork, ForksRepresent, BelowRepresents, ForestRepresents}
+use Rattle.stream_tree.specs.Forest.{Meaning, nodes_of, Below, LiveKeys, below_of, forked_by, key_fork, CanFork}
+use Rattle.stream_tree.specs.Forest.{ForksRepresent, BelowRepresents, ForestRepresents}
 use Rattle.stream_tree.specs.Forks.{IsFound, FoundAt, Finds}
-use Rattle.stream_tree.specs.Running.{ComesAt, kind_of, children_of, otherwise_of, Received, BelowIs, FitsBranch, FitAll, with_branch, with_branches, after_tick, UnseenHaveTicks, NonePast, extended, ForkComes, AllAreAt}
+use Rattle.stream_tree.specs.Running.{ComesAt, kind_of, children_of, otherwise_of, Received, BelowIs, FitsBranch}
+use Rattle.stream_tree.specs.Running.{FitAll, with_branch, with_branches, after_tick, UnseenHaveTicks, NonePast}
+use Rattle.stream_tree.specs.Running.{extended, ForkComes, AllAreAt}
 use Rattle.stream_tree.proofs.ForkLaws.{unseen_goes_on, unseen_fits}
 use Rattle.stream_tree.proofs.KeptLaws.{Kept}
 
@@ -107,7 +111,8 @@ module _ (texts : List (List ℕ)) (plan : StreamTrees) (first : ℕ) (Means Bes
   }
   otherwise_put (Some idle) live received x children otherwise forks otherwise' fits represents now = absurd fits
 
-  pub forks_represent : (shape : Option (Option ℕ)) (live : LiveKeys) (received : Received) (key : List Value) (number : ℕ)
+  pub forks_represent : (shape : Option (Option ℕ)) (live : LiveKeys) (received : Received) (key : List Value)
+      (number : ℕ)
       (below : Below) →
       FitsBranch shape live.ended (Fork (record { key = key; number = number })) →
       BelowRepresents texts plan first Means Beside shape live received below →
@@ -249,7 +254,8 @@ module _ (start moment : ℕ) where
         forks_represent texts plan first (ForestRepresents texts plan)
         (ForestRepresents texts (otherwise_of (opened s))) (forked_by (kind_of (opened s))) live received key ended
         (below_of children otherwise forks) fits represents in
-        let own : (branch_of_key key ended) ≡ key_fork live key = ap (λ (n : ℕ). Fork (record { key = key; number = n })) here.3 in
+        let own : (branch_of_key key ended) ≡ key_fork live key =
+        ap (λ (n : ℕ). Fork (record { key = key; number = n })) here.3 in
         subst (λ (trees : StreamTrees). Finds trees first start moment key forks found number) trees finds texts
         (idle_in (forked_by (kind_of (opened s)))) live.keys live.last
         (λ k. received (key_fork live k)) here.0 here.2
@@ -272,7 +278,8 @@ module _ (start moment : ℕ) where
           (λ (k : Kept). eqb k.number number ≡ true
           → ForestRepresents texts (children_of (opened s)) (nodes_of k.fork) (received (branch_of_key key ended)))
           (λ k found same.
-          subst (λ (b : Branch). ForestRepresents texts (children_of (opened s)) (nodes_of k.fork) (received b)) (sym own)
+          subst (λ (b : Branch). ForestRepresents texts (children_of (opened s)) (nodes_of k.fork) (received b))
+          (sym own)
           (found.here (sym found.numbered ∙ same)).0)
           (kept_forks found) at.each;
       comes = comes;

@@ -1,5 +1,6 @@
 -- A tick at which nothing happens leaves what nodes represent, if no fork ends.
-use Rattle.std.proofs.Common.{◌≡◌, ℕ, Bool, true, false, ◌||◌, List, [], ◌∷◌, ◌++◌, map, Option, Some, None, refl, sym, ap, ◌∙◌, subst, arith}
+use Rattle.std.proofs.Common.{◌≡◌, ℕ, Bool, true, false, ◌||◌, List, [], ◌∷◌, ◌++◌, map, Option, Some, None, refl, sym}
+use Rattle.std.proofs.Common.{ap, ◌∙◌, subst, arith}
 use Rattle.std.specs.List.{AllByRecursion, flat_map}
 use Rattle.std.proofs.lemmas.List.Folds.{flat_map-map}
 use Rattle.ev_types.specs.declared.value.Value.{Value}
@@ -14,7 +15,8 @@ use Rattle.stream_meaning.specs.DueLaws.{has_effects}
 use Rattle.stream_meaning.specs.Emission.{Branch, Children, Otherwise, Emission, emissions}
 use Rattle.stream_meaning.specs.declared.entry.Entry.TheVariants.{Tick}
 use Rattle.stream_meaning.specs.History.{History, ◌▸◌}
-use Rattle.stream_meaning.specs.Outputs.{Effect, due_if_any, marked, branch_effects, own_effects, at_tick, at_emissions, stream_effects, plan_effects}
+use Rattle.stream_meaning.specs.Outputs.{Effect, due_if_any, marked, branch_effects, own_effects, at_tick, at_emissions}
+use Rattle.stream_meaning.specs.Outputs.{stream_effects, plan_effects}
 use Rattle.stream_meaning.proofs.MetLaws.{and_true}
 use Rattle.stream_meaning.proofs.PlanDueLaws.{plan_stays}
 use Rattle.stream_meaning.proofs.RootLaws.{plan_tick_rooted}
@@ -22,7 +24,9 @@ use Rattle.stream_step.specs.declared.state.State.{State}
 use Rattle.stream_step.proofs.StepLaws.{states_stay}
 use Rattle.stream_tree.specs.declared.forest.Forest.{Forest}
 use Rattle.stream_tree.specs.declared.forest.Node.{Node, out-Node}
-use Rattle.stream_tree.specs.Forest.{AreInRange, Meaning, nodes_of, Below, LiveKeys, node_below, first_of, forked_by, live_by, key_fork, IsFork, ForksRepresent, BelowRepresents, PartsRepresent, ForestRepresents}
+use Rattle.stream_tree.specs.Forest.{AreInRange, Meaning, nodes_of, Below, LiveKeys, node_below, first_of, forked_by}
+use Rattle.stream_tree.specs.Forest.{live_by, key_fork, IsFork, ForksRepresent, BelowRepresents, PartsRepresent}
+use Rattle.stream_tree.specs.Forest.{ForestRepresents}
 use Rattle.stream_tree.specs.Running.{branches_by}
 use Rattle.stream_tree.proofs.KeptLaws.{Kept, or-true, all-both, all-from_map}
 use Rattle.stream_tree.proofs.KindLaws.{plan_ranges, no_emission}
@@ -225,7 +229,8 @@ mutual
             (λ nodes g here still. forest_still texts children nodes g
             (subst (λ (in_fork : Bool). AllEndOutermost in_fork children) inside endless.1) here still)
             (λ nodes g here still. forest_still texts otherwise nodes g
-            (subst (λ (in_fork : Bool). AllEndOutermost in_fork otherwise) inside endless.2) here still) silent represents.1,
+            (subst (λ (in_fork : Bool). AllEndOutermost in_fork otherwise) inside endless.2) here still)
+            silent represents.1,
       )
 
   pub forest_still : (texts : List (List ℕ)) (streams : StreamTrees) (nodes : List Node) (h : History)

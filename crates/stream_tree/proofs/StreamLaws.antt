@@ -19,7 +19,8 @@ use Rattle.stream_meaning.specs.Emission.{Branch, Fork, Emission, emissions}
 use Rattle.stream_meaning.specs.Ends.{times_ended}
 use Rattle.stream_meaning.specs.History.{History, ◌▸◌, begun, moment_of}
 use Rattle.stream_meaning.specs.Laws.{own_outputs}
-use Rattle.stream_meaning.specs.Outputs.{Effect, branch_effects, own_effects, at_tick, at_emissions, stream_effects, plan_effects}
+use Rattle.stream_meaning.specs.Outputs.{Effect, branch_effects, own_effects, at_tick, at_emissions, stream_effects}
+use Rattle.stream_meaning.specs.Outputs.{plan_effects}
 use Rattle.stream_meaning.proofs.KeptEvents.{all-weaker}
 use Rattle.stream_meaning.proofs.MomentLaws.{branch_moments}
 use Rattle.stream_step.specs.declared.passed.Passed.{Passed}
@@ -28,12 +29,16 @@ use Rattle.stream_step.specs.stream_states.Kept.{keeps}
 use Rattle.stream_step.specs.declared.state.State.TheVariants as variant
 use Rattle.stream_step.proofs.KeptLaws.{kept_keeps}
 use Rattle.stream_step.specs.Step.{ended_by, emissions_meant, is_kept, StateRepresents, Acts}
-use Rattle.stream_tree.specs.Forest.{Meaning, Below, LiveKeys, first_of, forked_by, live_by, key_fork, BelowRepresents, PartsRepresent, ForestRepresents}
-use Rattle.stream_tree.specs.Running.{ComesAt, Stops, StreamRuns, StreamStops, with_branches, keys_left, after_tick, UnseenHaveTicks, entering, AllCome, AllAreAt, TickRuns, TickStops, EmissionsRun, EmissionsStop}
+use Rattle.stream_tree.specs.Forest.{Meaning, Below, LiveKeys, first_of, forked_by, live_by, key_fork, BelowRepresents}
+use Rattle.stream_tree.specs.Forest.{PartsRepresent, ForestRepresents}
+use Rattle.stream_tree.specs.Running.{ComesAt, Stops, StreamRuns, StreamStops, with_branches, keys_left, after_tick}
+use Rattle.stream_tree.specs.Running.{UnseenHaveTicks, entering, AllCome, AllAreAt, TickRuns, TickStops, EmissionsRun}
+use Rattle.stream_tree.specs.Running.{EmissionsStop}
 use Rattle.stream_tree.specs.Tree.{Performs, PerformsPart}
 use Rattle.stream_tree.proofs.KindLaws.{emissions_fit, all_effects, no_emission}
 use Rattle.stream_tree.proofs.LiveLaws.{branches_are, unseen_now, live_ticked, ended_left, left_now, live_goes_on}
-use Rattle.stream_tree.proofs.PerformLaws.{acted, grew_then, part_then, part_more, stops_more, stops_then, own_grew, own_part}
+use Rattle.stream_tree.proofs.PerformLaws.{acted, grew_then, part_then, part_more, stops_more, stops_then, own_grew}
+use Rattle.stream_tree.proofs.PerformLaws.{own_part}
 use Rattle.stream_tree.proofs.StillLaws.{forks_same}
 
 same_moment : (a b : History) (x : Entry) → moment_of a ≡ moment_of b → moment_of (a ▸ x) ≡ moment_of (b ▸ x)
@@ -350,7 +355,8 @@ module _ {G : Type 0} (patterns : List Regex) (start moment : ℕ) (s : Stream) 
       (is_kept state ≡ false → state' ≡ state) →
       TickRuns patterns start moment b t c u x (opened s) (first_of state') below below' →
       ((ended : List Value → ℕ) →
-      EmissionsStop patterns start moment c u d v (emissions_meant ended passed x) (opened s) (first_of state') below') →
+      EmissionsStop patterns start moment c u d v (emissions_meant ended passed x) (opened s)
+      (first_of state') below') →
       StreamStops patterns start moment a t d v x (opened s) state below
   unfolding opened
   stream_passed_stops =

@@ -1,4 +1,5 @@
--- The nodes of a plan's streams: what each stream keeps between entries, the nodes of the streams below it, and its forks.
+-- The nodes of a plan's streams: what each stream keeps between entries, the nodes of the streams below it, and its
+-- forks.
 use Rattle.std.specs.Prelude.{◌≡◌, ℕ, ◌+◌, ◌<◌, ◌≤◌, true, List, [], ◌∷◌, ◌++◌, length, map, Option, Some, None, IfSome}
 use Rattle.std.specs.List.{AllByRecursion}
 use Rattle.list_laws.specs.Counts.{greatest}
@@ -23,7 +24,8 @@ use Rattle.stream_tree.specs.declared.forest.Node.{Node, out-Node}
 -- the numbers and the sets of all streams are in their ranges
 abbrev mutual
   pub IsStreamInRange : StreamTree → Type 0
-  IsStreamInRange (stream kind children otherwise) = (is_in_range kind ≡ true) × AreInRange children × AreInRange otherwise
+  IsStreamInRange (stream kind children otherwise) =
+      (is_in_range kind ≡ true) × AreInRange children × AreInRange otherwise
 
   pub AreInRange : StreamTrees → Type 0
   AreInRange none = Unit {0}
@@ -51,7 +53,8 @@ pub record Below : Type 0 where
   pub forks : ForkTable Forest
 
 abbrev pub below_of : Forest → Forest → ForkTable Forest → Below
-below_of children otherwise forks = record { children = nodes_of children; otherwise = nodes_of otherwise; forks = forks }
+below_of children otherwise forks =
+    record { children = nodes_of children; otherwise = nodes_of otherwise; forks = forks }
 
 abbrev pub node_below : Node → Below
 node_below node = below_of (out-Node node).children (out-Node node).otherwise (out-Node node).forks
@@ -69,8 +72,8 @@ abbrev pub forked_by : KindTree → Option (Option ℕ)
 forked_by (By fields idle) = Some idle
 forked_by kind = None
 
--- The keys of a `by` that have a live fork, in the order of these forks. Of each key: how often it ended, and the moment
--- of its last item.
+-- The keys of a `by` that have a live fork, in the order of these forks. Of each key: how often it ended, and the
+-- moment of its last item.
 pub record LiveKeys : Type 0 where
   pub keys : List (List Value)
   pub ended : List Value → ℕ
@@ -92,9 +95,10 @@ key_fork live key = Fork (record { key = key; number = live.ended key })
 abbrev pub Meaning : Type 1
 Meaning = List Node → History → Type 0
 
--- The fork is that of a key whose last item came at this moment. It represents what it has received, and the moment that
--- is kept for it is the least deadline of its streams, if that is not after the end of the fork. It has not ended.
-pub record IsFork (Means : Meaning) (deadline : History → Option ℕ) (idle : Option ℕ) (last : Option ℕ) (received : History) (kept : KeptFork Forest) : Type 0 where
+-- The fork is that of a key whose last item came at this moment. It represents what it has received, and the moment
+-- that is kept for it is the least deadline of its streams, if that is not after the end of the fork. It has not ended.
+pub record IsFork (Means : Meaning) (deadline : History → Option ℕ) (idle : Option ℕ) (last : Option ℕ)
+    (received : History) (kept : KeptFork Forest) : Type 0 where
   pub represents : Means (nodes_of kept.fork) received
   pub last_is : last ≡ Some kept.moment
   pub due_is : kept.due ≡ until (idle_after idle last) (deadline received)
@@ -105,10 +109,12 @@ abbrev pub keys_in : ForkTable Forest → List (List Value)
 keys_in forks = map (λ kept. kept.key) (kept_forks forks)
 
 -- The table has exactly these keys, in this order, and for each the fork that represents what it has received.
-pub record ForksRepresent (Means : Meaning) (deadline : History → Option ℕ) (idle : Option ℕ) (keys : List (List Value)) (last : List Value → Option ℕ) (received : List Value → History) (forks : ForkTable Forest) : Type 0 where
+pub record ForksRepresent (Means : Meaning) (deadline : History → Option ℕ) (idle : Option ℕ) (keys : List (List Value))
+    (last : List Value → Option ℕ) (received : List Value → History) (forks : ForkTable Forest) : Type 0 where
   pub is_table : IsTable forks
   pub keys_are : keys_in forks ≡ keys
-  pub each : AllByRecursion (λ kept. IsFork Means deadline idle (last kept.key) (received kept.key) kept) (kept_forks forks)
+  pub each : AllByRecursion (λ kept. IsFork Means deadline idle (last kept.key) (received kept.key) kept)
+      (kept_forks forks)
 
 -- Copies of the streams can be made: their numbers are in their ranges, their own forks do not end, and their regular
 -- expressions are those of all from number `first` on.
@@ -129,17 +135,21 @@ pub record PlainRepresents (Means Beside : Meaning) (received : Branch → Histo
   pub no_forks : kept_forks below.forks ≡ []
 
 -- what is below a `by`: its forks represent what they have received, and are in the table and nowhere else
-pub record ForkedRepresents (texts : List (List ℕ)) (children : StreamTrees) (first : ℕ) (Means : Meaning) (idle : Option ℕ) (live : LiveKeys) (received : Branch → History) (below : Below) : Type 0 where
+pub record ForkedRepresents (texts : List (List ℕ)) (children : StreamTrees) (first : ℕ) (Means : Meaning)
+    (idle : Option ℕ) (live : LiveKeys) (received : Branch → History) (below : Below) : Type 0 where
   pub can_fork : CanFork texts children first
   pub lasts : IfSome idle (λ secs. 0 < secs)
-  pub forks : ForksRepresent Means (plan_deadline children) idle live.keys live.last (λ key. received (key_fork live key)) below.forks
+  pub forks : ForksRepresent Means (plan_deadline children) idle live.keys live.last
+      (λ key. received (key_fork live key)) below.forks
   pub no_children : below.children ≡ []
   pub no_otherwise : below.otherwise ≡ []
 
 -- what is below a stream represents what its branches have received
-abbrev pub BelowRepresents : List (List ℕ) → StreamTrees → ℕ → Meaning → Meaning → Option (Option ℕ) → LiveKeys → (Branch → History) → Below → Type 0
+abbrev pub BelowRepresents : List (List ℕ) → StreamTrees → ℕ → Meaning → Meaning → Option (Option ℕ) → LiveKeys
+    → (Branch → History) → Below → Type 0
 BelowRepresents texts children first Means Beside None live received below = PlainRepresents Means Beside received below
-BelowRepresents texts children first Means Beside (Some idle) live received below = ForkedRepresents texts children first Means idle live received below
+BelowRepresents texts children first Means Beside (Some idle) live received below =
+    ForkedRepresents texts children first Means idle live received below
 
 -- The nodes have come to where they would be if all of this history had come to their streams. There is one for each of
 -- the first streams; those after them have none, and are bare. The texts are those of the regular expressions of the
@@ -148,7 +158,8 @@ abbrev mutual
   pub PartsRepresent : List (List ℕ) → StreamTree → State → Below → History → Type 0
   PartsRepresent texts (stream kind children otherwise) state below h =
       StateRepresents texts kind state h
-      × BelowRepresents texts children (first_of state) (ForestRepresents texts children) (ForestRepresents texts otherwise) (forked_by kind) (live_by kind h) (λ branch. child_history kind branch h) below
+      × BelowRepresents texts children (first_of state) (ForestRepresents texts children)
+      (ForestRepresents texts otherwise) (forked_by kind) (live_by kind h) (λ branch. child_history kind branch h) below
 
   pub ForestRepresents : List (List ℕ) → StreamTrees → List Node → History → Type 0
   ForestRepresents texts streams [] h = AllBare streams

@@ -8,8 +8,8 @@ use Rattle.stream_meaning.specs.History.{History, begun, TicksAlone}
 use Rattle.stream_tree.specs.declared.forest.Node.{Node}
 use Rattle.stream_tree.specs.Forest.{IsStreamInRange, AreInRange, NodeRepresents, ForestRepresents}
 
--- The streams begin at this moment. Their regular expressions begin at this number, and the next number comes after them.
--- In a fork no fork of theirs ends.
+-- The streams begin at this moment. Their regular expressions begin at this number, and the next number comes after
+-- them. In a fork no fork of theirs ends.
 pub record ForestIsFresh (streams : StreamTrees) (start first next : ℕ) (nodes : List Node) : Type 0 where
   pub represents : (before after : List (List ℕ)) (in_fork : Bool) (h : History) → TicksAlone h → begun h ≡ start →
       AreInRange streams → AllEndOutermost in_fork streams → length before ≡ first →

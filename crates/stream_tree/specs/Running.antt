@@ -1,5 +1,6 @@
 -- What one entry does to streams, to one stream, and to what is below a stream.
-use Rattle.std.specs.Prelude.{◌≡◌, ℕ, zero, suc, ◌≤◌, ◌^◌, Bool, true, false, not, eqb, if◌then◌else◌, List, [], ◌∷◌, ◌++◌, map, filter, take, Option, Some, None}
+use Rattle.std.specs.Prelude.{◌≡◌, ℕ, zero, suc, ◌≤◌, ◌^◌, Bool, true, false, not, eqb, if◌then◌else◌, List, [], ◌∷◌}
+use Rattle.std.specs.Prelude.{◌++◌, map, filter, take, Option, Some, None}
 use Rattle.std.specs.List.{AllByRecursion, flat_map}
 use Rattle.ev_types.specs.declared.item.Output.{Output}
 use Rattle.ev_types.specs.declared.value.Value.{Value}
@@ -19,13 +20,15 @@ use Rattle.stream_meaning.specs.Emission.{Branch, Children, Otherwise, Fork, Emi
 use Rattle.stream_meaning.specs.Ends.{idle_after}
 use Rattle.stream_meaning.specs.History.{History, ◌▸◌, begun, moment_of, is_at, TicksAlone}
 use Rattle.stream_meaning.specs.Laws.{is_among}
-use Rattle.stream_meaning.specs.Outputs.{Effect, Given, BranchEffects, branch_effects, due_if_any, at_tick, at_emissions, stream_effects, plan_effects, outputs_at}
+use Rattle.stream_meaning.specs.Outputs.{Effect, Given, BranchEffects, branch_effects, due_if_any, at_tick}
+use Rattle.stream_meaning.specs.Outputs.{at_emissions, stream_effects, plan_effects, outputs_at}
 use Rattle.stream_step.specs.declared.state.State.{State}
 use Rattle.stream_tree.specs.declared.forest.Forest.{Forest}
 use Rattle.stream_tree.specs.declared.forest.Node.{Node}
 use Rattle.stream_plan.specs.Nesting.{AllEndOutermost}
 use Rattle.list_laws.specs.Prefix.{IsPrefix}
-use Rattle.stream_tree.specs.Forest.{nodes_of, Below, LiveKeys, forked_by, key_fork, AreInRange, AllBare, ForksRepresent, BelowRepresents, PartsRepresent, NodeRepresents, ForestRepresents}
+use Rattle.stream_tree.specs.Forest.{nodes_of, Below, LiveKeys, forked_by, key_fork, AreInRange, AllBare}
+use Rattle.stream_tree.specs.Forest.{ForksRepresent, BelowRepresents, PartsRepresent, NodeRepresents, ForestRepresents}
 use Rattle.stream_tree.specs.Tree.{Performs, PerformsPart}
 
 -- ---- an entry that comes
@@ -37,7 +40,8 @@ pub record ComesAt (start moment : ℕ) (h : History) (x : Entry) : Type 0 where
   pub small : moment ≤ 2 ^ 40
 
 -- a part of the effects is performed, and these are not the effects of a quiet tick
-pub record Stops {G : Type 0} (old : List Output) (before : StepCount G) (new : List Output) (after : StepCount G) (x : Entry) (effects : List Effect) : Type 0 where
+pub record Stops {G : Type 0} (old : List Output) (before : StepCount G) (new : List Output) (after : StepCount G)
+    (x : Entry) (effects : List Effect) : Type 0 where
   pub part : PerformsPart old before new after effects
   pub busy : x ≡ Tick → effects ≡ [] → ⊥
 
@@ -70,7 +74,8 @@ Received = Branch → History
 
 abbrev pub BelowIs : List (List ℕ) → StreamTree → ℕ → LiveKeys → Received → Below → Type 0
 BelowIs texts s first live received below =
-    BelowRepresents texts (children_of s) first (ForestRepresents texts (children_of s)) (ForestRepresents texts (otherwise_of s)) (forked_by (kind_of s)) live received below
+    BelowRepresents texts (children_of s) first (ForestRepresents texts (children_of s))
+    (ForestRepresents texts (otherwise_of s)) (forked_by (kind_of s)) live received below
 
 abbrev pub effects_below : StreamTree → BranchEffects
 effects_below s = branch_effects (plan_effects (children_of s)) (plan_effects (otherwise_of s))
@@ -121,7 +126,8 @@ after_tick (Some idle) now Tick live = record { keys = keys_left idle now live; 
 -- the fork of a key that is not there has received nothing but ticks
 abbrev pub UnseenHaveTicks : Option (Option ℕ) → LiveKeys → Received → Type 0
 UnseenHaveTicks None live received = Unit {0}
-UnseenHaveTicks (Some idle) live received = (key : List Value) → is_among key live.keys ≡ false → TicksAlone (received (key_fork live key))
+UnseenHaveTicks (Some idle) live received =
+    (key : List Value) → is_among key live.keys ≡ false → TicksAlone (received (key_fork live key))
 
 -- one more entry for one branch
 abbrev pub extended : Branch → Entry → Received → Received
@@ -142,15 +148,18 @@ abbrev pub FirstRepresent : List (List ℕ) → ℕ → StreamTrees → List Nod
 FirstRepresent texts zero streams nodes h x = ForestRepresents texts streams nodes h
 FirstRepresent texts (suc i) none nodes h x = ForestRepresents texts none nodes h
 FirstRepresent texts (suc i) (also first more) [] h x = ⊥
-FirstRepresent texts (suc i) (also first more) (node ∷ nodes) h x = NodeRepresents texts first node (h ▸ x) × FirstRepresent texts i more nodes h x
+FirstRepresent texts (suc i) (also first more) (node ∷ nodes) h x =
+    NodeRepresents texts first node (h ▸ x) × FirstRepresent texts i more nodes h x
 
 -- a fork that got an entry: what it keeps, and the moment at which it is due, up to its end
 abbrev pub fork_after : Option ℕ → ℕ → Forest → Option ℕ → KeptFork Forest → KeptFork Forest
 fork_after idle number fork deadline kept =
-    if eqb kept.number number then record kept { fork = fork; due = until (idle_after idle (Some kept.moment)) deadline } else kept
+    if eqb kept.number number
+    then record kept { fork = fork; due = until (idle_after idle (Some kept.moment)) deadline } else kept
 
 -- the fork of the number represents this history, and all else is as it was
-pub record ForkRan (texts : List (List ℕ)) (streams : StreamTrees) (idle : Option ℕ) (number : ℕ) (forks forks' : ForkTable Forest) (h : History) : Type 0 where
+pub record ForkRan (texts : List (List ℕ)) (streams : StreamTrees) (idle : Option ℕ) (number : ℕ)
+    (forks forks' : ForkTable Forest) (h : History) : Type 0 where
   pub is_table : IsTable forks'
   pub has_forks : (other : ℕ) → HasFork other forks → HasFork other forks'
   pub fork : Forest
@@ -158,10 +167,12 @@ pub record ForkRan (texts : List (List ℕ)) (streams : StreamTrees) (idle : Opt
   pub kept : kept_forks forks' ≡ map (fork_after idle number fork (plan_deadline streams h)) (kept_forks forks)
 
 -- the fork of the number represents a history to which the entry comes
-pub record ForkComes (start moment : ℕ) (texts : List (List ℕ)) (streams : StreamTrees) (number : ℕ) (forks : ForkTable Forest) (h : History) (x : Entry) : Type 0 where
+pub record ForkComes (start moment : ℕ) (texts : List (List ℕ)) (streams : StreamTrees) (number : ℕ)
+    (forks : ForkTable Forest) (h : History) (x : Entry) : Type 0 where
   pub is_table : IsTable forks
   pub has_fork : HasFork number forks
-  pub fork : AllByRecursion (λ kept. eqb kept.number number ≡ true → ForestRepresents texts streams (nodes_of kept.fork) h) (kept_forks forks)
+  pub fork : AllByRecursion
+      (λ kept. eqb kept.number number ≡ true → ForestRepresents texts streams (nodes_of kept.fork) h) (kept_forks forks)
   pub comes : ComesAt start moment h x
 
 -- the entry comes to each branch
@@ -178,7 +189,8 @@ pub record AllAreAt (start moment : ℕ) (received : Received) : Type 0 where
   pub represents : (branch : Branch) → moment_of (received branch) ≡ moment
   pub small : moment ≤ 2 ^ 40
 
-module _ {G : Type 0} (patterns : List Regex) (start moment : ℕ) (old : List Output) (before : StepCount G) (new : List Output) (after : StepCount G) where
+module _ {G : Type 0} (patterns : List Regex) (start moment : ℕ) (old : List Output) (before : StepCount G)
+    (new : List Output) (after : StepCount G) where
   -- ---- streams, and one stream
 
   -- wherever the streams represented a history, they represent the longer one
@@ -197,7 +209,8 @@ module _ {G : Type 0} (patterns : List Regex) (start moment : ℕ) (old : List O
   abbrev pub FirstRun : Entry → List Stream → List Node → ℕ → List Node → Type 0
   FirstRun x streams nodes count nodes' = (texts : List (List ℕ)) (h : History) → AreReadFrom texts patterns →
       ForestRepresents texts (list_trees streams) nodes h → ComesAt start moment h x →
-      FirstRepresent texts count (list_trees streams) nodes' h x × Performs old before new after (plan_effects (list_trees (take count streams)) (h ▸ x))
+      FirstRepresent texts count (list_trees streams) nodes' h x
+      × Performs old before new after (plan_effects (list_trees (take count streams)) (h ▸ x))
 
   abbrev pub StreamRuns : Entry → StreamTree → State → Below → State → Below → Type 0
   StreamRuns x s state below state' below' = (texts : List (List ℕ)) (h : History) → AreReadFrom texts patterns →
@@ -214,7 +227,8 @@ module _ {G : Type 0} (patterns : List Regex) (start moment : ℕ) (old : List O
   abbrev pub ForkRuns : Entry → StreamTrees → Option ℕ → ℕ → ForkTable Forest → ForkTable Forest → Type 0
   ForkRuns x streams idle number forks forks' = (texts : List (List ℕ)) (h : History) → AreReadFrom texts patterns →
       ForkComes start moment texts streams number forks h x →
-      ForkRan texts streams idle number forks forks' (h ▸ x) × Performs old before new after (Given ∷ plan_effects streams (h ▸ x))
+      ForkRan texts streams idle number forks forks' (h ▸ x)
+      × Performs old before new after (Given ∷ plan_effects streams (h ▸ x))
 
   abbrev pub ForkStops : Entry → StreamTrees → ℕ → ForkTable Forest → Type 0
   ForkStops x streams number forks = (texts : List (List ℕ)) (h : History) → AreReadFrom texts patterns →
@@ -225,55 +239,74 @@ module _ {G : Type 0} (patterns : List Regex) (start moment : ℕ) (old : List O
 
   -- a tick comes to each fork, also to those that are not entered; then the forks are dropped that end at it
   abbrev pub DueRuns : StreamTrees → Option ℕ → ForkTable Forest → ForkTable Forest → Type 0
-  DueRuns streams idle forks forks' = (texts : List (List ℕ)) (live : LiveKeys) (received : List Value → History) → AreReadFrom texts patterns →
+  DueRuns streams idle forks forks' =
+      (texts : List (List ℕ)) (live : LiveKeys) (received : List Value → History) → AreReadFrom texts patterns →
       AreInRange streams → AllEndOutermost true streams →
-      ForksRepresent (ForestRepresents texts streams) (plan_deadline streams) idle live.keys live.last received forks → ((key : List Value) → ComesAt start moment (received key) Tick) →
-      ForksRepresent (ForestRepresents texts streams) (plan_deadline streams) idle (keys_left idle moment live) live.last (λ key. received key ▸ Tick) forks'
-      × Performs old before new after (flat_map (λ key. due_if_any (plan_effects streams (received key ▸ Tick))) live.keys)
+      ForksRepresent (ForestRepresents texts streams) (plan_deadline streams) idle live.keys live.last received forks →
+      ((key : List Value) → ComesAt start moment (received key) Tick) →
+      ForksRepresent (ForestRepresents texts streams) (plan_deadline streams) idle (keys_left idle moment live)
+      live.last (λ key. received key ▸ Tick) forks'
+      × Performs old before new after
+      (flat_map (λ key. due_if_any (plan_effects streams (received key ▸ Tick))) live.keys)
 
   abbrev pub DueStops : StreamTrees → Option ℕ → ForkTable Forest → Type 0
-  DueStops streams idle forks = (texts : List (List ℕ)) (live : LiveKeys) (received : List Value → History) → AreReadFrom texts patterns →
+  DueStops streams idle forks =
+      (texts : List (List ℕ)) (live : LiveKeys) (received : List Value → History) → AreReadFrom texts patterns →
       AreInRange streams → AllEndOutermost true streams →
-      ForksRepresent (ForestRepresents texts streams) (plan_deadline streams) idle live.keys live.last received forks → ((key : List Value) → ComesAt start moment (received key) Tick) →
-      Stops old before new after Tick (flat_map (λ key. due_if_any (plan_effects streams (received key ▸ Tick))) live.keys)
+      ForksRepresent (ForestRepresents texts streams) (plan_deadline streams) idle live.keys live.last received forks →
+      ((key : List Value) → ComesAt start moment (received key) Tick) →
+      Stops old before new after Tick
+      (flat_map (λ key. due_if_any (plan_effects streams (received key ▸ Tick))) live.keys)
 
   -- a tick comes to each branch, and an item to none
   abbrev pub TickRuns : Entry → StreamTree → ℕ → Below → Below → Type 0
-  TickRuns x s first below below' = (texts : List (List ℕ)) (live : LiveKeys) (received : Received) → AreReadFrom texts patterns →
+  TickRuns x s first below below' =
+      (texts : List (List ℕ)) (live : LiveKeys) (received : Received) → AreReadFrom texts patterns →
       BelowIs texts s first live received below → AllCome start moment received x →
-      BelowIs texts s first (after_tick (forked_by (kind_of s)) moment x live) (λ branch. ticked x (received branch)) below'
+      BelowIs texts s first (after_tick (forked_by (kind_of s)) moment x live)
+      (λ branch. ticked x (received branch)) below'
       × Performs old before new after (at_tick x (effects_below s) received (branches_by (forked_by (kind_of s)) live))
 
   abbrev pub TickStops : Entry → StreamTree → ℕ → Below → Type 0
-  TickStops x s first below = (texts : List (List ℕ)) (live : LiveKeys) (received : Received) → AreReadFrom texts patterns →
+  TickStops x s first below =
+      (texts : List (List ℕ)) (live : LiveKeys) (received : Received) → AreReadFrom texts patterns →
       BelowIs texts s first live received below → AllCome start moment received x →
       Stops old before new after x (at_tick x (effects_below s) received (branches_by (forked_by (kind_of s)) live))
 
   -- wherever the branches represented what they had received, an entry for one of them comes to it
   abbrev pub BranchRuns : Entry → StreamTree → ℕ → Branch → Below → Below → Type 0
-  BranchRuns x s first branch below below' = (texts : List (List ℕ)) (live : LiveKeys) (received : Received) → AreReadFrom texts patterns →
-      FitsBranch (forked_by (kind_of s)) live.ended branch → BelowIs texts s first live received below → UnseenHaveTicks (forked_by (kind_of s)) live received →
+  BranchRuns x s first branch below below' =
+      (texts : List (List ℕ)) (live : LiveKeys) (received : Received) → AreReadFrom texts patterns →
+      FitsBranch (forked_by (kind_of s)) live.ended branch → BelowIs texts s first live received below →
+      UnseenHaveTicks (forked_by (kind_of s)) live received →
       NonePast moment received → ComesAt start moment (received branch) x →
       BelowIs texts s first (with_branch moment branch live) (extended branch x received) below'
       × Performs old before new after (entering (effects_below s) branch (received branch ▸ x))
 
   abbrev pub BranchStops : Entry → StreamTree → ℕ → Branch → Below → Type 0
-  BranchStops x s first branch below = (texts : List (List ℕ)) (live : LiveKeys) (received : Received) → AreReadFrom texts patterns →
-      FitsBranch (forked_by (kind_of s)) live.ended branch → BelowIs texts s first live received below → UnseenHaveTicks (forked_by (kind_of s)) live received →
+  BranchStops x s first branch below =
+      (texts : List (List ℕ)) (live : LiveKeys) (received : Received) → AreReadFrom texts patterns →
+      FitsBranch (forked_by (kind_of s)) live.ended branch → BelowIs texts s first live received below →
+      UnseenHaveTicks (forked_by (kind_of s)) live received →
       NonePast moment received → ComesAt start moment (received branch) x →
       PerformsPart old before new after (entering (effects_below s) branch (received branch ▸ x))
 
   -- these emissions come, each to its branch
   abbrev pub EmissionsRun : List Emission → StreamTree → ℕ → Below → Below → Type 0
-  EmissionsRun es s first below below' = (texts : List (List ℕ)) (live : LiveKeys) (received : Received) → AreReadFrom texts patterns →
-      FitAll (forked_by (kind_of s)) live.ended es → BelowIs texts s first live received below → UnseenHaveTicks (forked_by (kind_of s)) live received →
+  EmissionsRun es s first below below' =
+      (texts : List (List ℕ)) (live : LiveKeys) (received : Received) → AreReadFrom texts patterns →
+      FitAll (forked_by (kind_of s)) live.ended es → BelowIs texts s first live received below →
+      UnseenHaveTicks (forked_by (kind_of s)) live received →
       AllAreAt start moment received →
-      BelowIs texts s first (with_branches moment es live) (λ branch. after_emissions branch es (received branch)) below'
+      BelowIs texts s first (with_branches moment es live)
+      (λ branch. after_emissions branch es (received branch)) below'
       × Performs old before new after (at_emissions (entering (effects_below s)) received es)
 
   -- a part of the effects is performed, and there are emissions
   abbrev pub EmissionsStop : List Emission → StreamTree → ℕ → Below → Type 0
-  EmissionsStop es s first below = (texts : List (List ℕ)) (live : LiveKeys) (received : Received) → AreReadFrom texts patterns →
-      FitAll (forked_by (kind_of s)) live.ended es → BelowIs texts s first live received below → UnseenHaveTicks (forked_by (kind_of s)) live received →
+  EmissionsStop es s first below =
+      (texts : List (List ℕ)) (live : LiveKeys) (received : Received) → AreReadFrom texts patterns →
+      FitAll (forked_by (kind_of s)) live.ended es → BelowIs texts s first live received below →
+      UnseenHaveTicks (forked_by (kind_of s)) live received →
       AllAreAt start moment received →
       PerformsPart old before new after (at_emissions (entering (effects_below s)) received es) × (es ≡ [] → ⊥)

@@ -32,15 +32,17 @@ with_write is_write_due event outputs = if is_write_due then outputs ++ Write ev
 
 -- The effects are performed in order, and counted: a fork is entered where it is due and where an item comes to it, and
 -- an entry is visited for each fork that is due. The count goes on from where it began, so its ledger counts the same.
-pub record Performs {G : Type 0} (old : List Output) (before : StepCount G) (new : List Output) (after : StepCount G) (effects : List Effect) : Type 0 where
+pub record Performs {G : Type 0} (old : List Output) (before : StepCount G) (new : List Output) (after : StepCount G)
+    (effects : List Effect) : Type 0 where
   pub outputs : new ≡ old ++ outputs_among effects
   pub forks : after.forks ≡ before.forks + (due_among effects + given_among effects)
   pub entries : after.entries ≡ before.entries + due_among effects
   pub began : after.began ≡ before.began
 
--- A part of the effects is performed: a prefix of the outputs is put after what was there, no more is counted than for all
--- of the effects, and no count falls.
-pub record PerformsPart {G : Type 0} (old : List Output) (before : StepCount G) (new : List Output) (after : StepCount G) (effects : List Effect) : Type 0 where
+-- A part of the effects is performed: a prefix of the outputs is put after what was there, no more is counted than for
+-- all of the effects, and no count falls.
+pub record PerformsPart {G : Type 0} (old : List Output) (before : StepCount G) (new : List Output)
+    (after : StepCount G) (effects : List Effect) : Type 0 where
   pub begins : IsPrefix old new
   pub within : IsPrefix new (old ++ outputs_among effects)
   pub forks : after.forks ≤ before.forks + (due_among effects + given_among effects)

@@ -60,8 +60,8 @@ pub(crate) fn fresh_forest(
     Ok(Forest { nodes })
 }
 
-/// The nodes of the streams of a branch, as those of [`fresh_forest`]. Where all of the streams are bare there are none,
-/// and no memory is taken.
+/// The nodes of the streams of a branch, as those of [`fresh_forest`]. Where all of the streams are bare there are
+/// none, and no memory is taken.
 #[cycle(fresh)]
 pub(crate) fn fresh_branch(
     alloc: Global,

@@ -10,9 +10,9 @@ use std::alloc::Global;
 use stream_plan::Stream;
 use stream_step::Context;
 
-/// The number of the fork of the key, to which an item comes now. Where there is none, it is made: a copy of the streams
-/// that begins with the tree and has got nothing but ticks, whose regular expressions are those of the plan from number
-/// `first` on.
+/// The number of the fork of the key, to which an item comes now. Where there is none, it is made: a copy of the
+/// streams that begins with the tree and has got nothing but ticks, whose regular expressions are those of the plan
+/// from number `first` on.
 pub(crate) fn find_fork(
     alloc: Global,
     streams: &[Stream],

@@ -255,8 +255,8 @@ fn run_due<G: Ledger>(
     Ok(())
 }
 
-/// The entry comes to the fork of the number, whose due moment is set anew. No caller has a number without a fork, to which
-/// nothing would come.
+/// The entry comes to the fork of the number, whose due moment is set anew. No caller has a number without a fork, to
+/// which nothing would come.
 #[cycle(run)]
 fn run_fork<G: Ledger>(
     alloc: Global,

@@ -48,8 +48,8 @@ impl Tree {
 
     /// The event comes to the streams at the moment `now`. Their outputs are appended to `out`, but the write of a last
     /// stream that is an `index` may be left to the caller: the answer is then true, and `event` is as it was. Else the
-    /// answer is false, and what is left in `event` is not specified. After `Memory` the tree is poisoned, and a prefix of
-    /// the outputs was appended.
+    /// answer is false, and what is left in `event` is not specified. After `Memory` the tree is poisoned, and a prefix
+    /// of the outputs was appended.
     pub fn offer<G: Ledger>(
         &mut self,
         alloc: Global,
@@ -102,8 +102,8 @@ impl Tree {
     }
 
     /// One more second has passed, and it is the moment `now`. The outputs of the streams are appended to `out`. Only
-    /// forks that are due are entered, and where nothing is due it takes no memory. After `Memory` the tree is poisoned,
-    /// and a prefix of the outputs was appended.
+    /// forks that are due are entered, and where nothing is due it takes no memory. After `Memory` the tree is
+    /// poisoned, and a prefix of the outputs was appended.
     pub fn tick<G: Ledger>(
         &mut self,
         alloc: Global,
@@ -154,8 +154,8 @@ impl Tree {
         Ok(())
     }
 
-    /// The least moment at which a stream of the tree passes something on next if only seconds follow. It is exact up to
-    /// the moment 2^40.
+    /// The least moment at which a stream of the tree passes something on next if only seconds follow. It is exact up
+    /// to the moment 2^40.
     pub fn next_due(&self) -> Option<u64>
         ensures { (h : History) → Represents self.now h → moment_of h ≤ 2 ^ 40 →
             result ≡ plan_deadline (plan_of self.now) h }

@@ -98,7 +98,8 @@ fn measured(alloc: Global, index: &mut LiveIndex, query: &str) -> Result<(usize,
     Ok((len, entries(&steps)))
 }
 
-/// Whether a reply with the ten events of a host is measured, and again after a longer one takes the place of one of them.
+/// Whether a reply with the ten events of a host is measured, and again after a longer one takes the place of one of
+/// them.
 fn are_measured(alloc: Global, index: &mut LiveIndex) -> Result<bool, Memory> {
     let (before, visited) = measured(alloc, index, "host = \"h7\"")?;
     let mut longer = event(alloc, "h7", "s1", 60);

@@ -14,8 +14,8 @@ fn key(alloc: Global, number: i64) -> Result<Key, Memory> {
     Ok(key)
 }
 
-/// Adds a fork with the value under the key of the number, whose last item came at the moment, and gives its number, unless
-/// the key is there.
+/// Adds a fork with the value under the key of the number, whose last item came at the moment, and gives its number,
+/// unless the key is there.
 fn added(
     alloc: Global,
     table: &mut ForkTable<u64>,
@@ -73,8 +73,8 @@ fn enter(table: &mut ForkTable<u64>, number: usize, steps: &mut Steps<CountLedge
     Some(old)
 }
 
-/// Whether the first and the second fork, which are due at the moments 7 and 5, are given at moment 7 in the order in which
-/// they were added, once though it is asked twice.
+/// Whether the first and the second fork, which are due at the moments 7 and 5, are given at moment 7 in the order in
+/// which they were added, once though it is asked twice.
 fn are_given_once(
     alloc: Global,
     table: &mut ForkTable<u64>,
@@ -116,8 +116,8 @@ fn is_kept(alloc: Global, table: &mut ForkTable<u64>) -> Result<bool, Memory> {
     )
 }
 
-/// Whether of the forks 10, 20 and 30, which begin at the moments 1, 2 and 3, the second ends at 2 if the first got an item
-/// at 3; and whether a fork that is added then has its number and comes last.
+/// Whether of the forks 10, 20 and 30, which begin at the moments 1, 2 and 3, the second ends at 2 if the first got an
+/// item at 3; and whether a fork that is added then has its number and comes last.
 fn ends_in_order(alloc: Global, table: &mut ForkTable<u64>) -> Result<bool, Memory> {
     let mut steps = counter();
     let first = added(alloc, table, 8, 10, 1)?;

@@ -1,5 +1,5 @@
-//! Tests of calls of the lower crates that no row of `test_texts` or `test_values` makes: generic calls, lists, replies,
-//! and the tree of a rule.
+//! Tests of calls of the lower crates that no row of `test_texts` or `test_values` makes: generic calls, lists,
+//! replies, and the tree of a rule.
 #![tactic(auto)]
 
 #[cfg(test)]

@@ -1,5 +1,7 @@
 -- Laws of the lists of ids at each moment.
-use Rattle.std.proofs.Common.{◌≡◌, ◌≢◌, ℕ, suc, zero, ◌<◌, ◌≤◌, ◌⊎◌, Bool, true, false, cond, ◌&&◌, ◌||◌, eqb, nat_le, List, [], ◌∷◌, ◌++◌, length, map, slice_get, Option, None, Some, MatchOption, IfOk, OnErr, Result, Ok, Err, arith, refl, sym, ◌∙◌, ap, subst, inl, inr}
+use Rattle.std.proofs.Common.{◌≡◌, ◌≢◌, ℕ, suc, zero, ◌<◌, ◌≤◌, ◌⊎◌, Bool, true, false, cond, ◌&&◌, ◌||◌, eqb, nat_le}
+use Rattle.std.proofs.Common.{List, [], ◌∷◌, ◌++◌, length, map, slice_get, Option, None, Some, MatchOption, IfOk, OnErr}
+use Rattle.std.proofs.Common.{Result, Ok, Err, arith, refl, sym, ◌∙◌, ap, subst, inl, inr}
 use Rattle.std.specs.List.{All, Contains, list_any, AllByRecursion, take_while, flat_map}
 use Rattle.std.specs.List.Sorted.{IsStrictlySortedBy}
 use Rattle.std.specs.Map.{keys_of}
@@ -14,7 +16,8 @@ use Rattle.std.proofs.lemmas.List.Folds.{list_any-append}
 use Rattle.std.proofs.lemmas.Map.Keys.{IsDistinct-from_sorted}
 use Rattle.std.proofs.lemmas.Map.Views.{lookup-from_Contains}
 use Rattle.std.proofs.lemmas.List.Sums.{take_while-cons}
-use Rattle.tick_schedule.specs.Lists.{AddsAt, AreListedBy, HaveIds, ListChange, IsEarliest, IsListedBy, Removes, RemovesAt, id_at, id_in, ids_by, ids_of, list_at}
+use Rattle.tick_schedule.specs.Lists.{AddsAt, AreListedBy, HaveIds, ListChange, IsEarliest, IsListedBy, Removes}
+use Rattle.tick_schedule.specs.Lists.{RemovesAt, id_at, id_in, ids_by, ids_of, list_at}
 use Rattle.tick_schedule.proofs.QueueLaws.{at-eqb, at-same, at-true, eqb-comm}
 
 pub bool_cases : (b : Bool) → (b ≡ true) ⊎ (b ≡ false)

@@ -1,13 +1,16 @@
 -- Laws of the lists of ids under numbers.
-use Rattle.std.proofs.Common.{◌≡◌, ◌≢◌, ℕ, ◌<◌, ◌↔◌, Bool, true, false, cond, List, [], ◌∷◌, ◌++◌, length, Option, None, Some, MatchOption, IsTrue, refl, sym, ◌∙◌, ap, subst, inl, inr}
+use Rattle.std.proofs.Common.{◌≡◌, ◌≢◌, ℕ, ◌<◌, ◌↔◌, Bool, true, false, cond, List, [], ◌∷◌, ◌++◌, length, Option, None}
+use Rattle.std.proofs.Common.{Some, MatchOption, IsTrue, refl, sym, ◌∙◌, ap, subst, inl, inr}
 use Rattle.std.specs.Map.{keys_of}
 use Rattle.std.specs.Option.{IsSome}
 use Rattle.std.specs.Ordering.{nat_cmp}
 use Rattle.std.specs.BTreeMap.{is_at}
 use Rattle.std.proofs.lemmas.Bool.{cases_eq}
 use Rattle.tick_schedule.specs.declared.due_lists.DueList.{DueList}
-use Rattle.tick_schedule.specs.Lists.{AddsAt, HaveIds, IsEarliest, IsFirst, ListChange, Removes, RemovesAt, id_at, id_in, list_at}
-use Rattle.tick_schedule.specs.Numbers.{AreNumbered, IsFirstNumber, IsListOf, Relists, ids_in, list_under, list_with, lists_of, number_at}
+use Rattle.tick_schedule.specs.Lists.{AddsAt, HaveIds, IsEarliest, IsFirst, ListChange, Removes, RemovesAt, id_at}
+use Rattle.tick_schedule.specs.Lists.{id_in, list_at}
+use Rattle.tick_schedule.specs.Numbers.{AreNumbered, IsFirstNumber, IsListOf, Relists, ids_in, list_under, list_with}
+use Rattle.tick_schedule.specs.Numbers.{lists_of, number_at}
 use Rattle.tick_schedule.proofs.QueueLaws.{at-same, at-true}
 use Rattle.tick_schedule.proofs.ListLaws.{adds, bool_cases, earliest, get-within, removes}
 

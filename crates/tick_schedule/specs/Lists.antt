@@ -1,5 +1,6 @@
 -- The ids that are due at each moment, as lists: pairs of a moment and its ids, by rising moment.
-use Rattle.std.specs.Prelude.{◌≡◌, ◌≢◌, ℕ, ◌≤◌, true, nat_le, eqb, ◌&&◌, List, [], slice_get, unwrap_or, Option, None, Some, MatchOption, if◌then◌else◌}
+use Rattle.std.specs.Prelude.{◌≡◌, ◌≢◌, ℕ, ◌≤◌, true, nat_le, eqb, ◌&&◌, List, [], slice_get, unwrap_or, Option, None}
+use Rattle.std.specs.Prelude.{Some, MatchOption, if◌then◌else◌}
 use Rattle.std.specs.List.{flat_map, list_any, take_while}
 use Rattle.std.specs.Map.{lookup}
 use Rattle.std.specs.Ordering.{nat_cmp}
@@ -41,7 +42,8 @@ pub record RemovesAt (old new : List (ℕ × List ℕ)) (moment index : ℕ) (mo
   pub last : ℕ
   pub is_last : MatchOption moved (last ≡ index) (λ id. (last ≢ index) × (id_at moment last old ≡ Some id))
   pub ids : (m i : ℕ) → id_at m i new
-      ≡ (if eqb m moment then (if eqb i index then moved else if eqb i last then None else id_at m i old) else id_at m i old)
+      ≡ (if eqb m moment then (if eqb i index then moved else if eqb i last then None else id_at m i old)
+      else id_at m i old)
 
 -- the ids of the moment, which are none where it has no list
 abbrev pub ids_of : List (ℕ × List ℕ) → ℕ → List ℕ

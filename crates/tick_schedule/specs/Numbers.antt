@@ -27,8 +27,10 @@ IsListOf moment slot = MatchOption slot ⊥ (λ list. list.moment ≡ moment)
 
 -- a moment has the number of its list, and a list is that of its moment
 pub record AreNumbered (numbers : List (ℕ × ℕ)) (slots : List (Option DueList)) : Type 0 where
-  pub numbered : (moment number : ℕ) → number_at moment numbers ≡ Some number → IsListOf moment (list_under number slots)
-  pub listed : (number : ℕ) (list : DueList) → list_under number slots ≡ Some list → number_at list.moment numbers ≡ Some number
+  pub numbered : (moment number : ℕ) → number_at moment numbers ≡ Some number
+      → IsListOf moment (list_under number slots)
+  pub listed : (number : ℕ) (list : DueList) → list_under number slots ≡ Some list
+      → number_at list.moment numbers ≡ Some number
 
 -- the least moment that has a number
 abbrev pub IsFirstNumber : List (ℕ × ℕ) → Option ℕ → Type 0

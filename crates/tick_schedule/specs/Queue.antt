@@ -1,5 +1,6 @@
 -- A queue of due moments, as contracts see it: pairs of an id and its moment, by rising id.
-use Rattle.std.specs.Prelude.{◌≡◌, ℕ, ◌≤◌, not, nat_le, eqb, List, [], map, filter, Option, if◌then◌else◌, MatchOption, Contains}
+use Rattle.std.specs.Prelude.{◌≡◌, ℕ, ◌≤◌, not, nat_le, eqb, List, [], map, filter, Option, if◌then◌else◌, MatchOption}
+use Rattle.std.specs.Prelude.{Contains}
 use Rattle.std.specs.List.{All}
 use Rattle.std.specs.List.Sorted.{IsStrictlySortedBy}
 use Rattle.std.specs.Map.{lookup, keys_of, values_of}
@@ -32,7 +33,8 @@ due_later now queue = filter (λ entry. not (nat_le entry.1 now)) queue
 
 -- the least of the moments, or none where there are no moments
 abbrev pub IsLeast : List ℕ → Option ℕ → Type 0
-IsLeast moments least = MatchOption least (moments ≡ []) (λ moment. Contains moments moment × All (λ other. moment ≤ other) moments)
+IsLeast moments least =
+    MatchOption least (moments ≡ []) (λ moment. Contains moments moment × All (λ other. moment ≤ other) moments)
 
 -- the least moment in the queue
 abbrev pub IsNext : List (ℕ × ℕ) → Option ℕ → Type 0

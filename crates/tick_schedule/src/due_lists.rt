@@ -203,8 +203,8 @@ fn push_at(lists: &mut Slab<DueList>, number: usize, id: usize) -> Result<usize,
     lists[number].ids.push(id)
 }
 
-/// Removes the id at the index in the list under the number. The answer is the id that came there, if one did, and whether
-/// the list is empty now.
+/// Removes the id at the index in the list under the number. The answer is the id that came there, if one did, and
+/// whether the list is empty now.
 fn remove_at(lists: &mut Slab<DueList>, number: usize, index: usize) -> (Option<usize>, bool)
     requires { MatchOption (list_under number lists.old.slots) ⊥ (λ list. index < length list.ids) }
     ensures { MatchOption (list_under number lists.old.slots) ⊥ (λ list. (left : List ℕ)

@@ -6,8 +6,8 @@ use std::alloc::Global;
 use std::marker::Model;
 use std::mem;
 
-/// Where an id is: the moment at which it is due, and its index among the ids of that moment. The number of their list is
-/// kept too. Contracts do not see it, so each use checks that the list under it is that of the moment.
+/// Where an id is: the moment at which it is due, and its index among the ids of that moment. The number of their list
+/// is kept too. Contracts do not see it, so each use checks that the list under it is that of the moment.
 #[derive(Drop)]
 pub(crate) struct Place {
     moment: u64,

@@ -15,9 +15,9 @@ use std::collections::BTreeSet;
 use std::marker::Model;
 use step_count::{Ledger, Steps};
 
-/// The moments at which ids are due. An id has one moment at most. The queue takes 32 bytes in a vector for each id up to
-/// the largest that has had a moment, 8 bytes or more in another for each id that has one, and for each moment that an id
-/// has a list and an entry in an ordered map.
+/// The moments at which ids are due. An id has one moment at most. The queue takes 32 bytes in a vector for each id up
+/// to the largest that has had a moment, 8 bytes or more in another for each id that has one, and for each moment that
+/// an id has a list and an entry in an ordered map.
 #[derive(Drop)]
 pub struct DueQueue {
     places: Places,
@@ -82,8 +82,8 @@ impl DueQueue {
         self.lists.first()
     }
 
-    /// Appends the ids that are due at or before the moment `now`, by rising id, and removes their moments. It counts one
-    /// entry for each.
+    /// Appends the ids that are due at or before the moment `now`, by rising id, and removes their moments. It counts
+    /// one entry for each.
     pub fn take_due<G: Ledger>(
         &mut self,
         alloc: Global,
@@ -177,8 +177,8 @@ fn has_moment(place: &Option<Place>, moment: u64) -> bool
     }
 }
 
-/// Removes the id at the place, if there is one, from the list of its moment. The id that comes to its index has that place
-/// from then on.
+/// Removes the id at the place, if there is one, from the list of its moment. The id that comes to its index has that
+/// place from then on.
 fn remove_from_list(places: &mut Places, lists: &mut DueLists, place: Option<Place>)
     requires { IsTiedBut place places.old lists.old }
     ensures tied { IsTied places.new lists.new }

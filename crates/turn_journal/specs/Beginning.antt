@@ -1,5 +1,6 @@
 -- Beginning a journal in a disk's file, and what a crash leaves meanwhile.
-use Rattle.std.specs.Prelude.{◌≡◌, ◌⊎◌, ℕ, ◌+◌, ◌<◌, Bool, true, false, nat_lt, List, [], ◌∷◌, ◌++◌, length, Option, Some}
+use Rattle.std.specs.Prelude.{◌≡◌, ◌⊎◌, ℕ, ◌+◌, ◌<◌, Bool, true, false, nat_lt, List, [], ◌∷◌, ◌++◌, length, Option}
+use Rattle.std.specs.Prelude.{Some}
 use Rattle.std.specs.Option.{ForSome}
 use Rattle.disk_port.specs.Past.{LeavesOnly, Past, Rests, synced, text_of, written}
 use Rattle.journal_format.specs.Journals.{Holds, blank, head_bytes}
@@ -78,7 +79,9 @@ blank_end config = record { gate = length config + 5; has_record = false }
 
 -- Of a file that rests and has P, a crash since then leaves what may come of beginning a journal in it.
 abbrev pub BeginsOnly : (List ℕ → Type 0) → List ℕ → Option Past → Option Past → Type 0
-BeginsOnly P config old new = ForSome old (λ past. Rests past → P (text_of past) → Told new (λ now. LeavesOnly past now (HoldsBlankOrFree config)))
+BeginsOnly P config old new =
+    ForSome old
+    (λ past. Rests past → P (text_of past) → Told new (λ now. LeavesOnly past now (HoldsBlankOrFree config)))
 
 -- the fault is not that the file is refused
 abbrev pub IsOfDisk : JournalFault → Type 0

@@ -42,11 +42,13 @@ abbrev pub HoldsOrWith : Journal → TurnRecord → List ℕ → Type 0
 HoldsOrWith journal entry file = Holds journal file ⊎ Holds (with_record journal entry) file
 
 -- the journal with the record stands there
-abbrev pub StandsWith : {told : Option Past} {gate : ℕ} {has_record : Bool} {bytes : List ℕ} → Adds told gate has_record bytes → Option Past → ℕ → Bool → Type 0
+abbrev pub StandsWith : {told : Option Past} {gate : ℕ} {has_record : Bool} {bytes : List ℕ}
+    → Adds told gate has_record bytes → Option Past → ℕ → Bool → Type 0
 StandsWith adds new place has_more = Told new (λ now. Stands now place has_more (with_record adds.journal adds.entry))
 
 -- a crash since then leaves the journal, or the journal with this record whole
-abbrev pub LeavesOneOrBoth : {told : Option Past} {gate : ℕ} {has_record : Bool} {bytes : List ℕ} → Adds told gate has_record bytes → Option Past → Type 0
+abbrev pub LeavesOneOrBoth : {told : Option Past} {gate : ℕ} {has_record : Bool} {bytes : List ℕ}
+    → Adds told gate has_record bytes → Option Past → Type 0
 LeavesOneOrBoth adds new = Told new (λ now. LeavesOnly adds.past now (HoldsOrWith adds.journal adds.entry))
 
 -- the past after these bytes were put on the disk after the gate

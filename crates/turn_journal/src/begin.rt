@@ -41,8 +41,8 @@ pub fn begin_on<D: Disk>(alloc: Global, disk: &mut D, config: &[u8]) -> Result<F
     ensures unwritten { ForSome (D.report disk.old).past (λ past.
         is_taken (text_of past) ≡ true →
         IsSyncedOrNot (D.report disk.old).past (D.report disk.new).past) }
-    // In a file that is not refused, a crash at any moment after the first sync leaves the journal, or a file that is not
-    // refused.
+    // In a file that is not refused, a crash at any moment after the first sync leaves the journal, or a file that is
+    // not refused.
     ensures any_moment { ForSome (D.report disk.old).past (λ past.
         IsFree (text_of past) →
         LeavesAfterSync past (D.report disk.new).past (HoldsBlankOrFree config.now)) }

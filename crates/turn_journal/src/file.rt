@@ -15,8 +15,8 @@ use disk_port::{Disk, DiskError};
 use ev_types::{Blob, Memory};
 use std::alloc::Global;
 
-/// A journal on a disk that is lent, with room for the bytes that it writes. Contracts see the disk, the place of the closed
-/// gate, whether a record is before it, and whether the value may still be used.
+/// A journal on a disk that is lent, with room for the bytes that it writes. Contracts see the disk, the place of the
+/// closed gate, whether a record is before it, and whether the value may still be used.
 #[derive(Drop)]
 pub struct JournalFile<'a, D: Disk> {
     pub disk: &'a mut D,

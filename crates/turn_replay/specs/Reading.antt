@@ -1,9 +1,11 @@
 -- What is read of the bytes of a journal.
-use Rattle.std.specs.Prelude.{◌≡◌, ℕ, ◌<◌, Bool, true, nat_lt, nat_le, ◌&&◌, List, [], ◌∷◌, ◌++◌, length, Option, Some, None, Result, Ok, Err}
+use Rattle.std.specs.Prelude.{◌≡◌, ℕ, ◌<◌, Bool, true, nat_lt, nat_le, ◌&&◌, List, [], ◌∷◌, ◌++◌, length, Option, Some}
+use Rattle.std.specs.Prelude.{None, Result, Ok, Err}
 use Rattle.journal_format.specs.Journals.{AreRecords, IsFront, Journal, head_bytes}
 use Rattle.journal_format.specs.Limits.{piece_limit}
 use Rattle.journal_format.specs.declared.turn_record.TurnEvent.{TurnEvent}
-use Rattle.journal_format.specs.declared.turn_record.TurnEvent.TheVariants.{Listen, Idle, Opened, Read, Ended, Broken, Room}
+use Rattle.journal_format.specs.declared.turn_record.TurnEvent.TheVariants.{Listen, Idle, Opened, Read, Ended, Broken}
+use Rattle.journal_format.specs.declared.turn_record.TurnEvent.TheVariants.{Room}
 use Rattle.journal_format.specs.declared.turn_record.TurnRecord.{TurnRecord}
 use Rattle.turn_journal.specs.declared.fault.JournalFault.{JournalFault}
 use Rattle.turn_journal.specs.declared.fault.JournalFault.TheVariants.{Refused, DiskFault, Memory}

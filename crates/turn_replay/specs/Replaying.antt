@@ -1,5 +1,6 @@
 -- The turns of a journal, given again.
-use Rattle.std.specs.Prelude.{◌≡◌, ℕ, ◌-◌, min, nat_lt, if◌then◌else◌, List, [], ◌∷◌, length, slice_set, Option, Some, None}
+use Rattle.std.specs.Prelude.{◌≡◌, ℕ, ◌-◌, min, nat_lt, if◌then◌else◌, List, [], ◌∷◌, length, slice_set, Option, Some}
+use Rattle.std.specs.Prelude.{None}
 use Rattle.journal_format.specs.declared.turn_record.SendEnd.{SendEnd}
 use Rattle.journal_format.specs.declared.turn_record.SendEnd.TheVariants as end
 use Rattle.journal_format.specs.declared.turn_record.Summary.{Summary}

@@ -31,7 +31,8 @@ latest_stretch secs (first ∷ more) = greatest (stretch_of secs first first) (m
 -- the events whose times are in it
 abbrev pub latest_events : ℕ → List Event → List Event
 latest_events secs [] = []
-latest_events secs (first ∷ more) = filter (λ other. int_eq (stretch_of secs first other) (latest_stretch secs (first ∷ more))) (first ∷ more)
+latest_events secs (first ∷ more) =
+    filter (λ other. int_eq (stretch_of secs first other) (latest_stretch secs (first ∷ more))) (first ∷ more)
 
 pub record FixedTimeRepresents (state : FixedTimeState) (h : History) : Type 0 where
   pub sound : state.poisoned ≡ false

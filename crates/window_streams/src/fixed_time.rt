@@ -60,8 +60,8 @@ impl FixedTimeState {
         })
     }
 
-    /// Takes the event that comes at the moment `now`. Where its time is in a later stretch than those before, the events
-    /// of the latest stretch are appended to `out` as a vector. Where it is in an earlier one, it is dropped.
+    /// Takes the event that comes at the moment `now`. Where its time is in a later stretch than those before, the
+    /// events of the latest stretch are appended to `out` as a vector. Where it is in an earlier one, it is dropped.
     pub fn item(
         &mut self,
         alloc: Global,

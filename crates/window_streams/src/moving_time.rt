@@ -57,8 +57,8 @@ impl MovingTimeState {
         })
     }
 
-    /// Takes the event that comes at the moment `now`. Where its time is one of the last `secs` seconds up to the latest
-    /// time, copies of all events of these seconds are appended to `out` as a vector. Else it is dropped.
+    /// Takes the event that comes at the moment `now`. Where its time is one of the last `secs` seconds up to the
+    /// latest time, copies of all events of these seconds are appended to `out` as a vector. Else it is dropped.
     pub fn item(
         &mut self,
         alloc: Global,

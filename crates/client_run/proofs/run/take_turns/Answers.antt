@@ -3,7 +3,8 @@ use Rattle.std.proofs.lemmas.Result.{err_from_is_err_and}
 use Rattle.client_run.specs.Runs.{AddsRun}
 use Rattle.client_run.specs.Taking.{TakesTurn}
 use Rattle.client_run.specs.declared.outcome.Outcome.{Outcome}
-use Rattle.client_run.proofs.LoopLaws.{none_of, so_far_at_limit, so_far_ended, so_far_failed, so_far_more, so_far_nothing}
+use Rattle.client_run.proofs.LoopLaws.{none_of, so_far_at_limit, so_far_ended, so_far_failed, so_far_more}
+use Rattle.client_run.proofs.LoopLaws.{so_far_nothing}
 use Rattle.client_run.proofs.run.take_turns.Goals as goal
 
 pub loop-taken-init : goal.loop-taken-init

@@ -1,4 +1,5 @@
-use Rattle.command_check.proofs.CheckLaws.{check_cause, check_cause_fault, check_not_read, check_quiet, check_reads, check_rose, check_took, check_writes, check_writes_fault}
+use Rattle.command_check.proofs.CheckLaws.{check_cause, check_cause_fault, check_not_read, check_quiet, check_reads}
+use Rattle.command_check.proofs.CheckLaws.{check_rose, check_took, check_writes, check_writes_fault}
 use Rattle.command_io.proofs.FileLaws.{fetch_fault_rose, fetch_fault_took, fetch_not_complete, fetch_not_written}
 use Rattle.command_io.proofs.ReadLaws.{fetch_reads_once}
 use Rattle.command_check.proofs.command.check_file.Goals as goal

@@ -4,7 +4,8 @@ use Rattle.command_io.specs.Fetches.{ending_of_file}
 use Rattle.command_io.specs.Reports.{Reports, reports}
 use Rattle.command_io.specs.declared.limits.TheConstants.{FILE_LIMIT}
 use Rattle.command_graphite.specs.Converts.{ConvertEnds, ConvertsText}
-use Rattle.command_graphite.proofs.ConvertLaws.{convert_complete, converted_ends, converted_reads, fault_ends, fault_not_converted, fault_reads}
+use Rattle.command_graphite.proofs.ConvertLaws.{convert_complete, converted_ends, converted_reads, fault_ends}
+use Rattle.command_graphite.proofs.ConvertLaws.{fault_not_converted, fault_reads}
 use Rattle.command_graphite.proofs.command.graphite.Goals as goal
 
 pub returns-in-Ok-clause-promise : goal.returns-in-Ok-clause-promise

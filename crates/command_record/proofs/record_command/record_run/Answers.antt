@@ -1,7 +1,8 @@
 use Rattle.std.proofs.Common.{inl, inr, refl}
 use Rattle.journal_format.specs.declared.finder.Found.{Found}
 use Rattle.command_record.proofs.CauseLaws.{causes_since, fault_causes, run_causes}
-use Rattle.command_record.proofs.EndingLaws.{fault_configured, fault_not_read, run_configured, run_not_read, run_not_refused}
+use Rattle.command_record.proofs.EndingLaws.{fault_configured, fault_not_read, run_configured, run_not_read}
+use Rattle.command_record.proofs.EndingLaws.{run_not_refused}
 use Rattle.command_record.proofs.OpeningLaws.{blank_has_none, blank_has_room}
 use Rattle.turn_journal.proofs.AppendLaws.{ready_within}
 use Rattle.command_record.proofs.record_command.record_run.Goals as goal

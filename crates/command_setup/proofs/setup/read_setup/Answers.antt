@@ -20,4 +20,6 @@ returns-in-Ok-clause-refused g c =
 
 pub returns-in-Err-clause-refused : goal.returns-in-Err-clause-refused
 returns-in-Err-clause-refused g c =
-    rw c.ending_of_config.ensures (text_refused c.args.text.now c.in-Err.fault _ c.in-Err.ensures.refused c.in-Err.ensures.only_refused c.in-Err.ensures.only)
+    rw c.ending_of_config.ensures
+    (text_refused c.args.text.now c.in-Err.fault _ c.in-Err.ensures.refused c.in-Err.ensures.only_refused
+    c.in-Err.ensures.only)

@@ -1,4 +1,5 @@
-use Rattle.command_test.proofs.FileLaws.{file_read, no_tests_of_file, no_tests_read, tests_file_refused, tests_of_file, tests_unread}
+use Rattle.command_test.proofs.FileLaws.{file_read, no_tests_of_file, no_tests_read, tests_file_refused, tests_of_file}
+use Rattle.command_test.proofs.FileLaws.{tests_unread}
 use Rattle.command_test.proofs.files.fetch_tests.Goals as goal
 
 pub returns-in-Ok-clause-tests : goal.returns-in-Ok-clause-tests

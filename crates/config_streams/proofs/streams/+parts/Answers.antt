@@ -8,7 +8,8 @@ use Rattle.config_streams.proofs.streams.+parts.Goals as goal
 pub part_at-returns-in-Symbol : goal.part_at-returns-in-Symbol
 part_at-returns-in-Symbol t c =
     rw (
-      part_by_look c.args.position.may_else c.args.position.in_fork c.args.env.now (form_tree c.args.form.now) (Symbol c.in-Symbol.name.now)
+      part_by_look c.args.position.may_else c.args.position.in_fork c.args.env.now (form_tree c.args.form.now)
+          (Symbol c.in-Symbol.name.now)
           c.in-Symbol.ensures.look,
       start_of_form c.args.form.now,
     )
@@ -44,7 +45,8 @@ part_at-returns-in-Lookup t c =
 pub part_at-returns-in-Other : goal.part_at-returns-in-Other
 part_at-returns-in-Other t c =
     rw (
-      part_by_look c.args.position.may_else c.args.position.in_fork c.args.env.now (form_tree c.args.form.now) Other c.in-Other.ensures.look,
+      part_by_look c.args.position.may_else c.args.position.in_fork c.args.env.now (form_tree c.args.form.now)
+          Other c.in-Other.ensures.look,
       start_of_form c.args.form.now,
       c.refused-in-Other.ensures,
     )

@@ -3,7 +3,8 @@ use Rattle.std.proofs.lemmas.Result.{IfOk-weaker}
 use Rattle.sexp_read.specs.declared.form.Form.{Form}
 use Rattle.sexp_read.specs.Tree.{form_trees}
 use Rattle.config_tests.specs.Tests.{TestsGive, tests_of}
-use Rattle.config_tests.proofs.ReadLaws.{read_short, tests_read, refused_read, only_tests, only_fault, refused_forms, no_tests, same_refusal}
+use Rattle.config_tests.proofs.ReadLaws.{read_short, tests_read, refused_read, only_tests, only_fault, refused_forms}
+use Rattle.config_tests.proofs.ReadLaws.{no_tests, same_refusal}
 use Rattle.config_tests.proofs.read.read_tests.Goals as goal
 
 pub returns-in-Ok-clause-tests : goal.returns-in-Ok-clause-tests

@@ -4,7 +4,8 @@ use Rattle.std.proofs.lemmas.Result.{err_from_is_err_and}
 use Rattle.notice_sink.specs.Lines.{lines_of, notice_line}
 use Rattle.ports.specs.Writing.{Got}
 use Rattle.conn_core.specs.Turning.{CountedPuts}
-use Rattle.conn_core.proofs.LineLaws.{counted_nothing, counted_then, first_then, front_then, got_nothing, got_then, lines_more, lines_split}
+use Rattle.conn_core.proofs.LineLaws.{counted_nothing, counted_then, first_then, front_then, got_nothing, got_then}
+use Rattle.conn_core.proofs.LineLaws.{lines_more, lines_split}
 use Rattle.conn_core.proofs.lines.write_lines.Goals as goal
 
 pub loop-notice-init : goal.loop-notice-init

@@ -8,5 +8,6 @@ returns c =
     let place = c.args.place in
     let file = c.args.file.now in
     let bytes = c.args.bytes.now in
-    let parts : c.append-2.new.self ≡ (take place file ++ bytes) ++ drop (min (length bytes) (length (drop place file))) (drop place file) = grind (arith, common_steps) in
+    let parts : c.append-2.new.self ≡ (take place file ++ bytes)
+    ++ drop (min (length bytes) (length (drop place file))) (drop place file) = grind (arith, common_steps) in
     put_parts place bytes file c.append-2.new.self parts

@@ -1,6 +1,7 @@
 use Rattle.std.proofs.Common.{◌≡◌, ◌-◌, arith}
 use Rattle.graphite_lines.specs.Spans.{IsSpan}
-use Rattle.graphite_lines.proofs.PathLaws.{cut_length, host_of_span, part_length, end_may_be_cut, no_host, no_longer, start_may_be_cut}
+use Rattle.graphite_lines.proofs.PathLaws.{cut_length, host_of_span, part_length, end_may_be_cut, no_host, no_longer}
+use Rattle.graphite_lines.proofs.PathLaws.{start_may_be_cut}
 use Rattle.graphite_lines.proofs.path.place.Goals as goal
 
 pub range-requires-clause-start_boundary : goal.range-requires-clause-start_boundary

@@ -1,7 +1,8 @@
 use Rattle.std.proofs.Common.{refl, ◌∙◌, arith}
 use Rattle.std.proofs.lemmas.Result.{err_from_is_err_and}
 use Rattle.hub_run.specs.Runs.{run_report}
-use Rattle.hub_run.proofs.LoopLaws.{is_stopped, not_last, so_far_at_limit, so_far_failed, so_far_more, so_far_nothing, so_far_stopped}
+use Rattle.hub_run.proofs.LoopLaws.{is_stopped, not_last, so_far_at_limit, so_far_failed, so_far_more, so_far_nothing}
+use Rattle.hub_run.proofs.LoopLaws.{so_far_stopped}
 use Rattle.hub_run.proofs.server.take_turns.Goals as goal
 
 pub loop-taken-init : goal.loop-taken-init

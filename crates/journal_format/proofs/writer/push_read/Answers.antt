@@ -7,4 +7,5 @@ pub returns-clause-ok : goal.returns-clause-ok
 returns-clause-ok c =
     let bytes = c.args.bytes.now in
     three_more c.args.out.now.items (3 ∷ to_be_bytes w64 c.args.link) (to_be_bytes w32 (length bytes)) bytes
-    c.push_of_link.new.out.items c.extend_from_slice.new.self.items c.extend_from_slice-2.new.self.items (search rules) (search rules) (search rules)
+    c.push_of_link.new.out.items c.extend_from_slice.new.self.items c.extend_from_slice-2.new.self.items (search rules)
+    (search rules) (search rules)

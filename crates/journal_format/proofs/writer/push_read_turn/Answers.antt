@@ -9,5 +9,6 @@ use Rattle.journal_format.proofs.writer.push_read_turn.Goals as goal
 pub returns-clause-ok : goal.returns-clause-ok
 returns-clause-ok c =
     let summaries = c.args.summaries.now in
-    front_then c.args.out.now.items (to_be_bytes w16 (length summaries)) (flat_map summary_bytes summaries) (to_be_bytes w64 c.args.secs) (event_bytes (Read c.args.link c.args.bytes.now))
+    front_then c.args.out.now.items (to_be_bytes w16 (length summaries)) (flat_map summary_bytes summaries)
+    (to_be_bytes w64 c.args.secs) (event_bytes (Read c.args.link c.args.bytes.now))
     c.push_front.new.out.items c.push_read.new.out.items c.in_ok-push_front.ensures.ok c.in_ok-push_read.ensures.ok

@@ -10,4 +10,6 @@ returns-in_err-push_summary-clause-err c =
     let out = c.args.out.now.items in
     let whole = c.push_summary.new.out.items in
     if_err c.from_residual.result (IsPrefix out whole)
-    (prefix_more out c.loop-summary.out.items whole (flat_map summary_bytes (take c.loop-summary.summary-index c.args.summaries.now)) c.loop-summary.invariant c.in_err-push_summary.ensures.err)
+    (prefix_more out c.loop-summary.out.items whole
+    (flat_map summary_bytes (take c.loop-summary.summary-index c.args.summaries.now))
+    c.loop-summary.invariant c.in_err-push_summary.ensures.err)

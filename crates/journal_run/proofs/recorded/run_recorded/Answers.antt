@@ -10,42 +10,65 @@ use Rattle.journal_run.proofs.recorded.run_recorded.Goals as goal
 
 pub returns-clause-runs : goal.returns-clause-runs
 returns-clause-runs g c =
-    let old = run_report (g.P.Patterns.report c.args.patterns.now) c.args.steps.now.forks (g.O.Sink.report c.args.sink.now) in
-    let new = run_report (g.P.Patterns.report c.run_traced-ended.new.patterns) c.run_traced-ended.new.steps.forks (g.O.Sink.report c.run_traced-ended.new.sink) in
+    let old =
+    run_report (g.P.Patterns.report c.args.patterns.now) c.args.steps.now.forks (g.O.Sink.report c.args.sink.now) in
+    let new =
+    run_report (g.P.Patterns.report c.run_traced-ended.new.patterns) c.run_traced-ended.new.steps.forks
+    (g.O.Sink.report c.run_traced-ended.new.sink) in
     let links = c.run_traced-ended.result in
     at_lasts g.L.Links.report g.D.Disk.report _ links.inner.now _ links.recorder.journal.disk.now
-    (λ (links' : LinksReport) (disk' : DiskReport). RunsRecorded c.args.setup c.args.turns c.args.found (g.L.Links.report c.args.links.now) links' (g.D.Disk.report c.args.disk.now) disk' old new c.run_traced-ended.new.ran)
+    (λ (links' : LinksReport) (disk' : DiskReport). RunsRecorded c.args.setup c.args.turns c.args.found
+    (g.L.Links.report c.args.links.now) links' (g.D.Disk.report c.args.disk.now)
+    disk' old new c.run_traced-ended.new.ran)
     (search rules) (search rules)
-    (ran_recorded c.args.setup c.args.turns _ c.args.found (g.L.Links.report c.args.links.now) (g.D.Disk.report c.args.disk.now) links.log (g.L.Links.report links.inner.now) (first_after links.last) (g.D.Disk.report links.recorder.journal.disk.now)
-    links.recorder.journal.gate links.recorder.journal.has_record links.recorder.sends.now.summaries.items links.spent old new c.run_traced-ended.new.ran (search rules) (search rules) (search rules) c.run_traced-ended.ensures.first c.run_traced-ended.ensures.runs
+    (ran_recorded c.args.setup c.args.turns _ c.args.found (g.L.Links.report c.args.links.now)
+    (g.D.Disk.report c.args.disk.now) links.log (g.L.Links.report links.inner.now) (first_after links.last)
+    (g.D.Disk.report links.recorder.journal.disk.now)
+    links.recorder.journal.gate links.recorder.journal.has_record links.recorder.sends.now.summaries.items links.spent
+    old new c.run_traced-ended.new.ran (search rules) (search rules) (search rules)
+    c.run_traced-ended.ensures.first c.run_traced-ended.ensures.runs
     c.run_traced-ended.ensures.traces)
 
 pub returns-clause-opened : goal.returns-clause-opened
 returns-clause-opened g c =
-    let disk_is : g.D.Disk.report c.over-recorded.result.recorder.journal.disk.now ≡ g.D.Disk.report c.args.disk.now = search rules in
-    at_last g.D.Disk.report _ c.run_traced-ended.result.recorder.journal.disk.now (λ (disk' : DiskReport). disk'.opened ≡ (g.D.Disk.report c.args.disk.now).opened) (search rules)
+    let disk_is : g.D.Disk.report c.over-recorded.result.recorder.journal.disk.now ≡ g.D.Disk.report c.args.disk.now =
+    search rules in
+    at_last g.D.Disk.report _ c.run_traced-ended.result.recorder.journal.disk.now
+    (λ (disk' : DiskReport). disk'.opened ≡ (g.D.Disk.report c.args.disk.now).opened) (search rules)
     (c.run_traced-ended.ensures.opened ∙ ap (λ (report : DiskReport). report.opened) disk_is)
 
 pub returns-clause-disk_fault : goal.returns-clause-disk_fault
 returns-clause-disk_fault g c = λ is.
-    let disk_is : g.D.Disk.report c.over-recorded.result.recorder.journal.disk.now ≡ g.D.Disk.report c.args.disk.now = search rules in
-    at_last g.D.Disk.report _ c.run_traced-ended.result.recorder.journal.disk.now (λ (disk' : DiskReport). Rose (g.D.Disk.report c.args.disk.now).faults disk'.faults) (search rules)
-    (subst (λ (report : DiskReport). Rose report.faults (g.D.Disk.report c.run_traced-ended.result.recorder.journal.disk.now).faults) disk_is (c.run_traced-ended.ensures.disk_fault is))
+    let disk_is : g.D.Disk.report c.over-recorded.result.recorder.journal.disk.now ≡ g.D.Disk.report c.args.disk.now =
+    search rules in
+    at_last g.D.Disk.report _ c.run_traced-ended.result.recorder.journal.disk.now
+    (λ (disk' : DiskReport). Rose (g.D.Disk.report c.args.disk.now).faults disk'.faults) (search rules)
+    (subst
+    (λ (report : DiskReport). Rose report.faults
+    (g.D.Disk.report c.run_traced-ended.result.recorder.journal.disk.now).faults) disk_is
+    (c.run_traced-ended.ensures.disk_fault is))
 
 pub returns-clause-disk_quiet : goal.returns-clause-disk_quiet
 returns-clause-disk_quiet g c = λ unlike.
-    let disk_is : g.D.Disk.report c.over-recorded.result.recorder.journal.disk.now ≡ g.D.Disk.report c.args.disk.now = search rules in
-    at_last g.D.Disk.report _ c.run_traced-ended.result.recorder.journal.disk.now (λ (disk' : DiskReport). disk'.faults ≡ (g.D.Disk.report c.args.disk.now).faults) (search rules)
+    let disk_is : g.D.Disk.report c.over-recorded.result.recorder.journal.disk.now ≡ g.D.Disk.report c.args.disk.now =
+    search rules in
+    at_last g.D.Disk.report _ c.run_traced-ended.result.recorder.journal.disk.now
+    (λ (disk' : DiskReport). disk'.faults ≡ (g.D.Disk.report c.args.disk.now).faults) (search rules)
     (c.run_traced-ended.ensures.disk_quiet unlike ∙ ap (λ (report : DiskReport). report.faults) disk_is)
 
 pub returns-clause-links_fault : goal.returns-clause-links_fault
 returns-clause-links_fault g c = λ is.
-    let links_are : g.L.Links.report c.over-recorded.result.inner.now ≡ g.L.Links.report c.args.links.now = search rules in
-    at_last g.L.Links.report _ c.run_traced-ended.result.inner.now (λ (links' : LinksReport). Rose (g.L.Links.report c.args.links.now).faults links'.faults) (search rules)
-    (subst (λ (report : LinksReport). Rose report.faults (g.L.Links.report c.run_traced-ended.result.inner.now).faults) links_are (c.run_traced-ended.ensures.links_fault is))
+    let links_are : g.L.Links.report c.over-recorded.result.inner.now ≡ g.L.Links.report c.args.links.now =
+    search rules in
+    at_last g.L.Links.report _ c.run_traced-ended.result.inner.now
+    (λ (links' : LinksReport). Rose (g.L.Links.report c.args.links.now).faults links'.faults) (search rules)
+    (subst (λ (report : LinksReport). Rose report.faults (g.L.Links.report c.run_traced-ended.result.inner.now).faults)
+    links_are (c.run_traced-ended.ensures.links_fault is))
 
 pub returns-clause-links_quiet : goal.returns-clause-links_quiet
 returns-clause-links_quiet g c = λ unlike unlike'.
-    let links_are : g.L.Links.report c.over-recorded.result.inner.now ≡ g.L.Links.report c.args.links.now = search rules in
-    at_last g.L.Links.report _ c.run_traced-ended.result.inner.now (λ (links' : LinksReport). links'.faults ≡ (g.L.Links.report c.args.links.now).faults) (search rules)
+    let links_are : g.L.Links.report c.over-recorded.result.inner.now ≡ g.L.Links.report c.args.links.now =
+    search rules in
+    at_last g.L.Links.report _ c.run_traced-ended.result.inner.now
+    (λ (links' : LinksReport). links'.faults ≡ (g.L.Links.report c.args.links.now).faults) (search rules)
     (c.run_traced-ended.ensures.links_quiet unlike unlike' ∙ ap (λ (report : LinksReport). report.faults) links_are)

@@ -59,7 +59,8 @@ returns-clause-disk_fault g c = λ is.
     at_last g.D.Disk.report _ c.run_noted-ended.result.recorded.recorder.journal.disk.now
     (λ (disk' : DiskReport). Rose (g.D.Disk.report c.args.disk.now).faults disk'.faults) (search rules)
     (subst
-    (λ (report : DiskReport). Rose report.faults (g.D.Disk.report c.run_noted-ended.result.recorded.recorder.journal.disk.now).faults)
+    (λ (report : DiskReport). Rose report.faults
+    (g.D.Disk.report c.run_noted-ended.result.recorded.recorder.journal.disk.now).faults)
     disk_is (c.run_noted-ended.ensures.disk_fault is))
 
 pub returns-clause-disk_quiet : goal.returns-clause-disk_quiet

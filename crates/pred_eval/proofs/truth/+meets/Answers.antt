@@ -1,6 +1,7 @@
 use Rattle.std.proofs.Common.{◌≡◌, true, false, IfOk, sym, subst, true≢false, ◌∙◌}
 use Rattle.pred_eval.specs.Search.{AreReadFrom}
-use Rattle.pred_eval.proofs.TreeLaws.{searches_of_all, searches_of_any, holds_of_all, holds_of_any, own_patterns, later_patterns, no_own, no_later, all_says, any_says}
+use Rattle.pred_eval.proofs.TreeLaws.{searches_of_all, searches_of_any, holds_of_all, holds_of_any, own_patterns}
+use Rattle.pred_eval.proofs.TreeLaws.{later_patterns, no_own, no_later, all_says, any_says}
 use Rattle.pred_eval.proofs.truth.+meets.Goals as goal
 
 pub meets-returns-in-All-clause-truth : goal.meets-returns-in-All-clause-truth

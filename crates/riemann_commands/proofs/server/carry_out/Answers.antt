@@ -1,7 +1,8 @@
 use Rattle.std.proofs.Common.{refl, inl}
 use Rattle.command_client.proofs.EndingLaws as client
 use Rattle.command_test.proofs.EndingLaws as tests
-use Rattle.riemann_commands.proofs.CommandLaws.{converting_not_of_disk, done_has_no_line, no_disk, not_of_disk, not_usage, not_usage_converting, out_of_memory, refusal_or_memory}
+use Rattle.riemann_commands.proofs.CommandLaws.{converting_not_of_disk, done_has_no_line, no_disk, not_of_disk}
+use Rattle.riemann_commands.proofs.CommandLaws.{not_usage, not_usage_converting, out_of_memory, refusal_or_memory}
 use Rattle.riemann_commands.proofs.server.carry_out.Goals as goal
 
 pub returns-in-Feed : goal.returns-in-Feed

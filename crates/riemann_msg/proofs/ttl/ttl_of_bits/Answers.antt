@@ -1,7 +1,8 @@
 use Rattle.std.proofs.Common.{◌≡◌, ◌⊎◌, ℕ, ◌+◌, ◌*◌, ◌/◌, ◌%◌, ◌^◌, ◌<◌, ◌≤◌, Option, None, sym, ◌∙◌, inl, inr, arith}
 use Rattle.std.specs.Option.{SomeIff}
 use Rattle.riemann_msg.specs.Ttl.{exponent_of, fraction_of, sign_of, scaled_value, seconds_of}
-use Rattle.riemann_msg.proofs.TtlBits.{seconds_of-zero, seconds_of-signed, seconds_of-tiny, seconds_of-huge, seconds_of-whole, not_both}
+use Rattle.riemann_msg.proofs.TtlBits.{seconds_of-zero, seconds_of-signed, seconds_of-tiny, seconds_of-huge}
+use Rattle.riemann_msg.proofs.TtlBits.{seconds_of-whole, not_both}
 use Rattle.riemann_msg.proofs.ttl.ttl_of_bits.Goals as goal
 
 pub returns-then-fraction-eq0-clause-value : goal.returns-then-fraction-eq0-clause-value

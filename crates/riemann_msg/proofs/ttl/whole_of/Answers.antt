@@ -1,9 +1,11 @@
 use Rattle.std.proofs.Common.{◌≡◌, ◌+◌, ◌-◌, ◌*◌, ◌%◌, ◌^◌, sym, ◌∙◌, ap, arith}
 use Rattle.std.proofs.lemmas.Nat.{shl_whole}
 use Rattle.std.proofs.Math.Nat.{zero-mul}
-use Rattle.riemann_msg.proofs.TtlBits.{scaled_half, scaled_rest, up_half, up_rest, no_product, small_rest, masked_some, masked_none}
+use Rattle.riemann_msg.proofs.TtlBits.{scaled_half, scaled_rest, up_half, up_rest, no_product, small_rest, masked_some}
+use Rattle.riemann_msg.proofs.TtlBits.{masked_none}
 use Rattle.riemann_msg.proofs.ttl.whole_of.Goals as goal
-use Rattle.riemann_msg.proofs.ttl.whole_of.Goals.{then-places-gt-FRACTION_BITS-via-then-places-gt-FRACTION_BITS, then-places-gt-FRACTION_BITS-via-else-places-gt-FRACTION_BITS+then-significand-places-ne0}
+use Rattle.riemann_msg.proofs.ttl.whole_of.Goals.{then-places-gt-FRACTION_BITS-via-then-places-gt-FRACTION_BITS}
+use Rattle.riemann_msg.proofs.ttl.whole_of.Goals.{then-places-gt-FRACTION_BITS-via-else-places-gt-FRACTION_BITS+then-significand-places-ne0}
 
 pub returns-then-exponent-ge-ONES : goal.returns-then-exponent-ge-ONES
 returns-then-exponent-ge-ONES c =

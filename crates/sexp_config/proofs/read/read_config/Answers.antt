@@ -5,7 +5,8 @@ use Rattle.sexp_read.specs.Tree.{form_trees}
 use Rattle.config_terms.specs.Steps.{Gives}
 use Rattle.sexp_config.specs.Config.{config_of}
 use Rattle.sexp_config.proofs.PatternsFew.{patterns_few}
-use Rattle.sexp_config.proofs.ReadLaws.{config_read, refused_read, only_config, only_fault, refused_forms, no_config, same_refusal}
+use Rattle.sexp_config.proofs.ReadLaws.{config_read, refused_read, only_config, only_fault, refused_forms, no_config}
+use Rattle.sexp_config.proofs.ReadLaws.{same_refusal}
 use Rattle.sexp_config.proofs.read.read_config.Goals as goal
 
 pub returns-in-Ok-clause-config : goal.returns-in-Ok-clause-config

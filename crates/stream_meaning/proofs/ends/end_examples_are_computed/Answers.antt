@@ -48,4 +48,13 @@ returns-clause-new_fork_window c = refl
 
 pub returns-clause-nested_end : goal.returns-clause-nested_end
 unfolding index_key_cmp
-returns-clause-nested_end c = record { kept = refl; gone = refl; last_tick = refl; no_last_tick = refl; due = refl; ended = refl; deadline = refl; no_deadline = refl }
+returns-clause-nested_end c = record {
+  kept = refl;
+  gone = refl;
+  last_tick = refl;
+  no_last_tick = refl;
+  due = refl;
+  ended = refl;
+  deadline = refl;
+  no_deadline = refl;
+}

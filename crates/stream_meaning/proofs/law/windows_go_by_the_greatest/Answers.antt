@@ -1,4 +1,5 @@
-use Rattle.stream_meaning.proofs.GreatestLaws.{greatest_reached, moving_time_goes_by_the_greatest, fixed_time_goes_by_the_greatest, events_lie_in_their_stretch}
+use Rattle.stream_meaning.proofs.GreatestLaws.{greatest_reached, moving_time_goes_by_the_greatest}
+use Rattle.stream_meaning.proofs.GreatestLaws.{fixed_time_goes_by_the_greatest, events_lie_in_their_stretch}
 use Rattle.stream_meaning.proofs.law.windows_go_by_the_greatest.Goals as goal
 
 pub returns-clause-greatest : goal.returns-clause-greatest

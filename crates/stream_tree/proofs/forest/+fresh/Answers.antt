@@ -5,7 +5,8 @@ use Rattle.stream_tree.specs.declared.forest.Forest.TheViews.{roll-Forest, out-r
 use Rattle.stream_tree.specs.declared.forest.Node.{Node}
 use Rattle.stream_tree.specs.Fresh.{ForestIsFresh}
 use Rattle.stream_tree.specs.Forest.{nodes_of, below_of, node_below}
-use Rattle.stream_tree.proofs.FreshLaws.{node_holds, node_following, unforked_holds, unforked_following, node_fresh, none_fresh, one_more_fresh, all_fresh, bare_fresh}
+use Rattle.stream_tree.proofs.FreshLaws.{node_holds, node_following, unforked_holds, unforked_following, node_fresh}
+use Rattle.stream_tree.proofs.FreshLaws.{none_fresh, one_more_fresh, all_fresh, bare_fresh}
 use Rattle.stream_tree.proofs.forest.+fresh.Goals as goal
 
 pub fresh_node-returns-then-is_by : goal.fresh_node-returns-then-is_by

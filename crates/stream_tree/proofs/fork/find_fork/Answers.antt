@@ -5,7 +5,8 @@ use Rattle.stream_tree.proofs.fork.find_fork.Goals as goal
 pub returns-in-Some : goal.returns-in-Some
 returns-in-Some c = record {
   found =
-      found_known (list_trees c.args.streams.now) c.args.first c.args.context.now.start c.args.context.now.moment c.args.key
+      found_known (list_trees c.args.streams.now) c.args.first c.args.context.now.start
+      c.args.context.now.moment c.args.key
       c.args.forks.now c.touch.new.self c.in-Some.number
       c.in-Some.ensures.found c.in-Some.ensures.has c.touch.ensures.touched c.touch.ensures.table c.touch.ensures.has;
 }

@@ -24,7 +24,8 @@ pub node_due-returns-then-is_by : goal.node_due-returns-then-is_by
 node_due-returns-then-is_by t c = λ texts h represents small.
     c.earlier_of.ensures
     ∙ node_forked c.args.stream.now (out-Node c.args.node.now).state (node_below c.args.node.now) c.due-own.result
-    c.next_due.result (sym c.is_by.ensures ∙ c.if-is_by.true) c.due-own.ensures c.next_due.ensures.kept texts h represents
+    c.next_due.result (sym c.is_by.ensures ∙ c.if-is_by.true)
+    c.due-own.ensures c.next_due.ensures.kept texts h represents
     small
 
 pub node_due-returns : goal.node_due-returns

@@ -15,8 +15,11 @@ use Rattle.stream_tree.specs.declared.forest.Node.{Node}
 use Rattle.stream_tree.specs.Forest.{nodes_of, below_of, first_of}
 use Rattle.stream_tree.specs.Ends.{idle_by, not_ended}
 use Rattle.stream_tree.specs.Running.{kind_of, children_of, EmissionsRun, EmissionsStop}
-use Rattle.stream_tree.proofs.BelowLaws.{branch_children, branch_otherwise, children_stop, otherwise_stop, both_run, one_stops, two_stops, due_run, due_stops, key_run, key_stops, keyed_run, keyed_stop, one_more_emission, one_more_stops}
-use Rattle.stream_tree.proofs.DueLoop.{loop_begins, loop_more, loop_ends, loop_stops, due_stop, item_is, items_within, items_past}
+use Rattle.stream_tree.proofs.BelowLaws.{branch_children, branch_otherwise, children_stop, otherwise_stop, both_run}
+use Rattle.stream_tree.proofs.BelowLaws.{one_stops, two_stops, due_run, due_stops, key_run, key_stops, keyed_run}
+use Rattle.stream_tree.proofs.BelowLaws.{keyed_stop, one_more_emission, one_more_stops}
+use Rattle.stream_tree.proofs.DueLoop.{loop_begins, loop_more, loop_ends, loop_stops, due_stop, item_is, items_within}
+use Rattle.stream_tree.proofs.DueLoop.{items_past}
 use Rattle.stream_tree.proofs.EnterLaws.{idle_opened, fork_runs, fork_unset, fork_stops, fork_missing_runs, due_same}
 use Rattle.stream_tree.proofs.ForestLaws.{ForestRan, forest_more, forest_stops, forest_ends, forest_cut}
 use Rattle.stream_tree.proofs.PerformLaws.{rest_more, extends_none, extends_then}
@@ -103,7 +106,8 @@ run_due-returns-in_err-run_fork-clause-stops g t c =
     c.due_forks.ensures.kept
     c.loop-number.number-index (get_or c.as_slice-number-items.result.now c.loop-number.number-index 0)
     c.loop-number.forks c.loop-number.out c.run_fork.new.out c.loop-number.steps c.run_fork.new.steps
-    (items_within c.as_slice-number-items.result.now (due_numbers c.args.context.now.moment (fork_labels c.args.forks.now))
+    (items_within c.as_slice-number-items.result.now
+    (due_numbers c.args.context.now.moment (fork_labels c.args.forks.now))
     c.loop-number.number-index c.loop-number.invariant.numbers c.loop-number-test.true)
     (item_is c.as_slice-number-items.result.now (due_numbers c.args.context.now.moment (fork_labels c.args.forks.now))
     c.loop-number.number-index c.loop-number.invariant.numbers c.loop-number-test.true)
@@ -123,7 +127,8 @@ run_due-loop-number-preserved g t c =
           (items_within c.as_slice-number-items.result.now
           (due_numbers c.args.context.now.moment (fork_labels c.args.forks.now)) c.loop-number.number-index
           c.loop-number.invariant.numbers c.loop-number-test.true)
-          (item_is c.as_slice-number-items.result.now (due_numbers c.args.context.now.moment (fork_labels c.args.forks.now))
+          (item_is c.as_slice-number-items.result.now
+          (due_numbers c.args.context.now.moment (fork_labels c.args.forks.now))
           c.loop-number.number-index c.loop-number.invariant.numbers c.loop-number-test.true)
           c.loop-number.invariant.ran c.in_ok-run_fork.ensures.runs;
       taken = c.loop-number.invariant.taken;
@@ -140,7 +145,8 @@ run_due-returns-clause-runs g t c =
     (idle_by (kind_of (opened c.args.stream.now))) c.args.forks.now
     c.due_forks.ensures.kept
     c.loop-number.number-index c.loop-number.forks c.drop_ended.new.forks c.loop-number.out c.loop-number.steps
-    (items_past c.as_slice-number-items.result.now (due_numbers c.args.context.now.moment (fork_labels c.args.forks.now))
+    (items_past c.as_slice-number-items.result.now
+    (due_numbers c.args.context.now.moment (fork_labels c.args.forks.now))
     c.loop-number.number-index c.loop-number.invariant.numbers c.loop-number-test.false)
     c.loop-number.invariant.taken c.loop-number.invariant.ran
     (λ is_table. c.drop_ended.ensures.kept is_table

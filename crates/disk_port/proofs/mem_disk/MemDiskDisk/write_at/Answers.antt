@@ -11,5 +11,7 @@ returns-clause-failed c =
     let bytes = c.args.bytes.now in
     let old = past_after c.args.self.now.synced c.args.self.now.log in
     let new : Option Past = Some (past_after c.count_call.new.self.synced c.count_call.new.self.log) in
-    let is : Some (past_after c.count_call.new.self.synced c.count_call.new.self.log) ≡ Some (written place bytes old) = grind (arith, common_steps) in
-    if_err c.count_call.result (IsUndoneOrBegun place (length bytes) (Some old) new) (done_all_the_same place bytes old new (c.requires old refl) is)
+    let is : Some (past_after c.count_call.new.self.synced c.count_call.new.self.log) ≡ Some (written place bytes old) =
+    grind (arith, common_steps) in
+    if_err c.count_call.result (IsUndoneOrBegun place (length bytes) (Some old) new)
+    (done_all_the_same place bytes old new (c.requires old refl) is)

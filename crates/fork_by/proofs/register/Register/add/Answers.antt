@@ -1,4 +1,5 @@
-use Rattle.std.proofs.Common.{List, ℕ, Option, None, Some, cond, eqb, max, ◌+◌, ◌++◌, ◌∷◌, [], length, sym, ◌∙◌, ap, subst}
+use Rattle.std.proofs.Common.{List, ℕ, Option, None, Some, cond, eqb, max, ◌+◌, ◌++◌, ◌∷◌, [], length, sym, ◌∙◌, ap}
+use Rattle.std.proofs.Common.{subst}
 use Rattle.linked_slots.specs.IdLists.{list_at, last_of}
 use Rattle.tick_schedule.proofs.ListLaws.{on_err}
 use Rattle.fork_by.specs.declared.slots.Slot.{Slot}

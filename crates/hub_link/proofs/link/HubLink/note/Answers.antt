@@ -2,7 +2,8 @@ use Rattle.std.proofs.Common.{◌==◌, true, refl}
 use Rattle.msg_replies.specs.hub_meaning.declared.stage.Stage.TheVariants.{Closing}
 use Rattle.ports.specs.declared.links.SendAnswer.TheVariants.{Took, Later, Failed}
 use Rattle.hub_link.specs.declared.link.HubLink.{HubLink}
-use Rattle.hub_link.proofs.SendLaws.{closes, less_after_took, less_blocked, less_closing, noted_as, notes_later, notes_took}
+use Rattle.hub_link.proofs.SendLaws.{closes, less_after_took, less_blocked, less_closing, noted_as, notes_later}
+use Rattle.hub_link.proofs.SendLaws.{notes_took}
 use Rattle.hub_link.proofs.link.HubLink.note.Goals as goal
 
 pub returns-in-Took-clause-represents : goal.returns-in-Took-clause-represents

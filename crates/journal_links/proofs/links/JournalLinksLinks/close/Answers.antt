@@ -1,7 +1,8 @@
 use Rattle.std.proofs.Common.{◌∷◌, [], refl, sym, ◌∙◌, arith}
 use Rattle.journal_links.specs.Steps.{close_again, close_passed}
 use Rattle.journal_links.proofs.CallLaws.{logged, other_calls, own_quiet}
-use Rattle.journal_links.proofs.PassLaws.{has_number, may_close, no_number, passes_close, passes_close_here, same_before, same_last}
+use Rattle.journal_links.proofs.PassLaws.{has_number, may_close, no_number, passes_close, passes_close_here}
+use Rattle.journal_links.proofs.PassLaws.{same_before, same_last}
 use Rattle.ports.specs.declared.entry.Entry.TheVariants.{Close}
 use Rattle.recorded_links.specs.Numbers.{first_after, inner_number}
 use Rattle.journal_links.proofs.links.JournalLinksLinks.close.Goals as goal

@@ -1,7 +1,8 @@
 use Rattle.std.proofs.Common.{arith, ◌≡◌, ◌<◌, length, ap, ◌∙◌}
 use Rattle.linked_slots.specs.IdLists.{IdLists, IsListed, append_to, without}
 use Rattle.linked_slots.specs.Nodes.{head_at, lists_after}
-use Rattle.linked_slots.proofs.LinkLaws.{linked-cut, linked-moved, number-in, listed-in, head-is, tied-to, appended-more, removed-more}
+use Rattle.linked_slots.proofs.LinkLaws.{linked-cut, linked-moved, number-in, listed-in, head-is, tied-to}
+use Rattle.linked_slots.proofs.LinkLaws.{appended-more, removed-more}
 use Rattle.linked_slots.proofs.id_lists.Lists.move_back.Goals as goal
 
 pub tie-requires-clause-linked : goal.tie-requires-clause-linked

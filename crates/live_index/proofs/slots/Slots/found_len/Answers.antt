@@ -15,7 +15,8 @@ found_len_at-requires g c =
     let slots = c.args.self.now in
     let are : c.as_slice.result.now ≡ values_of (numbers_of_value (asked_host c.args.pred.now) slots.numbers) =
     c.as_slice.ensures.value ∙ c.in_ok-numbers.ensures.numbers
-    ∙ ap (λ (numbers : Numbers). values_of (numbers_of_value (asked_host c.args.pred.now) numbers)) c.list_for.ensures in
+    ∙ ap (λ (numbers : Numbers). values_of (numbers_of_value (asked_host c.args.pred.now) numbers))
+    c.list_for.ensures in
     subst (AreLive slots.events.values) (sym are)
     (asked-live slots.numbers slots.events.values c.requires.linked (asked_host c.args.pred.now))
 
@@ -24,7 +25,8 @@ returns-clause-ok g c =
     let slots = c.args.self.now in
     let are : c.as_slice.result.now ≡ values_of (numbers_of_value (asked_host c.args.pred.now) slots.numbers) =
     c.as_slice.ensures.value ∙ c.in_ok-numbers.ensures.numbers
-    ∙ ap (λ (numbers : Numbers). values_of (numbers_of_value (asked_host c.args.pred.now) numbers)) c.list_for.ensures in
+    ∙ ap (λ (numbers : Numbers). values_of (numbers_of_value (asked_host c.args.pred.now) numbers))
+    c.list_for.ensures in
     still_ok c.found_len_at.result
     (ap (λ numbers. reply_len (filter (holds c.args.pred.now) (events_at slots.events.values numbers)))
     are
@@ -38,7 +40,8 @@ returns-clause-counted g c =
     let slots = c.args.self.now in
     let are : c.as_slice.result.now ≡ values_of (numbers_of_value (asked_host c.args.pred.now) slots.numbers) =
     c.as_slice.ensures.value ∙ c.in_ok-numbers.ensures.numbers
-    ∙ ap (λ (numbers : Numbers). values_of (numbers_of_value (asked_host c.args.pred.now) numbers)) c.list_for.ensures in
+    ∙ ap (λ (numbers : Numbers). values_of (numbers_of_value (asked_host c.args.pred.now) numbers))
+    c.list_for.ensures in
     let count =
     asked-count slots.numbers slots.events.values c.requires.linked (asked_host c.args.pred.now) c.as_slice.result.now
     are in
@@ -49,7 +52,8 @@ returns-clause-entries g c =
     let slots = c.args.self.now in
     let are : c.as_slice.result.now ≡ values_of (numbers_of_value (asked_host c.args.pred.now) slots.numbers) =
     c.as_slice.ensures.value ∙ c.in_ok-numbers.ensures.numbers
-    ∙ ap (λ (numbers : Numbers). values_of (numbers_of_value (asked_host c.args.pred.now) numbers)) c.list_for.ensures in
+    ∙ ap (λ (numbers : Numbers). values_of (numbers_of_value (asked_host c.args.pred.now) numbers))
+    c.list_for.ensures in
     let count =
     asked-count slots.numbers slots.events.values c.requires.linked (asked_host c.args.pred.now) c.as_slice.result.now
     are in

@@ -25,7 +25,8 @@ returns-clause-linked c =
     c.remove.ensures.removed in
     end-linked c.args.self.now.numbers c.remove.new.self c.args.self.now.events.values c.remove-event.new.self.values
     (key_of c.into_event-event.result) c.args.number c.requires.linked
-    (c.requires.linked.placed c.args.number c.into_event-event.result (c.remove-event.ensures.value ∙ ap Some (sym c.into_event-event.ensures))) c.remove.ensures.rising
+    (c.requires.linked.placed c.args.number c.into_event-event.result
+    (c.remove-event.ensures.value ∙ ap Some (sym c.into_event-event.ensures))) c.remove.ensures.rising
     sets c.remove-event.ensures.removed
 
 pub overflow_sub-self : goal.overflow_sub-self
@@ -36,7 +37,8 @@ overflow_sub-self c =
     c.remove.ensures.removed in
     some-counted c.args.self.now.numbers c.remove.new.self (key_of c.into_event-event.result) c.args.number
     c.args.self.now.count c.requires.linked.rising c.requires.counted
-    (c.requires.linked.placed c.args.number c.into_event-event.result (c.remove-event.ensures.value ∙ ap Some (sym c.into_event-event.ensures))) c.remove.ensures.rising
+    (c.requires.linked.placed c.args.number c.into_event-event.result
+    (c.remove-event.ensures.value ∙ ap Some (sym c.into_event-event.ensures))) c.remove.ensures.rising
     sets
 
 pub returns-clause-counted : goal.returns-clause-counted
@@ -48,7 +50,8 @@ returns-clause-counted c =
     let less : length c.args.self.now.numbers ≡ suc (length c.remove.new.self) =
     one_less c.args.self.now.numbers c.remove.new.self (key_of c.into_event-event.result) c.args.number
     c.requires.linked.rising c.remove.ensures.rising
-    (c.requires.linked.placed c.args.number c.into_event-event.result (c.remove-event.ensures.value ∙ ap Some (sym c.into_event-event.ensures))) sets in
+    (c.requires.linked.placed c.args.number c.into_event-event.result
+    (c.remove-event.ensures.value ∙ ap Some (sym c.into_event-event.ensures))) sets in
     omega (arith, less, c.requires.counted)
 
 pub returns-clause-slots : goal.returns-clause-slots
@@ -64,5 +67,6 @@ returns-clause-puts c =
     c.remove.ensures.removed in
     end-put c.args.self.now.numbers c.remove.new.self c.args.self.now.events.values c.remove-event.new.self.values
     (key_of c.into_event-event.result) c.args.number c.requires.linked
-    (c.requires.linked.placed c.args.number c.into_event-event.result (c.remove-event.ensures.value ∙ ap Some (sym c.into_event-event.ensures))) sets
+    (c.requires.linked.placed c.args.number c.into_event-event.result
+    (c.remove-event.ensures.value ∙ ap Some (sym c.into_event-event.ensures))) sets
     c.remove-event.ensures.removed

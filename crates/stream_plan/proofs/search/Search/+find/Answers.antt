@@ -1,5 +1,6 @@
 use Rattle.std.proofs.Common.{length, vec_len, arith, ◌+◌, ◌∙◌}
-use Rattle.stream_plan.proofs.Searching.{ends_here, ends_below, goes_beside, ends_in, goes_on, goes_through, popped_again}
+use Rattle.stream_plan.proofs.Searching.{ends_here, ends_below, goes_beside, ends_in, goes_on, goes_through}
+use Rattle.stream_plan.proofs.Searching.{popped_again}
 use Rattle.stream_plan.proofs.search.Search.+find.Goals as goal
 
 pub find_at-returns-then-ends_at : goal.find_at-returns-then-ends_at
