@@ -1,16 +1,14 @@
 -- A run of which no turn is quiet.
-use Rattle.std.proofs.Common.{ℕ, inl, inr, List, ◌++◌, take, Result, Ok, Err, sym, subst}
+use Rattle.std.proofs.Common.{ℕ, inl, inr, List, Result, Ok, Err, sym, subst}
 use Rattle.conn_core.specs.Turning.{GotLines}
 use Rattle.conn_core.specs.declared.hub.Hub.{Hub}
 use Rattle.conn_core.specs.event_core.Core.{CoreConfig}
 use Rattle.ev_types.specs.declared.item.Notice.{Notice}
-use Rattle.notice_sink.specs.Lines.{lines_of}
-use Rattle.ports.specs.Writing.{Got}
 use Rattle.ports.specs.declared.entry.Entry.{Entry}
 use Rattle.hub_run.specs.Quiet.{FinishesQuietly, LosesQuietly, OutQuietly, PutsLater, PutsPart, RunsQuietly}
 use Rattle.hub_run.specs.Quiet.{ShortQuietly, mute}
-use Rattle.hub_run.specs.Runs.{Finishes, LosesLinks, RunReport, RunsOut, RunsTo, StopsIn, StopsShort, TakesTurns}
-use Rattle.hub_run.specs.Runs.{config_at}
+use Rattle.hub_run.specs.Runs.{Finishes, LosesLinks, RunReport, RunsOut, RunsTo, StopsIn, StopsInLines, StopsShort}
+use Rattle.hub_run.specs.Runs.{TakesTurns, config_at}
 use Rattle.hub_run.specs.Taken.{TakenTurn}
 use Rattle.hub_run.specs.declared.fault.RunFault.{RunFault}
 use Rattle.hub_run.specs.declared.fault.RunFault.TheVariants.{Links, Sink, Memory}
@@ -39,12 +37,7 @@ module _ (config : CoreConfig) (turns : List TakenTurn) (old new : RunReport) wh
     verdicts = stops.verdicts;
     made = stops.made;
     notices = stops.notices;
-    count = puts.count;
-    lines =
-        subst
-        (λ (put : List Notice).
-        Got old.sink.text (lines_of put ++ take puts.count (lines_of stops.made)) new.sink.text)
-        (sym puts.notices) puts.lines;
+    lines = subst (λ (put : List Notice). StopsInLines old.sink put stops.made new.sink) (sym puts.notices) puts.lines;
     apart = stops.apart;
     some = stops.some;
   }

@@ -5,7 +5,7 @@ use Rattle.std.specs.Prelude.{OnErr, OnOk, nat_lt}
 use Rattle.std.proofs.Math.Seq.{take-nil}
 use Rattle.std.proofs.lemmas.Bool.{ltb-false, ltb-true}
 use Rattle.std.proofs.lemmas.List.{take-append-le, take_all}
-use Rattle.conn_core.proofs.LineLaws.{counted_nothing, got_nothing, got_then}
+use Rattle.conn_core.proofs.LineLaws.{counted_nothing, first_nothing, got_nothing}
 use Rattle.conn_core.specs.Turning.{GotFirstLines, GotLines, Turns}
 use Rattle.conn_core.specs.declared.hub.Hub.{Hub}
 use Rattle.conn_core.specs.declared.stop.Stop.{Stop}
@@ -14,9 +14,8 @@ use Rattle.conn_core.specs.event_core.Core.{CoreConfig}
 use Rattle.conn_core.specs.hub_meaning.Runs.{Step, notices_after}
 use Rattle.conn_core.specs.hub_meaning.Verdicts.{PatternsReport}
 use Rattle.ev_types.specs.declared.item.Notice.{Notice}
-use Rattle.notice_sink.specs.Lines.{lines_of}
 use Rattle.ports.specs.Counts.{Rose}
-use Rattle.ports.specs.Writing.{Got, SinkReport}
+use Rattle.ports.specs.Writing.{SinkReport}
 use Rattle.ports.specs.declared.entry.Entry.{Entry}
 use Rattle.ports.specs.declared.links.Turn.{Turn}
 use Rattle.hub_run.specs.Quiet.{DoesQuietly, PutsLater, PutsLines, PutsPart, TakesQuietly, mute, no_sink}
@@ -25,7 +24,7 @@ use Rattle.hub_run.specs.Taken.{TakenTurn, steps_of}
 use Rattle.hub_run.specs.Taking.{DoesTurn, TakesTurn}
 use Rattle.hub_run.specs.declared.fault.RunFault.{RunFault}
 use Rattle.hub_run.specs.declared.fault.RunFault.TheVariants.{Links, Sink, Memory}
-use Rattle.hub_run.proofs.TakenLaws.{lines_then}
+use Rattle.hub_run.proofs.TakenLaws.{lines_into, lines_then}
 
 -- ---- one turn, of whose sink nothing is said
 
@@ -94,7 +93,7 @@ loud_cut : (hub hub' : Hub) (old new : RunReport) (stop : Stop) (turn : Turn) (r
     → DoesQuietly false hub hub' old new (Err stop) turn run
 loud_cut hub hub' old new stop turn run one = record {
   done = muted_turn hub hub' old new (Err stop) turn run one;
-  puts = λ config steps follows. let does = one.does config steps follows in does.prefix;
+  puts = λ config steps follows. let does = one.does config steps follows in does.first_lines;
 }
 
 pub takes_loud : (hub hub' : Hub) (old new : RunReport) (result : Result Turn RunFault) (run : List Entry)
@@ -213,20 +212,15 @@ module _ (config : CoreConfig) (quiet : ℕ) where
         record {
           put = before.put;
           notices = before.notices;
-          count = 0;
-          lines = subst (λ (sink : SinkReport). Got old.text (lines_of before.put ++ []) sink.text) (sym same)
-              (subst (λ (bytes : List ℕ). Got old.text bytes mid.text) (sym (append-nil (lines_of before.put)))
-              (let lines = before.lines in lines.text));
+          lines = lines_into old mid new before.put made before.lines
+              (subst (GotFirstLines mid made) (sym same) (first_nothing mid made));
           still = λ _. same ∙ before.still (omega (arith, within));
         }
-    puts_cut false stop is part =
+    puts_cut false stop is first =
         let beyond = ltb-false (length turns) quiet is in
         record {
           put = before.put;
           notices = before.notices;
-          count = part.0;
-          lines =
-              got_then old.text mid.text new.text (lines_of before.put) (take part.0 (lines_of made))
-              (let lines = before.lines in lines.text) part.1;
+          lines = lines_into old mid new before.put made before.lines first;
           still = λ within. absurd (omega (arith, beyond, within));
         }

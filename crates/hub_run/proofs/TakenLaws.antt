@@ -1,6 +1,6 @@
 -- What one more turn adds to those that were taken.
 use Rattle.std.proofs.Common.{◌≡◌, ℕ, zero, suc, ◌+◌, true, List, [], ◌∷◌, ◌++◌, length, take, Ok, Err, refl, ap, sym}
-use Rattle.std.proofs.Common.{◌∙◌, subst, arith, append-nil, length-append}
+use Rattle.std.proofs.Common.{◌∙◌, subst, arith, append-nil, append_assoc, length-append}
 use Rattle.std.specs.Prelude.{Option, Some, None, option_map}
 use Rattle.std.specs.List.{AllByRecursion}
 use Rattle.std.proofs.lemmas.Grind.{flat_map-append}
@@ -19,7 +19,7 @@ use Rattle.ports.specs.declared.links.Want.{Want}
 use Rattle.ports.specs.Counts.{count_after}
 use Rattle.ports.specs.Writing.{Got, SinkReport}
 use Rattle.conn_core.specs.Hub.{Follows, wants_in}
-use Rattle.conn_core.specs.Turning.{CountedPuts, GotLines, Turns, longer, puts_after, turn_step}
+use Rattle.conn_core.specs.Turning.{CountedPuts, GotFirstLines, GotLines, Turns, longer, puts_after, turn_step}
 use Rattle.conn_core.specs.declared.hub.Hub.{Hub}
 use Rattle.conn_core.specs.declared.stop.Stop.{Stop}
 use Rattle.conn_core.specs.declared.stop.Stop.TheVariants.{SinkFault}
@@ -29,7 +29,7 @@ use Rattle.conn_core.proofs.LineLaws.{counted_nothing, got_nothing, got_then}
 use Rattle.key_laws.proofs.PartLaws.{keys_have_notices, notices_of_one}
 use Rattle.stream_meaning.specs.Arrivals.{Arrival}
 use Rattle.hub_run.specs.Apart.{KeysHaveTheirOwn}
-use Rattle.hub_run.specs.Runs.{RunReport, StopsIn, TakesTurns}
+use Rattle.hub_run.specs.Runs.{RunReport, StopsIn, StopsInLines, TakesTurns}
 use Rattle.hub_run.specs.Taken.{IsOneTurn, TakenTurn, entries_of, entries_of_turn, steps_of, steps_of_turn, verdicts_of}
 use Rattle.hub_run.specs.Taken.{verdicts_of_turn}
 
@@ -82,6 +82,23 @@ lines_then a b c first second one two = record {
       (got_then a.text b.text c.text (lines_of first) (lines_of second) one.text two.text);
   puts = subst (λ (n : ℕ). CountedPuts a.puts n c.puts) (sym (length-append first second))
       (puts_then a.puts b.puts c.puts (length first) (length second) one.puts two.puts);
+}
+
+-- lines that were put, and then the first of others
+pub lines_into : (a b c : SinkReport) (put made : List Notice) → GotLines a put b → GotFirstLines b made c
+    → StopsInLines a put made c
+lines_into a b c put made one two = record {
+  whole = two.whole;
+  within = two.within;
+  part = two.part;
+  next = two.next;
+  text =
+      let first : List ℕ = lines_of (take two.whole made) in
+      subst (λ (bytes : List ℕ). Got a.text bytes c.text)
+      (sym (ap (λ (bytes : List ℕ). bytes ++ two.part) (flat_map-append notice_line put (take two.whole made))
+      ∙ append_assoc (lines_of put) first two.part))
+      (got_then a.text b.text c.text (lines_of put) (first ++ two.part) one.text two.text);
+  puts = puts_then a.puts b.puts c.puts (length put) two.whole one.puts two.puts;
 }
 
 -- ---- keys
@@ -170,11 +187,8 @@ module _ (config : CoreConfig) (old mid new : RunReport) (hub hub' : Hub) (turns
             does.reported);
         made = does.made;
         notices = notices;
-        count = does.prefix.0;
-        lines =
-            got_then old.sink.text mid.sink.text new.sink.text (lines_of (notices_after config (steps_of turns)))
-            (take does.prefix.0 (lines_of does.made))
-            takes.lines.text does.prefix.1;
+        lines = lines_into old.sink mid.sink new.sink (notices_after config (steps_of turns)) does.made takes.lines
+            does.first_lines;
         apart = subst (KeysHaveTheirOwn config arrivals) notices (keys_have_own config arrivals);
         some = λ is. does.some (ap Err (tells is));
       }

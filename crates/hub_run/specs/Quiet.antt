@@ -2,18 +2,18 @@
 use Rattle.std.specs.Prelude.{◌≡◌, ℕ, ◌<◌, ◌≤◌, ◌⊎◌, Bool, true, false, List, [], ◌++◌, length, take, None, Result, Ok}
 use Rattle.std.specs.Prelude.{Err}
 use Rattle.conn_core.specs.Hub.{Follows}
-use Rattle.conn_core.specs.Turning.{GotLines}
+use Rattle.conn_core.specs.Turning.{GotFirstLines, GotLines}
 use Rattle.conn_core.specs.declared.hub.Hub.{Hub}
 use Rattle.conn_core.specs.declared.stop.Stop.{Stop}
 use Rattle.conn_core.specs.declared.stop.Stop.TheVariants.{SinkFault, Memory as NoMemory}
 use Rattle.conn_core.specs.event_core.Core.{CoreConfig}
 use Rattle.conn_core.specs.hub_meaning.Runs.{Step, notices_after}
 use Rattle.ev_types.specs.declared.item.Notice.{Notice}
-use Rattle.notice_sink.specs.Lines.{lines_of}
-use Rattle.ports.specs.Writing.{Got, GotPrefix, SinkReport}
+use Rattle.ports.specs.Writing.{SinkReport}
 use Rattle.ports.specs.declared.entry.Entry.{Entry}
 use Rattle.ports.specs.declared.links.Turn.{Turn}
-use Rattle.hub_run.specs.Runs.{CannotListen, Finishes, LosesLinks, NotBegun, RunReport, RunsOut, StopsShort, config_at}
+use Rattle.hub_run.specs.Runs.{CannotListen, Finishes, LosesLinks, NotBegun, RunReport, RunsOut, StopsInLines}
+use Rattle.hub_run.specs.Runs.{StopsShort, config_at}
 use Rattle.hub_run.specs.Taken.{TakenTurn, steps_of}
 use Rattle.hub_run.specs.Taking.{AllTaken, CutShort, DoesTurn, HasNoTurn, LinksLost, MemoryGone}
 use Rattle.hub_run.specs.declared.fault.RunFault.{RunFault}
@@ -37,21 +37,20 @@ pub record PutsLater (config : CoreConfig) (quiet : ℕ) (turns : List TakenTurn
   pub lines : GotLines old put new
   pub still : length turns ≤ quiet → new ≡ old
 
--- The same, and then a prefix of the lines of these notices, which the next turn made. If that turn is quiet too, the
--- sink stays as it is.
+-- The same, and then the first lines of the notices `made`, which are those of the next turn. If that turn is quiet
+-- too, the sink stays as it is.
 pub record PutsPart (config : CoreConfig) (quiet : ℕ) (turns : List TakenTurn) (made : List Notice)
     (old new : SinkReport) : Type 0 where
   pub put : List Notice
   pub notices : notices_after config (steps_of turns) ≡ notices_after config (steps_of (take quiet turns)) ++ put
-  pub count : ℕ
-  pub lines : Got old.text (lines_of put ++ take count (lines_of made)) new.text
+  pub lines : StopsInLines old put made new
   pub still : length turns < quiet → new ≡ old
 
 -- what became of the lines of the notices that one turn made: nothing if it is quiet
 abbrev pub PutsLines : Bool → Result (Unit {0}) Stop → List Notice → SinkReport → SinkReport → Type 0
 PutsLines true result made old new = new ≡ old
 PutsLines false (Ok done) made old new = GotLines old made new
-PutsLines false (Err stop) made old new = GotPrefix old.text (lines_of made) new.text
+PutsLines false (Err stop) made old new = GotFirstLines old made new
 
 -- ---- one turn
 

@@ -1,8 +1,8 @@
 -- What a run of a server comes to.
-use Rattle.std.specs.Prelude.{◌≡◌, ◌≢◌, ℕ, ◌+◌, ◌⊎◌, List, [], ◌∷◌, ◌++◌, take, Result, Ok, Err}
+use Rattle.std.specs.Prelude.{◌≡◌, ◌≢◌, ℕ, ◌+◌, ◌≤◌, ◌⊎◌, List, [], ◌∷◌, ◌++◌, length, take, drop, Result, Ok, Err}
 use Rattle.std.specs.List.{AllByRecursion}
 use Rattle.conn_core.specs.Hub.{Follows}
-use Rattle.conn_core.specs.Turning.{GotLines}
+use Rattle.conn_core.specs.Turning.{CountedPuts, GotLines}
 use Rattle.conn_core.specs.declared.hub.Hub.{Hub}
 use Rattle.ev_types.specs.declared.item.Notice.{Notice}
 use Rattle.conn_core.specs.event_core.Core.{CoreConfig, forks_by}
@@ -11,6 +11,7 @@ use Rattle.conn_core.specs.hub_meaning.Legal.{AreSettled, IsLegal}
 use Rattle.conn_core.specs.hub_meaning.Links.{wants_of}
 use Rattle.conn_core.specs.hub_meaning.Runs.{notices_after, state_after}
 use Rattle.conn_core.specs.hub_meaning.Verdicts.{AfterVerdicts, PatternsReport}
+use Rattle.list_laws.specs.Prefix.{IsPrefix}
 use Rattle.notice_sink.specs.Lines.{lines_of}
 use Rattle.ports.specs.Calls.{AddsCalls, LinksReport}
 use Rattle.ports.specs.Writing.{Got, SinkReport}
@@ -63,8 +64,19 @@ pub record TakesTurns (config : CoreConfig) (old new : RunReport) (turns : List 
       (notices_after config (steps_of turns))
   pub forks : new.forks ≡ old.forks + forks_by config (state_after config (steps_of turns)).arrivals
 
--- Whole turns, and then one that was not finished for this fault. The lines of the whole turns were written, and a
--- prefix of those of the last. The sink failed only where the last had one.
+-- The sink got the lines of the notices `put`, and then the first lines of the notices `made`, each in one put. Of the
+-- next line it may have got a prefix, in a put that failed and does not count.
+pub record StopsInLines (old : SinkReport) (put made : List Notice) (new : SinkReport) : Type 0 where
+  -- how many of the lines of `made` it got whole
+  pub whole : ℕ
+  pub within : whole ≤ length made
+  pub part : List ℕ
+  pub next : IsPrefix part (lines_of (take 1 (drop whole made)))
+  pub text : Got old.text (lines_of (put ++ take whole made) ++ part) new.text
+  pub puts : CountedPuts old.puts (length put + whole) new.puts
+
+-- Whole turns, and then one that was not finished for this fault. The lines of the whole turns were written, and the
+-- first of those of the last. The sink failed only if the last had one.
 pub record StopsIn (config : CoreConfig) (fault : RunFault) (old new : RunReport) (turns : List TakenTurn)
     (last : TakenTurn) : Type 0 where
   pub legal : IsLegal config (steps_of (turns ++ last ∷ []))
@@ -73,9 +85,7 @@ pub record StopsIn (config : CoreConfig) (fault : RunFault) (old new : RunReport
   pub verdicts : AfterVerdicts old.patterns new.patterns (verdicts_of (turns ++ last ∷ []))
   pub made : List Notice
   pub notices : notices_after config (steps_of (turns ++ last ∷ [])) ≡ notices_after config (steps_of turns) ++ made
-  pub count : ℕ
-  pub lines : Got old.sink.text (lines_of (notices_after config (steps_of turns)) ++ take count (lines_of made))
-      new.sink.text
+  pub lines : StopsInLines old.sink (notices_after config (steps_of turns)) made new.sink
   pub apart : KeysHaveTheirOwn config (state_after config (steps_of (turns ++ last ∷ []))).arrivals
       (notices_after config (steps_of turns) ++ made)
   pub some : fault ≡ Sink → made ≢ []
