@@ -128,6 +128,7 @@ fn resume_loaded<'a, L: Links, D: Disk, O: Sink, P: Patterns, G: Ledger>(
             setup,
             u64::MAX,
             loaded.found,
+            loaded.config,
             loaded.records,
             links,
             disk,

@@ -13,15 +13,17 @@ use Rattle.hub_run.specs.declared.setup.Setup.{Setup}
 use Rattle.journal_format.specs.Journals.{Holds, Journal}
 use Rattle.journal_format.specs.declared.finder.Found.{Found}
 use Rattle.journal_format.specs.declared.turn_record.Summary.{Summary}
+use Rattle.journal_format.specs.declared.turn_record.TurnRecord.{TurnRecord}
 use Rattle.journal_run.specs.Recorded.{IsRecordedIn, RecordsIn, RunsRecorded, run_result}
 use Rattle.journal_run.specs.declared.fault.JournalRunFault.{JournalRunFault}
 use Rattle.journal_run.specs.declared.fault.JournalRunFault.TheVariants.{Links, Disk}
 use Rattle.list_laws.specs.Counts.{Rose}
 use Rattle.ports.specs.Calls.{LinksReport}
 use Rattle.ports.specs.declared.entry.Entry.{Entry}
-use Rattle.recorded_links.specs.Keeping.{Kept}
+use Rattle.recorded_links.specs.Noting.{noted}
 use Rattle.recorded_links.specs.Steps.{Seen, seen}
-use Rattle.recorded_runs.specs.Lending.{KeepsJournal, Lent, Passed, Traces, disk_faults, traced_report}
+use Rattle.recorded_runs.specs.Lending.{Lent, Passed, Traces, disk_faults, traced_report}
+use Rattle.recorded_runs.specs.Recording.{AreRecorded}
 use Rattle.recorded_runs.proofs.CrashLaws.{leaves_all, leaves_first}
 use Rattle.turn_journal.specs.Standing.{Stands}
 
@@ -54,28 +56,26 @@ stands_left : (journal : Journal) (start : Past) (gate : ℕ) (has : Bool) → S
 stands_left journal start gate has stands image leaves =
     subst (Holds journal) (sym (stands.rests image leaves)) (gate, stands.holds)
 
-recorded_in : (journal : Journal) (start : Past) (gate : ℕ) (has : Bool) (calls : List Entry) (kept : Kept)
-    (spent : Bool) → Stands start gate has journal → KeepsJournal journal start calls kept spent
-    → (now : Past) × (kept.past ≡ Some now) × IsRecordedIn journal start calls now
-recorded_in journal start gate has calls kept spent stands keeps =
-    let left = stands_left journal start gate has stands in (
-      keeps.now,
-      keeps.reported,
-      record {
-        recorded = keeps.recorded;
-        at_any_moment = leaves_first journal start keeps.now calls left keeps.recorded;
-        last = leaves_all journal start keeps.now calls left keeps.recorded;
-      },
-    )
+pub recorded_in : (journal : Journal) (start : Past) (gate : ℕ) (has : Bool) (turns : List TurnRecord) (now : Past)
+    → Stands start gate has journal → AreRecorded journal start turns now → IsRecordedIn journal start turns now
+recorded_in journal start gate has turns now stands recorded =
+    let left = stands_left journal start gate has stands in
+    record {
+      recorded = recorded;
+      at_any_moment = leaves_first journal start now turns left recorded;
+      last = leaves_all journal start now turns left recorded;
+    }
 
 records_in : (lent : Lent) (calls : List Entry) (seen : Seen) (disk' : DiskReport) → seen.kept.past ≡ disk'.past
     → ∥ Traces lent calls seen ∥₁ → RecordsIn lent.found lent.disk disk' calls
 records_in lent calls seen disk' same traces = λ journal start told stands.
     ∥∥₁_map traces (λ (all : Traces lent calls seen).
-    let is =
-    recorded_in journal start lent.found.gate lent.found.has_record calls seen.kept seen.spent stands
-    (all.keeps.journal journal start told stands) in
-    (is.0, sym same ∙ is.1, is.2))
+    let kept = all.keeps.journal journal start told stands in (
+      kept.now,
+      sym same ∙ kept.reported,
+      recorded_in journal start lent.found.gate lent.found.has_record (noted calls).records kept.now stands
+          kept.recorded,
+    ))
 
 passed_by : (lent : Lent) (calls : List Entry) (seen : Seen) → seen.first ≡ 0 → ∥ Traces lent calls seen ∥₁
     → ∥ Passed 0 lent.links calls seen.inner ∥₁

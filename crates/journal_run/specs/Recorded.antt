@@ -9,6 +9,7 @@ use Rattle.hub_run.specs.declared.fault.RunFault.TheVariants as run
 use Rattle.hub_run.specs.declared.setup.Setup.{Setup}
 use Rattle.journal_format.specs.Journals.{Journal}
 use Rattle.journal_format.specs.declared.finder.Found.{Found}
+use Rattle.journal_format.specs.declared.turn_record.TurnRecord.{TurnRecord}
 use Rattle.journal_run.specs.declared.fault.JournalRunFault.{JournalRunFault}
 use Rattle.journal_run.specs.declared.fault.JournalRunFault.TheVariants.{Links, Disk, Sink, Memory}
 use Rattle.ports.specs.Calls.{LinksReport}
@@ -17,8 +18,8 @@ use Rattle.recorded_runs.specs.Laws.{AreAll, AreFirst, HoldsMore}
 use Rattle.recorded_runs.specs.Lending.{Passed}
 use Rattle.recorded_runs.specs.Making.{LeadsTo, recording, uncalled}
 use Rattle.recorded_links.specs.Noting.{noted}
-use Rattle.recorded_runs.specs.Recording.{Recorded}
-use Rattle.turn_journal.specs.Standing.{Stands}
+use Rattle.recorded_runs.specs.Recording.{AreRecorded}
+use Rattle.turn_journal.specs.Standing.{Stands, Told}
 
 -- how the run ended for the hub, which knows of no disk: its links failed
 abbrev pub run_result : Result Hub JournalRunFault → Result Hub RunFault
@@ -28,20 +29,20 @@ run_result (Err Disk) = Err run.Links
 run_result (Err Sink) = Err run.Sink
 run_result (Err Memory) = Err run.Memory
 
--- Of a file that held the journal, in which these calls were recorded since.
-pub record IsRecordedIn (journal : Journal) (start : Past) (calls : List Entry) (now : Past) : Type 0 where
+-- Of a file that held the journal, in which these turns were recorded since.
+pub record IsRecordedIn (journal : Journal) (start : Past) (turns : List TurnRecord) (now : Past) : Type 0 where
   -- each turn was handed out only once every crash left the journal with it
-  pub recorded : Recorded journal start calls now
+  pub recorded : AreRecorded journal start turns now
   -- a crash at any moment leaves the journal with the first of the turns, or with all and one more
-  pub at_any_moment : LeavesOnly start now (HoldsMore journal (AreFirst (noted calls).records))
+  pub at_any_moment : LeavesOnly start now (HoldsMore journal (AreFirst turns))
   -- a crash now leaves the journal with all of them, or with all and one more
-  pub last : (image : List ℕ) → Leaves now image → HoldsMore journal (AreAll (noted calls).records) image
+  pub last : (image : List ℕ) → Leaves now image → HoldsMore journal (AreAll turns) image
 
--- so it is of the journal that ends there in the disk's file, where the disk reports it
+-- so it is of the journal that ends there in the disk's file and the turns of these calls, if the disk reports its file
 abbrev pub RecordsIn : Found → DiskReport → DiskReport → List Entry → Type 0
 RecordsIn found disk disk' calls =
     (journal : Journal) (start : Past) → disk.past ≡ Some start → Stands start found.gate found.has_record journal
-    → ∥ ((now : Past) × (disk'.past ≡ Some now) × IsRecordedIn journal start calls now) ∥₁
+    → ∥ Told disk'.past (IsRecordedIn journal start (noted calls).records) ∥₁
 
 -- A server was run over links that record.
 pub record RunsRecorded (setup : Setup) (limit : ℕ) (found : Found) (links links' : LinksReport)

@@ -4,14 +4,11 @@ ghost use Rattle.ev_types.specs.Interval.{IsInterval};
 ghost use Rattle.hub_run.specs.Quiet.{RunsQuietly};
 ghost use Rattle.hub_run.specs.Runs.{run_report};
 ghost use Rattle.journal_format.specs.Limits.{journal_limit, step_limit};
-ghost use Rattle.journal_links.specs.Seeing.{reached};
 ghost use Rattle.journal_run.specs.Recorded.{run_result};
-ghost use Rattle.journal_run.specs.Resumed.{KeepsSome, RunsResumed};
+ghost use Rattle.journal_run.specs.Resumed.{RunsResumed};
 ghost use Rattle.list_laws.specs.Counts.{Rose};
 ghost use Rattle.recorded_links.specs.Numbers.{first_after};
-ghost use Rattle.recorded_links.specs.Seeing.{seen_of};
 ghost use Rattle.replayed_links.specs.Opened.{first_free};
-ghost use Rattle.resumed_runs.specs.Lending.{Asked};
 ghost use Rattle.resumed_runs.specs.Making.{Made, state_of};
 ghost use Rattle.turn_journal.specs.Standing.{IsWithin};
 ghost use Rattle.turn_replay.specs.Reading.{has_event};
@@ -36,14 +33,15 @@ use step_count::{Ledger, Steps};
 use turn_journal::JournalFile;
 use turn_replay::{Replay, TurnRecords};
 
-/// Runs a server over the turns of the journal in the disk's file, which has these records and ends there, and then
-/// over those of the links, which are recorded in it. The lines of the journal's turns before its last are not put. It
-/// gives the hub as it is after the last turn.
+/// Runs a server over the turns of the journal in the disk's file, which is of this configuration, has these records
+/// and ends there, and then over those of the links, which are recorded in it. The lines of the journal's turns before
+/// its last are not put. It gives the hub as it is after the last turn.
 pub fn run_resumed<L: Links, D: Disk, O: Sink, P: Patterns, G: Ledger>(
     alloc: Global,
     setup: Setup,
     turns: u64,
     found: Found,
+    config: Blob,
     records: TurnRecords,
     links: &mut L,
     disk: &mut D,
@@ -76,7 +74,7 @@ pub fn run_resumed<L: Links, D: Disk, O: Sink, P: Patterns, G: Ledger>(
     let quiet = quiet_turns(records.len());
     match Replay::over(alloc, records) {
         Ok(replay) => run_in(
-            alloc, setup, turns, quiet, found, replay, links, disk, sink, patterns, steps,
+            alloc, setup, turns, quiet, found, config, replay, links, disk, sink, patterns, steps,
         ),
         Err(_) => Err(JournalRunFault::Memory),
     }
@@ -89,6 +87,7 @@ fn run_in<L: Links, D: Disk, O: Sink, P: Patterns, G: Ledger>(
     turns: u64,
     quiet: u64,
     found: Found,
+    config: Blob,
     replay: Replay,
     links: &mut L,
     disk: &mut D,
@@ -124,13 +123,11 @@ fn run_in<L: Links, D: Disk, O: Sink, P: Patterns, G: Ledger>(
     let mut opened = OpenLinks::fresh(alloc);
     let mut noted = TurnRoom::fresh(alloc);
     let mut written = Vec::new(alloc);
-    // The run has read its configuration already, and asks the links for none.
-    let unread = Blob::fresh(alloc);
     let mut ran: Result<Hub, JournalRunFault> = Err(JournalRunFault::Memory);
     let journal = JournalFile::over(disk, &mut written, found.gate, found.has_record);
     let last = last_opened(replay.records.as_slice());
     let recorded = RecordedLinks::over(links, journal, last, &mut noted);
-    let resumed = JournalLinks::over(recorded, &mut replay, &mut opened, &unread);
+    let resumed = JournalLinks::over(recorded, &mut replay, &mut opened, &config);
     let _ended = run_noted::<L, D, O, P, G, Brand>(
         alloc, setup, turns, quiet, resumed, sink, patterns, steps, &mut ran,
     );
@@ -179,17 +176,12 @@ fn run_noted<'a, L: Links, D: Disk, O: Sink, P: Patterns, G: Ledger, K: JournalL
     ensures links_name { result.recorded.inner.ghost_name ≡ K.lent.lent.links_name }
     ensures disk_name { result.recorded.recorder.journal.disk.ghost_name
         ≡ K.lent.lent.disk_name }
-    ensures first { first_after result.recorded.last ≡ first_free K.lent.records }
     ensures runs { RunsQuietly setup turns quiet
         (run_report (P.report patterns.old) steps.old.forks (O.report sink.old))
         (run_report (P.report patterns.new) steps.new.forks (O.report sink.new))
         (run_result ran.new) result.log }
-    ensures keeps { ∥ KeepsSome K.lent result.log
-        (reached result) (seen_of result.recorded).kept ∥₁ }
     ensures made { ∥ Made K.lent.lent.found K.lent.records K.lent.lent.links K.lent.lent.disk
         result.log (state_of result) ∥₁ }
-    ensures asked { ∥ Asked (first_after result.recorded.last) K.lent result.log
-        (seen_of result.recorded) (reached result) ∥₁ }
     ensures opened { (D.report result.recorded.recorder.journal.disk.now).opened
         ≡ K.lent.lent.disk.opened }
     ensures disk_fault { ran.new ≡ Err JournalRunFault.Disk → Rose K.lent.lent.disk.faults

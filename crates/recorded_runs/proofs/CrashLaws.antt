@@ -5,10 +5,8 @@ use Rattle.disk_port.specs.Past.{Leaves, LeavesOnly, Past}
 use Rattle.disk_port.proofs.PastLaws.{begins, then_more, weaker}
 use Rattle.journal_format.specs.Journals.{Holds, Journal}
 use Rattle.journal_format.specs.declared.turn_record.TurnRecord.{TurnRecord}
-use Rattle.ports.specs.declared.entry.Entry.{Entry}
 use Rattle.recorded_runs.specs.Laws.{AreAll, AreFirst, HoldsMore}
-use Rattle.recorded_links.specs.Noting.{noted}
-use Rattle.recorded_runs.specs.Recording.{IsBegun, AreKept, Recorded, none_yet, one_more, with_records}
+use Rattle.recorded_runs.specs.Recording.{AreRecorded, IsBegun, AreKept, none_yet, one_more, with_records}
 use Rattle.recorded_runs.proofs.JournalLaws.{with_more, with_none}
 use Rattle.turn_journal.specs.Standing.{HoldsOrWith}
 
@@ -57,28 +55,28 @@ turns_left journal start turns now held (one_more before entry past keeps turns_
       ),
     )
 
-pub leaves_first : (journal : Journal) (start now : Past) (calls : List Entry)
-    → ((image : List ℕ) → Leaves start image → Holds journal image) → Recorded journal start calls now
-    → LeavesOnly start now (HoldsMore journal (AreFirst (noted calls).records))
-leaves_first journal start now calls held recorded = by_last recorded.last
+pub leaves_first : (journal : Journal) (start now : Past) (turns : List TurnRecord)
+    → ((image : List ℕ) → Leaves start image → Holds journal image) → AreRecorded journal start turns now
+    → LeavesOnly start now (HoldsMore journal (AreFirst turns))
+leaves_first journal start now turns held recorded = by_last recorded.last
   where
-    front : LeavesOnly start recorded.past (HoldsMore journal (AreFirst (noted calls).records))
+    front : LeavesOnly start recorded.past (HoldsMore journal (AreFirst turns))
     front =
-        weaker start recorded.past (HoldsMore journal (IsFront (noted calls).records))
-        (HoldsMore journal (AreFirst (noted calls).records)) (λ image more. (more.0, more.1, inl more.2))
-        (turns_left journal start (noted calls).records recorded.past held recorded.turns)
+        weaker start recorded.past (HoldsMore journal (IsFront turns))
+        (HoldsMore journal (AreFirst turns)) (λ image more. (more.0, more.1, inl more.2))
+        (turns_left journal start turns recorded.past held recorded.kept)
 
-    by_last : (now ≡ recorded.past) ⊎ IsBegun (with_records journal (noted calls).records) recorded.past now
-        → LeavesOnly start now (HoldsMore journal (AreFirst (noted calls).records))
+    by_last : (now ≡ recorded.past) ⊎ IsBegun (with_records journal turns) recorded.past now
+        → LeavesOnly start now (HoldsMore journal (AreFirst turns))
     by_last (inl same) =
-        subst (λ (past : Past). LeavesOnly start past (HoldsMore journal (AreFirst (noted calls).records)))
+        subst (λ (past : Past). LeavesOnly start past (HoldsMore journal (AreFirst turns)))
         (sym same) front
     by_last (inr begun) =
-        then_more start recorded.past now (HoldsMore journal (AreFirst (noted calls).records)) front
-        (weaker recorded.past now (HoldsOrWith (with_records journal (noted calls).records) begun.entry)
-        (HoldsMore journal (AreFirst (noted calls).records))
-        (one_or_both journal (noted calls).records begun.entry (AreFirst (noted calls).records)
-        (inl ([], append-nil (noted calls).records)) (inr (begun.entry, refl))) begun.leaves)
+        then_more start recorded.past now (HoldsMore journal (AreFirst turns)) front
+        (weaker recorded.past now (HoldsOrWith (with_records journal turns) begun.entry)
+        (HoldsMore journal (AreFirst turns))
+        (one_or_both journal turns begun.entry (AreFirst turns)
+        (inl ([], append-nil turns)) (inr (begun.entry, refl))) begun.leaves)
 
 -- what a crash leaves once the last turn was handed out
 turns_kept : (journal : Journal) (start : Past) (turns : List TurnRecord) (past : Past)
@@ -92,20 +90,20 @@ turns_kept journal start turns now held (one_more before entry past keeps turns_
     subst (λ (journal : Journal). Holds journal image)
     (with_more journal before entry ∙ ap (with_records journal) (sym turns_are)) (kept.since image leaves)
 
-pub leaves_all : (journal : Journal) (start now : Past) (calls : List Entry)
-    → ((image : List ℕ) → Leaves start image → Holds journal image) → Recorded journal start calls now
+pub leaves_all : (journal : Journal) (start now : Past) (turns : List TurnRecord)
+    → ((image : List ℕ) → Leaves start image → Holds journal image) → AreRecorded journal start turns now
     → (image : List ℕ) → Leaves now image
-    → HoldsMore journal (AreAll (noted calls).records) image
-leaves_all journal start now calls held recorded image leaves = by_last recorded.last
+    → HoldsMore journal (AreAll turns) image
+leaves_all journal start now turns held recorded image leaves = by_last recorded.last
   where
-    by_last : (now ≡ recorded.past) ⊎ IsBegun (with_records journal (noted calls).records) recorded.past now
-        → HoldsMore journal (AreAll (noted calls).records) image
+    by_last : (now ≡ recorded.past) ⊎ IsBegun (with_records journal turns) recorded.past now
+        → HoldsMore journal (AreAll turns) image
     by_last (inl same) = (
-      (noted calls).records,
-      turns_kept journal start (noted calls).records recorded.past held recorded.turns image
+      turns,
+      turns_kept journal start turns recorded.past held recorded.kept image
           (subst (λ (past : Past). Leaves past image) same leaves),
       inl refl,
     )
     by_last (inr begun) =
-        one_or_both journal (noted calls).records begun.entry (AreAll (noted calls).records) (inl refl)
+        one_or_both journal turns begun.entry (AreAll turns) (inl refl)
         (inr (begun.entry, refl)) image (begun.leaves.each 0 (omega arith) image leaves)

@@ -39,7 +39,7 @@ keeps_begun lent kept sends spent kept_is unsent = record { sends_are = sym unse
         subst (λ (kept : Kept). KeepsJournal journal start [] kept spent) (sym kept_is) (record {
           now = start;
           reported = reported;
-          recorded = record { past = start; turns = none_yet refl refl; last = inl refl };
+          recorded = record { past = start; kept = none_yet refl refl; last = inl refl };
           unbegun = λ unspent. refl;
           stands = λ unspent. subst (Stands start lent.found.gate lent.found.has_record) (with_none journal) stands;
         })
@@ -66,8 +66,8 @@ keeps_same lent calls calls' kept kept' sends sends' spent spent' keeps records_
           reported = before.reported;
           recorded = record {
             past = before.recorded.past;
-            turns = subst (λ (entries : List TurnRecord). AreKept journal start entries before.recorded.past)
-                (sym records_are) before.recorded.turns;
+            kept = subst (λ (entries : List TurnRecord). AreKept journal start entries before.recorded.past)
+                (sym records_are) before.recorded.kept;
             last =
                 subst (λ (entries : List TurnRecord). (before.now ≡ before.recorded.past)
                 ⊎ IsBegun (with_records journal entries) before.recorded.past before.now)
@@ -122,8 +122,8 @@ keeps_added lent calls calls' kept kept' sends sends' spent spent' entry bytes k
           reported = after.1;
           recorded = record {
             past = after.0;
-            turns =
-                one_more (noted calls).records entry before.recorded.past before.recorded.turns more_records (record {
+            kept =
+                one_more (noted calls).records entry before.recorded.past before.recorded.kept more_records (record {
                   until =
                       subst (λ (past : Past). LeavesOnly past after.0 (HoldsOrWith standing entry))
                       (before.unbegun unspent)
@@ -170,8 +170,8 @@ keeps_lost lent calls calls' kept kept' sends sends' spent spent' added entry by
           reported = moment.1;
           recorded = record {
             past = before.recorded.past;
-            turns = subst (λ (entries : List TurnRecord). AreKept journal start entries before.recorded.past)
-                same_records before.recorded.turns;
+            kept = subst (λ (entries : List TurnRecord). AreKept journal start entries before.recorded.past)
+                same_records before.recorded.kept;
             last =
                 inr (subst (λ (entries : List TurnRecord). IsBegun
                 (with_records journal entries) before.recorded.past moment.0) same_records (record {

@@ -10,7 +10,7 @@ use Rattle.ports.specs.declared.entry.Entry.{Entry}
 use Rattle.recorded_links.specs.Noting.{noted}
 use Rattle.recorded_links.specs.Steps.{Seen}
 use Rattle.recorded_runs.specs.Making.{AreSince, recording, uncalled}
-use Rattle.recorded_runs.specs.Recording.{Recorded, with_records}
+use Rattle.recorded_runs.specs.Recording.{AreRecorded, with_records}
 use Rattle.turn_journal.specs.Standing.{Stands, Told}
 
 -- these are all of the turns, or all and one more
@@ -29,12 +29,12 @@ HoldsMore journal P file = (entries : List TurnRecord) × Holds (with_records jo
 -- A file that held the journal holds it with the first of the turns whenever a crash comes, and with all of them once
 -- they were handed out. One more may follow them. No part of a record follows.
 pub record CrashesLeaveTurns : Type 0 where
-  pub at_any_moment : (journal : Journal) (start now : Past) (calls : List Entry)
-      → ((image : List ℕ) → Leaves start image → Holds journal image) → Recorded journal start calls now
-      → LeavesOnly start now (HoldsMore journal (AreFirst (noted calls).records))
-  pub now : (journal : Journal) (start now : Past) (calls : List Entry)
-      → ((image : List ℕ) → Leaves start image → Holds journal image) → Recorded journal start calls now
-      → (image : List ℕ) → Leaves now image → HoldsMore journal (AreAll (noted calls).records) image
+  pub at_any_moment : (journal : Journal) (start now : Past) (turns : List TurnRecord)
+      → ((image : List ℕ) → Leaves start image → Holds journal image) → AreRecorded journal start turns now
+      → LeavesOnly start now (HoldsMore journal (AreFirst turns))
+  pub now : (journal : Journal) (start now : Past) (turns : List TurnRecord)
+      → ((image : List ℕ) → Leaves start image → Holds journal image) → AreRecorded journal start turns now
+      → (image : List ℕ) → Leaves now image → HoldsMore journal (AreAll turns) image
 
 -- When the lines and the replies of a turn go out, the journal that stood there has all turns that were handed out,
 -- that one too, and is on the disk.

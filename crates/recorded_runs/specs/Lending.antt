@@ -13,7 +13,7 @@ use Rattle.recorded_links.specs.Steps.{Seen}
 use Rattle.recorded_runs.specs.Making.{AreCalls, recording, uncalled}
 use Rattle.recorded_links.specs.Noting.{noted}
 use Rattle.recorded_runs.specs.Passing.{Passes}
-use Rattle.recorded_runs.specs.Recording.{Recorded, with_records}
+use Rattle.recorded_runs.specs.Recording.{AreRecorded, with_records}
 use Rattle.turn_journal.specs.Standing.{Stands}
 
 -- links and a disk when they were lent
@@ -42,7 +42,7 @@ pub record KeepsJournal (journal : Journal) (start : Past) (calls : List Entry) 
     (spent : Bool) : Type 0 where
   pub now : Past
   pub reported : kept.past ≡ Some now
-  pub recorded : Recorded journal start calls now
+  pub recorded : AreRecorded journal start (noted calls).records now
   pub unbegun : spent ≡ false → now ≡ recorded.past
   pub stands : spent ≡ false → Stands now kept.gate kept.has_record (with_records journal (noted calls).records)
 

@@ -4,8 +4,6 @@ use Rattle.disk_port.specs.Past.{Leaves, LeavesOnly, Past}
 use Rattle.journal_format.specs.Journals.{Holds, Journal, with_record}
 use Rattle.journal_format.specs.Spelling.{IsRecord}
 use Rattle.journal_format.specs.declared.turn_record.TurnRecord.{TurnRecord}
-use Rattle.ports.specs.declared.entry.Entry.{Entry}
-use Rattle.recorded_links.specs.Noting.{noted}
 use Rattle.turn_journal.specs.Standing.{HoldsOrWith}
 
 -- the journal with these records more
@@ -27,16 +25,17 @@ pub data AreKept (journal : Journal) (start : Past) : List TurnRecord → Past �
       → turns ≡ before ++ entry ∷ [] → IsKept (with_records journal before) entry past now
       → AreKept journal start turns now
 
--- The record of one turn more was begun. A crash leaves the journal, or the journal with this record whole.
+-- The record of one turn more was begun, which was not handed out. A crash leaves the journal, or the journal with this
+-- record whole. Which turn it is, the step of its call says (`Takes`, `TakesListen`, `TakesOwn`).
 pub record IsBegun (journal : Journal) (past now : Past) : Type 0 where
   pub entry : TurnRecord
   pub allowed : IsRecord entry
   pub leaves : LeavesOnly past now (HoldsOrWith journal entry)
 
--- In a file that held the journal these calls were recorded: a crash at any moment leaves the journal with the turns
--- that were handed out, in order. Beyond them it leaves one at most, whole, whose record was begun last.
-pub record Recorded (journal : Journal) (start : Past) (calls : List Entry) (now : Past) : Type 0 where
+-- In a file that held the journal these turns were recorded: a crash at any moment leaves the journal with those that
+-- were handed out, in order. Beyond them it leaves one at most, whole, whose record was begun last.
+pub record AreRecorded (journal : Journal) (start : Past) (turns : List TurnRecord) (now : Past) : Type 0 where
   -- when the last turn was handed out
   pub past : Past
-  pub turns : AreKept journal start (noted calls).records past
-  pub last : (now ≡ past) ⊎ IsBegun (with_records journal (noted calls).records) past now
+  pub kept : AreKept journal start turns past
+  pub last : (now ≡ past) ⊎ IsBegun (with_records journal turns) past now

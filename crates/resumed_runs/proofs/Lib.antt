@@ -1,6 +1,7 @@
-pub mod KeepLaws
 pub mod StepLaws
-pub mod AskLaws
+pub mod OwnLaws
+pub mod SplitLaws
+pub mod TraceLaws
 pub mod RisenLaws
 pub mod MadeLaws
 pub mod LastLaws

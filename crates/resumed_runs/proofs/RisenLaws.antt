@@ -1,5 +1,5 @@
 -- How calls of links that resume a run change the counts of faults.
-use Rattle.std.proofs.Common.{◌≡◌, ℕ, ◌≤◌, Bool, true, false, not, List, refl, ap, arith}
+use Rattle.std.proofs.Common.{◌≡◌, ℕ, ◌≤◌, true, List, ap, arith}
 use Rattle.journal_links.specs.Steps.{CloseOf, ListenOf, NextOf, Progress, SendOf, close_again, close_passed}
 use Rattle.journal_links.specs.Steps.{listen_again, listen_first, listen_unasked, next_again, next_broken, next_inner}
 use Rattle.journal_links.specs.Steps.{next_unasked, send_again, send_memory, send_passed}
@@ -48,9 +48,3 @@ pub close_still : (old new : Seen) (was is : Progress) (link : ℕ) → CloseOf 
     → new.faults ≡ old.faults
 close_still old new was is link (close_again none opened records given left rests spent) = rests.faults
 close_still old new was is link (close_passed number at step stays) = step.faults
-
--- ---- whether a call ended the run
-
-pub done_if : (ended done : Bool) → ended ≡ not done → ended ≡ false → done ≡ true
-done_if ended true is going = refl
-done_if ended false is going = absurd (cc (is, going))

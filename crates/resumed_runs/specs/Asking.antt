@@ -1,7 +1,9 @@
 -- Which calls were made of the inner links, for those of links that keep a journal.
-use Rattle.std.specs.Prelude.{◌≡◌, ℕ, List, [], ◌∷◌, ◌++◌, Some, None}
+use Rattle.std.specs.Prelude.{◌≡◌, ℕ, List, [], ◌∷◌, ◌++◌, length, Some, None}
 use Rattle.journal_format.specs.declared.turn_record.Summary.{Summary}
-use Rattle.journal_links.specs.Steps.{HandsAgain}
+use Rattle.journal_format.specs.declared.turn_record.TurnRecord.{TurnRecord}
+use Rattle.journal_links.specs.Steps.{HandsAgain, last_secs}
+use Rattle.ports.specs.Calls.{AddsCalls, LinksReport}
 use Rattle.ports.specs.Links.{listen_entries, next_entries, send_entries}
 use Rattle.ports.specs.declared.entry.Entry.{Entry}
 use Rattle.ports.specs.declared.entry.Entry.TheVariants.{Close}
@@ -14,16 +16,19 @@ use Rattle.recorded_links.specs.Keeping.{HandsOut}
 use Rattle.recorded_links.specs.Numbers.{inner_number}
 use Rattle.recorded_links.specs.Noting.{noted}
 use Rattle.recorded_runs.specs.Passing.{IsPassed}
+use Rattle.replayed_links.specs.Opened.{first_free}
+use Rattle.resumed_runs.specs.Recording.{records_after}
 
 -- One call while turns of the journal are left, as an entry of the log, and the call of the inner links that was made
--- for it, whose numbers begin there with `first`.
+-- for it, whose numbers begin there with `first`. Which turn is given and what a send is answered, the calls themselves
+-- say (`GivesAgain`, `send_again`).
 pub data IsAgain (first : ℕ) (made asked : List Entry) : Type 0 where
   -- out of memory
   none_again : made ≡ [] → asked ≡ [] → IsAgain first made asked
   -- the address is the same; the second is the journal's
   listens_again : (address : List ℕ) (given answer : ListenAnswer) → HandsAgain given answer
       → made ≡ listen_entries address answer → asked ≡ listen_entries address given → IsAgain first made asked
-  -- a turn of the journal, or a send that is answered by it
+  -- of a turn of the journal, and of a send that is answered by it, the inner links get nothing
   gives_again : (wants : List Want) (buf : List ℕ) (turn : Turn) → made ≡ next_entries wants buf turn → asked ≡ []
       → IsAgain first made asked
   sends_again : (link : ℕ) (bytes : List ℕ) (answer : SendAnswer) → made ≡ send_entries link bytes answer → asked ≡ []
@@ -52,3 +57,12 @@ pub data AsksFor (first secs : ℕ) : List Entry → List Entry → List Entry �
       → AsksFor first secs before since there → IsAfter first secs (noted since).sends made more
       → calls ≡ before ++ made → later ≡ since ++ made → asked ≡ there ++ more
       → AsksFor first secs calls later asked
+
+-- the calls that were made of the inner links for these, of links that resume the journal with these records
+pub record AsksOf (records : List TurnRecord) (links links' : LinksReport) (calls : List Entry) : Type 0 where
+  -- those after the journal's turns
+  pub later : List Entry
+  pub later_are : (noted later).records ≡ records_after (length records) calls
+  pub asked : List Entry
+  pub adds : AddsCalls links links' asked
+  pub asks : AsksFor (first_free records) (last_secs records) calls later asked

@@ -1,5 +1,5 @@
 pub mod Making
 pub mod Asking
-pub mod Moments
+pub mod Recording
 pub mod Lending
 pub mod Laws

@@ -5,6 +5,6 @@ mod law;
 mod loan;
 mod traced;
 
-pub use law::last_turn_is_kept;
+pub use law::{calls_are_passed, last_turn_is_kept, turns_are_recorded};
 pub use loan::JournalLoan;
 pub use traced::ResumedLinks;

@@ -1,14 +1,9 @@
 ghost use Rattle.std.specs.Prelude.{◌≡◌, ◌≤◌, ◌||◌, [], false, true};
 ghost use Rattle.std.proofs.Props.{props};
-ghost use Rattle.journal_links.specs.Seeing.{reached};
-ghost use Rattle.journal_links.specs.Turns.{is_done};
 ghost use Rattle.list_laws.specs.Counts.{Rose};
-ghost use Rattle.recorded_links.specs.Keeping.{is_ready};
 ghost use Rattle.recorded_links.specs.Numbers.{first_after};
-ghost use Rattle.recorded_links.specs.Seeing.{seen_of};
 ghost use Rattle.recorded_runs.specs.Lending.{traced_report};
 ghost use Rattle.replayed_links.specs.Opened.{first_free};
-ghost use Rattle.resumed_runs.specs.Lending.{Asked, KeepsJournal};
 ghost use Rattle.resumed_runs.specs.Making.{Made, state_of};
 ghost use Rattle.turn_replay.specs.Replaying.{summaries_next};
 
@@ -16,25 +11,21 @@ use crate::loan::JournalLoan;
 use disk_port::Disk;
 use ev_types::Text;
 use journal_links::JournalLinks;
-use ports::{Links, ListenAnswer, SendAnswer, Turn, Wants, What};
+use ports::{Links, ListenAnswer, SendAnswer, Turn, Wants};
 use std::alloc::Global;
 use std::marker::PhantomData;
 
-/// Links that resume a run, whose type says what became of the links and the disk that were lent to them (`K`). So a
-/// caller knows it of what a generic function gives back, too. Once a `listen` or a `next` failed or was out of memory,
-/// each later one is out of memory, and asks nothing.
+/// Links that resume a run, whose type says which calls led from the links and the disk that were lent to them (`K`) to
+/// what these are now. So a caller knows it of what a generic function gives back, too.
 #[derive(Drop)]
 pub struct ResumedLinks<'a, L: Links, D: Disk, K: JournalLoan> {
     pub links: JournalLinks<'a, L, D>,
-    /// Whether a `listen` or a `next` failed, or was out of memory.
-    pub ended: bool,
     /// Whether a call of the disk has failed since the loan.
     pub disk_failed: bool,
     pub loan: PhantomData<K>,
     pub ghost links_name: { links.recorded.inner.ghost_name ≡ K.lent.lent.links_name },
     pub ghost disk_name: { links.recorded.recorder.journal.disk.ghost_name
         ≡ K.lent.lent.disk_name },
-    pub ghost first: { first_after links.recorded.last ≡ first_free K.lent.records },
     pub ghost links_faults: { K.lent.lent.links.faults
         ≤ (L.report links.recorded.inner.now).faults },
     pub ghost quiet: { disk_failed ≡ false →
@@ -45,12 +36,8 @@ pub struct ResumedLinks<'a, L: Links, D: Disk, K: JournalLoan> {
         ≤ (D.report links.recorded.recorder.journal.disk.now).faults },
     pub ghost opened: { (D.report links.recorded.recorder.journal.disk.now).opened
         ≡ K.lent.lent.disk.opened } by { Prim.hlevel props },
-    pub ghost keeps: { ∥ KeepsJournal K.lent links.log (reached links)
-        (seen_of links.recorded).kept ended ∥₁ },
     pub ghost made: { ∥ Made K.lent.lent.found K.lent.records K.lent.lent.links
         K.lent.lent.disk links.log (state_of links) ∥₁ },
-    pub ghost asked: { ∥ Asked (first_after links.recorded.last) K.lent links.log
-        (seen_of links.recorded) (reached links) ∥₁ },
 }
 
 impl<'a, L: Links, D: Disk, K: JournalLoan> ResumedLinks<'a, L, D, K> {
@@ -79,7 +66,6 @@ impl<'a, L: Links, D: Disk, K: JournalLoan> ResumedLinks<'a, L, D, K> {
     {
         ResumedLinks {
             links,
-            ended: false,
             disk_failed: false,
             loan: PhantomData,
         }
@@ -91,25 +77,14 @@ impl<'a, L: Links, D: Disk, K: JournalLoan> Links for ResumedLinks<'a, L, D, K> 
         (L.report resumed.links.recorded.inner.now) resumed.disk_failed };
 
     fn listen(&mut self, alloc: Global, address: &Text) -> ListenAnswer {
-        if self.ended {
-            return ListenAnswer::Memory;
-        }
         let answer = self.links.listen(alloc, address);
         self.disk_failed = either(self.disk_failed, self.links.recorded.disk_failed);
-        self.ended = !is_ready(answer);
         answer
     }
 
     fn next(&mut self, alloc: Global, wants: &Wants, buf: &mut [u8]) -> Turn {
-        if self.ended {
-            return Turn {
-                secs: 0,
-                what: What::Memory,
-            };
-        }
         let turn = self.links.next(alloc, wants, buf);
         self.disk_failed = either(self.disk_failed, self.links.recorded.disk_failed);
-        self.ended = !is_done(turn);
         turn
     }
 
@@ -126,17 +101,4 @@ fn either(one: bool, other: bool) -> bool
     ensures { result ≡ (one || other) }
 {
     one || other
-}
-
-fn is_ready(answer: ListenAnswer) -> bool
-    ensures { result ≡ is_ready answer }
-{
-    matches!(answer, ListenAnswer::Ready { .. })
-}
-
-/// Whether what came is a turn.
-fn is_done(turn: Turn) -> bool
-    ensures { result ≡ is_done turn }
-{
-    !matches!(turn.what, What::Failed | What::Memory)
 }

@@ -7,7 +7,6 @@ use Rattle.journal_run.proofs.ResumeLaws.{ran_resumed}
 use Rattle.journal_run.proofs.RunLaws.{at_last, at_lasts}
 use Rattle.list_laws.specs.Counts.{Rose}
 use Rattle.ports.specs.Calls.{LinksReport}
-use Rattle.recorded_links.specs.Keeping.{kept_of}
 use Rattle.recorded_links.specs.Numbers.{first_after}
 use Rattle.recorded_links.specs.Steps.{seen}
 use Rattle.journal_run.proofs.resumed.run_in.Goals as goal
@@ -19,9 +18,6 @@ returns-clause-runs g c =
     let new = run_report (g.P.Patterns.report c.run_noted-ended.new.patterns) c.run_noted-ended.new.steps.forks
     (g.O.Sink.report c.run_noted-ended.new.sink) in
     let links = c.run_noted-ended.result in
-    let kept =
-    kept_of (g.D.Disk.report links.recorded.recorder.journal.disk.now).past links.recorded.recorder.journal.gate
-    links.recorded.recorder.journal.has_record in
     let progress =
     progress_of links.replay.now.records links.replay.now.given links.replay.now.left.items
     links.opened.now.numbers.keys in
@@ -38,11 +34,10 @@ returns-clause-runs g c =
     (search rules) (search rules)
     (ran_resumed c.args.setup c.args.turns c.args.quiet _ c.args.found c.args.replay.records
     (g.L.Links.report c.args.links.now) (g.D.Disk.report c.args.disk.now)
-    links.log view progress kept (first_after links.recorded.last)
-    (g.D.Disk.report links.recorded.recorder.journal.disk.now) old new c.run_noted-ended.new.ran
-    (search rules) (search rules) (search rules) (search rules) (search rules) c.run_noted-ended.ensures.first refl
-    c.run_noted-ended.ensures.runs
-    c.run_noted-ended.ensures.keeps c.run_noted-ended.ensures.asked refl refl c.run_noted-ended.ensures.made)
+    links.log view progress (g.D.Disk.report links.recorded.recorder.journal.disk.now) old new
+    c.run_noted-ended.new.ran
+    (search rules) (search rules) (search rules) (search rules) (search rules) c.run_noted-ended.ensures.runs refl refl
+    c.run_noted-ended.ensures.made)
 
 pub returns-clause-opened : goal.returns-clause-opened
 returns-clause-opened g c =

@@ -1,4 +1,3 @@
-use Rattle.std.proofs.Math.Logic.{∥∥₁_map}
 use Rattle.std.proofs.Common.{◌≡◌, ℕ, ◌+◌, ◌∙◌, ap, subst, rules}
 use Rattle.hub_run.specs.Quiet.{RunsQuietly}
 use Rattle.hub_run.specs.Runs.{run_report}
@@ -77,8 +76,3 @@ returns-clause-sink_fault g c = λ is. c.run_quietly-ended.ensures.sink_fault (c
 pub returns-clause-sink_quiet : goal.returns-clause-sink_quiet
 returns-clause-sink_quiet g c =
     λ unlike. c.run_quietly-ended.ensures.sink_quiet (λ is. unlike (c.ended_so.ensures.of_sink is))
-
-pub returns-clause-keeps : goal.returns-clause-keeps
-returns-clause-keeps g c =
-    ∥∥₁_map c.run_quietly-ended.new.links.keeps
-    (λ keeps. record { ended = c.run_quietly-ended.new.links.ended; keeps = keeps })

@@ -1,18 +1,8 @@
 use Rattle.std.proofs.Common.{rules}
 use Rattle.std.proofs.lemmas.Grind.{merely}
 use Rattle.recorded_runs.proofs.TraceLaws.{seen_uncalled}
-use Rattle.resumed_runs.proofs.AskLaws.{asked_begun}
-use Rattle.resumed_runs.proofs.KeepLaws.{keeps_begun}
 use Rattle.resumed_runs.proofs.MadeLaws.{given_none, made_begun}
 use Rattle.resumed_runs.proofs.traced.ResumedLinks.over.Goals as goal
-
-pub invariant_of-result-clause-keeps : goal.invariant_of-result-clause-keeps
-invariant_of-result-clause-keeps g c =
-    merely (keeps_begun g.K.JournalLoan.lent _ _ _ (search rules) (search rules) (search rules) (search rules))
-
-pub invariant_of-result-clause-asked : goal.invariant_of-result-clause-asked
-invariant_of-result-clause-asked g c =
-    merely (asked_begun _ g.K.JournalLoan.lent _ _ _ (search rules) (search rules) (search rules) (search rules))
 
 pub invariant_of-result-clause-made : goal.invariant_of-result-clause-made
 invariant_of-result-clause-made g c =

@@ -4,8 +4,6 @@ use Rattle.ports.specs.declared.entry.Entry.TheVariants.{Close}
 use Rattle.recorded_links.specs.Numbers.{first_after}
 use Rattle.recorded_runs.proofs.FaultLaws.{inner_still, may_close, quiet_calls}
 use Rattle.recorded_runs.specs.Making.{closed}
-use Rattle.resumed_runs.proofs.AskLaws.{asked_close}
-use Rattle.resumed_runs.proofs.KeepLaws.{keeps_close}
 use Rattle.resumed_runs.proofs.RisenLaws.{close_still}
 use Rattle.resumed_runs.proofs.MadeLaws.{made_more}
 use Rattle.resumed_runs.proofs.traced.ResumedLinksLinks.close.Goals as goal
@@ -43,16 +41,6 @@ invariant_of-self-clause-broke g c =
 pub invariant_of-self-clause-disk_faults : goal.invariant_of-self-clause-disk_faults
 invariant_of-self-clause-disk_faults g c =
     let same = close_still _ _ _ _ _ c.close.ensures.step in omega (arith, same, c.args.self.now.disk_faults)
-
-pub invariant_of-self-clause-keeps : goal.invariant_of-self-clause-keeps
-invariant_of-self-clause-keeps g c =
-    keeps_close g.K.JournalLoan.lent c.args.self.now.links.log c.close.new.self.log _ _ _ _ c.args.link
-    c.args.self.now.ended c.args.self.now.keeps c.close.ensures.log c.close.ensures.step
-
-pub invariant_of-self-clause-asked : goal.invariant_of-self-clause-asked
-invariant_of-self-clause-asked g c =
-    asked_close g.K.JournalLoan.lent c.args.self.now.links.log c.close.new.self.log _ _ _ _ c.args.link
-    c.args.self.now.asked c.close.ensures.log (ap first_after c.close.ensures.last) c.close.ensures.step
 
 pub invariant_of-self-clause-made : goal.invariant_of-self-clause-made
 invariant_of-self-clause-made g c =

@@ -1,21 +1,13 @@
-use Rattle.std.proofs.Common.{refl, ◌+◌, Bool, sym, ◌∙◌, ap, subst, arith, rules}
-use Rattle.ports.proofs.CallLemmas.{no_calls}
+use Rattle.std.proofs.Common.{refl, ◌+◌, Bool, sym, ◌∙◌, ap, subst, arith}
 use Rattle.ports.specs.Calls.{AddsCalls}
 use Rattle.ports.specs.Links.{HasListenCause, listen_entries}
 use Rattle.recorded_links.specs.Numbers.{first_after}
 use Rattle.recorded_runs.specs.Lending.{disk_faults, traced_report}
 use Rattle.recorded_runs.proofs.FaultLaws.{listen_cause, still_broke, still_least, still_quiet, traced_calls}
 use Rattle.recorded_runs.specs.Making.{listened}
-use Rattle.resumed_runs.proofs.AskLaws.{asked_listen}
-use Rattle.resumed_runs.proofs.KeepLaws.{keeps_listen}
-use Rattle.resumed_runs.proofs.RisenLaws.{done_if, listen_risen}
+use Rattle.resumed_runs.proofs.RisenLaws.{listen_risen}
 use Rattle.resumed_runs.proofs.MadeLaws.{made_more}
 use Rattle.resumed_runs.proofs.traced.ResumedLinksLinks.listen.Goals as goal
-
-pub returns-then-self-clause-adds : goal.returns-then-self-clause-adds
-returns-then-self-clause-adds g c =
-    no_calls (traced_report c.args.self.now.links.log (g.L.Links.report c.args.self.now.links.recorded.inner.now)
-    c.args.self.now.disk_failed)
 
 pub returns-clause-adds : goal.returns-clause-adds
 returns-clause-adds g c =
@@ -71,18 +63,6 @@ invariant_of-self-clause-disk_faults g c =
     (g.D.Disk.report c.args.self.now.links.recorded.recorder.journal.disk.now).faults
     (g.D.Disk.report c.listen-answer.new.self.recorded.recorder.journal.disk.now).faults
     c.listen-answer.new.self.recorded.disk_failed c.args.self.now.disk_faults c.listen-answer.ensures.disk_failed
-
-pub invariant_of-self-clause-keeps : goal.invariant_of-self-clause-keeps
-invariant_of-self-clause-keeps g c =
-    keeps_listen g.K.JournalLoan.lent c.args.self.now.links.log c.listen-answer.new.self.log _ _ _ _ c.args.address.now
-    c.listen-answer.result c.args.self.now.ended _ (search rules) c.args.self.now.keeps c.listen-answer.ensures.log
-    c.listen-answer.ensures.step (done_if _ _ (search rules))
-
-pub invariant_of-self-clause-asked : goal.invariant_of-self-clause-asked
-invariant_of-self-clause-asked g c =
-    asked_listen g.K.JournalLoan.lent c.args.self.now.links.log c.listen-answer.new.self.log _ _ _ _ c.args.address.now
-    c.listen-answer.result c.args.self.now.asked c.listen-answer.ensures.log
-    (ap first_after c.listen-answer.ensures.last) c.listen-answer.ensures.step c.listen-answer.ensures.memory
 
 pub invariant_of-self-clause-made : goal.invariant_of-self-clause-made
 invariant_of-self-clause-made g c =

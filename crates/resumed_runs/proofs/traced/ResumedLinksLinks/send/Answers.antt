@@ -4,8 +4,6 @@ use Rattle.ports.specs.Links.{send_entries}
 use Rattle.recorded_links.specs.Numbers.{first_after}
 use Rattle.recorded_runs.proofs.FaultLaws.{inner_still, quiet_calls}
 use Rattle.recorded_runs.specs.Making.{sent}
-use Rattle.resumed_runs.proofs.AskLaws.{asked_send}
-use Rattle.resumed_runs.proofs.KeepLaws.{keeps_send}
 use Rattle.resumed_runs.proofs.RisenLaws.{send_still}
 use Rattle.resumed_runs.proofs.MadeLaws.{made_more}
 use Rattle.resumed_runs.proofs.traced.ResumedLinksLinks.send.Goals as goal
@@ -38,16 +36,6 @@ invariant_of-self-clause-broke g c =
 pub invariant_of-self-clause-disk_faults : goal.invariant_of-self-clause-disk_faults
 invariant_of-self-clause-disk_faults g c =
     let same = send_still _ _ _ _ _ _ _ c.send.ensures.step in omega (arith, same, c.args.self.now.disk_faults)
-
-pub invariant_of-self-clause-keeps : goal.invariant_of-self-clause-keeps
-invariant_of-self-clause-keeps g c =
-    keeps_send g.K.JournalLoan.lent c.args.self.now.links.log c.send.new.self.log _ _ _ _ c.args.link c.args.bytes.now
-    c.send.result c.args.self.now.ended c.args.self.now.keeps c.send.ensures.log c.send.ensures.step
-
-pub invariant_of-self-clause-asked : goal.invariant_of-self-clause-asked
-invariant_of-self-clause-asked g c =
-    asked_send g.K.JournalLoan.lent c.args.self.now.links.log c.send.new.self.log _ _ _ _ c.args.link c.args.bytes.now
-    c.send.result c.args.self.now.asked c.send.ensures.log (ap first_after c.send.ensures.last) c.send.ensures.step
 
 pub invariant_of-self-clause-made : goal.invariant_of-self-clause-made
 invariant_of-self-clause-made g c =
