@@ -17,7 +17,7 @@ pub fn forks_are_apart<F>()
     ensures keys { KeysHaveForks F }
 {}
 
-/// A number reaches one of the forks, and each fork is reached by its number.
+/// A number that has a fork reaches it, and each fork is reached by its number.
 pub fn numbers_reach_forks<F>()
     ensures forks { ForksAreReached F }
     ensures numbers { NumbersReachForks F }
@@ -29,7 +29,7 @@ pub fn latest_is_of_forks<F>()
 {}
 
 /// A fork that is written through what `enter` lends takes the place of that fork alone. The table is still one, and
-/// every number has a fork that had one.
+/// every number that had a fork has one.
 pub fn written_forks_are_replaced<F>()
     ensures table { WrittenIsTable F }
     ensures numbers { WrittenHasForks F }

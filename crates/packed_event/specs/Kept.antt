@@ -16,7 +16,7 @@ use Rattle.packed_event.specs.declared.pack.PackFault.TheVariants.{Unspellable, 
 abbrev pub bytes_of : Event → List ℕ
 bytes_of event = spelled (event_values event)
 
--- the event that the bytes are read as. They have its time, so that the moment of reading does not matter
+-- the event that the bytes are read as. Kept bytes have its time, so the moment of reading does not matter
 abbrev pub event_in : List ℕ → Event
 event_in bytes = event_of (pos 0) bytes
 

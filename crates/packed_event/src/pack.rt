@@ -22,8 +22,8 @@ use thiserror::Error;
 /// Why an event was not packed.
 #[derive(Clone, Copy, Debug, PartialEq, Eq, Error)]
 pub enum PackFault {
-    /// Its bytes would be read as another event: no bits represent its ttl, or its microseconds are of another second.
-    #[error("the bytes of the event would be read as another one")]
+    /// No bytes represent it: no bits represent its ttl, or its microseconds are of another second.
+    #[error("no bytes represent the event")]
     Unspellable,
     /// Its bytes are 4 GiB or more.
     #[error("the event has 4 GiB or more")]

@@ -52,7 +52,7 @@ impl PackedEvent {
     }
 
     /// Makes it the event of bytes that [`places_of`](crate::places_of) recognised, with the places that it gave. It
-    /// takes memory only if the bytes are more than any that it had before. `Memory`: out of memory, and nothing has
+    /// takes memory only if the bytes are more than those that it has. `Memory`: out of memory, and nothing has
     /// changed.
     pub fn copy_from(&mut self, bytes: &[u8], places: Places) -> Result<(), Memory>
         requires packed { (now : ℕ) → IsPacked bytes.now places (event_of (pos now) bytes.now) }

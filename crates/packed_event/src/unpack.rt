@@ -28,7 +28,8 @@ impl PackedEvent {
         Ok(event)
     }
 
-    /// Makes an event that owns its parts this one. It uses the memory of that event's lists.
+    /// Makes an event that owns its parts this one. It uses the memory of that event's lists. After `Memory` what is
+    /// left in `event` is not specified.
     pub fn unpack_into(&self, alloc: Global, event: &mut Event) -> Result<(), Memory>
         ensures { OnOk result (event.new ≡ self.now) }
     {

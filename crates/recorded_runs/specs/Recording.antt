@@ -16,8 +16,8 @@ pub record IsKept (journal : Journal) (entry : TurnRecord) (past now : Past) : T
   pub until : LeavesOnly past now (HoldsOrWith journal entry)
   pub since : (image : List ℕ) → Leaves now image → Holds (with_record journal entry) image
 
--- Each of these turns was handed out once its record was kept, after those before it. `now` is what was done to the
--- file when the last of them was.
+-- The records of these turns were kept one after another. `now` is what was done to the file when the last of them
+-- was.
 pub data AreKept (journal : Journal) (start : Past) : List TurnRecord → Past → Type 0 where
   none_yet : {turns : List TurnRecord} {now : Past} → turns ≡ [] → now ≡ start → AreKept journal start turns now
   one_more : {turns : List TurnRecord} {now : Past} → (before : List TurnRecord) (entry : TurnRecord) (past : Past)

@@ -22,7 +22,7 @@ use window_streams::{
 
 /// What a stream of one of the kinds that keep something keeps of what came. Once it was out of memory it is poisoned,
 /// and each later `item` and `tick` answers `Memory`. The largest states are in boxes, since each state takes as much
-/// memory as the largest that is not, and a fork has one for each of its streams.
+/// memory as the largest that is not, and a fork has one for each of its streams that keep something.
 #[derive(Drop)]
 pub enum KeptState {
     Changed(ChangedState),

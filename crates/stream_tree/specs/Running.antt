@@ -52,7 +52,7 @@ abbrev pub BareRun : List Regex → ℕ → ℕ → List Output → List Output 
 BareRun patterns start moment old new x streams = (texts : List (List ℕ)) (h : History) → AreReadFrom texts patterns →
     AllBare streams → ComesAt start moment h x → new ≡ old ++ outputs_at streams (h ▸ x)
 
--- the call ran out of memory
+-- the call ran out of memory: a prefix of their outputs was put
 abbrev pub BareStop : List Regex → ℕ → ℕ → List Output → List Output → Entry → StreamTrees → Type 0
 BareStop patterns start moment old new x streams = (texts : List (List ℕ)) (h : History) → AreReadFrom texts patterns →
     AllBare streams → ComesAt start moment h x → IsPrefix new (old ++ outputs_at streams (h ▸ x))

@@ -13,7 +13,7 @@ use stream_meaning::Entry;
 use stream_plan::{Kind, Stream, Streams};
 use stream_step::{Context, State, act};
 
-/// Whether each of the streams is bare.
+/// True only if each of the streams is bare.
 pub(crate) fn are_bare(streams: &[Stream]) -> bool
     ensures { IsTrue result → AllBare (list_trees streams.now) }
 {
@@ -40,7 +40,7 @@ fn are_none(streams: &Streams) -> bool
     streams.is_empty()
 }
 
-/// Whether a stream of the kind is bare if there are none below it.
+/// True only if a stream of the kind is bare when there are none below it.
 fn keeps_nothing(kind: &Kind) -> bool
     ensures { IsTrue result → IsBare (tree (kind_tree kind.now) none none) }
 {

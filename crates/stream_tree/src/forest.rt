@@ -16,7 +16,7 @@ use std::alloc::Global;
 use stream_plan::{Kind, Stream, stream_pattern_count};
 use stream_step::State;
 
-/// The nodes of streams, in their order. There is one for each of the first streams; those after them keep nothing.
+/// The nodes of streams, in their order. There is one for each of the first streams; those after them are bare.
 #[cycle(forest)]
 #[derive(Drop)]
 pub(crate) struct Forest {
@@ -60,8 +60,7 @@ pub(crate) fn fresh_forest(
     Ok(Forest { nodes })
 }
 
-/// The nodes of the streams of a branch, as those of [`fresh_forest`]. Where all of the streams are bare there are
-/// none, and no memory is taken.
+/// The nodes of the streams of a branch, as those of [`fresh_forest`].
 #[cycle(fresh)]
 pub(crate) fn fresh_branch(
     alloc: Global,
@@ -72,6 +71,7 @@ pub(crate) fn fresh_branch(
     ensures { IfOk result (λ forest. ForestIsFresh
         (list_trees streams.now) start next.old next.new (nodes_of forest)) }
 {
+    // Bare streams need no nodes, so no memory is taken.
     if are_bare(streams) {
         return Ok(no_nodes(alloc));
     }

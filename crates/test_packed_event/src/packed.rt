@@ -107,5 +107,7 @@ fn an_event_that_no_bytes_represent_is_refused(rt: HostRuntime) -> Result<(), Fa
     event.time_micros = None;
     event.ttl = Some(16_777_217);
     assert!(rt; is_refused(alloc, &event));
+    event.ttl = Some(2_147_483_648);
+    assert!(rt; is_refused(alloc, &event));
     Ok(())
 }
