@@ -14,7 +14,7 @@ use Rattle.command_graphite.specs.Converts.{Converts}
 use Rattle.command_load.specs.Loads.{Loads}
 use Rattle.disk_port.specs.Calls.{DiskReport}
 use Rattle.ports.specs.Counts.{Rose}
-use Rattle.ports.specs.Writing.{Got, SinkReport}
+use Rattle.ports.specs.Writing.{Got, GotPrefix, SinkReport}
 use Rattle.command_record.specs.Records.{Records}
 use Rattle.command_record.specs.Resumes.{Resumes}
 use Rattle.command_replay.specs.Replays.{Replays}
@@ -92,7 +92,8 @@ version_words = codes "--version" ∷ []
 abbrev pub IsNoOption : List (List ℕ) → Type 0
 IsNoOption words = (words ≡ help_words → ⊥) × (words ≡ version_words → ⊥)
 
--- the text was written, or a put failed
+-- the text was written, or a prefix of it, and a put failed
 abbrev pub WritesText : List ℕ → SinkReport → SinkReport → Status → Type 0
 WritesText text old new status =
-    ((status ≡ Done) × Got old.text text new.text) ⊎ ((status ≡ SinkFault) × Rose old.faults new.faults)
+    ((status ≡ Done) × Got old.text text new.text)
+    ⊎ ((status ≡ SinkFault) × GotPrefix old.text text new.text × Rose old.faults new.faults)

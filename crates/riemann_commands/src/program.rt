@@ -1,9 +1,7 @@
-ghost use Rattle.std.specs.Prelude.{◌≡◌, ◌≢◌, ◌↔◌, IfOk, IsTrue};
+ghost use Rattle.std.specs.Prelude.{◌≡◌, ◌↔◌, IfOk, IsTrue, OnErr};
 ghost use Rattle.command_io.specs.Endings.{GotLineOf};
 ghost use Rattle.command_io.specs.Lines.{memory_line, usage_line};
 ghost use Rattle.command_io.specs.Reports.{reports};
-ghost use Rattle.ports.specs.Counts.{Rose};
-ghost use Rattle.ports.specs.Writing.{Got};
 ghost use Rattle.riemann_commands.specs.Words.{IsOfClient};
 ghost use Rattle.riemann_commands.specs.Promises.{IsNoOption, Promises, WritesText, help_words, sameness, version_words};
 
@@ -94,8 +92,8 @@ fn names_client(words: &[Text]) -> bool
     }
 }
 
-/// Answers `--help` and `--version`, and carries out any other command. Arguments that could not be read have the
-/// status and the line of their fault.
+/// Answers `--help` and `--version`, for which it writes to `out` alone, and carries out any other command. Arguments
+/// that could not be read have the status and the line of their fault, and nothing but `err` is written to.
 pub fn run<S: Store, L: Links, D: Disk, O: Sink, E: Sink, P: Patterns, G: Ledger>(
     alloc: Global,
     arguments: Result<Vec<Text>, ArgumentsFault>,
@@ -117,12 +115,21 @@ pub fn run<S: Store, L: Links, D: Disk, O: Sink, E: Sink, P: Patterns, G: Ledger
         (steps.new ≡ steps.old)) result) }
     ensures help { IfOk arguments (λ given. given.items ≡ help_words →
         WritesText HELP.now (O.report out.old) (O.report out.new) result) }
+    ensures help_alone { IfOk arguments (λ given. given.items ≡ help_words →
+        (store.new ≡ store.old) × (links.new ≡ links.old) × (disk.new ≡ disk.old) ×
+        (err.new ≡ err.old) × (patterns.new ≡ patterns.old) × (steps.new ≡ steps.old)) }
     ensures version { IfOk arguments (λ given. given.items ≡ version_words →
         WritesText VERSION.now (O.report out.old) (O.report out.new) result) }
+    ensures version_alone { IfOk arguments (λ given. given.items ≡ version_words →
+        (store.new ≡ store.old) × (links.new ≡ links.old) × (disk.new ≡ disk.old) ×
+        (err.new ≡ err.old) × (patterns.new ≡ patterns.old) × (steps.new ≡ steps.old)) }
     ensures not_utf8 { arguments ≡ Err ArgumentsFault.NotUtf8 → (result ≡ Status.Usage) ×
         GotLineOf usage_line (E.report err.old) (E.report err.new) }
     ensures memory { arguments ≡ Err ArgumentsFault.Memory → (result ≡ Status.Memory) ×
         GotLineOf memory_line (E.report err.old) (E.report err.new) }
+    ensures unread { OnErr arguments ((store.new ≡ store.old) × (links.new ≡ links.old) ×
+        (disk.new ≡ disk.old) × (out.new ≡ out.old) × (patterns.new ≡ patterns.old) ×
+        (steps.new ≡ steps.old)) }
 {
     match arguments {
         Ok(arguments) => match arguments.as_slice() {
@@ -143,10 +150,7 @@ pub fn run<S: Store, L: Links, D: Disk, O: Sink, E: Sink, P: Patterns, G: Ledger
 
 /// Writes the text of `--help` or `--version`.
 fn put_text<O: Sink>(out: &mut O, text: &str) -> Status
-    ensures done { result ≡ Status.Done →
-        Got (O.report out.old).text text.now (O.report out.new).text }
-    ensures fault { result ≢ Status.Done → (result ≡ Status.SinkFault) ×
-        Rose (O.report out.old).faults (O.report out.new).faults }
+    ensures { WritesText text.now (O.report out.old) (O.report out.new) result }
 {
     match put_all(out, text.as_bytes()) {
         Ok(()) => Status::Done,
