@@ -35,7 +35,7 @@ pub record GotLines (old : SinkReport) (notices : List Notice) (new : SinkReport
   pub puts : CountedPuts old.puts (length notices) new.puts
 
 -- The sink got the lines of the first of these notices, each in one put. Of the next line it may have got a prefix, in
--- a put that failed and does not count.
+-- a put that is not counted.
 pub record GotFirstLines (old : SinkReport) (notices : List Notice) (new : SinkReport) : Type 0 where
   pub whole : ℕ
   pub within : whole ≤ length notices
@@ -69,7 +69,7 @@ pub record Turns (turn : Turn) (piece : List ℕ) (hub hub' : Hub) (patterns pat
   pub prefix : OnErr result (GotPrefix sink.text (lines_of made) sink'.text)
   -- the puts that were counted are the lines that were written whole
   pub first_lines : OnErr result (GotFirstLines sink made sink')
-  -- the sink failed only where there was a line to be written
+  -- the sink failed only if there was a line to be written
   pub some : result ≡ Err SinkFault → made ≢ []
   pub follows : OnOk result (Follows hub' config (longer steps (turn_step (wants_in hub) turn piece verdicts) run))
   pub counted :

@@ -65,7 +65,7 @@ pub record TakesTurns (config : CoreConfig) (old new : RunReport) (turns : List 
   pub forks : new.forks ≡ old.forks + forks_by config (state_after config (steps_of turns)).arrivals
 
 -- The sink got the lines of the notices `put`, and then the first lines of the notices `made`, each in one put. Of the
--- next line it may have got a prefix, in a put that failed and does not count.
+-- next line it may have got a prefix, in a put that is not counted.
 pub record StopsInLines (old : SinkReport) (put made : List Notice) (new : SinkReport) : Type 0 where
   -- how many of the lines of `made` it got whole
   pub whole : ℕ
@@ -76,7 +76,7 @@ pub record StopsInLines (old : SinkReport) (put made : List Notice) (new : SinkR
   pub puts : CountedPuts old.puts (length put + whole) new.puts
 
 -- Whole turns, and then one that was not finished for this fault. The lines of the whole turns were written, and the
--- first of those of the last. The sink failed only if the last had one.
+-- first of those of the last. The sink failed only if the last turn had a line.
 pub record StopsIn (config : CoreConfig) (fault : RunFault) (old new : RunReport) (turns : List TakenTurn)
     (last : TakenTurn) : Type 0 where
   pub legal : IsLegal config (steps_of (turns ++ last ∷ []))
