@@ -31,7 +31,7 @@ run_result (Err Memory) = Err run.Memory
 
 -- Of a file that held the journal, in which these turns were recorded since.
 pub record IsRecordedIn (journal : Journal) (start : Past) (turns : List TurnRecord) (now : Past) : Type 0 where
-  -- each turn was handed out only once every crash left the journal with it
+  -- their records were kept one after another; that each was kept before its turn was handed out, `made` says
   pub recorded : AreRecorded journal start turns now
   -- a crash at any moment leaves the journal with the first of the turns, or with all and one more
   pub at_any_moment : LeavesOnly start now (HoldsMore journal (AreFirst turns))

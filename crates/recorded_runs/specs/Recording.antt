@@ -35,7 +35,7 @@ pub record IsBegun (journal : Journal) (past now : Past) : Type 0 where
 -- In a file that held the journal these turns were recorded: a crash at any moment leaves the journal with those that
 -- were handed out, in order. Beyond them it leaves one at most, whole, whose record was begun last.
 pub record AreRecorded (journal : Journal) (start : Past) (turns : List TurnRecord) (now : Past) : Type 0 where
-  -- when the last turn was handed out
+  -- when the last record was kept
   pub past : Past
   pub kept : AreKept journal start turns past
   pub last : (now ≡ past) ⊎ IsBegun (with_records journal turns) past now
