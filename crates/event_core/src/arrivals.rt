@@ -5,6 +5,7 @@ ghost use Rattle.list_laws.specs.Prefix.{IsPrefix};
 ghost use Rattle.index_log.specs.Live.{live_events};
 ghost use Rattle.stream_meaning.specs.Arrivals.{Arrival, Elapsed, Post, matching_events};
 ghost use Rattle.live_index.specs.Index.{events_lent, reply_len, visited};
+ghost use Rattle.pred_eval.specs.Tree.{Always};
 ghost use Rattle.event_core.specs.Core.{config_of, now_of, is_poisoned, state_by, Represents, Receives};
 
 use crate::clock::Clock;
@@ -252,5 +253,32 @@ impl Core {
             return Err(Memory);
         }
         self.streams.found_len(alloc, pred, steps)
+    }
+
+    /// What [`Core::found_len`] gives for the predicate that every event meets. It counts no more entries.
+    pub fn all_len<G: Ledger>(
+        &mut self,
+        alloc: Global,
+        pred: &mut Pred,
+        steps: &mut Steps<G>,
+    ) -> Result<usize, Memory>
+        requires { pred.old ≡ Always }
+        ensures same { self.new ≡ self.old }
+        ensures pred { pred.new ≡ pred.old }
+        ensures found { IfOk result (λ len. (arrivals : List Arrival) → Represents self.old arrivals
+            → len ≡ reply_len (matching_events pred.old
+            (state_by (config_of self.old) arrivals).log)) }
+        ensures forks { steps.new.forks ≡ steps.old.forks }
+        ensures began { steps.new.began ≡ steps.old.began }
+        ensures entries { (arrivals : List Arrival) → Represents self.old arrivals
+            → steps.new.entries ≤ steps.old.entries + length (visited pred.old
+            (live_events (state_by (config_of self.old) arrivals).log)) }
+        ensures at_least { steps.old.entries ≤ steps.new.entries }
+        ensures poisoned { IsTrue (is_poisoned self.old) → IsErr result }
+    {
+        if self.poisoned {
+            return Err(Memory);
+        }
+        self.streams.all_len(alloc, pred, steps)
     }
 }

@@ -7,6 +7,7 @@ ghost use Rattle.stream_meaning.specs.declared.entry.Entry.TheVariants.{Tick, It
 ghost use Rattle.stream_meaning.specs.Arrivals.{CoreState, Elapsed, entered, streamed, fed_back, swept, arrived, state_from, matching_events};
 ghost use Rattle.index_log.specs.Live.{live_events};
 ghost use Rattle.live_index.specs.Index.{events_lent, reply_len, visited};
+ghost use Rattle.pred_eval.specs.Tree.{Always};
 ghost use Rattle.event_core.specs.Streams.{plan_of, Holds, Moved, Visited};
 
 use crate::clock::Clock;
@@ -383,6 +384,28 @@ impl IndexedStreams {
             + length (visited pred.old (live_events state.log)) }
     {
         self.index.found_len(alloc, pred, steps)
+    }
+
+    /// The same of the predicate that every event meets, with no look at the events if the index did not change since.
+    pub(crate) fn all_len<G: Ledger>(
+        &mut self,
+        alloc: Global,
+        pred: &mut Pred,
+        steps: &mut Steps<G>,
+    ) -> Result<usize, Memory>
+        requires { pred.old ≡ Always }
+        ensures same { self.new ≡ self.old }
+        ensures pred { pred.new ≡ pred.old }
+        ensures found { IfOk result (λ len. (state : CoreState) → Holds self.old state
+            → len ≡ reply_len (matching_events pred.old state.log)) }
+        ensures forks { steps.new.forks ≡ steps.old.forks }
+        ensures began { steps.new.began ≡ steps.old.began }
+        ensures at_least { steps.old.entries ≤ steps.new.entries }
+        ensures visited { (state : CoreState) → Holds self.old state →
+            steps.new.entries ≤ steps.old.entries
+            + length (visited pred.old (live_events state.log)) }
+    {
+        self.index.all_len(alloc, pred, steps)
     }
 
     /// How many events are live.

@@ -1,6 +1,6 @@
 -- How many bytes events add to a reply.
 use Rattle.std.proofs.Common.{◌≡◌, ℕ, ◌+◌, ◌<◌, ◌≤◌, Bool, true, false, cond, List, [], ◌∷◌, ◌++◌, filter, take, length}
-use Rattle.std.proofs.Common.{get_or, Option, sym, ap, ◌∙◌, arith, length-append}
+use Rattle.std.proofs.Common.{get_or, Option, Some, IfSome, refl, sym, ap, ◌∙◌, subst, arith, length-append}
 use Rattle.std.specs.Prelude.{Result, Ok, Err, IfOk}
 use Rattle.std.proofs.lemmas.List.{map-append}
 use Rattle.ev_types.specs.declared.event.Event.{Event}
@@ -8,9 +8,12 @@ use Rattle.riemann_msg.specs.Spelling.{field, repeated, spelled, event_content}
 use Rattle.riemann_msg.proofs.Lengths.{found_length, flag_length}
 use Rattle.riemann_msg.proofs.Spelled.{spelled-append}
 use Rattle.key_map.specs.Keys.{Numbers}
+use Rattle.pred_eval.specs.Tree.{Tree, Always}
+use Rattle.pred_eval.specs.Truth.{holds}
 use Rattle.live_index.specs.Index.{Index, reply_len}
-use Rattle.live_index.specs.Slots.{IsStored, events_at, events_unless}
+use Rattle.live_index.specs.Slots.{IsStored, events_at, events_in, events_unless}
 use Rattle.live_index.proofs.CopyLaws.{found-more}
+use Rattle.live_index.proofs.SlotsLaws.{not_poisoned}
 
 abbrev added : List Event → ℕ
 added events = length (spelled (repeated 6 event_content events))
@@ -56,6 +59,32 @@ measured_on p p' table table' ns i len more same still before now lt =
       ap reply_len (found-more p table ns i lt),
     )
 
+-- every event meets the rule
+pub all_met : (rule : Tree) (events : List Event) → rule ≡ Always → filter (holds rule) events ≡ events
+all_met rule events is = ap (λ rule. filter (holds rule) events) is ∙ met events
+  where
+    met : (events : List Event) → filter (holds Always) events ≡ events
+    met [] = refl
+    met (event ∷ events) = ap (λ more. event ∷ more) (met events)
+
+-- a length that is kept is that of a reply with the events that meet such a rule
+pub kept_len : (kept : Option ℕ) (len : ℕ) (events events' : List Event) (rule : Tree) → rule ≡ Always
+    → kept ≡ Some len → IfSome kept (λ len. len ≡ reply_len events) → events ≡ events'
+    → len ≡ reply_len (filter (holds rule) events')
+kept_len kept len events events' rule always is known same =
+    let here : len ≡ reply_len events = subst (λ kept. IfSome kept (λ len. len ≡ reply_len events)) is known in
+    here ∙ ap reply_len (same ∙ sym (all_met rule events' always))
+
+-- the length of a reply with the events that meet such a rule is that with all events of an index
+pub all_len : (len : ℕ) (rule : Tree) (poisoned : Bool) (numbers numbers' : Numbers)
+    (table table' : List (Option Event))
+    → rule ≡ Always → poisoned ≡ false → numbers' ≡ numbers → table' ≡ table
+    → len ≡ reply_len (filter (holds rule) (events_in numbers table))
+    → len ≡ reply_len (events_unless poisoned numbers' table')
+all_len len rule poisoned numbers numbers' table table' always sound n t is =
+    rw (n, t) (is ∙ ap reply_len
+    (all_met rule (events_in numbers table) always ∙ not_poisoned poisoned numbers table sound))
+
 -- ---- what stays as it is
 
 pub still_ok : {E : Type 0} {a b : ℕ} (result : Result ℕ E) → a ≡ b → IfOk result (λ n. n ≡ a)
@@ -68,6 +97,11 @@ pub still_stored : (numbers numbers' : Numbers) (table table' : List (Option Eve
     → numbers' ≡ numbers → table' ≡ table → due' ≡ due → count' ≡ count → IsStored numbers table due count
     → IsStored numbers' table' due' count'
 still_stored numbers numbers' table table' due due' count count' n t d c stored = rw (n, t, d, c) stored
+
+pub still_all_len : (len : Option ℕ) (poisoned : Bool) (numbers numbers' : Numbers) (table table' : List (Option Event))
+    → numbers' ≡ numbers → table' ≡ table → IfSome len (λ len. len ≡ reply_len (events_unless poisoned numbers table))
+    → IfSome len (λ len. len ≡ reply_len (events_unless poisoned numbers' table'))
+still_all_len len poisoned numbers numbers' table table' n t is = rw (n, t) is
 
 pub still_index : (poisoned : Bool) (numbers numbers' : Numbers) (table table' : List (Option Event)) (index : Index)
     → numbers' ≡ numbers → table' ≡ table

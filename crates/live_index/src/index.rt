@@ -4,6 +4,7 @@ ghost use Rattle.ev_types.specs.Expiry.{is_expired};
 ghost use Rattle.index_log.specs.Live.{IndexLog, Reap, Write};
 ghost use Rattle.std.specs.Borrow.{sem};
 ghost use Rattle.live_index.specs.Index.{Represents, event_at, events_lent, reply_len, visited};
+ghost use Rattle.pred_eval.specs.Tree.{Always};
 ghost use Rattle.pred_eval.specs.Truth.{holds};
 
 use crate::slots::Slots;
@@ -20,11 +21,13 @@ use step_count::{Ledger, Steps};
 pub struct LiveIndex {
     slots: Slots,
     poisoned: bool,
+    // How many bytes a reply has with all live events, if that was asked for since the last change.
+    all_len: Option<usize>,
 }
 
 impl Model for LiveIndex {
-    ghost use Rattle.std.specs.Prelude.{◌≡◌, false};
-    ghost use Rattle.live_index.specs.Index.{Index};
+    ghost use Rattle.std.specs.Prelude.{◌≡◌, false, IfSome};
+    ghost use Rattle.live_index.specs.Index.{Index, reply_len};
     ghost use Rattle.live_index.specs.Slots.{IsStored, events_unless};
 
     ghost Value = { Index };
@@ -34,8 +37,10 @@ impl Model for LiveIndex {
       poisoned = index.poisoned;
     } };
 
-    ghost invariant = { λ index. index.poisoned ≡ false →
-        IsStored index.slots.numbers index.slots.events.values index.slots.due index.slots.count };
+    ghost invariant = { λ index. (index.poisoned ≡ false →
+        IsStored index.slots.numbers index.slots.events.values index.slots.due index.slots.count)
+        × IfSome index.all_len (λ len. len ≡ reply_len
+        (events_unless index.poisoned index.slots.numbers index.slots.events.values)) };
 }
 
 impl LiveIndex {
@@ -48,6 +53,7 @@ impl LiveIndex {
         LiveIndex {
             slots: Slots::fresh(alloc),
             poisoned: false,
+            all_len: None,
         }
     }
 
@@ -65,6 +71,7 @@ impl LiveIndex {
             return Err(Memory);
         }
         self.poisoned = true;
+        self.all_len = None;
         self.slots.write(alloc, event)?;
         self.poisoned = false;
         Ok(())
@@ -99,6 +106,7 @@ impl LiveIndex {
             return Err(Memory);
         }
         self.poisoned = true;
+        self.all_len = None;
         self.slots.take_expired(alloc, now, out, steps)?;
         self.poisoned = false;
         Ok(())
@@ -232,6 +240,37 @@ impl LiveIndex {
             return Err(Memory);
         }
         self.slots.found_len(alloc, pred, steps)
+    }
+
+    /// What [`LiveIndex::found_len`] gives for the predicate that every event meets. It counts no more entries.
+    pub fn all_len<G: Ledger>(
+        &mut self,
+        alloc: Global,
+        pred: &mut Pred,
+        steps: &mut Steps<G>,
+    ) -> Result<usize, Memory>
+        requires { pred.old ≡ Always }
+        ensures same { self.new ≡ self.old }
+        ensures pred { pred.new ≡ pred.old }
+        ensures ok { IfOk result (λ len. len
+            ≡ reply_len (filter (holds pred.old) self.old.events)) }
+        ensures poisoned { IsTrue self.old.poisoned → IsErr result }
+        ensures forks { steps.new.forks ≡ steps.old.forks }
+        ensures entries { steps.new.entries ≤ steps.old.entries
+            + length (visited pred.old self.old.events) }
+        ensures at_least { steps.old.entries ≤ steps.new.entries }
+        ensures began { steps.new.began ≡ steps.old.began }
+    {
+        if self.poisoned {
+            return Err(Memory);
+        }
+        // The length is kept until the index changes.
+        if let Some(len) = self.all_len {
+            return Ok(len);
+        }
+        let len = self.slots.found_len(alloc, pred, steps)?;
+        self.all_len = Some(len);
+        Ok(len)
     }
 
     /// The live event of this host and this service, each of which may be absent. It counts an entry where there is

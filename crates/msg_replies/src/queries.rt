@@ -3,7 +3,7 @@ ghost use Rattle.std.specs.String.{string_bytes};
 ghost use Rattle.event_core.specs.Core.{Represents, config_of, state_by};
 ghost use Rattle.hub_meaning.specs.Messages.{query_text, rule_read};
 ghost use Rattle.hub_meaning.specs.Replies.{answer_to_query, answer_to_rule, answer_to_text, busy, found, framed, limited, over_limit, pattern_refusal, query_refusal, refused};
-ghost use Rattle.pred_eval.specs.Tree.{tree_of};
+ghost use Rattle.pred_eval.specs.Tree.{Always, tree_of};
 ghost use Rattle.pred_eval.specs.Truth.{searches};
 ghost use Rattle.query_lang.specs.Answer.{query_of};
 ghost use Rattle.riemann_msg.specs.Reply.{events_lent};
@@ -116,10 +116,43 @@ fn answer_rule<P: Patterns, G: Ledger>(
         (P.report patterns.new) replies.old replies.new
         (λ log refusal. answer_to_rule log refusal (tree_of rule)) result }
 {
+    let is_of_all = is_of_all(&rule);
     match Pred::build(alloc, rule, patterns) {
+        Ok(mut pred) if is_of_all => put_all(alloc, &mut pred, core, replies, steps),
         Ok(mut pred) => put_found(alloc, &mut pred, core, replies, steps),
         Err(BuildFault::Pattern { number }) => refuse_pattern(alloc, number, replies),
         Err(BuildFault::Memory) => Err(Memory),
+    }
+}
+
+/// Whether the rule is the one that every event meets.
+fn is_of_all(rule: &Rule) -> bool
+    ensures { result ≡ true → tree_of rule.now ≡ Always }
+{
+    matches!(rule, Rule::Always)
+}
+
+/// Appends a reply with all live events, or that it would be too long. The predicate is the one that every event meets.
+/// The core keeps the length until its events change, so that a reply which would be too long is refused at once.
+fn put_all<G: Ledger>(
+    alloc: Global,
+    pred: &mut Pred,
+    core: &mut Core,
+    replies: &mut Blob,
+    steps: &mut Steps<G>,
+) -> Result<(), Memory>
+    requires { pred.old ≡ Always }
+    ensures same { core.new ≡ core.old }
+    ensures forks { steps.new.forks ≡ steps.old.forks }
+    ensures found { OnOk result ((arrivals : List Arrival) → Represents core.old arrivals
+        → replies.new ≡ replies.old ++ framed
+        (limited (found (matching_events pred.old (state_by (config_of core.old) arrivals).log)))) }
+{
+    let size = core.all_len(alloc, pred, steps)?;
+    if fits(size) {
+        put_events(alloc, pred, core, size, replies, steps)
+    } else {
+        refuse_long(alloc, size, replies)
     }
 }
 

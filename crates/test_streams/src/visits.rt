@@ -1,8 +1,12 @@
 //! How many entries the calls of an index count.
 
+ghost use Rattle.std.specs.Prelude.{◌≡◌, IfOk};
+ghost use Rattle.pred_eval.specs.Tree.{Always};
+
 use crate::build::{event, rule, text};
 use ev_types::{Events, Memory};
 use live_index::LiveIndex;
+use pred_eval::{Pred, RegexPatterns, Rule};
 use std::alloc::Global;
 use step_count::{CountLedger, Steps};
 
@@ -109,6 +113,43 @@ fn are_measured(alloc: Global, index: &mut LiveIndex) -> Result<bool, Memory> {
     Ok(before == 172 && after == 174 && visited == 10 && again == 10)
 }
 
+/// The predicate that every event meets.
+fn always(alloc: Global) -> Result<Pred, Memory>
+    ensures { IfOk result (λ pred. pred ≡ Always) }
+{
+    match Pred::build(alloc, Rule::Always, &mut RegexPatterns { refusals: 0 }) {
+        Ok(pred) => Ok(pred),
+        Err(_) => Err(Memory),
+    }
+}
+
+/// How many bytes a reply has with all events, and how many entries are visited to know it.
+fn all_measured(alloc: Global, index: &mut LiveIndex) -> Result<(usize, u64), Memory> {
+    let mut pred = always(alloc)?;
+    let mut steps = no_steps();
+    let len = index.all_len(alloc, &mut pred, &mut steps)?;
+    Ok((len, entries(&steps)))
+}
+
+/// Whether a reply with all events is measured once, and again after a longer one takes the place of one of them.
+fn are_all_measured(alloc: Global, index: &mut LiveIndex) -> Result<bool, Memory> {
+    let (before, visited) = all_measured(alloc, index)?;
+    let (same, none) = all_measured(alloc, index)?;
+    let mut longer = event(alloc, "h8", "s1", 60);
+    longer.metric = Some(1);
+    index.write(alloc, longer)?;
+    let (after, again) = all_measured(alloc, index)?;
+    let (found, _) = measured(alloc, index, "true")?;
+    Ok(
+        same == before
+            && before.checked_add(2) == Some(after)
+            && found == after
+            && visited == 1_000
+            && none == 0
+            && again == 1_000,
+    )
+}
+
 /// Whether a look-up visits one event.
 fn is_looked_up(alloc: Global, index: &mut LiveIndex) -> bool {
     let (host, service) = (text(alloc, "h7"), text(alloc, "s4"));
@@ -133,6 +174,7 @@ fn are_visited(alloc: Global, index: &mut LiveIndex) -> Result<bool, Memory> {
     Ok(
         are_searched(alloc, index)?
             && are_measured(alloc, index)?
+            && are_all_measured(alloc, index)?
             && is_looked_up(alloc, index)
             && is_reaped(alloc, index),
     )

@@ -18,7 +18,7 @@ returns g c =
         same = tt;
         event = c.get.ensures.event
             ∙ sym (find-at host service (events_in numbers table)
-            ∙ find-events numbers table (c.self.invariant c.if-self.false).linked (host, service))
+            ∙ find-events numbers table (c.self.invariant.0 c.if-self.false).linked (host, service))
             ∙ ap (event_at host service)
             (not_poisoned c.self.inside.poisoned numbers table c.if-self.false
             ∙ ap (λ index. index.events) c.self.view_is);

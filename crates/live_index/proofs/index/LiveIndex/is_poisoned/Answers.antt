@@ -10,7 +10,7 @@ returns-clause-represents c = λ sound.
     let numbers = c.self.inside.slots.numbers in
     let table = c.self.inside.slots.events.values in
     let is_sound : c.self.inside.poisoned ≡ false = ap (λ index. index.poisoned) c.self.view_is ∙ sound in
-    let linked = (c.self.invariant is_sound).linked in (
+    let linked = (c.self.invariant.0 is_sound).linked in (
       log_of (events_in numbers table),
       record {
         sound = sound;

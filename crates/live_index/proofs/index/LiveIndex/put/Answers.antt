@@ -4,7 +4,7 @@ use Rattle.live_index.proofs.WriteLaws.{puts-represent}
 use Rattle.live_index.proofs.index.LiveIndex.put.Goals as goal
 
 pub write-requires : goal.write-requires
-write-requires c = c.self.invariant c.if-self.false
+write-requires c = c.self.invariant.0 c.if-self.false
 
 pub returns-clause-ok : goal.returns-clause-ok
 returns-clause-ok c = λ log before. record {
@@ -12,7 +12,7 @@ returns-clause-ok c = λ log before. record {
   live =
       puts-represent c.args.event.now c.self.inside.slots.numbers c.write.new.self.numbers
       c.self.inside.slots.events.values c.write.new.self.events.values
-      (c.self.invariant c.if-self.false).linked c.in_ok-write.ensures.stored.linked c.in_ok-write.ensures.puts log
+      (c.self.invariant.0 c.if-self.false).linked c.in_ok-write.ensures.stored.linked c.in_ok-write.ensures.puts log
       (not_poisoned c.self.inside.poisoned c.self.inside.slots.numbers c.self.inside.slots.events.values c.if-self.false
       ∙ ap (λ index. index.events) c.self.view_is ∙ before.live);
 }
