@@ -13,7 +13,7 @@ use Rattle.journal_format.specs.declared.finder.Found.{Found}
 use Rattle.journal_format.specs.declared.turn_record.TurnRecord.{TurnRecord}
 use Rattle.journal_links.specs.Steps.{Progress}
 use Rattle.journal_run.specs.Recorded.{run_result}
-use Rattle.journal_run.specs.Resumed.{ResumesIn, RunsResumed}
+use Rattle.journal_run.specs.Resumed.{IsResumedIn, ResumesIn, RunsResumed}
 use Rattle.journal_run.specs.declared.fault.JournalRunFault.{JournalRunFault}
 use Rattle.journal_run.specs.declared.fault.JournalRunFault.TheVariants.{Memory}
 use Rattle.journal_run.proofs.RunLaws.{recorded_in}
@@ -24,7 +24,7 @@ use Rattle.recorded_runs.specs.Making.{LeadsTo, none_yet}
 use Rattle.resumed_runs.specs.Asking.{AsksOf}
 use Rattle.resumed_runs.specs.Lending.{LentJournal}
 use Rattle.resumed_runs.specs.Making.{Made, State, resuming, unresumed}
-use Rattle.resumed_runs.specs.Recording.{later_records}
+use Rattle.resumed_runs.specs.Recording.{MayResume, later_records}
 use Rattle.resumed_runs.proofs.LastLaws.{calls_passed, turns_recorded}
 
 -- the state of links of which this is seen
@@ -40,18 +40,20 @@ Leads found records links links' disk disk' calls =
 
 resumed_in : (found : Found) (records : List TurnRecord) (links links' : LinksReport) (disk disk' : DiskReport)
     (calls : List Entry) → ∥ Leads found records links links' disk disk' calls ∥₁
-    → ResumesIn found records disk disk' calls
+    → ResumesIn found records links' disk disk' calls
 resumed_in found records links links' disk disk' calls made = λ past config told resumes.
     ∥∥₁_map made (λ (all : Leads found records links links' disk disk' calls).
     let is = turns_recorded past config found records links disk calls all.now all.made told resumes in (
       is.0,
       sym all.past ∙ is.1,
-      record {
-        again = (is.2).again;
-        later =
-            recorded_in resumes.journal (synced past) found.gate found.has_record
-            (later_records resumes.journal calls) is.0 resumes.stands (is.2).recorded;
-      },
+      subst (λ (report : LinksReport). IsResumedIn resumes.journal (synced past) calls report is.0) all.inner
+          (record {
+            again = (is.2).again;
+            later =
+                recorded_in resumes.journal (synced past) found.gate found.has_record
+                (later_records resumes.journal calls) (MayResume resumes.journal.records all.now.seen.inner) is.0
+                resumes.stands (is.2).recorded;
+          }),
     ))
 
 asks_of : (found : Found) (records : List TurnRecord) (links links' : LinksReport) (disk disk' : DiskReport)

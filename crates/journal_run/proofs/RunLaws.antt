@@ -2,7 +2,7 @@
 use Rattle.std.proofs.Common.{◌≡◌, ◌≢◌, ℕ, ◌+◌, ◌<◌, ◌≤◌, Bool, true, false, List, [], ◌++◌, Err, refl, sym, ◌∙◌, ap}
 use Rattle.std.proofs.Common.{subst, arith}
 use Rattle.std.proofs.Math.Logic.{∥∥₁_map}
-use Rattle.std.specs.Prelude.{Result, Some}
+use Rattle.std.specs.Prelude.{Result, Some, None}
 use Rattle.disk_port.specs.Calls.{DiskReport}
 use Rattle.disk_port.specs.Past.{Leaves, Past}
 use Rattle.hub_run.specs.Runs.{AddsRun, RunReport, RunsTo}
@@ -23,6 +23,7 @@ use Rattle.ports.specs.declared.entry.Entry.{Entry}
 use Rattle.recorded_links.specs.Noting.{noted}
 use Rattle.recorded_links.specs.Steps.{Seen, seen}
 use Rattle.recorded_runs.specs.Lending.{Lent, Passed, Traces, disk_faults, traced_report}
+use Rattle.recorded_runs.specs.Giving.{MayFollow}
 use Rattle.recorded_runs.specs.Recording.{AreRecorded}
 use Rattle.recorded_runs.proofs.CrashLaws.{leaves_all, leaves_first}
 use Rattle.turn_journal.specs.Standing.{Stands}
@@ -56,25 +57,30 @@ stands_left : (journal : Journal) (start : Past) (gate : ℕ) (has : Bool) → S
 stands_left journal start gate has stands image leaves =
     subst (Holds journal) (sym (stands.rests image leaves)) (gate, stands.holds)
 
-pub recorded_in : (journal : Journal) (start : Past) (gate : ℕ) (has : Bool) (turns : List TurnRecord) (now : Past)
-    → Stands start gate has journal → AreRecorded journal start turns now → IsRecordedIn journal start turns now
-recorded_in journal start gate has turns now stands recorded =
+pub recorded_in : (journal : Journal) (start : Past) (gate : ℕ) (has : Bool) (turns : List TurnRecord)
+    (next : TurnRecord → Type 0) (now : Past)
+    → Stands start gate has journal → AreRecorded journal start turns next now
+    → IsRecordedIn journal start turns next now
+recorded_in journal start gate has turns next now stands recorded =
     let left = stands_left journal start gate has stands in
     record {
       recorded = recorded;
-      at_any_moment = leaves_first journal start now turns left recorded;
-      last = leaves_all journal start now turns left recorded;
+      at_any_moment = leaves_first journal start now turns next left recorded;
+      last = leaves_all journal start now turns next left recorded;
     }
 
-records_in : (lent : Lent) (calls : List Entry) (seen : Seen) (disk' : DiskReport) → seen.kept.past ≡ disk'.past
-    → ∥ Traces lent calls seen ∥₁ → RecordsIn lent.found lent.disk disk' calls
-records_in lent calls seen disk' same traces = λ journal start told stands.
+records_in : (lent : Lent) (calls : List Entry) (seen : Seen) (disk' : DiskReport) → seen.first ≡ 0
+    → seen.kept.past ≡ disk'.past → ∥ Traces lent calls seen ∥₁
+    → RecordsIn lent.found seen.inner lent.disk disk' calls
+records_in lent calls seen disk' first same traces = λ journal start told stands.
     ∥∥₁_map traces (λ (all : Traces lent calls seen).
     let kept = all.keeps.journal journal start told stands in (
       kept.now,
       sym same ∙ kept.reported,
-      recorded_in journal start lent.found.gate lent.found.has_record (noted calls).records kept.now stands
-          kept.recorded,
+      recorded_in journal start lent.found.gate lent.found.has_record (noted calls).records
+          (MayFollow None 0 seen.inner) kept.now stands
+          (subst (λ (n : ℕ). AreRecorded journal start (noted calls).records (MayFollow None n seen.inner) kept.now)
+          first kept.recorded),
     ))
 
 passed_by : (lent : Lent) (calls : List Entry) (seen : Seen) → seen.first ≡ 0 → ∥ Traces lent calls seen ∥₁
@@ -104,7 +110,7 @@ ran_lent setup limit lent calls links' first disk' gate has sends spent old new 
             refl;
       });
   passed = passed_by lent calls (seen links' first disk' gate has sends spent) is traces;
-  journal = records_in lent calls (seen links' first disk' gate has sends spent) disk' refl traces;
+  journal = records_in lent calls (seen links' first disk' gate has sends spent) disk' is refl traces;
 }
 
 pub ran_recorded : (setup : Setup) (limit : ℕ) (lent : Lent) (found : Found) (links : LinksReport) (disk : DiskReport)

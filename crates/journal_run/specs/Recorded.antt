@@ -1,5 +1,5 @@
 -- What a run comes to whose turns are recorded.
-use Rattle.std.specs.Prelude.{◌≡◌, ℕ, List, Some, Result, Ok, Err}
+use Rattle.std.specs.Prelude.{◌≡◌, ℕ, List, Some, None, Result, Ok, Err}
 use Rattle.disk_port.specs.Calls.{DiskReport}
 use Rattle.disk_port.specs.Past.{Leaves, LeavesOnly, Past}
 use Rattle.hub_run.specs.Runs.{RunReport, RunsTo}
@@ -14,6 +14,7 @@ use Rattle.journal_run.specs.declared.fault.JournalRunFault.{JournalRunFault}
 use Rattle.journal_run.specs.declared.fault.JournalRunFault.TheVariants.{Links, Disk, Sink, Memory}
 use Rattle.ports.specs.Calls.{LinksReport}
 use Rattle.ports.specs.declared.entry.Entry.{Entry}
+use Rattle.recorded_runs.specs.Giving.{MayFollow}
 use Rattle.recorded_runs.specs.Laws.{AreAll, AreFirst, HoldsMore}
 use Rattle.recorded_runs.specs.Lending.{Passed}
 use Rattle.recorded_runs.specs.Making.{LeadsTo, recording, uncalled}
@@ -29,20 +30,22 @@ run_result (Err Disk) = Err run.Links
 run_result (Err Sink) = Err run.Sink
 run_result (Err Memory) = Err run.Memory
 
--- Of a file that held the journal, in which these turns were recorded since.
-pub record IsRecordedIn (journal : Journal) (start : Past) (turns : List TurnRecord) (now : Past) : Type 0 where
+-- Of a file that held the journal, in which these turns were recorded since. `next` says which turn may be one more.
+pub record IsRecordedIn (journal : Journal) (start : Past) (turns : List TurnRecord) (next : TurnRecord → Type 0)
+    (now : Past) : Type 0 where
   -- their records were kept one after another; that each was kept before its turn was handed out, `made` says
-  pub recorded : AreRecorded journal start turns now
+  pub recorded : AreRecorded journal start turns next now
   -- a crash at any moment leaves the journal with the first of the turns, or with all and one more
-  pub at_any_moment : LeavesOnly start now (HoldsMore journal (AreFirst turns))
+  pub at_any_moment : LeavesOnly start now (HoldsMore journal (AreFirst turns next))
   -- a crash now leaves the journal with all of them, or with all and one more
-  pub last : (image : List ℕ) → Leaves now image → HoldsMore journal (AreAll turns) image
+  pub last : (image : List ℕ) → Leaves now image → HoldsMore journal (AreAll turns next) image
 
--- so it is of the journal that ends there in the disk's file and the turns of these calls, if the disk reports its file
-abbrev pub RecordsIn : Found → DiskReport → DiskReport → List Entry → Type 0
-RecordsIn found disk disk' calls =
+-- So it is of the journal that ends there in the disk's file and the turns of these calls, if the disk reports its
+-- file. One more may be that which the links gave last.
+abbrev pub RecordsIn : Found → LinksReport → DiskReport → DiskReport → List Entry → Type 0
+RecordsIn found links' disk disk' calls =
     (journal : Journal) (start : Past) → disk.past ≡ Some start → Stands start found.gate found.has_record journal
-    → ∥ Told disk'.past (IsRecordedIn journal start (noted calls).records) ∥₁
+    → ∥ Told disk'.past (IsRecordedIn journal start (noted calls).records (MayFollow None 0 links')) ∥₁
 
 -- A server was run over links that record.
 pub record RunsRecorded (setup : Setup) (limit : ℕ) (found : Found) (links links' : LinksReport)
@@ -54,4 +57,4 @@ pub record RunsRecorded (setup : Setup) (limit : ℕ) (found : Found) (links lin
   pub made : ∥ LeadsTo recording (uncalled 0 found links disk) calls links' disk' ∥₁
   -- the calls that were made for them of the links that were lent
   pub passed : ∥ Passed 0 links calls links' ∥₁
-  pub journal : RecordsIn found disk disk' calls
+  pub journal : RecordsIn found links' disk disk' calls

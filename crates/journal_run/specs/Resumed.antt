@@ -17,21 +17,23 @@ use Rattle.ports.specs.declared.entry.Entry.{Entry}
 use Rattle.recorded_runs.specs.Making.{LeadsTo}
 use Rattle.resumed_runs.specs.Asking.{AsksOf}
 use Rattle.resumed_runs.specs.Making.{resuming, unresumed}
-use Rattle.resumed_runs.specs.Recording.{BeginAgain, later_records}
+use Rattle.resumed_runs.specs.Recording.{BeginAgain, MayResume, later_records}
 use Rattle.turn_journal.specs.Standing.{Told}
 
 -- Of a file that held the journal, in which its run was resumed since by these calls.
-pub record IsResumedIn (journal : Journal) (start : Past) (calls : List Entry) (now : Past) : Type 0 where
+pub record IsResumedIn (journal : Journal) (start : Past) (calls : List Entry) (links : LinksReport)
+    (now : Past) : Type 0 where
   -- the turns that were handed out are those of the journal, in order, and then others
   pub again : BeginAgain journal calls
-  -- these others were recorded in it, as in a run that begins with this journal
-  pub later : IsRecordedIn journal start (later_records journal calls) now
+  -- These others were recorded in it, as in a run that begins with this journal. One more may be that which the links
+  -- gave last, or one in which a link of the journal broke.
+  pub later : IsRecordedIn journal start (later_records journal calls) (MayResume journal.records links) now
 
 -- so it is of the journal that was loaded from the disk's file, if the disk reports it
-abbrev pub ResumesIn : Found → List TurnRecord → DiskReport → DiskReport → List Entry → Type 0
-ResumesIn found records disk disk' calls =
+abbrev pub ResumesIn : Found → List TurnRecord → LinksReport → DiskReport → DiskReport → List Entry → Type 0
+ResumesIn found records links' disk disk' calls =
     (past : Past) (config : List ℕ) → disk.past ≡ Some (synced past) → (resumes : Resumes past found config records)
-    → ∥ Told disk'.past (IsResumedIn resumes.journal (synced past) calls) ∥₁
+    → ∥ Told disk'.past (IsResumedIn resumes.journal (synced past) calls links') ∥₁
 
 -- A server was run over links that give the turns of a journal with these records again, and record those after them.
 pub record RunsResumed (setup : Setup) (limit : ℕ) (found : Found) (records : List TurnRecord)
@@ -46,4 +48,4 @@ pub record RunsResumed (setup : Setup) (limit : ℕ) (found : Found) (records : 
   pub made : ∥ LeadsTo resuming (unresumed found records links disk) calls links' disk' ∥₁
   -- so these were made of the links that were lent
   pub asked : ∥ AsksOf records links links' calls ∥₁
-  pub journal : ResumesIn found records disk disk' calls
+  pub journal : ResumesIn found records links' disk disk' calls

@@ -56,27 +56,28 @@ turns_left journal start turns now held (one_more before entry past keeps turns_
     )
 
 pub leaves_first : (journal : Journal) (start now : Past) (turns : List TurnRecord)
-    → ((image : List ℕ) → Leaves start image → Holds journal image) → AreRecorded journal start turns now
-    → LeavesOnly start now (HoldsMore journal (AreFirst turns))
-leaves_first journal start now turns held recorded = by_last recorded.last
+    (next : TurnRecord → Type 0)
+    → ((image : List ℕ) → Leaves start image → Holds journal image) → AreRecorded journal start turns next now
+    → LeavesOnly start now (HoldsMore journal (AreFirst turns next))
+leaves_first journal start now turns next held recorded = by_last recorded.last
   where
-    front : LeavesOnly start recorded.past (HoldsMore journal (AreFirst turns))
+    front : LeavesOnly start recorded.past (HoldsMore journal (AreFirst turns next))
     front =
         weaker start recorded.past (HoldsMore journal (IsFront turns))
-        (HoldsMore journal (AreFirst turns)) (λ image more. (more.0, more.1, inl more.2))
+        (HoldsMore journal (AreFirst turns next)) (λ image more. (more.0, more.1, inl more.2))
         (turns_left journal start turns recorded.past held recorded.kept)
 
-    by_last : (now ≡ recorded.past) ⊎ IsBegun (with_records journal turns) recorded.past now
-        → LeavesOnly start now (HoldsMore journal (AreFirst turns))
+    by_last : (now ≡ recorded.past) ⊎ IsBegun (with_records journal turns) next recorded.past now
+        → LeavesOnly start now (HoldsMore journal (AreFirst turns next))
     by_last (inl same) =
-        subst (λ (past : Past). LeavesOnly start past (HoldsMore journal (AreFirst turns)))
+        subst (λ (past : Past). LeavesOnly start past (HoldsMore journal (AreFirst turns next)))
         (sym same) front
     by_last (inr begun) =
-        then_more start recorded.past now (HoldsMore journal (AreFirst turns)) front
+        then_more start recorded.past now (HoldsMore journal (AreFirst turns next)) front
         (weaker recorded.past now (HoldsOrWith (with_records journal turns) begun.entry)
-        (HoldsMore journal (AreFirst turns))
-        (one_or_both journal turns begun.entry (AreFirst turns)
-        (inl ([], append-nil turns)) (inr (begun.entry, refl))) begun.leaves)
+        (HoldsMore journal (AreFirst turns next))
+        (one_or_both journal turns begun.entry (AreFirst turns next)
+        (inl ([], append-nil turns)) (inr (begun.entry, begun.is, refl))) begun.leaves)
 
 -- what a crash leaves once the last turn was handed out
 turns_kept : (journal : Journal) (start : Past) (turns : List TurnRecord) (past : Past)
@@ -91,13 +92,14 @@ turns_kept journal start turns now held (one_more before entry past keeps turns_
     (with_more journal before entry ∙ ap (with_records journal) (sym turns_are)) (kept.since image leaves)
 
 pub leaves_all : (journal : Journal) (start now : Past) (turns : List TurnRecord)
-    → ((image : List ℕ) → Leaves start image → Holds journal image) → AreRecorded journal start turns now
+    (next : TurnRecord → Type 0)
+    → ((image : List ℕ) → Leaves start image → Holds journal image) → AreRecorded journal start turns next now
     → (image : List ℕ) → Leaves now image
-    → HoldsMore journal (AreAll turns) image
-leaves_all journal start now turns held recorded image leaves = by_last recorded.last
+    → HoldsMore journal (AreAll turns next) image
+leaves_all journal start now turns next held recorded image leaves = by_last recorded.last
   where
-    by_last : (now ≡ recorded.past) ⊎ IsBegun (with_records journal turns) recorded.past now
-        → HoldsMore journal (AreAll turns) image
+    by_last : (now ≡ recorded.past) ⊎ IsBegun (with_records journal turns) next recorded.past now
+        → HoldsMore journal (AreAll turns next) image
     by_last (inl same) = (
       turns,
       turns_kept journal start turns recorded.past held recorded.kept image
@@ -105,5 +107,5 @@ leaves_all journal start now turns held recorded image leaves = by_last recorded
       inl refl,
     )
     by_last (inr begun) =
-        one_or_both journal turns begun.entry (AreAll turns) (inl refl)
-        (inr (begun.entry, refl)) image (begun.leaves.each 0 (omega arith) image leaves)
+        one_or_both journal turns begun.entry (AreAll turns next) (inl refl)
+        (inr (begun.entry, begun.is, refl)) image (begun.leaves.each 0 (omega arith) image leaves)

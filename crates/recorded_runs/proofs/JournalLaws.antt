@@ -29,14 +29,15 @@ with_more journal entries entry =
 
 -- ---- before the first call
 
-pub keeps_begun : (lent : Lent) (kept : Kept) (sends : List Summary) (spent : Bool)
-    → kept ≡ kept_of lent.disk.past lent.found.gate lent.found.has_record → sends ≡ [] → Keeps lent [] kept sends spent
-keeps_begun lent kept sends spent kept_is unsent = record { sends_are = sym unsent; journal = begun }
+pub keeps_begun : (lent : Lent) (next : TurnRecord → Type 0) (kept : Kept) (sends : List Summary) (spent : Bool)
+    → kept ≡ kept_of lent.disk.past lent.found.gate lent.found.has_record → sends ≡ []
+    → Keeps lent next [] kept sends spent
+keeps_begun lent next kept sends spent kept_is unsent = record { sends_are = sym unsent; journal = begun }
   where
     begun : (journal : Journal) (start : Past) → lent.disk.past ≡ Some start
-        → Stands start lent.found.gate lent.found.has_record journal → KeepsJournal journal start [] kept spent
+        → Stands start lent.found.gate lent.found.has_record journal → KeepsJournal journal start next [] kept spent
     begun journal start reported stands =
-        subst (λ (kept : Kept). KeepsJournal journal start [] kept spent) (sym kept_is) (record {
+        subst (λ (kept : Kept). KeepsJournal journal start next [] kept spent) (sym kept_is) (record {
           now = start;
           reported = reported;
           recorded = record { past = start; kept = none_yet refl refl; last = inl refl };
@@ -50,18 +51,37 @@ unspent_before : (spent spent' : Bool) → (spent ≡ true → spent' ≡ true) 
 unspent_before true spent' stays unspent = absurd (cc (stays refl, unspent))
 unspent_before false spent' stays unspent = refl
 
-pub keeps_same : (lent : Lent) (calls calls' : List Entry) (kept kept' : Kept) (sends sends' : List Summary)
-    (spent spent' : Bool) → Keeps lent calls kept sends spent
+pub keeps_same : (lent : Lent) (next next' : TurnRecord → Type 0) (calls calls' : List Entry) (kept kept' : Kept)
+    (sends sends' : List Summary)
+    (spent spent' : Bool) → Keeps lent next calls kept sends spent
     → (noted calls').records ≡ (noted calls).records → (noted calls').sends ≡ sends' → kept' ≡ kept
-    → (spent ≡ true → spent' ≡ true) → Keeps lent calls' kept' sends' spent'
-keeps_same lent calls calls' kept kept' sends sends' spent spent' keeps records_are sends_are kept_is stays =
+    → (spent ≡ true → spent' ≡ true)
+    → (spent ≡ true → (entry : TurnRecord) → next entry → next' entry) → Keeps lent next' calls' kept' sends' spent'
+keeps_same lent next next' calls calls' kept kept' sends sends' spent spent' keeps records_are sends_are kept_is stays
+    follows =
     record { sends_are = sends_are; journal = same }
   where
+    last_same : (journal : Journal) (start : Past) (before : KeepsJournal journal start next calls kept spent)
+        (flag : Bool) → spent ≡ flag
+        → (before.now ≡ before.recorded.past)
+        ⊎ IsBegun (with_records journal (noted calls).records) next before.recorded.past before.now
+        → (before.now ≡ before.recorded.past)
+        ⊎ IsBegun (with_records journal (noted calls).records) next' before.recorded.past before.now
+    last_same journal start before false unspent last = inl (before.unbegun unspent)
+    last_same journal start before true is (inl same) = inl same
+    last_same journal start before true is (inr begun) = inr (record {
+      entry = begun.entry;
+      allowed = begun.allowed;
+      is = follows is begun.entry begun.is;
+      leaves = begun.leaves;
+    })
+
     same : (journal : Journal) (start : Past) → lent.disk.past ≡ Some start
-        → Stands start lent.found.gate lent.found.has_record journal → KeepsJournal journal start calls' kept' spent'
+        → Stands start lent.found.gate lent.found.has_record journal
+        → KeepsJournal journal start next' calls' kept' spent'
     same journal start reported stands =
         let before = keeps.journal journal start reported stands in
-        subst (λ (kept : Kept). KeepsJournal journal start calls' kept spent') (sym kept_is) (record {
+        subst (λ (kept : Kept). KeepsJournal journal start next' calls' kept spent') (sym kept_is) (record {
           now = before.now;
           reported = before.reported;
           recorded = record {
@@ -70,8 +90,8 @@ keeps_same lent calls calls' kept kept' sends sends' spent spent' keeps records_
                 (sym records_are) before.recorded.kept;
             last =
                 subst (λ (entries : List TurnRecord). (before.now ≡ before.recorded.past)
-                ⊎ IsBegun (with_records journal entries) before.recorded.past before.now)
-                (sym records_are) before.recorded.last;
+                ⊎ IsBegun (with_records journal entries) next' before.recorded.past before.now)
+                (sym records_are) (last_same journal start before spent refl before.recorded.last);
           };
           unbegun = λ unspent. before.unbegun (unspent_before spent spent' stays unspent);
           stands =
@@ -83,10 +103,11 @@ keeps_same lent calls calls' kept kept' sends sends' spent spent' keeps records_
 -- ---- a call whose record was added
 
 -- of the journal that stands there
-abbrev next_adds : (journal : Journal) (start : Past) (calls : List Entry) (kept : Kept) (spent : Bool)
-    (entry : TurnRecord) (bytes : List ℕ) → KeepsJournal journal start calls kept spent → spent ≡ false
+abbrev next_adds : (journal : Journal) (start : Past) (next : TurnRecord → Type 0) (calls : List Entry) (kept : Kept)
+    (spent : Bool)
+    (entry : TurnRecord) (bytes : List ℕ) → KeepsJournal journal start next calls kept spent → spent ≡ false
     → Spells (not kept.has_record) entry bytes → Adds kept.past kept.gate kept.has_record bytes
-next_adds journal start calls kept spent entry bytes before unspent spells = record {
+next_adds journal start next calls kept spent entry bytes before unspent spells = record {
   past = before.now;
   journal = with_records journal (noted calls).records;
   entry = entry;
@@ -95,11 +116,13 @@ next_adds journal start calls kept spent entry bytes before unspent spells = rec
   spells = spells;
 }
 
-pub keeps_added : (lent : Lent) (calls calls' : List Entry) (kept kept' : Kept) (sends sends' : List Summary)
-    (spent spent' : Bool) (entry : TurnRecord) (bytes : List ℕ) → Keeps lent calls kept sends spent → spent ≡ false
+pub keeps_added : (lent : Lent) (next next' : TurnRecord → Type 0) (calls calls' : List Entry) (kept kept' : Kept)
+    (sends sends' : List Summary)
+    (spent spent' : Bool) (entry : TurnRecord) (bytes : List ℕ) → Keeps lent next calls kept sends spent → spent ≡ false
     → Spells (not kept.has_record) entry bytes → AddsRecord bytes true kept kept'
-    → noted calls' ≡ with_entry entry (noted calls) → sends' ≡ [] → Keeps lent calls' kept' sends' spent'
-keeps_added lent calls calls' kept kept' sends sends' spent spent' entry bytes keeps unspent spells added noted_is
+    → noted calls' ≡ with_entry entry (noted calls) → sends' ≡ [] → Keeps lent next' calls' kept' sends' spent'
+keeps_added lent next next' calls calls' kept kept' sends sends' spent spent' entry bytes keeps unspent spells
+    added noted_is
     cleared =
     record { sends_are = ap (λ so_far. so_far.sends) noted_is ∙ sym cleared; journal = more }
   where
@@ -107,11 +130,12 @@ keeps_added lent calls calls' kept kept' sends sends' spent spent' entry bytes k
     more_records = ap (λ so_far. so_far.records) noted_is
 
     more : (journal : Journal) (start : Past) → lent.disk.past ≡ Some start
-        → Stands start lent.found.gate lent.found.has_record journal → KeepsJournal journal start calls' kept' spent'
+        → Stands start lent.found.gate lent.found.has_record journal
+        → KeepsJournal journal start next' calls' kept' spent'
     more journal start reported stands =
         let before = keeps.journal journal start reported stands in
         let standing : Journal = with_records journal (noted calls).records in
-        let adds = next_adds journal start calls kept spent entry bytes before unspent spells in
+        let adds = next_adds journal start next calls kept spent entry bytes before unspent spells in
         let moment : Told kept'.past (λ now. LeavesOnly before.now now (HoldsOrWith standing entry)) =
         added.any_moment adds in
         let after : Told kept'.past (λ now. Stands now kept'.gate kept'.has_record (with_record standing entry)) =
@@ -145,24 +169,27 @@ keeps_added lent calls calls' kept kept' sends sends' spent spent' entry bytes k
 
 -- ---- a call whose record was begun, and whose answer was lost
 
-pub keeps_lost : (lent : Lent) (calls calls' : List Entry) (kept kept' : Kept) (sends sends' : List Summary)
-    (spent spent' added : Bool) (entry : TurnRecord) (bytes : List ℕ) → Keeps lent calls kept sends spent
+pub keeps_lost : (lent : Lent) (next next' : TurnRecord → Type 0) (calls calls' : List Entry) (kept kept' : Kept)
+    (sends sends' : List Summary)
+    (spent spent' added : Bool) (entry : TurnRecord) (bytes : List ℕ) → Keeps lent next calls kept sends spent
     → spent ≡ false
     → Spells (not kept.has_record) entry bytes → AddsRecord bytes added kept kept' → noted calls' ≡ noted calls
-    → sends' ≡ sends → spent' ≡ true → Keeps lent calls' kept' sends' spent'
-keeps_lost lent calls calls' kept kept' sends sends' spent spent' added entry bytes keeps unspent spells adding noted_is
-    uncleared spends =
+    → sends' ≡ sends → spent' ≡ true → next' entry → Keeps lent next' calls' kept' sends' spent'
+keeps_lost lent next next' calls calls' kept kept' sends sends' spent spent' added entry bytes keeps unspent spells
+    adding noted_is
+    uncleared spends may =
     record { sends_are = ap (λ so_far. so_far.sends) noted_is ∙ keeps.sends_are ∙ sym uncleared; journal = begun }
   where
     same_records : (noted calls).records ≡ (noted calls').records
     same_records = ap (λ so_far. so_far.records) (sym noted_is)
 
     begun : (journal : Journal) (start : Past) → lent.disk.past ≡ Some start
-        → Stands start lent.found.gate lent.found.has_record journal → KeepsJournal journal start calls' kept' spent'
+        → Stands start lent.found.gate lent.found.has_record journal
+        → KeepsJournal journal start next' calls' kept' spent'
     begun journal start reported stands =
         let before = keeps.journal journal start reported stands in
         let standing : Journal = with_records journal (noted calls).records in
-        let adds = next_adds journal start calls kept spent entry bytes before unspent spells in
+        let adds = next_adds journal start next calls kept spent entry bytes before unspent spells in
         let moment : Told kept'.past (λ now. LeavesOnly before.now now (HoldsOrWith standing entry)) =
         adding.any_moment adds in
         record {
@@ -174,9 +201,10 @@ keeps_lost lent calls calls' kept kept' sends sends' spent spent' added entry by
                 same_records before.recorded.kept;
             last =
                 inr (subst (λ (entries : List TurnRecord). IsBegun
-                (with_records journal entries) before.recorded.past moment.0) same_records (record {
+                (with_records journal entries) next' before.recorded.past moment.0) same_records (record {
                   entry = entry;
                   allowed = spells.allowed;
+                  is = may;
                   leaves =
                       subst (λ (past : Past). LeavesOnly past moment.0 (HoldsOrWith standing entry))
                       (before.unbegun unspent) moment.2;

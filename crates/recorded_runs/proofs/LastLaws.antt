@@ -1,5 +1,6 @@
 -- What is on the disk when the lines and the replies of a turn go out.
 use Rattle.std.proofs.Common.{◌≡◌, ℕ, false, List, [], ◌++◌, refl, sym, ap, subst, ◌∙◌}
+use Rattle.std.specs.Prelude.{None}
 use Rattle.journal_format.specs.Journals.{Journal}
 use Rattle.journal_format.specs.declared.turn_record.TurnRecord.{TurnRecord}
 use Rattle.ports.specs.declared.entry.Entry.{Entry}
@@ -9,6 +10,7 @@ use Rattle.recorded_links.specs.Keeping.{Kept}
 use Rattle.recorded_links.specs.Noting.{noted}
 use Rattle.recorded_links.specs.Steps.{Seen}
 use Rattle.recorded_links.proofs.NoteLaws.{close_noted, send_noted}
+use Rattle.recorded_runs.specs.Giving.{MayFollow}
 use Rattle.recorded_runs.specs.Laws.{LastTurnIsKept}
 use Rattle.recorded_runs.specs.Lending.{Keeps, Lent}
 use Rattle.recorded_runs.specs.Making.{AreCalls, Sends, closed, handed_out, listened, none_yet, one_more, recording}
@@ -16,32 +18,40 @@ use Rattle.recorded_runs.specs.Making.{sent, then_closed, then_sent, turned, unc
 use Rattle.recorded_runs.specs.Recording.{with_records}
 use Rattle.recorded_runs.proofs.CallLaws.{keeps_close, keeps_handed, keeps_listen, keeps_next, keeps_send}
 use Rattle.recorded_runs.proofs.JournalLaws.{keeps_begun}
+use Rattle.recorded_runs.proofs.TraceLaws.{numbered}
 use Rattle.turn_journal.specs.Standing.{Stands, Told}
 
 -- a journal that stood there when the links were lent, after these calls
 keeps_made : (first : ℕ) (lent : Lent) (calls : List Entry) (now : Seen)
     → AreCalls recording (uncalled first lent.found lent.links lent.disk) calls now
-    → Keeps lent calls now.kept now.sends now.spent
+    → Keeps lent (MayFollow None now.first now.inner) calls now.kept now.sends now.spent
 keeps_made first lent calls now (none_yet fresh is) =
     let start : Seen = uncalled first lent.found lent.links lent.disk in
-    let begun : Keeps lent [] start.kept start.sends start.spent = keeps_begun lent start.kept start.sends start.spent
-    refl refl in
-    subst (λ (calls : List Entry). Keeps lent calls now.kept now.sends now.spent) (sym fresh)
-    (subst (λ (seen : Seen). Keeps lent [] seen.kept seen.sends seen.spent) (sym is) begun)
+    let begun : Keeps lent (MayFollow None start.first start.inner) [] start.kept start.sends start.spent =
+    keeps_begun lent (MayFollow None start.first start.inner) start.kept start.sends start.spent refl refl in
+    subst (λ (calls : List Entry). Keeps lent (MayFollow None now.first now.inner) calls now.kept now.sends now.spent)
+    (sym fresh)
+    (subst
+    (λ (seen : Seen). Keeps lent (MayFollow None seen.first seen.inner) [] seen.kept seen.sends seen.spent)
+    (sym is) begun)
 keeps_made first lent calls now (one_more before made old all (listened address answer step spends is) same log) =
-    keeps_listen lent before calls old now address answer (keeps_made first lent before old all)
+    numbered lent calls old now same
+    (keeps_listen lent None before calls old now address answer (keeps_made first lent before old all)
     (log ∙ ap (λ more. before ++ more) is)
-    step spends
+    step spends)
 keeps_made first lent calls now (one_more before made old all (turned wants buf turn step spends is) same log) =
-    keeps_next lent before calls old now wants buf turn (keeps_made first lent before old all)
+    numbered lent calls old now same
+    (keeps_next lent None before calls old now wants buf turn (keeps_made first lent before old all)
     (log ∙ ap (λ more. before ++ more) is)
-    step spends
+    step spends)
 keeps_made first lent calls now (one_more before made old all (sent link bytes answer step spends is) same log) =
-    keeps_send lent before calls old now link bytes answer (keeps_made first lent before old all)
-    (log ∙ ap (λ more. before ++ more) is) step.0 step.1 spends
+    numbered lent calls old now same
+    (keeps_send lent None before calls old now link bytes answer (keeps_made first lent before old all)
+    (log ∙ ap (λ more. before ++ more) is) step.0 step.1 spends)
 keeps_made first lent calls now (one_more before made old all (closed link step is) same log) =
-    keeps_close lent before calls old now link (keeps_made first lent before old all)
-    (log ∙ ap (λ more. before ++ more) is) step
+    numbered lent calls old now same
+    (keeps_close lent None before calls old now link (keeps_made first lent before old all)
+    (log ∙ ap (λ more. before ++ more) is) step)
 
 -- ---- sends and closes
 
@@ -70,7 +80,8 @@ pub last_kept : LastTurnIsKept
 last_kept first found links disk calls now journal start (handed_out before old wants buf turn all step recorded log)
     told stands =
     let lent : Lent = record { links_name = 0; disk_name = 0; links = links; disk = disk; found = found } in
-    let keeps = keeps_handed lent before calls old now wants buf turn false (keeps_made first lent before old all) log
+    let keeps =
+    keeps_handed lent None before calls old now wants buf turn false (keeps_made first lent before old all) log
     step recorded in
     let here = keeps.journal journal start told stands in
     (here.now, here.reported, here.stands refl)

@@ -1,3 +1,4 @@
+pub mod GivenLaws
 pub mod JournalLaws
 pub mod CallLaws
 pub mod FaultLaws

@@ -1,6 +1,7 @@
 -- What each call of links that record does to the journal and to the inner links.
 use Rattle.std.proofs.Common.{◌≡◌, ◌≢◌, ℕ, Bool, true, false, List, [], ◌∷◌, ◌++◌, refl, ap, sym, subst}
 use Rattle.std.proofs.Math.Logic.{∥∥₁_map}
+use Rattle.std.specs.Prelude.{None}
 use Rattle.disk_port.specs.Calls.{DiskReport}
 use Rattle.journal_format.specs.declared.finder.Found.{Found}
 use Rattle.journal_format.specs.declared.turn_record.Summary.{Summary}
@@ -16,7 +17,8 @@ use Rattle.ports.specs.declared.links.Turn.{Turn}
 use Rattle.ports.specs.declared.links.Want.{Want}
 use Rattle.ports.specs.declared.links.What.TheVariants.{Memory}
 use Rattle.recorded_links.specs.Steps.{CloseStep, ListenStep, NextStep, Seen, SendStep, Unsent, seen}
-use Rattle.recorded_runs.specs.Lending.{Lent, Passed, Traces}
+use Rattle.recorded_runs.specs.Giving.{MayFollow}
+use Rattle.recorded_runs.specs.Lending.{Keeps, Lent, Passed, Traces}
 use Rattle.recorded_runs.specs.Making.{closed, listened, none_yet, one_more, sent, turned, uncalled}
 use Rattle.recorded_runs.proofs.CallLaws.{keeps_close, keeps_listen, keeps_next, keeps_send}
 use Rattle.recorded_runs.proofs.JournalLaws.{keeps_begun}
@@ -39,12 +41,18 @@ traces_begun lent calls now fresh is =
     let start : Seen = uncalled 0 lent.found lent.links lent.disk in
     let begun : Traces lent [] start = record {
       made = none_yet refl refl;
-      keeps = keeps_begun lent start.kept start.sends start.spent refl refl;
+      keeps = keeps_begun lent (MayFollow None start.first start.inner) start.kept start.sends start.spent refl refl;
       passed = passed_none start.first lent.links start.inner refl;
     } in
     subst (λ (calls : List Entry). Traces lent calls now) (sym fresh) (subst (Traces lent []) (sym is) begun)
 
 -- the numbers of the inner links begin where they did
+pub numbered : (lent : Lent) (calls : List Entry) (old new : Seen) → new.first ≡ old.first
+    → Keeps lent (MayFollow None old.first new.inner) calls new.kept new.sends new.spent
+    → Keeps lent (MayFollow None new.first new.inner) calls new.kept new.sends new.spent
+numbered lent calls old new same =
+    subst (λ (first : ℕ). Keeps lent (MayFollow None first new.inner) calls new.kept new.sends new.spent) (sym same)
+
 renumbered : (lent : LinksReport) (calls : List Entry) (old new : Seen) → new.first ≡ old.first
     → Passed old.first lent calls new.inner → Passed new.first lent calls new.inner
 renumbered lent calls old new same = subst (λ (first : ℕ). Passed first lent calls new.inner) (sym same)
@@ -56,7 +64,9 @@ traces_next lent calls calls' old new wants buf turn traces log same step spends
     ∥∥₁_map traces (λ (before : Traces lent calls old). record {
       made = one_more calls (next_entries wants buf turn) old before.made (turned wants buf turn step spends refl) same
           log;
-      keeps = keeps_next lent calls calls' old new wants buf turn before.keeps log step spends;
+      keeps =
+          numbered lent calls' old new same
+          (keeps_next lent None calls calls' old new wants buf turn before.keeps log step spends);
       passed =
           renumbered lent.links calls' old new same
           (passed_next lent.links old new calls calls' wants buf turn before.passed log step);
@@ -70,7 +80,9 @@ traces_listen lent calls calls' old new address answer traces log same step spen
     ∥∥₁_map traces (λ (before : Traces lent calls old). record {
       made = one_more calls (listen_entries address answer) old before.made (listened address answer step spends refl)
           same log;
-      keeps = keeps_listen lent calls calls' old new address answer before.keeps log step spends;
+      keeps =
+          numbered lent calls' old new same
+          (keeps_listen lent None calls calls' old new address answer before.keeps log step spends);
       passed =
           renumbered lent.links calls' old new same
           (passed_listen lent.links old new calls calls' address answer before.passed log step);
@@ -85,7 +97,9 @@ traces_send lent calls calls' old new link bytes answer traces log same step uns
     ∥∥₁_map traces (λ (before : Traces lent calls old). record {
       made = one_more calls (send_entries link bytes answer) old before.made
           (sent link bytes answer (step, unsent) spends refl) same log;
-      keeps = keeps_send lent calls calls' old new link bytes answer before.keeps log step unsent spends;
+      keeps =
+          numbered lent calls' old new same
+          (keeps_send lent None calls calls' old new link bytes answer before.keeps log step unsent spends);
       passed =
           renumbered lent.links calls' old new same
           (passed_send lent.links old new calls calls' link bytes answer before.passed before.keeps.sends_are log step
@@ -97,7 +111,9 @@ pub traces_close : (lent : Lent) (calls calls' : List Entry) (old new : Seen) (l
 traces_close lent calls calls' old new link traces log same step =
     ∥∥₁_map traces (λ (before : Traces lent calls old). record {
       made = one_more calls (Close link ∷ []) old before.made (closed link step refl) same log;
-      keeps = keeps_close lent calls calls' old new link before.keeps log step;
+      keeps =
+          numbered lent calls' old new same
+          (keeps_close lent None calls calls' old new link before.keeps log step);
       passed =
           renumbered lent.links calls' old new same
           (passed_close lent.links old new calls calls' link before.passed log step);

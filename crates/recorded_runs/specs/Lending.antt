@@ -5,6 +5,7 @@ use Rattle.disk_port.specs.Past.{Past}
 use Rattle.journal_format.specs.Journals.{Journal}
 use Rattle.journal_format.specs.declared.finder.Found.{Found}
 use Rattle.journal_format.specs.declared.turn_record.Summary.{Summary}
+use Rattle.journal_format.specs.declared.turn_record.TurnRecord.{TurnRecord}
 use Rattle.ports.specs.Calls.{AddsCalls, LinksReport}
 use Rattle.ports.specs.Counts.{greatest}
 use Rattle.ports.specs.declared.entry.Entry.{Entry}
@@ -12,6 +13,7 @@ use Rattle.recorded_links.specs.Keeping.{Kept}
 use Rattle.recorded_links.specs.Steps.{Seen}
 use Rattle.recorded_runs.specs.Making.{AreCalls, recording, uncalled}
 use Rattle.recorded_links.specs.Noting.{noted}
+use Rattle.recorded_runs.specs.Giving.{MayFollow}
 use Rattle.recorded_runs.specs.Passing.{Passes}
 use Rattle.recorded_runs.specs.Recording.{AreRecorded, with_records}
 use Rattle.turn_journal.specs.Standing.{Stands}
@@ -37,21 +39,22 @@ nothing_lent = record {
 }
 
 -- Of the file, in which this journal stood when it was lent: the calls were recorded, and unless these links are spent
--- the journal with their turns stands there.
-pub record KeepsJournal (journal : Journal) (start : Past) (calls : List Entry) (kept : Kept)
-    (spent : Bool) : Type 0 where
+-- the journal with their turns stands there. `next` says which turn may be lost.
+pub record KeepsJournal (journal : Journal) (start : Past) (next : TurnRecord → Type 0) (calls : List Entry)
+    (kept : Kept) (spent : Bool) : Type 0 where
   pub now : Past
   pub reported : kept.past ≡ Some now
-  pub recorded : AreRecorded journal start (noted calls).records now
+  pub recorded : AreRecorded journal start (noted calls).records next now
   pub unbegun : spent ≡ false → now ≡ recorded.past
   pub stands : spent ≡ false → Stands now kept.gate kept.has_record (with_records journal (noted calls).records)
 
 -- the same of any journal that stood there, with the summaries of the next record
-pub record Keeps (lent : Lent) (calls : List Entry) (kept : Kept) (sends : List Summary) (spent : Bool) : Type 0 where
+pub record Keeps (lent : Lent) (next : TurnRecord → Type 0) (calls : List Entry) (kept : Kept) (sends : List Summary)
+    (spent : Bool) : Type 0 where
   pub sends_are : (noted calls).sends ≡ sends
   pub journal : (journal : Journal) (start : Past) → lent.disk.past ≡ Some start
       → Stands start lent.found.gate lent.found.has_record journal
-      → KeepsJournal journal start calls kept spent
+      → KeepsJournal journal start next calls kept spent
 
 -- of links that reported `lent` before these calls: these calls were made of them meanwhile
 pub record Passed (first : ℕ) (lent : LinksReport) (calls : List Entry) (links : LinksReport) : Type 0 where
@@ -63,7 +66,7 @@ pub record Passed (first : ℕ) (lent : LinksReport) (calls : List Entry) (links
 pub record Traces (lent : Lent) (calls : List Entry) (seen : Seen) : Type 0 where
   -- the calls, one after another, each as links that record say of it
   pub made : AreCalls recording (uncalled 0 lent.found lent.links lent.disk) calls seen
-  pub keeps : Keeps lent calls seen.kept seen.sends seen.spent
+  pub keeps : Keeps lent (MayFollow None seen.first seen.inner) calls seen.kept seen.sends seen.spent
   pub passed : Passed seen.first lent.links calls seen.inner
 
 -- what a fault of the disk adds to the faults of the links that were lent: as many as may be, so that nothing is said

@@ -1,4 +1,5 @@
 pub mod Passing
+pub mod Giving
 pub mod Recording
 pub mod Making
 pub mod Lending

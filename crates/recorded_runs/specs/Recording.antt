@@ -26,16 +26,19 @@ pub data AreKept (journal : Journal) (start : Past) : List TurnRecord → Past �
       → AreKept journal start turns now
 
 -- The record of one turn more was begun, which was not handed out. A crash leaves the journal, or the journal with this
--- record whole. Which turn it is, the step of its call says (`Takes`, `TakesListen`, `TakesOwn`).
-pub record IsBegun (journal : Journal) (past now : Past) : Type 0 where
+-- record whole.
+pub record IsBegun (journal : Journal) (next : TurnRecord → Type 0) (past now : Past) : Type 0 where
   pub entry : TurnRecord
   pub allowed : IsRecord entry
+  pub is : next entry
   pub leaves : LeavesOnly past now (HoldsOrWith journal entry)
 
 -- In a file that held the journal these turns were recorded: a crash at any moment leaves the journal with those that
--- were handed out, in order. Beyond them it leaves one at most, whole, whose record was begun last.
-pub record AreRecorded (journal : Journal) (start : Past) (turns : List TurnRecord) (now : Past) : Type 0 where
+-- were handed out, in order. Beyond them it leaves one at most, whole, whose record was begun last. `next` says what it
+-- may be.
+pub record AreRecorded (journal : Journal) (start : Past) (turns : List TurnRecord) (next : TurnRecord → Type 0)
+    (now : Past) : Type 0 where
   -- when the last record was kept
   pub past : Past
   pub kept : AreKept journal start turns past
-  pub last : (now ≡ past) ⊎ IsBegun (with_records journal turns) past now
+  pub last : (now ≡ past) ⊎ IsBegun (with_records journal turns) next past now

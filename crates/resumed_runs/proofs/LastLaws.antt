@@ -20,8 +20,9 @@ use Rattle.ports.specs.declared.links.Turn.{Turn}
 use Rattle.ports.specs.declared.links.Want.{Want}
 use Rattle.recorded_links.specs.Keeping.{Kept, is_recorded, kept_of}
 use Rattle.recorded_links.specs.Noting.{Noted, noted}
-use Rattle.recorded_links.specs.Steps.{Seen}
+use Rattle.recorded_links.specs.Steps.{OwnStep, Seen}
 use Rattle.recorded_links.proofs.NoteLaws.{close_noted, send_noted}
+use Rattle.recorded_runs.specs.Giving.{MayFollow}
 use Rattle.recorded_runs.specs.Lending.{Keeps, Lent}
 use Rattle.recorded_runs.specs.Making.{handed_out, then_closed, then_sent}
 use Rattle.recorded_runs.specs.Recording.{AreRecorded, with_records}
@@ -29,9 +30,9 @@ use Rattle.recorded_runs.proofs.CallLaws.{keeps_handed}
 use Rattle.recorded_runs.proofs.JournalLaws.{keeps_same}
 use Rattle.resumed_runs.specs.Asking.{AsksFor}
 use Rattle.resumed_runs.specs.Laws.{CallsArePassed, LastTurnIsKept, TurnsAreRecorded}
-use Rattle.resumed_runs.specs.Making.{State, unresumed}
-use Rattle.resumed_runs.specs.Recording.{BeginAgain, later_records, records_after}
-use Rattle.resumed_runs.proofs.OwnLaws.{own_handed}
+use Rattle.resumed_runs.specs.Making.{State}
+use Rattle.resumed_runs.specs.Recording.{BeginAgain, MayResume, later_records, records_after}
+use Rattle.resumed_runs.proofs.OwnLaws.{broken_at, own_handed}
 use Rattle.resumed_runs.proofs.SplitLaws.{Splits, begin_so, later_is, splits_after, splits_again}
 use Rattle.resumed_runs.proofs.TraceLaws.{Traces, first_made, traces_made}
 use Rattle.turn_journal.specs.Standing.{Stands, Told}
@@ -83,9 +84,15 @@ turns_recorded past config found records links disk calls now made told resumes 
       record {
         again = again_so past config found records now.progress calls all.later resumes all.records_are all.splits;
         recorded =
-            subst (λ (turns : List TurnRecord). AreRecorded resumes.journal (synced past) turns kept.now)
+            subst (λ (entries : List TurnRecord). AreRecorded resumes.journal (synced past)
+            (later_records resumes.journal calls) (MayResume entries now.seen.inner) kept.now) resumes.records_are
+            (subst (λ (first : ℕ). AreRecorded resumes.journal (synced past) (later_records resumes.journal calls)
+            (MayFollow (Some (last_secs records)) first now.seen.inner) kept.now)
+            (first_made lent records calls now made)
+            (subst (λ (turns : List TurnRecord). AreRecorded resumes.journal (synced past) turns
+            (MayFollow (Some (last_secs records)) now.seen.first now.seen.inner) kept.now)
             (later_so past config found records now.progress calls all.later resumes all.records_are all.splits)
-            kept.recorded;
+            kept.recorded));
       },
     )
 
@@ -107,17 +114,18 @@ calls_passed found records links disk calls now made =
 -- ---- the last turn
 
 -- a turn was handed out, whether or not the links are spent after it
-record Handed (lent : Lent) (records : List TurnRecord) (calls : List Entry) (now : State) : Type 0 where
+record Handed (first : ℕ) (lent : Lent) (records : List TurnRecord) (calls : List Entry) (now : State) : Type 0 where
   later : List Entry
   splits : Splits now.progress calls later
-  keeps : Keeps lent later now.seen.kept now.seen.sends false
+  keeps : Keeps lent (MayFollow (Some (last_secs records)) first now.seen.inner) later now.seen.kept now.seen.sends
+      false
   records_are : now.progress.records ≡ records
 
 handed_one : (lent : Lent) (records : List TurnRecord) (calls calls' : List Entry) (old now : State)
     (wants : List Want) (buf : List ℕ) (turn : Turn)
     → Traces old.seen.first lent records calls old.seen old.progress → calls' ≡ calls ++ next_entries wants buf turn
     → NextOf old.seen now.seen old.progress now.progress wants buf turn → is_recorded turn.what ≡ true
-    → Handed lent records calls' now
+    → Handed old.seen.first lent records calls' now
 handed_one lent records calls calls' old now wants buf turn all log (next_unasked over why memory rests stays)
     recorded =
     absurd (cc (ap is_recorded memory, recorded))
@@ -128,9 +136,11 @@ handed_one lent records calls calls' old now wants buf turn all log (next_again 
       splits = splits_again old.seen now.seen old.progress now.progress wants buf turn calls calls' all.later all.splits
           log over gives;
       keeps =
-          keeps_same lent all.later all.later old.seen.kept now.seen.kept old.seen.sends now.seen.sends old.seen.spent
+          keeps_same lent (MayFollow (Some (last_secs records)) old.seen.first old.seen.inner)
+          (MayFollow (Some (last_secs records)) old.seen.first now.seen.inner)
+          all.later all.later old.seen.kept now.seen.kept old.seen.sends now.seen.sends old.seen.spent
           false all.keeps refl (sends_are ∙ sym (gives.rests).sends) (gives.rests).kept
-          (λ was. absurd (cc (gives.unspent, was)));
+          (λ was. absurd (cc (gives.unspent, was))) (λ was. absurd (cc (gives.unspent, was)));
       records_are = gives.records ∙ all.records_are;
     }
 handed_one lent records calls calls' old now wants buf turn all log (next_broken over broken) recorded = record {
@@ -139,7 +149,9 @@ handed_one lent records calls calls' old now wants buf turn all log (next_broken
       over broken.records broken.given;
   keeps =
       own_handed lent all.later (all.later ++ next_entries wants buf turn) old.seen now.seen wants buf turn
-      (last_secs old.progress.records) broken.link false all.keeps refl broken.gives recorded;
+      (last_secs records) broken.link false all.keeps refl
+      (subst (λ (secs : ℕ). OwnStep old.seen now.seen (broken_at secs broken.link) turn) (ap last_secs all.records_are)
+      broken.gives) recorded;
   records_are = broken.records ∙ all.records_are;
 }
 handed_one lent records calls calls' old now wants buf turn all log (next_inner over none step stays) recorded =
@@ -149,7 +161,8 @@ handed_one lent records calls calls' old now wants buf turn all log (next_inner 
           splits_after old.progress now.progress calls calls' all.later (next_entries wants buf turn) all.splits log
           over stays.records stays.given;
       keeps =
-          keeps_handed lent all.later (all.later ++ next_entries wants buf turn) old.seen now.seen wants buf turn false
+          keeps_handed lent (Some (last_secs records)) all.later (all.later ++ next_entries wants buf turn)
+          old.seen now.seen wants buf turn false
           all.keeps refl step recorded;
       records_are = stays.records ∙ all.records_are;
     }

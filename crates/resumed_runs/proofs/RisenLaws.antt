@@ -1,5 +1,5 @@
 -- How calls of links that resume a run change the counts of faults.
-use Rattle.std.proofs.Common.{◌≡◌, ℕ, ◌≤◌, true, List, ap, arith}
+use Rattle.std.proofs.Common.{◌≡◌, ℕ, ◌≤◌, List, ap, arith}
 use Rattle.journal_links.specs.Steps.{CloseOf, ListenOf, NextOf, Progress, SendOf, close_again, close_passed}
 use Rattle.journal_links.specs.Steps.{listen_again, listen_first, listen_unasked, next_again, next_broken, next_inner}
 use Rattle.journal_links.specs.Steps.{next_unasked, send_again, send_memory, send_passed}

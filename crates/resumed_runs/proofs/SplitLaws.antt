@@ -3,7 +3,7 @@ use Rattle.std.proofs.Common.{◌≡◌, ◌⊎◌, inl, inr, ℕ, zero, suc, �
 use Rattle.std.proofs.Common.{◌++◌, drop, fold, length, refl, sym, ◌∙◌, ap, subst, append-nil, append_assoc, arith}
 use Rattle.std.specs.Prelude.{nat_le}
 use Rattle.std.specs.List.{list_all}
-use Rattle.std.proofs.lemmas.Bool.{and_parts, false_from_ne_true, leb-false, leb-true}
+use Rattle.std.proofs.lemmas.Bool.{and_parts, leb-false}
 use Rattle.std.proofs.lemmas.List.{drop_all, map-append}
 use Rattle.journal_format.specs.Spelling.{is_listen}
 use Rattle.journal_format.specs.declared.turn_record.TurnEvent.{TurnEvent}
@@ -64,6 +64,22 @@ splits_begun progress calls fresh ungiven =
 
 -- ---- a call in which no turn was handed out
 
+-- as many records are given and left
+abbrev Count : List TurnRecord → ℕ → List TurnRecord → Type 0
+Count again given records = length again + length (drop given records) ≡ length records
+
+-- and as turns they are these
+abbrev Turns : List TurnRecord → ℕ → List TurnRecord → Type 0
+Turns again given records =
+    BeginsWithListen records → AreTurns records
+    → turns_in again ++ turns_in (drop given records) ≡ turns_in records
+
+moved : (P : ℕ → List TurnRecord → Type 0) (was is : Progress) → is.records ≡ was.records → is.given ≡ was.given
+    → P was.given was.records → P is.given is.records
+moved P was is records given here =
+    subst (λ (n : ℕ). P n is.records) (sym given)
+    (subst (λ (records : List TurnRecord). P was.given records) (sym records) here)
+
 pub splits_still : (was is : Progress) (calls calls' later : List Entry) → Splits was calls later
     → (noted calls').records ≡ (noted calls).records
     → (is_over was ≡ true → (noted calls').sends ≡ (noted calls).sends) → is.records ≡ was.records
@@ -73,15 +89,8 @@ splits_still was is calls calls' later all records_same sends_same records given
   calls_are = records_same ∙ all.calls_are;
   sends_are = λ over.
       let before = sym (same_over was is records given) ∙ over in sends_same before ∙ all.sends_are before;
-  count =
-      subst (λ (n : ℕ). length all.again + length (drop n is.records) ≡ length is.records) (sym given)
-      (subst (λ (records : List TurnRecord). length all.again + length (drop was.given records) ≡ length records)
-      (sym records) all.count);
-  turns =
-      subst (λ (n : ℕ). BeginsWithListen is.records → AreTurns is.records
-      → turns_in all.again ++ turns_in (drop n is.records) ≡ turns_in is.records) (sym given)
-      (subst (λ (records : List TurnRecord). BeginsWithListen records → AreTurns records
-      → turns_in all.again ++ turns_in (drop was.given records) ≡ turns_in records) (sym records) all.turns);
+  count = moved (Count all.again) was is records given all.count;
+  turns = moved (Turns all.again) was is records given all.turns;
   none_later = λ left. all.none_later (sym (same_over was is records given) ∙ left);
 }
 
@@ -130,7 +139,6 @@ pub splits_after : (was is : Progress) (calls calls' later made : List Entry) �
     → calls' ≡ calls ++ made → is_over was ≡ true → is.records ≡ was.records → is.given ≡ was.given
     → Splits is calls' (later ++ made)
 splits_after was is calls calls' later made all log over records given =
-    let moved = splits_still was is calls calls later all refl (λ _. refl) records given in
     let grown : noted calls' ≡ after all.again (noted (later ++ made)) =
     ap noted log ∙ (noted_more calls made
     ∙ (ap (λ (so_far : Noted). fold after_call so_far made)
@@ -140,8 +148,8 @@ splits_after was is calls calls' later made all log over records given =
       again = all.again;
       calls_are = ap (λ (so_far : Noted). so_far.records) grown;
       sends_are = λ _. ap (λ (so_far : Noted). so_far.sends) grown;
-      count = moved.count;
-      turns = moved.turns;
+      count = moved (Count all.again) was is records given all.count;
+      turns = moved (Turns all.again) was is records given all.turns;
       none_later = λ left. absurd (cc (left, same_over was is records given ∙ over));
     }
 

@@ -1,7 +1,8 @@
 -- What became of the journal and of the links after one call more.
 use Rattle.std.proofs.Common.{◌≡◌, ℕ, Bool, true, false, List, [], ◌∷◌, ◌++◌, ◌<◌, length, refl, sym, ◌∙◌, ap, subst}
-use Rattle.std.proofs.Common.{append-nil, arith}
+use Rattle.std.proofs.Common.{arith}
 use Rattle.std.proofs.lemmas.Bool.{false_from_ne_true, leb-true}
+use Rattle.std.specs.Prelude.{Option, Some}
 use Rattle.journal_format.specs.declared.turn_record.Summary.{Summary}
 use Rattle.journal_format.specs.declared.turn_record.TurnRecord.{TurnRecord}
 use Rattle.journal_links.specs.Steps.{CloseOf, ListenOf, NextOf, Progress, SendOf, close_again, close_passed, is_over}
@@ -24,18 +25,20 @@ use Rattle.recorded_links.specs.Noting.{Noted, noted}
 use Rattle.recorded_links.specs.Sending.{after_send}
 use Rattle.recorded_links.specs.Steps.{OwnStep, Seen, own_full, own_refused, own_taken}
 use Rattle.recorded_links.proofs.NoteLaws.{close_noted, listen_quiet, send_noted, turn_quiet}
+use Rattle.recorded_runs.specs.Giving.{MayFollow}
 use Rattle.recorded_runs.specs.Lending.{Keeps, Lent}
 use Rattle.recorded_runs.specs.Making.{AreCalls, closed, listened, none_yet, one_more, sent, turned}
 use Rattle.recorded_runs.specs.Passing.{closed_own, stops, unasked}
 use Rattle.recorded_runs.proofs.CallLaws.{keeps_listen, keeps_next}
+use Rattle.recorded_runs.proofs.GivenLaws.{may_close_step, may_none, may_send_step, may_still}
 use Rattle.recorded_runs.proofs.JournalLaws.{keeps_begun, keeps_same}
 use Rattle.replayed_links.specs.Opened.{first_free}
 use Rattle.resumed_runs.specs.Asking.{AsksFor, IsAfter, IsAgain, breaks, closes_again, closes_inner, gives_again}
 use Rattle.resumed_runs.specs.Asking.{listens_again, none_again, none_made, one_after, one_again, passes_on}
 use Rattle.resumed_runs.specs.Asking.{sends_again}
 use Rattle.resumed_runs.specs.Making.{State, resuming, unresumed}
-use Rattle.resumed_runs.proofs.OwnLaws.{keeps_own}
-use Rattle.resumed_runs.proofs.SplitLaws.{Splits, same_over, splits_after, splits_again, splits_begun, splits_listen}
+use Rattle.resumed_runs.proofs.OwnLaws.{broken_at, keeps_own}
+use Rattle.resumed_runs.proofs.SplitLaws.{Splits, splits_after, splits_again, splits_begun, splits_listen}
 use Rattle.resumed_runs.proofs.SplitLaws.{splits_still}
 use Rattle.resumed_runs.proofs.StepLaws.{AsksOnce, asks_none, close_asks, listen_asks, memory_next, next_asks}
 use Rattle.resumed_runs.proofs.StepLaws.{send_asks, unsent_asks}
@@ -46,7 +49,7 @@ pub record Traces (first : ℕ) (lent : Lent) (records : List TurnRecord) (calls
   -- the calls after the journal's turns
   pub later : List Entry
   pub splits : Splits progress calls later
-  pub keeps : Keeps lent later seen.kept seen.sends seen.spent
+  pub keeps : Keeps lent (MayFollow (Some (last_secs records)) first seen.inner) later seen.kept seen.sends seen.spent
   -- those that were made of the links that were lent
   pub asked : List Entry
   pub adds : AddsCalls lent.links seen.inner asked
@@ -59,15 +62,19 @@ again_more : (first : ℕ) (lent : Lent) (records : List TurnRecord) (calls call
     (old new : Seen) (was is : Progress) (all : Traces first lent records calls old was) → all.later ≡ []
     → IsAgain first made more → AddsCalls old.inner new.inner more
     → calls' ≡ calls ++ made → new.sends ≡ old.sends → new.kept ≡ old.kept → (old.spent ≡ true → new.spent ≡ true)
+    → (old.spent ≡ true → (entry : TurnRecord) → MayFollow (Some (last_secs records)) first old.inner entry
+    → MayFollow (Some (last_secs records)) first new.inner entry)
     → is.records ≡ was.records → Splits is calls' all.later → Traces first lent records calls' new is
-again_more first lent records calls calls' made more old new was is all none again adds log sends kept stays same
-    splits = record {
+again_more first lent records calls calls' made more old new was is all none again adds log sends kept stays may
+    same splits = record {
       later = all.later;
       splits = splits;
       keeps =
           let sends_are : (noted all.later).sends ≡ old.sends = (all.keeps).sends_are in
-          keeps_same lent all.later all.later old.kept new.kept old.sends new.sends old.spent new.spent all.keeps refl
-          (sends_are ∙ sym sends) kept stays;
+          keeps_same lent (MayFollow (Some (last_secs records)) first old.inner)
+          (MayFollow (Some (last_secs records)) first new.inner)
+          all.later all.later old.kept new.kept old.sends new.sends old.spent new.spent all.keeps refl
+          (sends_are ∙ sym sends) kept stays may;
       asked = all.asked ++ more;
       adds = calls_then lent.links old.inner new.inner all.asked more all.adds adds;
       asks =
@@ -86,12 +93,14 @@ again_own : (first : ℕ) (lent : Lent) (records : List TurnRecord) (calls calls
 again_own first lent records calls calls' made old new was is all none again still log sends kept stays same splits =
     again_more first lent records calls calls' made [] old new was is all none again
     (subst (λ (report : LinksReport). AddsCalls old.inner report []) (sym still) (no_calls old.inner)) log sends kept
-    stays same splits
+    stays (λ was. may_still (Some (last_secs records)) first old.inner new.inner still) same splits
 
 after_more : (first : ℕ) (lent : Lent) (records : List TurnRecord) (calls calls' made more : List Entry)
     (old new : Seen) (was is : Progress) (all : Traces first lent records calls old was)
     → IsAfter first (last_secs records) old.sends made more → AddsCalls old.inner new.inner more
-    → calls' ≡ calls ++ made → Keeps lent (all.later ++ made) new.kept new.sends new.spent → is_over was ≡ true
+    → calls' ≡ calls ++ made
+    → Keeps lent (MayFollow (Some (last_secs records)) first new.inner) (all.later ++ made) new.kept new.sends new.spent
+    → is_over was ≡ true
     → is.records ≡ was.records → is.given ≡ was.given → Traces first lent records calls' new is
 after_more first lent records calls calls' made more old new was is all after adds log keeps over same given = record {
   later = all.later ++ made;
@@ -110,7 +119,9 @@ after_more first lent records calls calls' made more old new was is all after ad
 after_passed : (lent : Lent) (records : List TurnRecord) (calls calls' made : List Entry) (old new : Seen)
     (was is : Progress) (all : Traces old.first lent records calls old was)
     → AsksOnce old.first old.sends made old.inner new.inner
-    → calls' ≡ calls ++ made → Keeps lent (all.later ++ made) new.kept new.sends new.spent → is_over was ≡ true
+    → calls' ≡ calls ++ made
+    → Keeps lent (MayFollow (Some (last_secs records)) old.first new.inner) (all.later ++ made)
+    new.kept new.sends new.spent → is_over was ≡ true
     → is.records ≡ was.records → is.given ≡ was.given → Traces old.first lent records calls' new is
 after_passed lent records calls calls' made old new was is all once log keeps over same given =
     after_more old.first lent records calls calls' made once.more old new was is all
@@ -128,7 +139,8 @@ own_after : (lent : Lent) (records : List TurnRecord) (calls calls' : List Entry
     (wants : List Want) (buf : List ℕ) (turn : Turn) (link secs : ℕ)
     (all : Traces old.first lent records calls old was) → secs ≡ last_secs records
     → OwnStep old new (record { secs = secs; what = Broken link }) turn → calls' ≡ calls ++ next_entries wants buf turn
-    → Keeps lent (all.later ++ next_entries wants buf turn) new.kept new.sends new.spent
+    → Keeps lent (MayFollow (Some (last_secs records)) old.first new.inner) (all.later ++ next_entries wants buf turn)
+    new.kept new.sends new.spent
     → is_over was ≡ true → is.records ≡ was.records → is.given ≡ was.given → Traces old.first lent records calls' new is
 own_after lent records calls calls' old new was is wants buf turn link secs all secs_are
     (own_refused why memory rests) log keeps over same given =
@@ -168,14 +180,17 @@ next_more lent records calls calls' old new was is wants buf turn all log (next_
     (gives.rests).kept (λ was. absurd (cc (gives.unspent, was))) gives.records
     (splits_again old new was is wants buf turn calls calls' all.later all.splits log over gives)
 next_more lent records calls calls' old new was is wants buf turn all log (next_broken over broken) spends =
-    own_after lent records calls calls' old new was is wants buf turn broken.link (last_secs was.records) all
-    (ap last_secs all.records_are) broken.gives log
-    (keeps_own lent all.later (all.later ++ next_entries wants buf turn) old new wants buf turn (last_secs was.records)
-    broken.link all.keeps refl broken.gives spends) over broken.records broken.given
+    let gives : OwnStep old new (broken_at (last_secs records) broken.link) turn =
+    subst (λ (secs : ℕ). OwnStep old new (broken_at secs broken.link) turn) (ap last_secs all.records_are)
+    broken.gives in
+    own_after lent records calls calls' old new was is wants buf turn broken.link (last_secs records) all refl gives log
+    (keeps_own lent all.later (all.later ++ next_entries wants buf turn) old new wants buf turn (last_secs records)
+    broken.link all.keeps refl gives spends) over broken.records broken.given
 next_more lent records calls calls' old new was is wants buf turn all log (next_inner over none step stays) spends =
     after_passed lent records calls calls' (next_entries wants buf turn) old new was is all
     (next_asks old new wants buf turn step) log
-    (keeps_next lent all.later (all.later ++ next_entries wants buf turn) old new wants buf turn all.keeps refl step
+    (keeps_next lent (Some (last_secs records)) all.later (all.later ++ next_entries wants buf turn)
+    old new wants buf turn all.keeps refl step
     spends) over stays.records stays.given
 
 -- ---- `listen`
@@ -189,14 +204,18 @@ listen_more lent records calls calls' old new was is address answer all log (lis
     spends =
     by_over (is_over was) refl
   where
-    quiet : Keeps lent (all.later ++ listen_entries address answer) new.kept new.sends new.spent
+    quiet : Keeps lent (MayFollow (Some (last_secs records)) old.first new.inner)
+        (all.later ++ listen_entries address answer) new.kept new.sends new.spent
     quiet =
         let same = listen_quiet all.later (all.later ++ listen_entries address answer) address answer refl
         (ap is_ready memory) in
         let sends_are : (noted all.later).sends ≡ old.sends = (all.keeps).sends_are in
-        keeps_same lent all.later (all.later ++ listen_entries address answer) old.kept new.kept old.sends new.sends
+        keeps_same lent (MayFollow (Some (last_secs records)) old.first old.inner)
+        (MayFollow (Some (last_secs records)) old.first new.inner) all.later
+        (all.later ++ listen_entries address answer) old.kept new.kept old.sends new.sends
         old.spent new.spent all.keeps (ap (λ (so_far : Noted). so_far.records) same)
         (ap (λ (so_far : Noted). so_far.sends) same ∙ (sends_are ∙ sym rests.sends)) rests.kept (λ was. spends memory)
+        (λ was. may_still (Some (last_secs records)) old.first old.inner new.inner rests.inner)
 
     by_over : (t : Bool) → is_over was ≡ t → Traces old.first lent records calls' new is
     by_over true over =
@@ -215,27 +234,34 @@ listen_more lent records calls calls' old new was is address answer all log (lis
     again_more old.first lent records calls calls' (listen_entries address answer)
     (listen_entries address again.asked) old new was is all none
     (listens_again address again.asked answer again.hands refl refl) again.asks log again.sends again.kept
-    (λ was. absurd (cc (again.unspent, was))) (again.gives).records
+    (λ was. absurd (cc (again.unspent, was))) (λ was. absurd (cc (again.unspent, was))) (again.gives).records
     (splits_listen old new was is address answer calls calls' all.later all.splits log none again)
 listen_more lent records calls calls' old new was is address answer all log (listen_first over step stays) spends =
     after_passed lent records calls calls' (listen_entries address answer) old new was is all
     (listen_asks old new address answer step) log
-    (keeps_listen lent all.later (all.later ++ listen_entries address answer) old new address answer all.keeps refl step
+    (keeps_listen lent (Some (last_secs records)) all.later (all.later ++ listen_entries address answer)
+    old new address answer all.keeps refl step
     spends) over stays.records stays.given
 
 -- ---- `send` and `close`
 
 -- of a send after the journal's turns
-sent_later : (lent : Lent) (later : List Entry) (old new : Seen) (link : ℕ) (bytes : List ℕ) (answer : SendAnswer)
-    → Keeps lent later old.kept old.sends old.spent → new.sends ≡ after_send link answer old.sends
+sent_later : (lent : Lent) (broken : Option ℕ) (later : List Entry) (old new : Seen) (link : ℕ) (bytes : List ℕ)
+    (answer : SendAnswer)
+    → Keeps lent (MayFollow broken old.first old.inner) later old.kept old.sends old.spent
+    → new.sends ≡ after_send link answer old.sends
     → new.kept ≡ old.kept → (old.spent ≡ true → new.spent ≡ true)
-    → Keeps lent (later ++ send_entries link bytes answer) new.kept new.sends new.spent
-sent_later lent later old new link bytes answer keeps sends kept stays =
+    → (old.spent ≡ true → (entry : TurnRecord) → MayFollow broken old.first old.inner entry
+    → MayFollow broken old.first new.inner entry)
+    → Keeps lent (MayFollow broken old.first new.inner) (later ++ send_entries link bytes answer)
+    new.kept new.sends new.spent
+sent_later lent broken later old new link bytes answer keeps sends kept stays may =
     let noted_as = send_noted later (later ++ send_entries link bytes answer) link bytes answer refl in
-    keeps_same lent later (later ++ send_entries link bytes answer) old.kept new.kept old.sends new.sends old.spent
+    keeps_same lent (MayFollow broken old.first old.inner) (MayFollow broken old.first new.inner) later
+    (later ++ send_entries link bytes answer) old.kept new.kept old.sends new.sends old.spent
     new.spent keeps (ap (λ (so_far : Noted). so_far.records) noted_as)
     (ap (λ (so_far : Noted). so_far.sends) noted_as ∙ (ap (after_send link answer) keeps.sends_are ∙ sym sends)) kept
-    stays
+    stays may
 
 send_more : (lent : Lent) (records : List TurnRecord) (calls calls' : List Entry) (old new : Seen) (was is : Progress)
     (link : ℕ) (bytes : List ℕ) (answer : SendAnswer) → Traces old.first lent records calls old was
@@ -253,25 +279,32 @@ send_more lent records calls calls' old new was is link bytes answer all log
 send_more lent records calls calls' old new was is link bytes answer all log (send_passed over step stays) spends =
     after_passed lent records calls calls' (send_entries link bytes answer) old new was is all
     (send_asks old new link bytes answer step) log
-    (sent_later lent all.later old new link bytes answer all.keeps step.sends step.kept step.spent) over stays.records
+    (sent_later lent (Some (last_secs records)) all.later old new link bytes answer all.keeps step.sends step.kept
+    step.spent (λ was. may_send_step (Some (last_secs records)) old new link bytes answer step)) over stays.records
     stays.given
 send_more lent records calls calls' old new was is link bytes answer all log (send_memory over memory unsent stays)
     spends =
     after_passed lent records calls calls' (send_entries link bytes answer) old new was is all
     (unsent_asks old new link bytes answer memory unsent) log
-    (sent_later lent all.later old new link bytes answer all.keeps
+    (sent_later lent (Some (last_secs records)) all.later old new link bytes answer all.keeps
     (unsent.sends ∙ sym (ap (λ (answer : SendAnswer). after_send link answer old.sends) memory)) unsent.kept
-    (λ was. spends memory)) over stays.records stays.given
+    (λ was. spends memory) (λ was. may_none (Some (last_secs records)) old.first old.inner new.inner unsent.calls))
+    over stays.records stays.given
 
 -- of a close after them
-closed_later : (lent : Lent) (later : List Entry) (old new : Seen) (link : ℕ)
-    → Keeps lent later old.kept old.sends old.spent → new.sends ≡ old.sends → new.kept ≡ old.kept
-    → (old.spent ≡ true → new.spent ≡ true) → Keeps lent (later ++ Close link ∷ []) new.kept new.sends new.spent
-closed_later lent later old new link keeps sends kept stays =
+closed_later : (lent : Lent) (broken : Option ℕ) (later : List Entry) (old new : Seen) (link : ℕ)
+    → Keeps lent (MayFollow broken old.first old.inner) later old.kept old.sends old.spent → new.sends ≡ old.sends
+    → new.kept ≡ old.kept
+    → (old.spent ≡ true → new.spent ≡ true)
+    → (old.spent ≡ true → (entry : TurnRecord) → MayFollow broken old.first old.inner entry
+    → MayFollow broken old.first new.inner entry)
+    → Keeps lent (MayFollow broken old.first new.inner) (later ++ Close link ∷ []) new.kept new.sends new.spent
+closed_later lent broken later old new link keeps sends kept stays may =
     let noted_as = close_noted later (later ++ Close link ∷ []) link refl in
-    keeps_same lent later (later ++ Close link ∷ []) old.kept new.kept old.sends new.sends old.spent new.spent keeps
+    keeps_same lent (MayFollow broken old.first old.inner) (MayFollow broken old.first new.inner) later
+    (later ++ Close link ∷ []) old.kept new.kept old.sends new.sends old.spent new.spent keeps
     (ap (λ (so_far : Noted). so_far.records) noted_as)
-    (ap (λ (so_far : Noted). so_far.sends) noted_as ∙ (keeps.sends_are ∙ sym sends)) kept stays
+    (ap (λ (so_far : Noted). so_far.sends) noted_as ∙ (keeps.sends_are ∙ sym sends)) kept stays may
 
 close_more : (lent : Lent) (records : List TurnRecord) (calls calls' : List Entry) (old new : Seen) (was is : Progress)
     (link : ℕ) → Traces old.first lent records calls old was → calls' ≡ calls ++ Close link ∷ []
@@ -285,7 +318,8 @@ close_more lent records calls calls' old new was is link all log
         after_passed lent records calls calls' (Close link ∷ []) old new was is all
         (asks_none old.first old.sends (Close link ∷ []) old.inner new.inner
         (closed_own link none refl refl) rests.inner) log
-        (closed_later lent all.later old new link all.keeps rests.sends rests.kept stays) over same given
+        (closed_later lent (Some (last_secs records)) all.later old new link all.keeps rests.sends rests.kept stays
+        (λ was. may_still (Some (last_secs records)) old.first old.inner new.inner rests.inner)) over same given
     by_over false over =
         let noted_as = close_noted calls calls' link log in
         again_own old.first lent records calls calls' (Close link ∷ []) old new was is all
@@ -299,13 +333,14 @@ close_more lent records calls calls' old new was is link all log (close_passed n
     by_over : (t : Bool) → is_over was ≡ t → Traces old.first lent records calls' new is
     by_over true over =
         after_passed lent records calls calls' (Close link ∷ []) old new was is all (close_asks old new link step) log
-        (closed_later lent all.later old new link all.keeps step.sends step.kept step.spent) over stays.records
+        (closed_later lent (Some (last_secs records)) all.later old new link all.keeps step.sends step.kept step.spent
+        (λ was. may_close_step (Some (last_secs records)) old new link step)) over stays.records
         stays.given
     by_over false over =
         let noted_as = close_noted calls calls' link log in
         again_more old.first lent records calls calls' (Close link ∷ []) (Close number ∷ []) old new was is all
         ((all.splits).none_later over) (closes_inner link number at refl refl) (step.passed number at) log step.sends
-        step.kept step.spent stays.records
+        step.kept step.spent (λ was. may_close_step (Some (last_secs records)) old new link step) stays.records
         (splits_still was is calls calls' all.later all.splits (ap (λ (so_far : Noted). so_far.records) noted_as)
         (λ _. ap (λ (so_far : Noted). so_far.sends) noted_as) stays.records stays.given)
 
@@ -328,7 +363,9 @@ traces_made lent records calls now (none_yet fresh is) =
     let begun : Traces start.seen.first lent records [] start.seen start.progress = record {
       later = [];
       splits = splits_begun start.progress [] refl refl;
-      keeps = keeps_begun lent start.seen.kept start.seen.sends start.seen.spent refl refl;
+      keeps =
+          keeps_begun lent (MayFollow (Some (last_secs records)) start.seen.first start.seen.inner)
+          start.seen.kept start.seen.sends start.seen.spent refl refl;
       asked = [];
       adds = no_calls lent.links;
       asks = none_made refl refl refl;

@@ -20,7 +20,7 @@ TurnsAreRecorded = (past : Past) (config : List ℕ) (found : Found) (records : 
     (disk : DiskReport) (calls : List Entry) (now : State)
     → Made found records links disk calls now
     → disk.past ≡ Some (synced past) → (resumes : Resumes past found config records)
-    → Told now.seen.kept.past (Resumed resumes.journal (synced past) calls)
+    → Told now.seen.kept.past (Resumed resumes.journal (synced past) calls now.seen.inner)
 
 -- These calls were made of the inner links.
 abbrev pub CallsArePassed : Type 0
