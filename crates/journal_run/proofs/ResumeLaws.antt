@@ -48,11 +48,11 @@ resumed_in found records links links' disk disk' calls made = λ past config tol
       sym all.past ∙ is.1,
       subst (λ (report : LinksReport). IsResumedIn resumes.journal (synced past) calls report is.0) all.inner
           (record {
-            again = (is.2).again;
+            again = ((is.2).0).again;
             later =
                 recorded_in resumes.journal (synced past) found.gate found.has_record
                 (later_records resumes.journal calls) (MayResume resumes.journal.records all.now.seen.inner) is.0
-                resumes.stands (is.2).recorded;
+                resumes.stands ((is.2).0).recorded;
           }),
     ))
 

@@ -81,19 +81,25 @@ turns_recorded past config found records links disk calls now made told resumes 
     let kept = (all.keeps).journal resumes.journal (synced past) told resumes.stands in (
       kept.now,
       kept.reported,
-      record {
-        again = again_so past config found records now.progress calls all.later resumes all.records_are all.splits;
-        recorded =
-            subst (λ (entries : List TurnRecord). AreRecorded resumes.journal (synced past)
-            (later_records resumes.journal calls) (MayResume entries now.seen.inner) kept.now) resumes.records_are
-            (subst (λ (first : ℕ). AreRecorded resumes.journal (synced past) (later_records resumes.journal calls)
-            (MayFollow (Some (last_secs records)) first now.seen.inner) kept.now)
-            (first_made lent records calls now made)
-            (subst (λ (turns : List TurnRecord). AreRecorded resumes.journal (synced past) turns
-            (MayFollow (Some (last_secs records)) now.seen.first now.seen.inner) kept.now)
+      (
+        record {
+          again = again_so past config found records now.progress calls all.later resumes all.records_are all.splits;
+          recorded =
+              subst (λ (entries : List TurnRecord). AreRecorded resumes.journal (synced past)
+              (later_records resumes.journal calls) (MayResume entries now.seen.inner) kept.now) resumes.records_are
+              (subst (λ (first : ℕ). AreRecorded resumes.journal (synced past) (later_records resumes.journal calls)
+              (MayFollow (Some (last_secs records)) first now.seen.inner) kept.now)
+              (first_made lent records calls now made)
+              (subst (λ (turns : List TurnRecord). AreRecorded resumes.journal (synced past) turns
+              (MayFollow (Some (last_secs records)) now.seen.first now.seen.inner) kept.now)
+              (later_so past config found records now.progress calls all.later resumes all.records_are all.splits)
+              kept.recorded));
+        },
+        λ live. subst (λ (turns : List TurnRecord). Stands kept.now now.seen.kept.gate now.seen.kept.has_record
+            (with_records resumes.journal turns))
             (later_so past config found records now.progress calls all.later resumes all.records_are all.splits)
-            kept.recorded));
-      },
+            (kept.stands live),
+      ),
     )
 
 pub calls_passed : CallsArePassed

@@ -1,5 +1,5 @@
 -- What became of the journal and of the links of a run that is resumed, after any number of calls.
-use Rattle.std.specs.Prelude.{◌≡◌, ℕ, List, Some}
+use Rattle.std.specs.Prelude.{◌≡◌, ℕ, false, List, Some}
 use Rattle.disk_port.specs.Calls.{DiskReport}
 use Rattle.disk_port.specs.Past.{Past, synced}
 use Rattle.journal_format.specs.declared.finder.Found.{Found}
@@ -14,13 +14,16 @@ use Rattle.resumed_runs.specs.Making.{Made, State, resuming, unresumed}
 use Rattle.resumed_runs.specs.Recording.{BeginAgain, Resumed, later_records}
 use Rattle.turn_journal.specs.Standing.{Stands, Told}
 
--- The turns of the journal that was loaded were handed out again, and those after them were recorded in it.
+-- The turns of the journal that was loaded were handed out again, and those after them were recorded in it. Unless the
+-- links are spent, the journal with all of them is on the disk.
 abbrev pub TurnsAreRecorded : Type 0
 TurnsAreRecorded = (past : Past) (config : List ℕ) (found : Found) (records : List TurnRecord) (links : LinksReport)
     (disk : DiskReport) (calls : List Entry) (now : State)
     → Made found records links disk calls now
     → disk.past ≡ Some (synced past) → (resumes : Resumes past found config records)
-    → Told now.seen.kept.past (Resumed resumes.journal (synced past) calls now.seen.inner)
+    → Told now.seen.kept.past (λ file. Resumed resumes.journal (synced past) calls now.seen.inner file
+    × (now.seen.spent ≡ false → Stands file now.seen.kept.gate now.seen.kept.has_record
+    (with_records resumes.journal (later_records resumes.journal calls))))
 
 -- These calls were made of the inner links.
 abbrev pub CallsArePassed : Type 0
