@@ -9,6 +9,7 @@ use Rattle.list_laws.specs.Counts.{Rose}
 use Rattle.ports.specs.Calls.{LinksReport}
 use Rattle.recorded_links.specs.Numbers.{first_after}
 use Rattle.recorded_links.specs.Steps.{seen}
+use Rattle.resumed_runs.specs.Lending.{LentJournal}
 use Rattle.journal_run.proofs.resumed.run_in.Goals as goal
 
 pub returns-clause-runs : goal.returns-clause-runs
@@ -18,6 +19,21 @@ returns-clause-runs g c =
     let new = run_report (g.P.Patterns.report c.run_noted-ended.new.patterns) c.run_noted-ended.new.steps.forks
     (g.O.Sink.report c.run_noted-ended.new.sink) in
     let links = c.run_noted-ended.result in
+    let given = c.over-resumed.result in
+    let lent : LentJournal =
+    record {
+      lent = record {
+        links_name = given.recorded.inner.ghost_name;
+        disk_name = given.recorded.recorder.journal.disk.ghost_name;
+        links = g.L.Links.report given.recorded.inner.now;
+        disk = g.D.Disk.report given.recorded.recorder.journal.disk.now;
+        found = record {
+          gate = given.recorded.recorder.journal.gate;
+          has_record = given.recorded.recorder.journal.has_record;
+        };
+      };
+      records = given.replay.now.records;
+    } in
     let progress =
     progress_of links.replay.now.records links.replay.now.given links.replay.now.left.items
     links.opened.now.numbers.keys in
@@ -32,7 +48,7 @@ returns-clause-runs g c =
     (g.D.Disk.report c.args.disk.now) disk' old new
     c.run_noted-ended.new.ran)
     (search rules) (search rules)
-    (ran_resumed c.args.setup c.args.turns c.args.quiet _ c.args.found c.args.replay.records
+    (ran_resumed c.args.setup c.args.turns c.args.quiet lent c.args.found c.args.replay.records
     (g.L.Links.report c.args.links.now) (g.D.Disk.report c.args.disk.now)
     links.log view progress (g.D.Disk.report links.recorded.recorder.journal.disk.now) old new
     c.run_noted-ended.new.ran
