@@ -1,14 +1,15 @@
 /*
  * Loaded into a program by LD_PRELOAD, refuses calls of it by their numbers, counted from 0.
  *
- * REFUSE_KIND    memory, reads, writes, accepts or polls: what is counted, and refused; receiving is reading, and sending
- *                is writing
+ * REFUSE_KIND    memory, reads, writes, accepts, polls, controls or syncs: what is counted, and refused; receiving is
+ *                reading, sending is writing, and a control is a call of epoll_ctl
  * REFUSE_AT      the number of the first call that is refused; none is if it is not given
  * REFUSE_MORE    if it is given, every later call is refused too
  * REFUSE_SHORT   if it is given, a read or write is not refused but moves one byte
  * REFUSE_COUNT   a file descriptor, to which the number of calls is written at the end, as decimal digits
  *
- * A refused allocation gives NULL with ENOMEM, and any other refused call gives -1 with EIO.
+ * A refused allocation gives NULL with ENOMEM, a refused control -1 with ENOSPC, as if too many sockets were watched,
+ * and any other refused call gives -1 with EIO.
  */
 #define _GNU_SOURCE
 #include <errno.h>
@@ -132,4 +133,20 @@ int accept4(int file, struct sockaddr *address, socklen_t *length, int flags) {
 
 int epoll_wait(int file, struct epoll_event *events, int most, int timeout) {
     return is_refused('p') ? failed() : syscall(SYS_epoll_wait, file, events, most, timeout);
+}
+
+int epoll_ctl(int file, int what, int of, struct epoll_event *event) {
+    if (is_refused('c')) {
+        errno = ENOSPC;
+        return -1;
+    }
+    return syscall(SYS_epoll_ctl, file, what, of, event);
+}
+
+int fsync(int file) {
+    return is_refused('s') ? failed() : syscall(SYS_fsync, file);
+}
+
+int fdatasync(int file) {
+    return is_refused('s') ? failed() : syscall(SYS_fdatasync, file);
 }

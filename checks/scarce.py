@@ -1,13 +1,13 @@
 #!/usr/bin/env python3
 """scarce.py PROGRAM: tries the built program as a server where something is lacking, over loopback.
 
-Few open files, clients that are gone before they are accepted, urgent data, and, where the library of faketime is
-installed, 256 clients that were silent for long and a clock that was wrong. It prints a line for each check, and ends with
-status 1 if one failed. It takes under half a minute, and ends what it starts.
+Few open files, clients that are gone before they are accepted, urgent data, a client whose socket cannot be watched, 256
+clients that were silent for long, and a clock that was wrong. It prints a line for each check, and ends with status 1 if
+one failed. It takes some minutes, all but seconds of it for the clock, and ends what it starts. The last three checks need
+a C compiler, for `refuse.c` and `clock.c`.
 """
 
 import contextlib
-import glob
 import os
 import pathlib
 import resource
@@ -19,32 +19,34 @@ import sys
 import tempfile
 import time
 
-from server import LINKS, OK, Checks, Failed, Server, ask, event, expect, frame, is_closed, query, receive, reply_of
+from journal import OPENED, read_journal
+from server import (
+    LINKS, OK, Checks, Failed, Server, ask, compiled, event, expect, frame, is_closed, query, receive, receive_frame, reply_of,
+)
 
 PORT = 15558
 FILES = 20
 CLIENTS = 40
-FAKETIME = next(iter(glob.glob("/usr/lib/*/faketime/libfaketime.so.1")), None)
+# Seconds in which the server has to catch up 56 years, on a slow and busy machine too.
+CATCHING_UP = 1800.0
 
 
 class Scarce(Checks):
-    """Checks whose programs have few open files, or a clock that is set by a file."""
+    """Checks whose programs have few open files or other variables of the environment, or keep a journal."""
 
-    files, clock = None, None
+    files, variables, journal = None, {}, None
 
     def start(self, config, *options, user=None):
         path = self.folder / f"{len(self.processes)}.config"
         path.write_text(config)
-        environment = dict(os.environ)
-        if self.clock is not None:
-            environment |= {"LD_PRELOAD": FAKETIME, "FAKETIME_TIMESTAMP_FILE": str(self.clock), "FAKETIME_NO_CACHE": "1"}
+        words = ["serve", path] if self.journal is None else ["record", path, self.journal]
         files = self.files
         process = subprocess.Popen(
-            [self.program, "serve", str(path), *options],
+            [self.program, *words, *options],
             stdin=subprocess.DEVNULL,
             stdout=subprocess.DEVNULL,
             stderr=subprocess.PIPE,
-            env=environment,
+            env={**os.environ, **self.variables},
             preexec_fn=files and (lambda: resource.setrlimit(resource.RLIMIT_NOFILE, (files, files))),
         )
         self.processes.append(process)
@@ -52,8 +54,8 @@ class Scarce(Checks):
 
 
 @contextlib.contextmanager
-def serving(checks, files=None, clock=None):
-    checks.files, checks.clock = files, clock
+def serving(checks, files=None, journal=None, **variables):
+    checks.files, checks.journal, checks.variables = files, journal, variables
     server = Server(checks, PORT)
     try:
         yield server
@@ -140,6 +142,32 @@ def urgent_data(checks):
         ask(client, request, OK + reply_of(event(b"a")))
 
 
+def unwatched(checks):
+    """A client whose socket the system does not watch is closed, and the journal of the run knows nothing of it."""
+    journal = checks.folder / "journal"
+    refused = {"LD_PRELOAD": checks.refuse, "REFUSE_KIND": "controls", "REFUSE_AT": "2"}
+    with serving(checks, journal=journal, **refused) as server, server.client() as first:
+        ask(first, frame(event(b"a")), OK)
+        before = open_sockets(server)
+        with server.client() as second:
+            if not is_closed(second):
+                raise Failed("it is not closed")
+        if open_sockets(server) != before:
+            raise Failed("the server keeps its socket")
+        with server.client() as third:
+            ask(third, query(b"true"), reply_of(event(b"a")))
+        ask(first, query(b"true"), reply_of(event(b"a")))
+    _, turns, _ = read_journal(journal.read_bytes())
+    opened = [turn.link for turn in turns if turn.kind == OPENED]
+    if opened != [0, 1]:
+        raise Failed(f"the links {opened} opened")
+
+
+def open_sockets(server):
+    files = pathlib.Path(f"/proc/{server.process.pid}/fd").iterdir()
+    return sum(os.readlink(file).startswith("socket:") for file in files)
+
+
 def is_served(client):
     with contextlib.suppress(ConnectionError):
         client.sendall(frame(event(b"a")))
@@ -147,27 +175,33 @@ def is_served(client):
     return False
 
 
-def set_clock(path, text):
-    """Sets the clock of the program, in one step."""
-    new = path.with_suffix(".new")
-    new.write_text(text + "\n")
-    new.rename(path)
+class Time:
+    """The clock of a program, which is this many seconds ahead of the system's."""
+
+    def __init__(self, checks, ahead=0):
+        self.path = checks.folder / "ahead"
+        self.variables = {"LD_PRELOAD": checks.clock, "CLOCK_AHEAD": str(self.path)}
+        self.set(ahead)
+
+    def set(self, ahead):
+        new = self.path.with_suffix(".new")
+        new.write_text(f"{ahead}\n")
+        new.rename(self.path)
 
 
 def silent_clients(checks):
     """One more client takes the place of the one that was silent longest, once that was silent for ten minutes."""
-    clock = checks.folder / "clock"
-    set_clock(clock, "+0")
-    with serving(checks, clock=clock) as server, contextlib.ExitStack() as stack:
+    clock = Time(checks)
+    with serving(checks, **clock.variables) as server, contextlib.ExitStack() as stack:
         clients = [stack.enter_context(server.client()) for _ in range(LINKS)]
         for client in clients:
             ask(client, frame(event(b"a")), OK)
-        set_clock(clock, "+590")
+        clock.set(590)
         for client in clients[:7] + clients[8:]:
             ask(client, frame(event(b"a")), OK)
         if not is_closed(stack.enter_context(server.client())):
             raise Failed("one more is served after ten seconds less")
-        set_clock(clock, "+620")
+        clock.set(620)
         late = stack.enter_context(server.client())
         if not is_served(late):
             raise Failed("one more is not served")
@@ -180,21 +214,17 @@ def silent_clients(checks):
 
 
 def clock_that_was_wrong(checks):
-    """Half a year behind: at ten hours a second, that would take seven minutes."""
-    clock = checks.folder / "clock"
-    set_clock(clock, "-180d")
-    with serving(checks, clock=clock) as server, server.client() as client:
-        ask(client, frame(field_of_host(b"a")), OK)
-        set_clock(clock, "+0")
-        deadline = time.monotonic() + 10.0
-        now = 0
-        while now < time.time() - 60:
-            if time.monotonic() > deadline:
-                raise Failed(f"{int(time.time()) - now} seconds are left after ten seconds")
+    """A machine that boots in 1970: at ten hours a second, 56 years would take 13 hours."""
+    clock = Time(checks, -int(time.time()))
+    with serving(checks, **clock.variables) as server, server.client() as client:
+        if moment_of(client) > 60:
+            raise Failed("it does not begin in 1970")
+        clock.set(0)
+        begun = time.monotonic()
+        while (left := int(time.time()) - moment_of(client)) > 3600:
+            if time.monotonic() - begun > CATCHING_UP:
+                raise Failed(f"{left} seconds are left after {CATCHING_UP} seconds")
             time.sleep(0.1)
-            ask(client, frame(field_of_host(b"a")), OK)
-            client.sendall(query(b"true"))
-            now = time_of_reply(client)
 
 
 def field_of_host(host):
@@ -202,15 +232,17 @@ def field_of_host(host):
     return b"\x32" + bytes([2 + len(host)]) + b"\x22" + bytes([len(host)]) + host
 
 
-def time_of_reply(client):
-    """The time of the one event of a reply, its first field."""
-    body = receive(client, struct.unpack(">I", receive(client, 4))[0])
-    at, time_, shift = body.index(b"\x32") + 3, 0, 0
+def moment_of(client):
+    """The moment that the server has come to: the time of an event without one."""
+    client.sendall(frame(field_of_host(b"a")) + query(b"true"))
+    expect(client, OK)
+    body = receive_frame(client)
+    at, moment, shift = body.index(b"\x32") + 3, 0, 0
     while True:
-        time_ |= (body[at] & 127) << shift
+        moment |= (body[at] & 127) << shift
         at, shift = at + 1, shift + 7
         if body[at - 1] < 128:
-            return time_
+            return moment
 
 
 def main():
@@ -223,11 +255,13 @@ def main():
             checks.run(f"{CLIENTS} clients with {FILES} open files", few_files)
             checks.run("clients that reset before they are accepted", reset_before_accept)
             checks.run("urgent data", urgent_data)
-            if FAKETIME:
+            checks.refuse, checks.clock = compiled("refuse", folder), compiled("clock", folder)
+            if checks.refuse and checks.clock:
+                checks.run("a client whose socket cannot be watched", unwatched)
                 checks.run("256 clients that were silent, and one more", silent_clients)
-                checks.run("a clock that was wrong by half a year", clock_that_was_wrong)
+                checks.run("a clock that was wrong by 56 years", clock_that_was_wrong)
             else:
-                print("skip silent clients and a wrong clock: faketime is not installed", flush=True)
+                print("skip unwatched and silent clients and a wrong clock: there is no C compiler", flush=True)
         finally:
             checks.end_all()
     return 1 if checks.failed else 0

@@ -17,6 +17,7 @@ import sys
 import tempfile
 import time
 
+HERE = pathlib.Path(__file__).resolve().parent
 FIRST_PORT, PORT, TAKEN_PORT = 15555, 15556, 15557
 LINKS = 256
 LIMIT = 4_194_304
@@ -144,6 +145,17 @@ class Checks:
             if process.poll() is None:
                 process.kill()
                 process.wait()
+
+
+def compiled(source, folder):
+    """The library of a source in this folder that is loaded into a program, or None without a C compiler."""
+    compiler = shutil.which("cc") or shutil.which("gcc")
+    if compiler is None:
+        return None
+    library = pathlib.Path(folder) / f"{source}.so"
+    words = [compiler, "-O1", "-shared", "-fPIC", "-o", library, HERE / f"{source}.c"]
+    subprocess.run(words, check=True)
+    return str(library)
 
 
 # ---- clients
